@@ -1,0 +1,68 @@
+-- What a list of networks covers, the maximal blocks of a set of addresses, and the shortest cover of it.
+-- A set is given by its membership, as `IsCoveredBy networks` or `IsBetween family start end`.
+use Rattle.std.specs.Prelude.{◌≡◌, ℕ, ◌<◌, ◌≤◌, ◌↔◌, List, length, map, Contains, All, AllPairs, Any, IsPermutation}
+use Rattle.std.specs.List.{AllAdjacentBelow}
+use Rattle.ipnet_base.specs.Address.{Address, family_index}
+use Rattle.ipnet_base.specs.Network.{Network, IsNetwork, InBlock, IsSubnetOf, AreDisjoint, IsTruncated, AreHalves, IsBefore, truncation}
+
+-- the address lies in the block of one of the networks: the cover of a list is the union of their blocks
+abbrev pub IsCoveredBy : List Network → Address → Type 0
+IsCoveredBy networks x = Any (λ n. InBlock n x) networks
+
+-- the two lists cover the same addresses
+abbrev pub HaveSameCover : List Network → List Network → Type 0
+HaveSameCover networks others = (x : Address) → IsCoveredBy networks x ↔ IsCoveredBy others x
+
+-- the truncated networks of length at least min_prefix_len whose block lies in the set
+pub record IsInside (InSet : Address → Type 0) (min_prefix_len : ℕ) (n : Network) : Type 0 where
+  pub network : IsNetwork n
+  pub truncated : IsTruncated n
+  pub long_enough : min_prefix_len ≤ n.prefix_len
+  pub within : (x : Address) → InBlock n x → InSet x
+
+-- and none other of these has a block that contains its block
+pub record IsMaximal (InSet : Address → Type 0) (min_prefix_len : ℕ) (n : Network) : Type 0 where
+  pub inside : IsInside InSet min_prefix_len n
+  pub largest : (k : Network) → IsInside InSet min_prefix_len k → IsSubnetOf n k → k ≡ n
+
+-- each network stands before all later ones, so none comes twice
+abbrev pub IsAscending : List Network → Type 0
+IsAscending networks = AllPairs IsBefore networks
+
+-- no two of the networks share an address
+abbrev pub ArePairwiseDisjoint : List Network → Type 0
+ArePairwiseDisjoint networks = AllPairs AreDisjoint networks
+
+-- the list is the maximal networks inside the set, ascending, each once
+pub record AreMaximalBlocks (InSet : Address → Type 0) (min_prefix_len : ℕ) (networks : List Network) : Type 0 where
+  pub ascending : IsAscending networks
+  pub members : (n : Network) → Contains networks n ↔ IsMaximal InSet min_prefix_len n
+
+-- Any list of networks of length at least min_prefix_len whose cover is the set: unsorted, with repeats,
+-- overlaps and host bits, if it likes.
+pub record IsExactCover (InSet : Address → Type 0) (min_prefix_len : ℕ) (networks : List Network) : Type 0 where
+  pub valid : All IsNetwork networks
+  pub long_enough : All (λ n. min_prefix_len ≤ n.prefix_len) networks
+  pub covers : (x : Address) → IsCoveredBy networks x ↔ InSet x
+
+-- An exact cover, than which none is shorter; and one as short is this list, once truncated and sorted.
+pub record IsShortestCover (InSet : Address → Type 0) (min_prefix_len : ℕ) (networks : List Network) : Type 0 where
+  pub exact : IsExactCover InSet min_prefix_len networks
+  pub shortest : (cover : List Network) → IsExactCover InSet min_prefix_len cover → length networks ≤ length cover
+  pub only : (cover : List Network) → IsExactCover InSet min_prefix_len cover → length cover ≡ length networks
+      → IsPermutation (map truncation cover) networks
+
+-- the aggregate of a list: the maximal blocks of what it covers
+abbrev pub IsAggregateOf : List Network → List Network → Type 0
+IsAggregateOf answer networks = AreMaximalBlocks (IsCoveredBy networks) 0 answer
+
+-- The four conditions on neighbours, by which a list shows that it is its own aggregate.
+pub record AreAggregatedNeighbours (networks : List Network) : Type 0 where
+  -- no network has a host bit set
+  pub truncated : All IsTruncated networks
+  -- IPv4 stands before IPv6
+  pub ipv4_first : AllAdjacentBelow (λ n k. family_index n.family ≤ family_index k.family) networks (length networks)
+  -- in a family, the next network starts behind the last address of the one before
+  pub apart : AllAdjacentBelow (λ n k. n.family ≡ k.family → (x : Address) → InBlock n x → x.number < k.number) networks (length networks)
+  -- no two neighbours are the two halves of one supernet
+  pub unjoined : AllAdjacentBelow (λ n k. ¬ (AreHalves n k)) networks (length networks)
