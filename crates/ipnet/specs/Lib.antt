@@ -1,0 +1,7 @@
+-- What the contracts of this crate cite, and the definitions of the base crate, for those who use this crate alone.
+pub mod NetworkOf
+pub use Rattle.ipnet_base.specs.Address
+pub use Rattle.ipnet_base.specs.Network
+pub use Rattle.ipnet_base.specs.Blocks
+pub use Rattle.ipnet_base.specs.Subnets
+pub use Rattle.ipnet_base.specs.Masks
