@@ -1,0 +1,11 @@
+//! Reads networks from standard input, one a line, and prints the shortest list of the same addresses.
+#![tactic(auto)]
+
+pub mod program;
+
+use std::process::ExitCode;
+
+fn main(rt: HostRuntime) -> ExitCode {
+    let _ = rt;
+    ExitCode::from(0)
+}
