@@ -2,5 +2,6 @@
 #![tactic(auto)]
 
 pub mod net;
+pub mod parser;
 
 pub use net::{IpNet, Ipv4Net, Ipv6Net};

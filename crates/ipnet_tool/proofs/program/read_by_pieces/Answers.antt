@@ -2,7 +2,7 @@ use Rattle.std.proofs.Common.{◌≡◌, ◌++◌, sym, subst, ap, append-nil, a
 use Rattle.std.specs.Io.KnownBytes.{Consumes}
 use Rattle.std.proofs.KnownBytes.{Consumes-nil, Consumes-trans, Consumes-kept}
 use Rattle.ipnet_tool.proofs.program.read_by_pieces.Goals as goal
-use Rattle.ipnet_tool.proofs.program.read_by_pieces.Goals.{in-Ok-read+else-is_err, in-Err+else-ne}
+use Rattle.ipnet_tool.proofs.program.read_by_pieces.Goals.{in-Ok+else-is_err, in-Err+else-ne}
 
 pub loop-init : goal.loop-init
 loop-init g c = ?
@@ -12,6 +12,6 @@ returns-in-Ok-eq0-clause-bytes g c = let h = c.in-Ok-eq0.ensures.bytes in ?
 
 pub loop-preserved : goal.loop-preserved
 loop-preserved g c = elim c.match-read.branch [
-    | in-Ok-read+else-is_err w ↦ let h = w.in-Ok-read.ensures.bytes in let e = w.extend_from_slice.ensures.items in let j = w.is_err.ensures.value in let i = w.if-is_err.false in ?
+    | in-Ok+else-is_err w ↦ let h = w.in-Ok.ensures.bytes in let e = w.extend_from_slice.ensures.items in let j = w.is_err.ensures.value in let i = w.if-is_err.false in ?
     | in-Err+else-ne w ↦ let h = w.in-Err.ensures.bytes in ?
   ]
