@@ -1,6 +1,7 @@
 -- Facts of the definitions in specs/, proved once for all crates.
 pub mod PrefixLaws
 pub mod BlockLaws
+pub mod NetworkLaws
 pub mod ListLaws
 pub mod UniqueLaws
 pub mod NeighbourLaws
