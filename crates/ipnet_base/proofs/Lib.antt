@@ -8,6 +8,8 @@ pub mod NeighbourLaws
 pub mod WalkLaws
 pub mod ShortestLaws
 pub mod SupernetLaws
+pub mod CoverLaws
+pub mod AggregateLaws
 pub mod MaskLaws
 pub mod AddressLaws
 pub mod StepLaws
