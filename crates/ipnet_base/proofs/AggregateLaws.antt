@@ -1,9 +1,9 @@
 -- Aggregates of lists: the four conditions on neighbours, the shortest cover, equal answers and equal covers.
-use Rattle.std.proofs.Common.{◌≡◌, ℕ, ◌+◌, ◌^◌, ◌<◌, ◌≤◌, ◌⊎◌, ◌↔◌, List, [], ◌∷◌, length, get_or, map, Contains, All, IsPermutation, refl, sym, ap, ◌∙◌, subst, arith, inl, inr}
+use Rattle.std.proofs.Common.{◌≡◌, ◌+◌, ◌^◌, ◌<◌, ◌≤◌, ◌⊎◌, ◌↔◌, List, ◌∷◌, length, get_or, Contains, All, refl, sym, ap, subst, arith, inl, inr}
 use Rattle.std.proofs.lemmas.Bool.{cases_lt}
 use Rattle.ipnet_base.specs.Address.{Family, Address, IsAddress, IPv4, IPv6, width, family_index}
-use Rattle.ipnet_base.specs.Network.{Network, IsNetwork, InBlock, IsSubnetOf, AreHalves, IsSupernetOf, truncation}
-use Rattle.ipnet_base.specs.Blocks.{IsCoveredBy, HaveSameCover, AreMaximalBlocks, IsExactCover, IsShortestCover, ArePairwiseDisjoint, IsAggregateOf, AreAggregatedNeighbours}
+use Rattle.ipnet_base.specs.Network.{Network, IsNetwork, InBlock, IsSubnetOf, AreHalves, IsSupernetOf}
+use Rattle.ipnet_base.specs.Blocks.{IsCoveredBy, HaveSameCover, IsExactCover, IsShortestCover, ArePairwiseDisjoint, IsAggregateOf, AreAggregatedNeighbours}
 use Rattle.ipnet_base.proofs.BlockLaws.{between_from_block, last_fits, supernet_to_halves, halves_to_supernet}
 use Rattle.ipnet_base.proofs.ListLaws.{contains_here, contains_there, contains_cases, any_from_contains, all_at}
 use Rattle.ipnet_base.proofs.UniqueLaws.{AreMaximalBlocks-unique}

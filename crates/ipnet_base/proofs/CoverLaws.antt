@@ -1,12 +1,12 @@
 -- Maximal blocks as exact and shortest covers, for every set of addresses that can be decided; and ranges.
-use Rattle.std.proofs.Common.{◌≡◌, ℕ, ◌+◌, ◌-◌, ◌*◌, ◌/◌, ◌^◌, ◌<◌, ◌≤◌, ◌⊎◌, ◌↔◌, List, length, Contains, All, refl, sym, ap, ◌∙◌, subst, arith, inl, inr, mul-one}
+use Rattle.std.proofs.Common.{◌≡◌, ℕ, ◌-◌, ◌/◌, ◌^◌, ◌<◌, ◌≤◌, List, sym, ap, ◌∙◌, subst, arith, inl, inr}
 use Rattle.std.proofs.Math.Nat.{div-one}
 use Rattle.std.proofs.lemmas.Bool.{cases_lt}
 use Rattle.ipnet_base.specs.Address.{Family, Address, IsAddress, width, IsBetween}
-use Rattle.ipnet_base.specs.Network.{Network, IsNetwork, host_bits, InBlock, IsSubnetOf, AreDisjoint, IsBefore}
-use Rattle.ipnet_base.specs.Blocks.{IsCoveredBy, IsInside, IsMaximal, AreMaximalBlocks, IsExactCover, IsShortestCover, ArePairwiseDisjoint}
-use Rattle.ipnet_base.proofs.BlockLaws.{own, own_in, between_from_block, truncated_from_number, last_fits, cases_family}
-use Rattle.ipnet_base.proofs.ListLaws.{any_from_contains, all_at, all_from_members, pairs_from_members}
+use Rattle.ipnet_base.specs.Network.{Network, IsNetwork, InBlock, AreDisjoint, IsBefore}
+use Rattle.ipnet_base.specs.Blocks.{IsCoveredBy, IsInside, AreMaximalBlocks, IsExactCover, IsShortestCover, ArePairwiseDisjoint}
+use Rattle.ipnet_base.proofs.BlockLaws.{own_in, cases_family}
+use Rattle.ipnet_base.proofs.ListLaws.{any_from_contains, all_from_members, pairs_from_members}
 use Rattle.ipnet_base.proofs.UniqueLaws.{IsBefore-asymmetric}
 use Rattle.ipnet_base.proofs.ShortestLaws.{one_maximal, shortest, one_as_short}
 use Rattle.ipnet_base.proofs.SupernetLaws.{IsDecided, maximal_above}
