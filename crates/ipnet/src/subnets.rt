@@ -6,9 +6,11 @@ ghost use Rattle.ipnet_base.specs.Network.{IsGreatestOf};
 ghost use Rattle.ipnet_base.specs.Blocks.{AreMaximalBlocks};
 ghost use Rattle.ipnet_base.specs.Subnets.{IsLargestSubnetAt, IsAdvancedPast};
 ghost use Rattle.ipnet.specs.NetworkOf.{ip_network};
+ghost use Rattle.ipnet.specs.declared.subnets.IpSubnets.TheVariants.{V4, V6};
 ghost use Rattle.ipnet.specs.SubnetsLeft.{ip_subnet_range, ip_subnets_left, IsInRange};
 
 use crate::net::IpNet;
+use std::iter::FusedIterator;
 
 mod ipv4_subnets;
 mod ipv6_subnets;
@@ -24,7 +26,7 @@ pub enum IpSubnets {
 }
 
 impl From<Ipv4Subnets> for IpSubnets {
-    ghost from_gives = { λ subnets result. result ≡ IpSubnets.V4 subnets };
+    ghost from_gives = { λ subnets result. result ≡ V4 subnets };
 
     /// The same walk.
     fn from(subnets: Ipv4Subnets) -> IpSubnets {
@@ -33,7 +35,7 @@ impl From<Ipv4Subnets> for IpSubnets {
 }
 
 impl From<Ipv6Subnets> for IpSubnets {
-    ghost from_gives = { λ subnets result. result ≡ IpSubnets.V6 subnets };
+    ghost from_gives = { λ subnets result. result ≡ V6 subnets };
 
     /// The same walk.
     fn from(subnets: Ipv6Subnets) -> IpSubnets {
@@ -72,3 +74,5 @@ impl Iterator for IpSubnets {
         }
     }
 }
+
+impl FusedIterator for IpSubnets {}

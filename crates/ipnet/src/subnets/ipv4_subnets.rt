@@ -7,6 +7,7 @@ ghost use Rattle.ipnet_base.proofs.StepLaws.{IsMostBits};
 ghost use Rattle.ipnet.specs.NetworkOf.{ipv4_network};
 
 use crate::net::Ipv4Net;
+use std::iter::FusedIterator;
 use std::net::Ipv4Addr;
 
 /// The walk over a range of IPv4 addresses by the fewest networks that tile it.
@@ -106,3 +107,5 @@ impl Iterator for Ipv4Subnets {
         Some(network)
     }
 }
+
+impl FusedIterator for Ipv4Subnets {}

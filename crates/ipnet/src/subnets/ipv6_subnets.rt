@@ -7,6 +7,7 @@ ghost use Rattle.ipnet_base.proofs.StepLaws.{IsMostBits};
 ghost use Rattle.ipnet.specs.NetworkOf.{ipv6_network};
 
 use crate::net::Ipv6Net;
+use std::iter::FusedIterator;
 use std::net::Ipv6Addr;
 
 /// The walk over a range of IPv6 addresses by the fewest networks that tile it.
@@ -106,3 +107,5 @@ impl Iterator for Ipv6Subnets {
         Some(network)
     }
 }
+
+impl FusedIterator for Ipv6Subnets {}

@@ -1,4 +1,5 @@
-use Rattle.std.proofs.Common.{sym, subst, refl, arith, w128}
+use Rattle.std.proofs.Common.{sym, subst, refl, arith}
+use Rattle.std.specs.Int.{w128}
 use Rattle.std.specs.Int.Count.{trailing_of_zero}
 use Rattle.std.proofs.lemmas.Nat.{trailing_le}
 use Rattle.ipnet_base.specs.Address.{IPv6}

@@ -1,5 +1,5 @@
-use Rattle.std.proofs.Common.{◌+◌, ◌∙◌, ap, arith, w128}
-use Rattle.std.specs.Int.{leading_zeros}
+use Rattle.std.proofs.Common.{◌+◌, ◌∙◌, ap, arith}
+use Rattle.std.specs.Int.{w128, leading_zeros}
 use Rattle.std.specs.Int.Count.{trailing_of_zero}
 use Rattle.ipnet_base.proofs.StepLaws.{most_bits_all_ones, most_bits_some_zero}
 use Rattle.ipnet.proofs.subnets.ipv6_subnets.range_prefix_len.Goals as goal
