@@ -37,9 +37,9 @@ fn read_by_pieces<R: Read>(alloc: Global, input: &mut R, piece: &mut [u8]) -> Re
         match input.read(piece) {
             Ok(0) => return Ok(bytes),
             Ok(count) => {
-                if bytes.extend_from_slice(&piece[..count]).is_err() {
+                let Ok(()) = bytes.extend_from_slice(&piece[..count]) else {
                     return Err(InputFault::Memory);
-                }
+                };
             }
             Err(error) => {
                 if error.kind() != ErrorKind::Interrupted {
