@@ -1,2 +1,10 @@
 -- Lemmas that the proofs of this crate share.
 pub use Rattle.ipnet_base.proofs.BlockLaws
+pub mod NumberOctets
+pub mod DigitTexts
+pub mod Ipv4Texts
+pub mod Ipv6Texts
+pub mod WholeTexts
+pub mod StrictTexts
+pub mod PrintedTexts
+pub mod PrintedDigits
