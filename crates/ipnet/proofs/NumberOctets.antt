@@ -1,5 +1,7 @@
 -- The octets of a number, its groups, and the number again.
-use Rattle.std.proofs.Common.{◌≡◌, ℕ, zero, suc, ◌+◌, ◌*◌, ◌/◌, ◌%◌, ◌^◌, ◌<◌, List, [], ◌∷◌, length, get_or, refl, ap, ◌∙◌, arith, lit<}
+use Rattle.std.proofs.Common.{◌≡◌, ℕ, zero, suc, ◌+◌, ◌*◌, ◌/◌, ◌%◌, ◌^◌, ◌<◌, List, [], ◌∷◌, length, get_or, refl, sym, ap, ◌∙◌, arith, lit<}
+use Rattle.std.proofs.Math.Arith.{mod-mul}
+use Rattle.std.proofs.Math.Nat.{div-one, mod-eq_of_lt, one-le-pow, pow-succ'}
 use Rattle.std.proofs.lemmas.Nat.{div-mul-add, mod-mul-add, mod_below}
 use Rattle.std.specs.Int.{w128, to_be_bytes, from_be_bytes, byte_at, bytes_high_first}
 use Rattle.std.specs.Net.Addr.{segments_of, octets_of}
@@ -43,3 +45,32 @@ octets_of-segments_of (suc len) n =
 number_of : List ℕ → ℕ
 number_of [] = 0
 number_of (b ∷ bytes) = b * 256 ^ length bytes + number_of bytes
+
+length-bytes_high_first : (len n : ℕ) → length (bytes_high_first len n) ≡ len
+length-bytes_high_first zero n = refl
+length-bytes_high_first (suc len) n = let later = length-bytes_high_first len n in omega (arith, later)
+
+byte_at-div : (k n : ℕ) → byte_at k n ≡ n / 256 ^ k % 256
+byte_at-div zero n = ap (λ (m : ℕ). m % 256) (sym (div-one n))
+byte_at-div (suc k) n = refl
+
+-- the lowest octets write the number's remainder
+number_of-bytes_high_first : (len n : ℕ) → number_of (bytes_high_first len n) ≡ n % 256 ^ len
+unfolding number_of
+number_of-bytes_high_first zero n = omega arith
+number_of-bytes_high_first (suc len) n =
+    let above : 0 < 256 ^ len = one-le-pow len 256 (omega arith) in
+    let split = mod-mul n {m = 256} {c = 256 ^ len} (omega arith) above in
+    rw (length-bytes_high_first len n, number_of-bytes_high_first len n, byte_at-div len n, pow-succ' 256 len, split) refl
+
+-- the groups of a number write it
+pub octets_back : (n : ℕ) → n < 2 ^ 128 → from_be_bytes w128 (octets_of (segments_of (to_be_bytes w128 n))) ≡ n
+unfolding pairs number_of
+octets_back n fits =
+    ap (from_be_bytes w128) (octets_of-segments_of 8 n)
+    ∙ whole
+    ∙ number_of-bytes_high_first 16 n
+    ∙ mod-eq_of_lt fits
+  where
+    whole : from_be_bytes w128 (to_be_bytes w128 n) ≡ number_of (to_be_bytes w128 n)
+    whole = omega arith
