@@ -3,5 +3,8 @@
 
 pub mod aggregate;
 pub mod net;
+pub mod parser;
+pub mod subnets;
 
 pub use net::{IpNet, Ipv4Net, Ipv6Net};
+pub use subnets::{IpSubnets, Ipv4Subnets, Ipv6Subnets};
