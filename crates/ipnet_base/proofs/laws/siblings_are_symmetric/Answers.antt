@@ -1,8 +1,8 @@
 use Rattle.ipnet_base.proofs.NetworkLaws.{AreSiblings-symmetric, AreSiblings-reflexive}
-use Rattle.ipnet_base.proofs.laws.siblings.Goals as goal
+use Rattle.ipnet_base.proofs.laws.siblings_are_symmetric.Goals as goal
 
 pub returns : goal.returns
 returns c = record {
   symmetric = AreSiblings-symmetric;
-  reflexive = AreSiblings-reflexive;
+  own = AreSiblings-reflexive;
 }
