@@ -14,3 +14,4 @@ pub mod StackLaws
 pub mod CountLaws
 pub mod DigitLaws
 pub mod ArithmeticLaws
+pub mod RangeLaws
