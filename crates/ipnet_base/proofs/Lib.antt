@@ -15,3 +15,6 @@ pub mod StepLaws
 pub mod StackLaws
 pub mod AggregateLaws
 pub mod CountLaws
+pub mod DigitLaws
+pub mod ArithmeticLaws
+pub mod RangeLaws
