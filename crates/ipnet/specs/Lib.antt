@@ -1,5 +1,15 @@
 -- What the contracts of this crate cite, and the definitions of the base crate, for those who use this crate alone.
 pub mod NetworkOf
+pub mod Grammar
+pub mod Numerals
+pub mod AddressTexts
+pub mod NetworkTexts
+pub mod CanonicalTexts
+pub mod Lines
+pub mod Bytes
+pub mod JsonTexts
+pub mod Reading
+pub mod Reader
 pub mod SubnetsLeft
 pub use Rattle.ipnet_base.specs.Address
 pub use Rattle.ipnet_base.specs.Network

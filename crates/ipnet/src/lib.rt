@@ -2,6 +2,7 @@
 #![tactic(auto)]
 
 pub mod net;
+pub mod parser;
 pub mod subnets;
 
 pub use net::{IpNet, Ipv4Net, Ipv6Net};
