@@ -3,11 +3,10 @@ ghost use Rattle.std.specs.Prelude.{◌≡◌, ◌<◌, ◌≤◌, ◌↔◌, �
 ghost use Rattle.std.specs.Iterator.{YieldsFirstBy, MakesProgress, item_count};
 ghost use Rattle.ipnet_base.specs.Address.{Address};
 ghost use Rattle.ipnet_base.specs.Network.{IsGreatestOf};
-ghost use Rattle.ipnet_base.specs.Blocks.{AreMaximalBlocks};
 ghost use Rattle.ipnet_base.specs.Subnets.{IsLargestSubnetAt, IsAdvancedPast};
 ghost use Rattle.ipnet.specs.NetworkOf.{ip_network};
 ghost use Rattle.ipnet.specs.declared.subnets.IpSubnets.TheVariants.{V4, V6};
-ghost use Rattle.ipnet.specs.SubnetsLeft.{ip_subnet_range, ip_subnets_left, IsInRange};
+ghost use Rattle.ipnet.specs.SubnetsLeft.{IsWalkOf, ip_subnet_range, ip_subnets_left};
 
 use crate::net::IpNet;
 use std::iter::FusedIterator;
@@ -58,7 +57,8 @@ impl Iterator for IpSubnets {
             IfSome result (λ n. IsLargestSubnetAt range.family range.start range.end range.min_prefix_len (ip_network n)) }
         ensures advanced { IfSome result (λ n. (x : Address) → IsGreatestOf (ip_network n) x
             → IsAdvancedPast x.number (ip_subnet_range self.old) (ip_subnet_range self.new)) }
-        ensures blocks { AreMaximalBlocks (IsInRange (ip_subnet_range self.new)) (ip_subnet_range self.new).min_prefix_len (ip_subnets_left self.new) }
+        ensures walk { IsWalkOf (ip_subnet_range self.old) (ip_subnets_left self.old) }
+        ensures rest { IsWalkOf (ip_subnet_range self.new) (ip_subnets_left self.new) }
         ensures over { IsNone result ↔ ((ip_subnet_range self.old).end < (ip_subnet_range self.old).start) }
         ensures unchanged { IfNone result (self.new ≡ self.old) }
     {

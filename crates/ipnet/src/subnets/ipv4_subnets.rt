@@ -1,7 +1,6 @@
 ghost use Rattle.std.specs.Prelude.{◌≡◌, ◌<◌, ◌≤◌, ◌-◌, ◌^◌};
 ghost use Rattle.std.specs.Net.Addr.{ipv4_bits};
-ghost use Rattle.ipnet_base.specs.Address.{IPv4, IsBetween};
-ghost use Rattle.ipnet_base.specs.Blocks.{AreMaximalBlocks};
+ghost use Rattle.ipnet_base.specs.Address.{IPv4};
 ghost use Rattle.ipnet_base.specs.Subnets.{IsLargestSubnetAt, IsAdvancedPast};
 ghost use Rattle.ipnet_base.proofs.StepLaws.{IsMostBits};
 ghost use Rattle.ipnet.specs.NetworkOf.{ipv4_network};
@@ -48,13 +47,13 @@ fn largest_subnet_at(start: u32, end: u32, min_prefix_len: u32) -> Ipv4Net
 }
 
 impl Ipv4Subnets {
-    ghost use Rattle.ipnet.specs.SubnetsLeft.{ipv4_range_of, ipv4_subnet_range, ipv4_subnets_left};
+    ghost use Rattle.ipnet.specs.SubnetsLeft.{IsWalkOf, ipv4_range_of, ipv4_subnet_range, ipv4_subnets_left};
 
     /// The walk from the start to the end by networks of at least the length.
     pub fn new(start: Ipv4Addr, end: Ipv4Addr, min_prefix_len: u8) -> Ipv4Subnets
         requires { min_prefix_len ≤ 32 }
         ensures range { ipv4_subnet_range result ≡ ipv4_range_of (ipv4_bits start) (ipv4_bits end) min_prefix_len }
-        ensures blocks { AreMaximalBlocks (IsBetween IPv4 (ipv4_bits start) (ipv4_bits end)) min_prefix_len (ipv4_subnets_left result) }
+        ensures walk { IsWalkOf (ipv4_range_of (ipv4_bits start) (ipv4_bits end) min_prefix_len) (ipv4_subnets_left result) }
     {
         Ipv4Subnets {
             start: start.to_bits(),
@@ -81,7 +80,7 @@ impl Iterator for Ipv4Subnets {
     ghost use Rattle.std.specs.Iterator.{YieldsFirstBy, MakesProgress, item_count};
     ghost use Rattle.ipnet_base.specs.Address.{Address};
     ghost use Rattle.ipnet_base.specs.Network.{IsGreatestOf};
-    ghost use Rattle.ipnet.specs.SubnetsLeft.{ipv4_subnet_range, ipv4_subnets_left, IsInRange};
+    ghost use Rattle.ipnet.specs.SubnetsLeft.{IsWalkOf, ipv4_subnet_range, ipv4_subnets_left};
 
     ghost next_gives = { YieldsFirstBy ipv4_network ipv4_subnets_left };
 
@@ -95,7 +94,8 @@ impl Iterator for Ipv4Subnets {
             IfSome result (λ n. IsLargestSubnetAt IPv4 range.start range.end range.min_prefix_len (ipv4_network n)) }
         ensures advanced { IfSome result (λ n. (x : Address) → IsGreatestOf (ipv4_network n) x
             → IsAdvancedPast x.number (ipv4_subnet_range self.old) (ipv4_subnet_range self.new)) }
-        ensures blocks { AreMaximalBlocks (IsInRange (ipv4_subnet_range self.new)) (ipv4_subnet_range self.new).min_prefix_len (ipv4_subnets_left self.new) }
+        ensures walk { IsWalkOf (ipv4_subnet_range self.old) (ipv4_subnets_left self.old) }
+        ensures rest { IsWalkOf (ipv4_subnet_range self.new) (ipv4_subnets_left self.new) }
         ensures over { IsNone result ↔ ((ipv4_subnet_range self.old).end < (ipv4_subnet_range self.old).start) }
         ensures unchanged { IfNone result (self.new ≡ self.old) }
     {

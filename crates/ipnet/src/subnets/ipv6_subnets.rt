@@ -1,7 +1,6 @@
 ghost use Rattle.std.specs.Prelude.{◌≡◌, ◌<◌, ◌≤◌, ◌-◌, ◌^◌};
 ghost use Rattle.std.specs.Net.Addr.{ipv6_bits};
-ghost use Rattle.ipnet_base.specs.Address.{IPv6, IsBetween};
-ghost use Rattle.ipnet_base.specs.Blocks.{AreMaximalBlocks};
+ghost use Rattle.ipnet_base.specs.Address.{IPv6};
 ghost use Rattle.ipnet_base.specs.Subnets.{IsLargestSubnetAt, IsAdvancedPast};
 ghost use Rattle.ipnet_base.proofs.StepLaws.{IsMostBits};
 ghost use Rattle.ipnet.specs.NetworkOf.{ipv6_network};
@@ -48,13 +47,13 @@ fn largest_subnet_at(start: u128, end: u128, min_prefix_len: u32) -> Ipv6Net
 }
 
 impl Ipv6Subnets {
-    ghost use Rattle.ipnet.specs.SubnetsLeft.{ipv6_range_of, ipv6_subnet_range, ipv6_subnets_left};
+    ghost use Rattle.ipnet.specs.SubnetsLeft.{IsWalkOf, ipv6_range_of, ipv6_subnet_range, ipv6_subnets_left};
 
     /// The walk from the start to the end by networks of at least the length.
     pub fn new(start: Ipv6Addr, end: Ipv6Addr, min_prefix_len: u8) -> Ipv6Subnets
         requires { min_prefix_len ≤ 128 }
         ensures range { ipv6_subnet_range result ≡ ipv6_range_of (ipv6_bits start) (ipv6_bits end) min_prefix_len }
-        ensures blocks { AreMaximalBlocks (IsBetween IPv6 (ipv6_bits start) (ipv6_bits end)) min_prefix_len (ipv6_subnets_left result) }
+        ensures walk { IsWalkOf (ipv6_range_of (ipv6_bits start) (ipv6_bits end) min_prefix_len) (ipv6_subnets_left result) }
     {
         Ipv6Subnets {
             start: start.to_bits(),
@@ -81,7 +80,7 @@ impl Iterator for Ipv6Subnets {
     ghost use Rattle.std.specs.Iterator.{YieldsFirstBy, MakesProgress, item_count};
     ghost use Rattle.ipnet_base.specs.Address.{Address};
     ghost use Rattle.ipnet_base.specs.Network.{IsGreatestOf};
-    ghost use Rattle.ipnet.specs.SubnetsLeft.{ipv6_subnet_range, ipv6_subnets_left, IsInRange};
+    ghost use Rattle.ipnet.specs.SubnetsLeft.{IsWalkOf, ipv6_subnet_range, ipv6_subnets_left};
 
     ghost next_gives = { YieldsFirstBy ipv6_network ipv6_subnets_left };
 
@@ -95,7 +94,8 @@ impl Iterator for Ipv6Subnets {
             IfSome result (λ n. IsLargestSubnetAt IPv6 range.start range.end range.min_prefix_len (ipv6_network n)) }
         ensures advanced { IfSome result (λ n. (x : Address) → IsGreatestOf (ipv6_network n) x
             → IsAdvancedPast x.number (ipv6_subnet_range self.old) (ipv6_subnet_range self.new)) }
-        ensures blocks { AreMaximalBlocks (IsInRange (ipv6_subnet_range self.new)) (ipv6_subnet_range self.new).min_prefix_len (ipv6_subnets_left self.new) }
+        ensures walk { IsWalkOf (ipv6_subnet_range self.old) (ipv6_subnets_left self.old) }
+        ensures rest { IsWalkOf (ipv6_subnet_range self.new) (ipv6_subnets_left self.new) }
         ensures over { IsNone result ↔ ((ipv6_subnet_range self.old).end < (ipv6_subnet_range self.old).start) }
         ensures unchanged { IfNone result (self.new ≡ self.old) }
     {
