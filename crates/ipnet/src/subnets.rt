@@ -13,6 +13,7 @@ use std::iter::FusedIterator;
 
 mod ipv4_subnets;
 mod ipv6_subnets;
+pub mod laws;
 
 pub use ipv4_subnets::Ipv4Subnets;
 pub use ipv6_subnets::Ipv6Subnets;
