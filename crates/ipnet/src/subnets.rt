@@ -18,7 +18,8 @@ pub mod laws;
 pub use ipv4_subnets::Ipv4Subnets;
 pub use ipv6_subnets::Ipv6Subnets;
 
-/// The walk over a range of either family: an IPv4 one stands before every IPv6 one.
+/// A walk over a range of addresses of either family, made from a walk of that family by `From`: it gives the
+/// same networks. An IPv4 one stands before every IPv6 one.
 #[derive(Clone, Copy, PartialEq, Eq, PartialOrd, Ord, Hash, Debug)]
 pub enum IpSubnets {
     V4(Ipv4Subnets),
@@ -50,7 +51,7 @@ impl Iterator for IpSubnets {
 
     ghost remaining = { item_count ip_subnets_left };
 
-    /// The largest network that starts at the start of what is left, or none where nothing is left.
+    /// What the walk that it holds gives next: `None`, then and ever after, where the start lies above the end.
     fn next(&mut self) -> Option<IpNet>
         ensures steps { YieldsFirstBy ip_network ip_subnets_left self.old result self.new }
         ensures goes { MakesProgress (λ _. ⊤) (item_count ip_subnets_left) self.old result self.new }
@@ -64,12 +65,12 @@ impl Iterator for IpSubnets {
         ensures unchanged { IfNone result (self.new ≡ self.old) }
     {
         match self {
-            IpSubnets::V4(subnets) => {
-                let network = subnets.next()?;
+            IpSubnets::V4(walk) => {
+                let network = walk.next()?;
                 Some(IpNet::V4(network))
             }
-            IpSubnets::V6(subnets) => {
-                let network = subnets.next()?;
+            IpSubnets::V6(walk) => {
+                let network = walk.next()?;
                 Some(IpNet::V6(network))
             }
         }
