@@ -1,3 +1,4 @@
 -- Lemmas that the proofs of this crate share.
+pub mod SubnetsLaws
 pub mod NetLaws
 pub use Rattle.ipnet_base.proofs.BlockLaws

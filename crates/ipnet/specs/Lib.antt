@@ -2,6 +2,17 @@
 pub mod NetworkOf
 pub mod NetworkParts
 pub mod NetLaws
+pub mod Grammar
+pub mod Numerals
+pub mod AddressTexts
+pub mod NetworkTexts
+pub mod CanonicalTexts
+pub mod Lines
+pub mod Bytes
+pub mod JsonTexts
+pub mod Reading
+pub mod Reader
+pub mod SubnetsLeft
 pub use Rattle.ipnet_base.specs.Address
 pub use Rattle.ipnet_base.specs.Network
 pub use Rattle.ipnet_base.specs.Blocks

@@ -1,0 +1,2 @@
+//! Networks from text.
+mod reader;
