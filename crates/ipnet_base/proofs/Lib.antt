@@ -15,3 +15,5 @@ pub mod StepLaws
 pub mod StackLaws
 pub mod AggregateLaws
 pub mod CountLaws
+pub mod DigitLaws
+pub mod ArithmeticLaws
