@@ -2,7 +2,7 @@
 ghost use Rattle.std.specs.Prelude.{◌≡◌, ◌<◌, ◌≤◌, ◌↔◌, IsTrue, IsErr, IfOk, IsNone, IfSome, refl};
 ghost use Rattle.std.specs.declared.cmp.Ordering.TheVariants.{Less};
 ghost use Rattle.ipnet_base.specs.Address.{width, ip_address};
-ghost use Rattle.ipnet_base.specs.Network.{Network, IsNetwork, InBlock, IsSubnetOf, IsLeastOf, IsGreatestOf, AreSiblings, AreHalves, IsBefore, IsSupernetOf, truncation};
+ghost use Rattle.ipnet_base.specs.Network.{Network, IsNetwork, InBlock, IsSubnetOf, IsLeastOf, IsGreatestOf, AreSiblings, AreHalves, IsBefore, IsTruncationOf, IsSupernetOf, truncation};
 ghost use Rattle.ipnet.specs.NetworkParts.{network_at, own_address, netmask, hostmask};
 
 mod ipv4_net;
@@ -11,11 +11,7 @@ mod ipv6_net;
 pub use ipv4_net::Ipv4Net;
 pub use ipv6_net::Ipv6Net;
 
-use std::net::IpAddr;
-
-/// A prefix length that is longer than an address, or a mask that is none.
-#[derive(Clone, Copy, Debug, PartialEq, Eq)]
-pub struct PrefixLenError;
+use ipnet_base::{IpAddr, PrefixLenError};
 
 /// What a network can be asked to contain: an address of its family, or a network.
 pub trait Contains<T> {
@@ -193,7 +189,7 @@ impl IpNet {
     /// 192.168.12.34/16 becomes 192.168.0.0/16
     /// ```
     pub fn trunc(&self) -> IpNet
-        ensures { ip_network result ≡ truncation (ip_network self.now) }
+        ensures { IsTruncationOf (ip_network result) (ip_network self.now) }
     {
         match self {
             IpNet::V4(net) => IpNet::V4(net.trunc()),

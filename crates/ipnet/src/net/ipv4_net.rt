@@ -1,11 +1,11 @@
 ghost use Rattle.std.specs.Prelude.{◌≡◌, ◌-◌, ◌*◌, ◌/◌, ◌^◌, ◌<◌, ◌≤◌, ◌↔◌, IsTrue, IsErr, IfOk, IsNone, IfSome};
 ghost use Rattle.std.specs.Net.Addr.{ipv4_bits};
 ghost use Rattle.ipnet_base.specs.Address.{IPv4, width, ipv4_address};
-ghost use Rattle.ipnet_base.specs.Network.{IsLeastOf, IsGreatestOf, IsSubnetOf, InBlock, IsSupernetOf, AreSiblings, truncation};
+ghost use Rattle.ipnet_base.specs.Network.{IsLeastOf, IsGreatestOf, IsSubnetOf, InBlock, IsSupernetOf, AreSiblings, IsTruncationOf};
 ghost use Rattle.ipnet.specs.NetworkParts.{address_at, network_at, own_address, netmask, hostmask};
 
-use super::{Contains, Net, PrefixLenError};
-use std::net::Ipv4Addr;
+use super::{Contains, Net};
+use ipnet_base::{Ipv4Addr, PrefixLenError};
 
 /// An IPv4 network: an address, with its host bits, and a prefix length of at most 32.
 ///
@@ -144,7 +144,7 @@ impl Ipv4Net {
     /// 192.168.12.34/16 becomes 192.168.0.0/16
     /// ```
     pub fn trunc(&self) -> Ipv4Net
-        ensures { ipv4_network result ≡ truncation (ipv4_network self.now) }
+        ensures { IsTruncationOf (ipv4_network result) (ipv4_network self.now) }
     {
         let len = self.leading_bits();
         Ipv4Net::from_number(self.leading_number(len), len)

@@ -1,11 +1,11 @@
 ghost use Rattle.std.specs.Prelude.{◌≡◌, ◌-◌, ◌*◌, ◌/◌, ◌^◌, ◌<◌, ◌≤◌, ◌↔◌, IsTrue, IsErr, IfOk, IsNone, IfSome};
 ghost use Rattle.std.specs.Net.Addr.{ipv6_bits};
 ghost use Rattle.ipnet_base.specs.Address.{IPv6, width, ipv6_address};
-ghost use Rattle.ipnet_base.specs.Network.{IsLeastOf, IsGreatestOf, IsSubnetOf, InBlock, IsSupernetOf, AreSiblings, truncation};
+ghost use Rattle.ipnet_base.specs.Network.{IsLeastOf, IsGreatestOf, IsSubnetOf, InBlock, IsSupernetOf, AreSiblings, IsTruncationOf};
 ghost use Rattle.ipnet.specs.NetworkParts.{address_at, network_at, own_address, netmask, hostmask};
 
-use super::{Contains, Net, PrefixLenError};
-use std::net::Ipv6Addr;
+use super::{Contains, Net};
+use ipnet_base::{Ipv6Addr, PrefixLenError};
 
 /// An IPv6 network: an address, with its host bits, and a prefix length of at most 128.
 ///
@@ -146,7 +146,7 @@ impl Ipv6Net {
     /// fd00::1:2:3:4/16 becomes fd00::/16
     /// ```
     pub fn trunc(&self) -> Ipv6Net
-        ensures { ipv6_network result ≡ truncation (ipv6_network self.now) }
+        ensures { IsTruncationOf (ipv6_network result) (ipv6_network self.now) }
     {
         let len = self.leading_bits();
         Ipv6Net::from_number(self.leading_number(len), len)
