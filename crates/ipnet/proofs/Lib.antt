@@ -8,3 +8,5 @@ pub mod WholeTexts
 pub mod StrictTexts
 pub mod PrintedTexts
 pub mod PrintedDigits
+pub mod ZeroRuns
+pub mod LineLaws

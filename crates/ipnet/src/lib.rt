@@ -3,5 +3,7 @@
 
 pub mod net;
 pub mod parser;
+pub mod print;
+pub mod text_laws;
 
 pub use net::{IpNet, Ipv4Net, Ipv6Net};
