@@ -4,8 +4,8 @@
 pub mod net;
 pub mod parser;
 pub mod print;
-pub mod text_laws;
 pub mod subnets;
+pub mod text_laws;
 
 pub use net::{IpNet, Ipv4Net, Ipv6Net};
 pub use subnets::{IpSubnets, Ipv4Subnets, Ipv6Subnets};

@@ -3,12 +3,13 @@
 //! Every text is made in a buffer of fixed capacity, so printing takes no memory.
 ghost use Rattle.std.specs.Prelude.{◌≡◌, ◌+◌, ◌*◌, ◌≤◌, ◌<◌, [], ◌∷◌, ◌++◌, length, decimal, Some};
 ghost use Rattle.std.specs.Char.{digit_char};
-ghost use Rattle.std.specs.Net.Addr.{ipv4_octets, ipv6_segments};
+ghost use Rattle.std.specs.Net.Addr.{ipv4_octets, ipv4_bits, ipv6_segments, ipv6_bits};
 ghost use Rattle.std.specs.Net.Text.{ipv4_text, ipv6_text, hex, groups_text};
 ghost use Rattle.std.specs.Net.Text as text;
 ghost use Rattle.arrayvec.specs.ArrayString.{array_string_len};
+ghost use Rattle.ipnet_base.specs.Address.{IPv4, IPv6};
 ghost use Rattle.ipnet.specs.NetworkOf.{ipv4_network, ipv6_network, ip_network};
-ghost use Rattle.ipnet.specs.CanonicalTexts.{canonical_text};
+ghost use Rattle.ipnet.specs.CanonicalTexts.{address_text, canonical_text};
 
 use crate::net::{IpNet, Ipv4Net, Ipv6Net};
 use arrayvec::ArrayString;
@@ -58,15 +59,11 @@ fn decimal_text(n: u8) -> ArrayString<3>
     out
 }
 
-/// The canonical text of an IPv4 address: its four octets in decimal, joined by ".".
-///
-/// ```text
-/// 10.1.1.0
-/// ```
-pub fn ipv4_addr_text(addr: Ipv4Addr) -> ArrayString<IPV4_ADDR_LEN>
-    ensures { result.bytes ≡ ipv4_text (ipv4_octets addr) }
+/// The octets in decimal, joined by ".".
+fn join_octets(octets: [u8; 4]) -> ArrayString<IPV4_ADDR_LEN>
+    ensures { result.bytes ≡ ipv4_text octets }
 {
-    let [a, b, c, d] = addr.octets();
+    let [a, b, c, d] = octets;
     let mut out = ArrayString::new();
     out.push_str(decimal_text(a).as_str());
     out.push_str(".");
@@ -76,6 +73,18 @@ pub fn ipv4_addr_text(addr: Ipv4Addr) -> ArrayString<IPV4_ADDR_LEN>
     out.push_str(".");
     out.push_str(decimal_text(d).as_str());
     out
+}
+
+/// The canonical text of an IPv4 address: its four octets in decimal, joined by ".".
+///
+/// ```text
+/// 10.1.1.0
+/// ```
+pub fn ipv4_addr_text(addr: Ipv4Addr) -> ArrayString<IPV4_ADDR_LEN>
+    ensures of_octets { result.bytes ≡ ipv4_text (ipv4_octets addr) }
+    ensures of_number { result.bytes ≡ address_text IPv4 (ipv4_bits addr) }
+{
+    join_octets(addr.octets())
 }
 
 /// The group in hexadecimal, without leading zeros.
@@ -148,6 +157,21 @@ fn compress_groups(groups: &[u16]) -> ArrayString<IPV6_ADDR_LEN>
     out
 }
 
+/// The text of a mapped address in dotted form, and of any other in groups.
+#[tactic(auto, unfolding(std::specs::Net::Text::ipv6_text))]
+fn write_ipv6(addr: Ipv6Addr) -> ArrayString<IPV6_ADDR_LEN>
+    ensures { result.bytes ≡ ipv6_text (ipv6_segments addr) }
+{
+    if let Some(mapped) = addr.to_ipv4_mapped() {
+        let mut out = ArrayString::new();
+        out.push_str("::ffff:");
+        out.push_str(join_octets(mapped.octets()).as_str());
+        out
+    } else {
+        compress_groups(&addr.segments())
+    }
+}
+
 /// The canonical text of an IPv6 address (RFC 5952): its groups in lower-case hexadecimal without leading zeros,
 /// joined by ":", with "::" for the first of the longest runs of two zero groups or more.
 ///
@@ -160,18 +184,11 @@ fn compress_groups(groups: &[u16]) -> ArrayString<IPV6_ADDR_LEN>
 /// ::ffff:1.2.3.4
 /// ::102:304
 /// ```
-#[tactic(auto, unfolding(std::specs::Net::Text::ipv6_text))]
 pub fn ipv6_addr_text(addr: Ipv6Addr) -> ArrayString<IPV6_ADDR_LEN>
-    ensures { result.bytes ≡ ipv6_text (ipv6_segments addr) }
+    ensures of_groups { result.bytes ≡ ipv6_text (ipv6_segments addr) }
+    ensures of_number { result.bytes ≡ address_text IPv6 (ipv6_bits addr) }
 {
-    if let Some(mapped) = addr.to_ipv4_mapped() {
-        let mut out = ArrayString::new();
-        out.push_str("::ffff:");
-        out.push_str(ipv4_addr_text(mapped).as_str());
-        out
-    } else {
-        compress_groups(&addr.segments())
-    }
+    write_ipv6(addr)
 }
 
 impl Ipv4Net {
