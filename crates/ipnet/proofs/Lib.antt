@@ -1,4 +1,6 @@
 -- Lemmas that the proofs of this crate share.
+pub mod SubnetsLaws
+pub mod NetLaws
 pub use Rattle.ipnet_base.proofs.BlockLaws
 pub mod NumberOctets
 pub mod DigitTexts

@@ -10,6 +10,7 @@ pub mod Bytes
 pub mod JsonTexts
 pub mod Reading
 pub mod Reader
+pub mod SubnetsLeft
 pub use Rattle.ipnet_base.specs.Address
 pub use Rattle.ipnet_base.specs.Network
 pub use Rattle.ipnet_base.specs.Blocks

@@ -3,5 +3,7 @@
 
 pub mod net;
 pub mod parser;
+pub mod subnets;
 
 pub use net::{IpNet, Ipv4Net, Ipv6Net};
+pub use subnets::{IpSubnets, Ipv4Subnets, Ipv6Subnets};
