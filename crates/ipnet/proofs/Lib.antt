@@ -1,4 +1,5 @@
 -- Lemmas that the proofs of this crate share.
+pub mod FrontLaws
 pub mod SubnetsLaws
 pub mod NetLaws
 pub use Rattle.ipnet_base.proofs.BlockLaws
