@@ -15,3 +15,5 @@ pub mod AddressLaws
 pub mod StepLaws
 pub mod StackLaws
 pub mod CountLaws
+pub mod DigitLaws
+pub mod ArithmeticLaws
