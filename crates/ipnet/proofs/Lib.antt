@@ -11,3 +11,4 @@ pub mod WholeTexts
 pub mod StrictTexts
 pub mod PrintedTexts
 pub mod PrintedDigits
+pub mod ReaderTurns
