@@ -1,0 +1,74 @@
+//! The aggregate of a list of networks: the shortest list of networks over the same addresses.
+ghost use Rattle.std.specs.Prelude.{◌≡◌, ◌↔◌, ◌+◌, ◌<◌, ◌≤◌, List, [], map, take, drop, length, All, IfOk, IsOk};
+ghost use Rattle.ipnet_base.specs.Network.{Network, IsNetwork, IsTruncated, truncation};
+ghost use Rattle.ipnet_base.specs.Blocks.{HaveSameCover, IsAggregateOf};
+ghost use Rattle.ipnet_base.proofs.NeighbourLaws.{AreSettled};
+ghost use Rattle.ipnet_base.proofs.StackLaws.{IsAtMost, IsInOrder, IsPushed, IsSwept};
+
+use crate::net::Net;
+use std::alloc::{AllocError, Global};
+
+/// A list of the networks without their host bits, in the order that they came in.
+fn without_host_bits<N: Net>(alloc: Global, networks: &Vec<N>) -> Result<Vec<N>, AllocError>
+    ensures empty { networks.now.items ≡ [] → IsOk result }
+    ensures truncated { IfOk result (λ list. map N.network list.items ≡ map truncation (map N.network networks.now.items)) }
+{
+    let mut list = Vec::with_capacity(alloc, networks.len())?;
+    for network in networks {
+        list.push(network.truncated())?;
+    }
+    Ok(list)
+}
+
+/// Puts one network more on the stack that stands in the front of the list: a network that the topmost covers is
+/// left out, and as long as the topmost is its other half both are replaced by their supernet. Answers how many
+/// networks the stack has then.
+fn push_joined<N: Net>(list: &mut [N], stacked: usize, network: N) -> usize
+    requires room { stacked < length list.old }
+    requires settled { AreSettled (map N.network (take stacked list.old)) }
+    requires truncated { IsTruncated (N.network network) }
+    requires order { All (λ m. IsAtMost m (N.network network)) (map N.network (take stacked list.old)) }
+    ensures at_most { result ≤ stacked + 1 }
+    ensures pushed { IsPushed (map N.network (take stacked list.old)) (N.network network) (map N.network (take result list.new)) }
+    ensures rest { drop (stacked + 1) list.new ≡ drop (stacked + 1) list.old }
+{
+    if stacked > 0 && list[stacked - 1].covers(&network) {
+        return stacked;
+    }
+    let mut top = stacked;
+    let mut next = network;
+    while top > 0 && list[top - 1].is_other_half(&next) {
+        next = list[top - 1].joined();
+        top -= 1;
+    }
+    list[top] = next;
+    top + 1
+}
+
+/// Sweeps the networks of the list, which stand in order, onto a stack in its front. Answers how many networks the
+/// stack has at the end.
+fn sweep<N: Net>(list: &mut [N]) -> usize
+    requires truncated { All IsTruncated (map N.network list.old) }
+    requires order { IsInOrder (map N.network list.old) }
+    ensures at_most { result ≤ length list.old }
+    ensures swept { IsSwept (map N.network list.old) (length list.old) (map N.network (take result list.new)) }
+{
+    let mut stacked = 0;
+    for index in 0..list.len() {
+        let network = list[index];
+        stacked = push_joined(list, stacked, network);
+    }
+    stacked
+}
+
+/// The aggregate, in the one list that is made for it.
+fn aggregated<N: Net>(alloc: Global, networks: &Vec<N>) -> Result<Vec<N>, AllocError>
+    ensures aggregate { IfOk result (λ answer. IsAggregateOf (map N.network answer.items) (map N.network networks.now.items)) }
+    ensures addresses { IfOk result (λ answer. HaveSameCover (map N.network answer.items) (map N.network networks.now.items)) }
+{
+    let mut list = without_host_bits(alloc, networks)?;
+    list.sort_unstable();
+    let stacked = sweep(list.as_mut_slice());
+    list.truncate(stacked);
+    Ok(list)
+}
