@@ -15,3 +15,4 @@ pub mod CountLaws
 pub mod DigitLaws
 pub mod ArithmeticLaws
 pub mod RangeLaws
+pub mod CallLaws
