@@ -17,3 +17,4 @@ pub mod AggregateLaws
 pub mod CountLaws
 pub mod DigitLaws
 pub mod ArithmeticLaws
+pub mod RangeLaws
