@@ -1,6 +1,7 @@
 -- Lemmas that the proofs of this crate share.
 pub mod FrontLaws
 pub mod SubnetsLaws
+pub mod SubnetCountLaws
 pub mod NetLaws
 pub use Rattle.ipnet_base.proofs.BlockLaws
 pub mod NumberOctets
@@ -11,3 +12,6 @@ pub mod WholeTexts
 pub mod StrictTexts
 pub mod PrintedTexts
 pub mod PrintedDigits
+pub mod ZeroRuns
+pub mod LineLaws
+pub mod ReaderTurns
