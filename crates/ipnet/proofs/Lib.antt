@@ -15,3 +15,5 @@ pub mod PrintedDigits
 pub mod ZeroRuns
 pub mod LineLaws
 pub mod ReaderTurns
+pub use Rattle.ipnet_base.proofs.FamilyLaws
+pub use Rattle.ipnet_base.proofs.AggregateLaws

@@ -2,6 +2,7 @@
 #![tactic(auto)]
 
 pub mod program;
+pub mod tool;
 
 use std::process::ExitCode;
 
