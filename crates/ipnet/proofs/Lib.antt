@@ -1,5 +1,6 @@
 -- Lemmas that the proofs of this crate share.
 pub mod FrontLaws
+pub mod AnswerLaws
 pub mod SubnetsLaws
 pub mod NetLaws
 pub use Rattle.ipnet_base.proofs.BlockLaws

@@ -1,11 +1,12 @@
-//! The aggregate of a list of networks: the shortest list of networks over the same addresses.
-ghost use Rattle.std.specs.Prelude.{◌≡◌, ◌↔◌, ◌+◌, ◌<◌, ◌≤◌, List, [], map, take, drop, length, All, IfOk, IsOk};
+//! Aggregates: the shortest list of networks over the addresses of a list, and lists compared by what they cover.
+ghost use Rattle.std.specs.Prelude.{◌≡◌, ◌↔◌, ◌+◌, ◌<◌, ◌≤◌, List, [], map, take, drop, length, All, Contains, IfOk, IsOk, IsOkAnd, IsTrue};
 ghost use Rattle.ipnet_base.specs.Network.{Network, IsNetwork, IsTruncated, truncation};
-ghost use Rattle.ipnet_base.specs.Blocks.{HaveSameCover, IsAggregateOf};
-ghost use Rattle.ipnet_base.proofs.NeighbourLaws.{AreSettled};
+ghost use Rattle.ipnet_base.specs.Blocks.{IsCoveredBy, HaveSameCover, IsAggregateOf, IsShortestCover, ArePairwiseDisjoint, AreAggregatedNeighbours};
+ghost use Rattle.ipnet_base.proofs.NeighbourLaws.{AreSettled, LiesBefore};
 ghost use Rattle.ipnet_base.proofs.StackLaws.{IsAtMost, IsInOrder, IsPushed, IsSwept};
+ghost use Rattle.ipnet.specs.NetworkOf.{ipv4_network, ipv6_network, ip_network};
 
-use crate::net::Net;
+use crate::net::{IpNet, Net};
 use std::alloc::{AllocError, Global};
 
 /// A list of the networks without their host bits, in the order that they came in.
@@ -63,12 +64,35 @@ fn sweep<N: Net>(list: &mut [N]) -> usize
 
 /// The aggregate, in the one list that is made for it.
 fn aggregated<N: Net>(alloc: Global, networks: &Vec<N>) -> Result<Vec<N>, AllocError>
+    ensures empty { networks.now.items ≡ [] → IsOkAnd result (λ answer. answer.items ≡ []) }
     ensures aggregate { IfOk result (λ answer. IsAggregateOf (map N.network answer.items) (map N.network networks.now.items)) }
     ensures addresses { IfOk result (λ answer. HaveSameCover (map N.network answer.items) (map N.network networks.now.items)) }
+    ensures disjoint { IfOk result (λ answer. ArePairwiseDisjoint (map N.network answer.items)) }
+    ensures shortest { IfOk result (λ answer. IsShortestCover (IsCoveredBy (map N.network networks.now.items)) 0 (map N.network answer.items)) }
+    ensures no_longer { IfOk result (λ answer. length answer.items ≤ length networks.now.items) }
+    ensures only { IfOk result (λ answer. (other : List Network) → IsAggregateOf other (map N.network networks.now.items) → other ≡ map N.network answer.items) }
+    ensures canonical { IfOk result (λ answer. (others : List Network) → All IsNetwork others
+        → IsAggregateOf (map N.network answer.items) others ↔ HaveSameCover others (map N.network networks.now.items)) }
+    ensures unordered { IfOk result (λ answer. (others : List Network)
+        → ((n : Network) → Contains (map truncation others) n ↔ Contains (map truncation (map N.network networks.now.items)) n) → IsAggregateOf (map N.network answer.items) others) }
+    ensures again { IfOk result (λ answer. IsAggregateOf (map N.network answer.items) (map N.network answer.items)) }
 {
     let mut list = without_host_bits(alloc, networks)?;
     list.sort_unstable();
     let stacked = sweep(list.as_mut_slice());
     list.truncate(stacked);
     Ok(list)
+}
+
+/// Whether every address of the first network comes before the second: the first is an IPv4 network and the second
+/// an IPv6 one, or the second starts behind the last address of the first.
+fn lies_before(first: &IpNet, second: &IpNet) -> bool
+    ensures { IsTrue result ↔ LiesBefore (ip_network first.now) (ip_network second.now) }
+{
+    match (first, second) {
+        (IpNet::V4(first), IpNet::V4(second)) => first.last_number() < second.number(),
+        (IpNet::V4(_), IpNet::V6(_)) => true,
+        (IpNet::V6(_), IpNet::V4(_)) => false,
+        (IpNet::V6(first), IpNet::V6(second)) => first.last_number() < second.number(),
+    }
 }

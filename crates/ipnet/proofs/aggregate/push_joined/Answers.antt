@@ -19,7 +19,7 @@ returns-then-covers-clause-pushed g c =
     let size : length stack ≡ n = front_length net xs n within in
     let in_stack : Contains stack (net t) = (length stack - 1, omega (arith, size), front_last net xs n t some within c.index-list-stacked.is (net t)) in
     let sub : IsSubnetOf (net c.args.network) (net t) =
-        subst (λ z. IsSubnetOf (net c.args.network) (net z)) (sym c.index-list-stacked.is) (true_gives c.covers.result c.covers.ensures c.if-covers.true) in
+    subst (λ z. IsSubnetOf (net c.args.network) (net z)) (sym c.index-list-stacked.is) (true_gives c.covers.result c.covers.ensures c.if-covers.true) in
     pushed_covered stack (net c.args.network) (net t) c.requires.settled c.requires.order in_stack sub
 
 pub loop-top-init : goal.loop-top-init
@@ -54,9 +54,9 @@ loop-top-preserved g c =
     let within : n ≤ length xs = omega arith in
     let some : 0 < n = omega arith in
     let halves : AreHalves (net t) (net c.loop-top.next) =
-        subst (λ z. AreHalves (net z) (net c.loop-top.next)) (sym c.index-list-top.is) (true_gives c.is_other_half.result c.is_other_half.ensures c.if-is_other_half.true) in
+    subst (λ z. AreHalves (net z) (net c.loop-top.next)) (sym c.index-list-top.is) (true_gives c.is_other_half.result c.is_other_half.ensures c.if-is_other_half.true) in
     let same : get_or xs (n - 1) c.index-list-top-in-loop-top.result ≡ t =
-        at_place xs (n - 1) c.index-list-top-in-loop-top.result t (omega arith) ∙ sym c.index-list-top.is in
+    at_place xs (n - 1) c.index-list-top-in-loop-top.result t (omega arith) ∙ sym c.index-list-top.is in
     let supernet : IsSupernetOf (net c.joined-next.result) (net t) = subst (λ z. IsSupernetOf (net c.joined-next.result) (net z)) same c.joined-next.ensures in
     record {
       at_most = omega arith;
