@@ -2,5 +2,6 @@
 pub mod FrontLaws
 pub mod AnswerLaws
 pub mod SubnetsLaws
+pub mod SubnetCountLaws
 pub mod NetLaws
 pub use Rattle.ipnet_base.proofs.BlockLaws
