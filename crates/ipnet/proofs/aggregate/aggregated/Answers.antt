@@ -3,10 +3,10 @@ use Rattle.std.proofs.lemmas.List.{length-map}
 use Rattle.ipnet_base.specs.Network.{Network, IsNetwork, IsTruncated}
 use Rattle.ipnet_base.proofs.NeighbourLaws.{AreSettled}
 use Rattle.ipnet_base.proofs.SupernetLaws.{same_blocks_iff_same_cover}
-use Rattle.ipnet_base.proofs.AggregateLaws.{IsShortestCover-of_aggregate, aggregate_apart, aggregate_no_longer, aggregate_of_aggregate, aggregate_of_same_cover, IsAggregateOf-unique, HaveSameCover-sym}
+use Rattle.ipnet_base.proofs.AggregateLaws.{IsShortestCover-of_aggregate, aggregate_apart, aggregate_no_longer, aggregate_of_aggregate, aggregate_of_same_truncations, IsAggregateOf-unique}
 use Rattle.ipnet_base.proofs.StackLaws.{IsInOrder, IsSwept, swept_whole, all_truncated, in_order_from_sort}
 use Rattle.ipnet.proofs.FrontLaws.{front_kept}
-use Rattle.ipnet.proofs.AnswerLaws.{All-read, aggregate_from_stack, cover_same_truncations}
+use Rattle.ipnet.proofs.AnswerLaws.{All-read, aggregate_from_stack}
 use Rattle.ipnet.proofs.aggregate.aggregated.Goals as goal
 
 pub sweep-stacked-requires-clause-truncated : goal.sweep-stacked-requires-clause-truncated
@@ -79,8 +79,7 @@ pub returns-clause-unordered : goal.returns-clause-unordered
 returns-clause-unordered g c others same =
     let net = g.N.Net.network in
     let given = map net c.args.networks.now.items in
-    aggregate_of_same_cover given others (map net c.truncate.new.self.items)
-    (HaveSameCover-sym others given (cover_same_truncations others given same)) (returns-clause-aggregate g c)
+    (aggregate_of_same_truncations given others (map net c.truncate.new.self.items) (λ n. ((same n).1, (same n).0))).0 (returns-clause-aggregate g c)
 
 pub returns-clause-again : goal.returns-clause-again
 returns-clause-again g c =
