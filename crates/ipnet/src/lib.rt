@@ -4,7 +4,9 @@
 pub mod aggregate;
 pub mod net;
 pub mod parser;
+pub mod print;
 pub mod subnets;
+pub mod text_laws;
 
 pub use net::{IpNet, Ipv4Net, Ipv6Net};
 pub use subnets::{IpSubnets, Ipv4Subnets, Ipv6Subnets};

@@ -1,23 +1,16 @@
 -- Aggregates of lists: the four conditions on neighbours, the shortest cover, equal answers and equal covers.
-use Rattle.std.proofs.Common.{◌≡◌, ◌+◌, ◌^◌, ◌<◌, ◌≤◌, ◌⊎◌, ◌↔◌, List, ◌∷◌, length, get_or, map, Contains, All, refl, sym, ap, subst, arith, inl, inr}
+use Rattle.std.proofs.Common.{◌≡◌, ◌+◌, ◌^◌, ◌<◌, ◌≤◌, ◌⊎◌, ◌↔◌, List, ◌∷◌, length, get_or, map, Contains, All, sym, ap, subst, arith, inl, inr}
 use Rattle.std.proofs.lemmas.Bool.{cases_lt}
-use Rattle.ipnet_base.specs.Address.{Family, Address, IsAddress, IPv4, IPv6, width, family_index}
+use Rattle.ipnet_base.specs.Address.{Address, IsAddress, width, family_index}
 use Rattle.ipnet_base.specs.Network.{Network, IsNetwork, InBlock, IsSubnetOf, AreHalves, IsSupernetOf, truncation}
 use Rattle.ipnet_base.specs.Blocks.{IsCoveredBy, HaveSameCover, IsExactCover, IsShortestCover, ArePairwiseDisjoint, IsAggregateOf, AreAggregatedNeighbours}
 use Rattle.ipnet_base.proofs.BlockLaws.{between_from_block, last_fits, supernet_to_halves, halves_to_supernet}
 use Rattle.ipnet_base.proofs.ListLaws.{contains_here, contains_there, contains_cases, any_from_contains, all_at}
-use Rattle.ipnet_base.proofs.UniqueLaws.{AreMaximalBlocks-unique}
+use Rattle.ipnet_base.proofs.UniqueLaws.{AreMaximalBlocks-unique, same_family_from_index}
 use Rattle.ipnet_base.proofs.NeighbourLaws.{LiesBefore, AreSettled, AreMaximalBlocks-from_neighbours}
 use Rattle.ipnet_base.proofs.SupernetLaws.{IsDecided-cover, blocks_cover, AreMaximalBlocks-same_set, neighbours_from_blocks}
 use Rattle.ipnet_base.proofs.StackLaws.{cover_truncation}
 use Rattle.ipnet_base.proofs.CoverLaws.{IsExactCover-of_maximal, IsShortestCover-of_maximal, maximal_blocks_apart}
-
--- the place of a family in the order tells the family
-pub same_family_from_index : (f g : Family) → family_index f ≡ family_index g → f ≡ g
-same_family_from_index IPv4 IPv4 e = refl
-same_family_from_index IPv4 IPv6 e = absurd (omega (arith, e))
-same_family_from_index IPv6 IPv4 e = absurd (omega (arith, e))
-same_family_from_index IPv6 IPv6 e = refl
 
 -- the four conditions are the three that lemmas take
 pub AreSettled-from_neighbours : (networks : List Network) → AreAggregatedNeighbours networks → AreSettled networks

@@ -32,19 +32,19 @@ value_below r (x ∷ xs) h =
 cmp_first : (x y p u v : ℕ) → u < p → v < p → ordering_then (nat_cmp x y) (nat_cmp u v) ≡ nat_cmp (x * p + u) (y * p + v)
 cmp_first x y p u v hu hv = elim (cases_lt x y) [
   | inl lt ↦
-    let low = mul-add-lt x p u y lt hu in
-    let turned = mul_comm p y in
-    let below : x * p + u < y * p + v = omega (arith, low, turned) in
-    grind (arith, nat_tests)
+      let low = mul-add-lt x p u y lt hu in
+      let turned = mul_comm p y in
+      let below : x * p + u < y * p + v = omega (arith, low, turned) in
+      grind (arith, nat_tests)
   | inr ge ↦ elim (cases_lt y x) [
     | inl gt ↦
-      let low = mul-add-lt y p v x gt hv in
-      let turned = mul_comm p x in
-      let below : y * p + v < x * p + u = omega (arith, low, turned) in
-      grind (arith, nat_tests)
+        let low = mul-add-lt y p v x gt hv in
+        let turned = mul_comm p x in
+        let below : y * p + v < x * p + u = omega (arith, low, turned) in
+        grind (arith, nat_tests)
     | inr le ↦
-      let e : x ≡ y = omega arith in
-      rw e (grind (arith, nat_tests))
+        let e : x ≡ y = omega arith in
+        rw e (grind (arith, nat_tests))
   ]
 ]
 

@@ -17,3 +17,5 @@ pub mod AggregateLaws
 pub mod CountLaws
 pub mod DigitLaws
 pub mod ArithmeticLaws
+pub mod RangeLaws
+pub mod CallLaws

@@ -6,7 +6,15 @@ ghost use Rattle.std.specs.Net.Addr.{ipv4_bits, ipv6_bits};
 ghost use Rattle.ipnet_base.specs.Address.{IPv4, IPv6};
 ghost use Rattle.ipnet_base.specs.Arithmetic.{saturating_sum, saturating_difference, IsBitwiseAnd, IsBitwiseOr};
 
+mod ip_range;
+mod ipv4_range;
+mod ipv6_range;
+pub mod range_laws;
+
 use crate::addr::{Ipv4Addr, Ipv6Addr, ipv4_from_number, ipv6_from_number};
+pub use ip_range::IpAddrRange;
+pub use ipv4_range::Ipv4AddrRange;
+pub use ipv6_range::Ipv6AddrRange;
 
 /// Sums that are held at the greatest address.
 ///

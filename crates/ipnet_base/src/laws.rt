@@ -82,23 +82,18 @@ pub fn supernet_is_its_two_halves()
 pub fn siblings_are_symmetric()
     ensures symmetric { (n k : Network) → AreSiblings n k → AreSiblings k n }
     ensures own { (n : Network) → 0 < n.prefix_len → AreSiblings n n }
-{
-}
+{}
 
 /// The netmask and the host mask of a length add up to the family's last number.
 pub fn masks_add_up()
-    ensures {
-        (f : Family) (prefix_len : ℕ) → prefix_len ≤ width f
-            → netmask_number f prefix_len + hostmask_number f prefix_len ≡ greatest_number f
-    }
-{
-}
+    ensures { (f : Family) (prefix_len : ℕ) → prefix_len ≤ width f
+        → netmask_number f prefix_len + hostmask_number f prefix_len ≡ greatest_number f }
+{}
 
 /// A number is the netmask of one length at most.
 pub fn netmask_has_one_length()
     ensures { (f : Family) (number p q : ℕ) → IsNetmaskOf f number p → IsNetmaskOf f number q → p ≡ q }
-{
-}
+{}
 
 /// The order of networks is strict and total.
 pub fn order_is_strict_and_total()
@@ -173,18 +168,13 @@ pub fn aggregate_of_an_aggregate()
 /// Two lists have equal aggregates exactly where they cover the same addresses; so the aggregate of the one is that of
 /// the other exactly there.
 pub fn equal_aggregates_are_equal_covers()
-    ensures equal {
-        (networks others answer other : List Network) → All IsNetwork networks → All IsNetwork others
-            → IsAggregateOf answer networks → IsAggregateOf other others
-            → (answer ≡ other) ↔ HaveSameCover networks others
-    }
-    ensures shared {
-        (networks others answer : List Network) → All IsNetwork networks → All IsNetwork others
-            → IsAggregateOf answer networks
-            → IsAggregateOf answer others ↔ HaveSameCover others networks
-    }
-{
-}
+    ensures equal { (networks others answer other : List Network) → All IsNetwork networks → All IsNetwork others
+        → IsAggregateOf answer networks → IsAggregateOf other others
+        → (answer ≡ other) ↔ HaveSameCover networks others }
+    ensures shared { (networks others answer : List Network) → All IsNetwork networks → All IsNetwork others
+        → IsAggregateOf answer networks
+        → IsAggregateOf answer others ↔ HaveSameCover others networks }
+{}
 
 /// Order, repeats and host bits of a list do not change its aggregate: lists with the same truncated members have the
 /// same aggregate.

@@ -8,5 +8,5 @@ pub mod ipext;
 pub mod mask;
 
 pub use addr::{IpAddr, Ipv4Addr, Ipv6Addr};
-pub use ipext::{IpAdd, IpBitAnd, IpBitOr, IpSub};
+pub use ipext::{IpAdd, IpAddrRange, IpBitAnd, IpBitOr, IpSub, Ipv4AddrRange, Ipv6AddrRange};
 pub use mask::{PrefixLenError, ip_mask_to_prefix, ipv4_mask_to_prefix, ipv6_mask_to_prefix};
