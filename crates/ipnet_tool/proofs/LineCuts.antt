@@ -1,5 +1,5 @@
 -- The first line of a text, as `split_once` cuts it.
-use Rattle.std.proofs.Common.{◌≡◌, ℕ, ◌+◌, ◌<◌, Bool, true, false, List, [], ◌∷◌, length, get_or, take, drop, ◌==◌, sym, ap, ◌∙◌, subst, arith, add-one, eq-eqb, eqb-true}
+use Rattle.std.proofs.Common.{◌≡◌, ℕ, zero, suc, refl, ◌+◌, ◌<◌, Bool, true, false, List, [], ◌∷◌, length, get_or, take, drop, ◌==◌, sym, ap, ◌∙◌, subst, arith, add-one, eq-eqb, eqb-true}
 use Rattle.std.specs.List.{position_or_len, before_first, after_first}
 use Rattle.std.proofs.lemmas.List.Sums.{fails_before_first, passes_at_first}
 use Rattle.ipnet.specs.Lines.{lines_of}
@@ -26,3 +26,15 @@ first_cut text within =
 -- a text with no end of line, that is not empty, is one line
 pub no_cut : (text : List ℕ) → 0 < length text → position_or_len (λ b. b == 10) text ≡ length text → lines_of text ≡ text ∷ []
 no_cut text some none = last_line text some (λ k less e. none_before text k (omega (arith, none)) e)
+
+-- what the test for no bytes says
+pub some_bytes : (n : ℕ) → false ≡ (n == 0) → 0 < n
+some_bytes zero e = let clash : false ≡ true = e in absurd cc
+some_bytes (suc n) e = omega arith
+
+pub no_bytes : (n : ℕ) → true ≡ (n == 0) → n ≡ 0
+no_bytes n e = eqb-true n 0 (sym e)
+
+pub empty_text : (text : List ℕ) → length text ≡ 0 → text ≡ []
+empty_text [] e = refl
+empty_text (b ∷ text) e = absurd (omega arith)

@@ -2,6 +2,7 @@
 ghost use Rattle.std.specs.Prelude.{◌≡◌, ℕ, ◌<◌, [], ◌∷◌, List, ◌++◌, length, All, Err, IfOk, IsOkAnd, OnOk, string_bytes};
 ghost use Rattle.ipnet.specs.Network.{Network};
 ghost use Rattle.ipnet.specs.Blocks.{HaveSameCover, IsAggregateOf};
+ghost use Rattle.ipnet.specs.CanonicalTexts.{canonical_text};
 ghost use Rattle.ipnet.specs.Grammar.{Strict, Legacy};
 ghost use Rattle.ipnet.specs.Lines.{lines_of, AreNetworksOf, IsGoodLine, IsFirstBadLine};
 ghost use Rattle.ipnet.specs.NetworkOf.{ip_network};
@@ -177,12 +178,18 @@ fn printed(alloc: Global, families: &Families) -> Result<String, AllocError>
 {
     let mut text = String::new(alloc);
     for network in &families.ipv4 {
-        text.push_str(network.to_text().as_str())?;
-        text.push_str("\n")?;
+        push_line(&mut text, IpNet::V4(*network))?;
     }
     for network in &families.ipv6 {
-        text.push_str(network.to_text().as_str())?;
-        text.push_str("\n")?;
+        push_line(&mut text, IpNet::V6(*network))?;
     }
     Ok(text)
+}
+
+/// Puts the line of one network more behind the text.
+fn push_line(text: &mut String, network: IpNet) -> Result<(), AllocError>
+    ensures { OnOk result (string_bytes text.new ≡ (string_bytes text.old ++ canonical_text (ip_network network)) ++ 10 ∷ []) }
+{
+    text.push_str(network.to_text().as_str())?;
+    text.push_str("\n")
 }
