@@ -19,3 +19,4 @@ pub mod LineLaws
 pub mod ReaderTurns
 pub use Rattle.ipnet_base.proofs.FamilyLaws
 pub use Rattle.ipnet_base.proofs.AggregateLaws
+pub use Rattle.ipnet_base.proofs.WalkLaws

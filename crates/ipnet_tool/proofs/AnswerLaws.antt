@@ -1,5 +1,5 @@
 -- The networks of a text by family, their aggregates, and the text of these.
-use Rattle.std.proofs.Common.{◌≡◌, ℕ, ◌+◌, ◌<◌, ◌↔◌, ◌⊎◌, inl, inr, subst, take, List, [], ◌∷◌, ◌++◌, All, map, length, get_or, refl, sym, ap, ◌∙◌, append_assoc, append-nil}
+use Rattle.std.proofs.Common.{◌≡◌, ℕ, arith, ◌+◌, ◌<◌, ◌↔◌, ◌⊎◌, inl, inr, subst, take, List, [], ◌∷◌, ◌++◌, All, map, length, get_or, refl, sym, ap, ◌∙◌, append_assoc, append-nil}
 use Rattle.std.proofs.lemmas.List.Elements.{All-map}
 use Rattle.std.proofs.lemmas.List.{map_push, take_more}
 use Rattle.ipnet.specs.Address.{Address, IPv4, IPv6}
@@ -10,7 +10,12 @@ use Rattle.ipnet.specs.NetworkOf.{ipv4_network, ipv6_network}
 use Rattle.ipnet.specs.declared.net.ipv4_net.Ipv4Net.{Ipv4Net}
 use Rattle.ipnet.specs.declared.net.ipv6_net.Ipv6Net.{Ipv6Net}
 use Rattle.ipnet.proofs.FamilyLaws.{IsAggregateOf-append, cover_append, cover_append_left, cover_append_right, cover_append_cases}
-use Rattle.ipnet_tool.specs.Answers.{text_of_lines}
+use Rattle.ipnet.proofs.AggregateLaws.{aggregate_of_same_cover, HaveSameCover-sym}
+use Rattle.ipnet.proofs.LineLaws.{no_lines}
+use Rattle.ipnet.proofs.WalkLaws.{AreMaximalBlocks-nil}
+use Rattle.ipnet.specs.Grammar.{Grammar}
+use Rattle.ipnet.specs.Lines.{lines_of, AreNetworksOf}
+use Rattle.ipnet_tool.specs.Answers.{IsAnswerTo, text_of_lines}
 
 -- the text of two lists of networks, one behind the other
 pub text_of_lines-append : (networks others : List Network) → text_of_lines (networks ++ others) ≡ text_of_lines networks ++ text_of_lines others
@@ -90,3 +95,24 @@ one_line_more network_of front items i item text new less is so_far pushed =
     ∙ ap (λ z. z ++ 10 ∷ []) (append_assoc front (text_of_lines (map network_of (take i items))) (canonical_text (network_of item)))
     ∙ append_assoc front (text_of_lines (map network_of (take i items)) ++ canonical_text (network_of item)) (10 ∷ [])
     ∙ ap (λ z. front ++ z) (sym (ap text_of_lines more ∙ text_of_lines-push (map network_of (take i items)) (network_of item)))
+
+-- a text with no byte has the empty answer
+pub empty_answer : (grammar : Grammar) (text answer : List ℕ) → length text ≡ 0 → answer ≡ [] → IsAnswerTo grammar text answer
+empty_answer grammar text answer none empty = record {
+  networks = [];
+  written = no_lines grammar text none;
+  blocks = [];
+  aggregate = AreMaximalBlocks-nil (IsCoveredBy []) 0 (λ x h. omega (arith, h.2));
+  spelled = empty;
+}
+
+-- the text of the aggregate of networks that cover what the lines' networks cover is the answer
+pub answer_from : (grammar : Grammar) (text answer : List ℕ) (networks families blocks : List Network) → AreNetworksOf grammar (lines_of text) networks
+    → HaveSameCover networks families → IsAggregateOf blocks families → answer ≡ text_of_lines blocks → IsAnswerTo grammar text answer
+answer_from grammar text answer networks families blocks written same aggregate spelled = record {
+  networks = networks;
+  written = written;
+  blocks = blocks;
+  aggregate = aggregate_of_same_cover families networks blocks (HaveSameCover-sym networks families same) aggregate;
+  spelled = spelled;
+}

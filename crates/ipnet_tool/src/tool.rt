@@ -65,7 +65,7 @@ pub fn aggregate_text_legacy(alloc: Global, text: &str) -> Result<String, ToolEr
 
 /// The grammar by which lines are read.
 #[derive(Clone, Copy)]
-enum Reading {
+pub(crate) enum Reading {
     Strict,
     Legacy,
 }
@@ -78,7 +78,7 @@ struct Families {
 }
 
 /// The answer, in the grammar that is asked for.
-fn answer_to(alloc: Global, text: &str, reading: Reading) -> Result<String, ToolError>
+pub(crate) fn answer_to(alloc: Global, text: &str, reading: Reading) -> Result<String, ToolError>
     ensures empty { text.now ≡ [] → IsOkAnd result (λ answer. string_bytes answer ≡ []) }
     ensures answer { IfOk result (λ answer. IsAnswerTo (grammar_of reading) text.now (string_bytes answer)) }
     ensures no_bad_line { OnOk result (All (IsGoodLine (grammar_of reading)) (lines_of text.now)) }
