@@ -3,13 +3,13 @@ ghost use Rattle.std.specs.Prelude.{◌≡◌, ◌<◌, ◌≤◌, ◌⊎◌, �
 ghost use Rattle.std.specs.declared.cmp.Ordering.TheVariants.{Less};
 ghost use Rattle.ipnet_base.specs.Address.{width, ip_address};
 ghost use Rattle.ipnet_base.specs.Network.{Network, IsNetwork, InBlock, IsSubnetOf, IsLeastOf, IsGreatestOf, AreSiblings, AreHalves, IsBefore, IsTruncationOf, IsSupernetOf, truncation};
-ghost use Rattle.ipnet.specs.NetworkParts.{network_at, own_address, netmask, hostmask, HasAddressAndNetmask, AreSubnetsOfLength};
+ghost use Rattle.ipnet.specs.NetworkParts.{network_at, own_address, netmask, hostmask, HasAddressAndNetmask, AreSubnetsOfLength, IsHostRange};
 
 mod ipv4_net;
 mod ipv6_net;
 
 use crate::subnets::IpSubnets;
-use ipnet_base::{IpAddr, PrefixLenError, ip_mask_to_prefix};
+use ipnet_base::{IpAddr, IpAddrRange, PrefixLenError, ip_mask_to_prefix};
 pub use ipv4_net::Ipv4Net;
 pub use ipv6_net::Ipv6Net;
 
@@ -67,6 +67,7 @@ pub enum IpNet {
 
 impl IpNet {
     ghost use Rattle.ipnet.specs.NetworkOf.{ip_network};
+    ghost use Rattle.ipnet_base.specs.RangeOf.{ip_range};
     ghost use Rattle.ipnet.specs.SubnetsLeft.{ip_subnets_left};
 
     /// The network of the address and the length; the address keeps its host bits.
@@ -245,6 +246,21 @@ impl IpNet {
             (IpNet::V4(net), IpNet::V4(other)) => net.is_sibling(other),
             (IpNet::V6(net), IpNet::V6(other)) => net.is_sibling(other),
             _ => false,
+        }
+    }
+
+    /// The addresses that hosts may have: all of the block, but in an IPv4 network of a length below 31 neither its
+    /// least nor its greatest address (RFC 3021).
+    ///
+    /// ```text
+    /// 10.0.0.0/30: 10.0.0.1, 10.0.0.2; 10.0.0.0/31: 10.0.0.0, 10.0.0.1; fd00::/127: fd00::, fd00::1
+    /// ```
+    pub fn hosts(&self) -> IpAddrRange
+        ensures { IsHostRange (ip_network self.now) (ip_range result) }
+    {
+        match self {
+            IpNet::V4(net) => IpAddrRange::V4(net.hosts()),
+            IpNet::V6(net) => IpAddrRange::V6(net.hosts()),
         }
     }
 

@@ -2,11 +2,11 @@ ghost use Rattle.std.specs.Prelude.{◌≡◌, ◌-◌, ◌*◌, ◌/◌, ◌^�
 ghost use Rattle.std.specs.Net.Addr.{ipv6_bits};
 ghost use Rattle.ipnet_base.specs.Address.{IPv6, width, ipv6_address};
 ghost use Rattle.ipnet_base.specs.Network.{Network, IsLeastOf, IsGreatestOf, IsSubnetOf, InBlock, IsSupernetOf, AreSiblings, IsTruncationOf};
-ghost use Rattle.ipnet.specs.NetworkParts.{address_at, network_at, own_address, netmask, hostmask, HasAddressAndNetmask, AreSubnetsOfLength};
+ghost use Rattle.ipnet.specs.NetworkParts.{address_at, network_at, own_address, netmask, hostmask, HasAddressAndNetmask, AreSubnetsOfLength, IsHostRange};
 
 use super::{Contains, Net};
 use crate::subnets::Ipv6Subnets;
-use ipnet_base::{Ipv6Addr, PrefixLenError, ipv6_mask_to_prefix};
+use ipnet_base::{Ipv6Addr, Ipv6AddrRange, PrefixLenError, ipv6_mask_to_prefix};
 
 /// An IPv6 network: an address, with its host bits, and a prefix length of at most 128.
 ///
@@ -50,6 +50,7 @@ fn address_of(number: u128) -> Ipv6Addr
 impl Ipv6Net {
     ghost use Rattle.ipnet_base.proofs.BlockLaws.{last_of};
     ghost use Rattle.ipnet.specs.NetworkOf.{ipv6_network, ipv6_network_of};
+    ghost use Rattle.ipnet_base.specs.RangeOf.{ipv6_range};
     ghost use Rattle.ipnet.specs.SubnetsLeft.{ipv6_subnets_left};
 
     /// The network of the address and the length; the address keeps its host bits.
@@ -199,6 +200,17 @@ impl Ipv6Net {
             return false;
         }
         self.leading_number(len - 1) == other.leading_number(len - 1)
+    }
+
+    /// The addresses that hosts may have: all of the block.
+    ///
+    /// ```text
+    /// fd00::/126: fd00::, fd00::1, fd00::2, fd00::3
+    /// ```
+    pub fn hosts(&self) -> Ipv6AddrRange
+        ensures { IsHostRange (ipv6_network self.now) (ipv6_range result) }
+    {
+        Ipv6AddrRange::new(self.network(), self.broadcast())
     }
 
     /// The walk over all networks of this length in the block, ascending; there are 2^(new - own length) of them.
