@@ -145,9 +145,9 @@ IsHostRange-whole n hosts low high f none l g start end = record {
   family = f;
   inner = λ reserved. absurd (none reserved);
   whole = λ _ x y p q. (
-      start ∙ first_from_least n low l ∙ sym (first_from_least n x p),
-      end ∙ last_from_greatest n high g ∙ sym (last_from_greatest n y q),
-    );
+    start ∙ first_from_least n low l ∙ sym (first_from_least n x p),
+    end ∙ last_from_greatest n high g ∙ sym (last_from_greatest n y q),
+  );
 }
 
 pub IsHostRange-inner : (n : Network) (hosts : AddressRange) → hosts.family ≡ n.family → HasReservedEnds n

@@ -7,6 +7,7 @@ ghost use Rattle.ipnet.specs.NetworkParts.{network_at, own_address, netmask, hos
 
 mod ipv4_net;
 mod ipv6_net;
+pub mod laws;
 
 use crate::subnets::IpSubnets;
 use ipnet_base::{IpAddr, IpAddrRange, PrefixLenError, ip_mask_to_prefix};
@@ -339,22 +340,22 @@ impl Default for IpNet {
 impl From<Ipv4Net> for IpNet {
     ghost use Rattle.ipnet.specs.NetworkOf.{ip_network, ipv4_network};
 
-    ghost from_gives = { λ net n. ip_network n ≡ ipv4_network net };
+    ghost from_gives = { λ network n. ip_network n ≡ ipv4_network network };
 
     /// The same network.
-    fn from(net: Ipv4Net) -> IpNet {
-        IpNet::V4(net)
+    fn from(network: Ipv4Net) -> IpNet {
+        IpNet::V4(network)
     }
 }
 
 impl From<Ipv6Net> for IpNet {
     ghost use Rattle.ipnet.specs.NetworkOf.{ip_network, ipv6_network};
 
-    ghost from_gives = { λ net n. ip_network n ≡ ipv6_network net };
+    ghost from_gives = { λ network n. ip_network n ≡ ipv6_network network };
 
     /// The same network.
-    fn from(net: Ipv6Net) -> IpNet {
-        IpNet::V6(net)
+    fn from(network: Ipv6Net) -> IpNet {
+        IpNet::V6(network)
     }
 }
 

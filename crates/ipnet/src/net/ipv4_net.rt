@@ -109,7 +109,7 @@ impl Ipv4Net {
     pub fn max_prefix_len(&self) -> u8
         ensures { result ≡ width (ipv4_network self.now).family }
     {
-        32
+        u32::BITS as u8
     }
 
     /// The netmask: as many ones as the prefix length says, followed by zeros (RFC 4632, section 3.1).
@@ -368,7 +368,7 @@ impl Net for Ipv4Net {
     }
 
     fn joined(&self) -> Ipv4Net {
-        let len = self.leading_bits() - 1;
-        Ipv4Net::from_number(self.leading_number(len), len)
+        let shorter = self.leading_bits() - 1;
+        Ipv4Net::from_number(self.leading_number(shorter), shorter)
     }
 }

@@ -111,7 +111,7 @@ impl Ipv6Net {
     pub fn max_prefix_len(&self) -> u8
         ensures { result ≡ width (ipv6_network self.now).family }
     {
-        128
+        u128::BITS as u8
     }
 
     /// The netmask: as many ones as the prefix length says, followed by zeros (RFC 4632, section 3.1).
@@ -367,7 +367,7 @@ impl Net for Ipv6Net {
     }
 
     fn joined(&self) -> Ipv6Net {
-        let len = self.leading_bits() - 1;
-        Ipv6Net::from_number(self.leading_number(len), len)
+        let shorter = self.leading_bits() - 1;
+        Ipv6Net::from_number(self.leading_number(shorter), shorter)
     }
 }
