@@ -5,6 +5,7 @@ pub mod EqualLaws
 pub mod SubnetsLaws
 pub mod SubnetCountLaws
 pub mod NetLaws
+pub mod NetOrderLaws
 pub use Rattle.ipnet_base.proofs.BlockLaws
 pub mod NumberOctets
 pub mod DigitTexts
