@@ -1,5 +1,9 @@
 -- Lemmas that the proofs of this crate share.
+pub mod FrontLaws
+pub mod AnswerLaws
+pub mod EqualLaws
 pub mod SubnetsLaws
+pub mod SubnetCountLaws
 pub mod NetLaws
 pub use Rattle.ipnet_base.proofs.BlockLaws
 pub mod NumberOctets
@@ -12,3 +16,4 @@ pub mod PrintedTexts
 pub mod PrintedDigits
 pub mod ZeroRuns
 pub mod LineLaws
+pub mod ReaderTurns

@@ -10,36 +10,56 @@ use Rattle.ipnet_base.specs.Subnets.{SubnetRange, IsAdvancedPast, IsLargestSubne
 use Rattle.ipnet_base.proofs.BlockLaws.{last_of, last_in, at, between_from_block}
 use Rattle.ipnet_base.proofs.UniqueLaws.{AreMaximalBlocks-unique}
 use Rattle.ipnet_base.proofs.SupernetLaws.{AreMaximalBlocks-same_set}
+use Rattle.ipnet_base.proofs.CoverLaws.{IsShortestCover-of_range, maximal_blocks_apart}
+use Rattle.ipnet_base.proofs.CountLaws.{maximal_blocks_bound}
 use Rattle.ipnet_base.proofs.WalkLaws.{AreMaximalBlocks-nil, AreMaximalBlocks-step, FitsFrom, step_from_bits}
 use Rattle.ipnet_base.proofs.StepLaws.{IsMostBits, fits_by_counts, counts_by_fits}
+use Rattle.ipnet.specs.SubnetsLeft.{IsInRange, IsWalkOf, ipv4_subnet_range, ipv4_subnets_left, ipv4_subnets_left-are_blocks, ipv6_subnet_range, ipv6_subnets_left, ipv6_subnets_left-are_blocks}
+use Rattle.ipnet.specs.declared.subnets.ipv4_subnets.Ipv4Subnets.{Ipv4Subnets}
+use Rattle.ipnet.specs.declared.subnets.ipv6_subnets.Ipv6Subnets.{Ipv6Subnets}
 
--- the addresses of the range
-abbrev pub IsLeft : SubnetRange → Address → Type 0
-IsLeft range = IsBetween range.family range.start range.end
-
--- the list is what a walk of the range gives
+-- the list is the maximal blocks of the range
 abbrev pub AreLeft : SubnetRange → List Network → Type 0
-AreLeft range networks = AreMaximalBlocks (IsLeft range) range.min_prefix_len networks
+AreLeft range networks = AreMaximalBlocks (IsInRange range) range.min_prefix_len networks
+
+-- the maximal blocks of a range are all that a walk is to be
+pub IsWalkOf-from_blocks : (range : SubnetRange) (networks : List Network) → range.end < 2 ^ width range.family → range.min_prefix_len ≤ width range.family
+    → AreLeft range networks → IsWalkOf range networks
+IsWalkOf-from_blocks range networks end_fits short blocks = record {
+  blocks = blocks;
+  apart = maximal_blocks_apart (IsInRange range) range.min_prefix_len networks blocks;
+  shortest = IsShortestCover-of_range range.family range.start range.end range.min_prefix_len networks end_fits short blocks;
+  few = λ zero. maximal_blocks_bound range.family range.start range.end end_fits networks (subst (λ m. AreMaximalBlocks (IsInRange range) m networks) zero blocks);
+}
+
+pub ipv4_walk : (s : Ipv4Subnets) → IsWalkOf (ipv4_subnet_range s) (ipv4_subnets_left s)
+ipv4_walk s = IsWalkOf-from_blocks (ipv4_subnet_range s) (ipv4_subnets_left s) s.end_fits s.min_prefix_fits (ipv4_subnets_left-are_blocks s)
+
+pub ipv6_walk : (s : Ipv6Subnets) → IsWalkOf (ipv6_subnet_range s) (ipv6_subnets_left s)
+ipv6_walk s = IsWalkOf-from_blocks (ipv6_subnet_range s) (ipv6_subnets_left s) s.end_fits s.min_prefix_fits (ipv6_subnets_left-are_blocks s)
+
+-- the range by its parts
+abbrev pub range_of : Family → (start end min_prefix_len : ℕ) → SubnetRange
+range_of family start end min_prefix_len = record { family = family; start = start; end = end; min_prefix_len = min_prefix_len }
 
 -- the same said of the ends that the walk was given
-pub blocks_by_ends : (f : Family) (networks : List Network) (s e m start end min_prefix_len : ℕ) → s ≡ start → e ≡ end → m ≡ min_prefix_len
-    → AreMaximalBlocks (IsBetween f s e) m networks → AreMaximalBlocks (IsBetween f start end) min_prefix_len networks
-blocks_by_ends f networks s e m start end min_prefix_len p q r blocks =
-    subst (λ a. AreMaximalBlocks (IsBetween f a end) min_prefix_len networks) p
-    (subst (λ b. AreMaximalBlocks (IsBetween f s b) min_prefix_len networks) q
-    (subst (λ l. AreMaximalBlocks (IsBetween f s e) l networks) r blocks))
+pub walk_by_ends : (f : Family) (networks : List Network) (s e m start end min_prefix_len : ℕ) → s ≡ start → e ≡ end → m ≡ min_prefix_len
+    → IsWalkOf (range_of f s e m) networks → IsWalkOf (range_of f start end min_prefix_len) networks
+walk_by_ends f networks s e m start end min_prefix_len p q r walk =
+    let same : range_of f s e m ≡ range_of f start end min_prefix_len = λ i. record { family = f; start = p i; end = q i; min_prefix_len = r i } in
+    subst (λ range. IsWalkOf range networks) same walk
 
 -- an empty range has no blocks
 pub nothing_left : (range : SubnetRange) (networks : List Network) → AreLeft range networks → range.end < range.start → networks ≡ []
 nothing_left range networks blocks past =
-    AreMaximalBlocks-unique (IsLeft range) range.min_prefix_len networks [] blocks
-    (AreMaximalBlocks-nil (IsLeft range) range.min_prefix_len (λ x b. omega (arith, past, b.from_start, b.to_end)))
+    AreMaximalBlocks-unique (IsInRange range) range.min_prefix_len networks [] blocks
+    (AreMaximalBlocks-nil (IsInRange range) range.min_prefix_len (λ x b. omega (arith, past, b.from_start, b.to_end)))
 
 -- the block at the start of a range ends within it
 pub last_within : (range : SubnetRange) (n : Network) → IsLargestSubnetAt range.family range.start range.end range.min_prefix_len n
     → (range.start ≤ last_of n) × (last_of n ≤ range.end)
 last_within range n step =
-    let b : IsLeft range (at n (last_of n)) = step.candidate.inside.within (at n (last_of n)) (last_in n) in
+    let b : IsInRange range (at n (last_of n)) = step.candidate.inside.within (at n (last_of n)) (last_in n) in
     (b.from_start, b.to_end)
 
 greatest_above_zero : (f : Family) → 0 < greatest_number f
@@ -63,7 +83,7 @@ end_becomes old new last fits from to advanced =
 
 -- the stored ends after a block hold exactly what lies behind it
 left_behind : (old new : SubnetRange) (last : ℕ) → IsAdvancedPast last old new → EndBecomes old new last
-    → (x : Address) → IsLeft new x ↔ IsBetween old.family (last + 1) old.end x
+    → (x : Address) → IsInRange new x ↔ IsBetween old.family (last + 1) old.end x
 left_behind old new last advanced (inl h) x = (
   λ b. absurd (omega (arith, h, advanced.start, b.from_start, b.to_end, greatest_above_zero old.family)),
   λ b. absurd (omega (arith, h, b.from_start, b.to_end)),
@@ -79,10 +99,10 @@ pub left_advanced : (old new : SubnetRange) (n : Network) (networks rest : List 
     → AreLeft old networks → AreLeft new rest → networks ≡ n ∷ rest
 left_advanced old new n networks rest fits step advanced before after =
     let within = last_within old n step in
-    let behind : AreMaximalBlocks (IsLeft new) old.min_prefix_len rest = subst (λ m. AreMaximalBlocks (IsLeft new) m rest) advanced.min_prefix_len after in
-    AreMaximalBlocks-unique (IsLeft old) old.min_prefix_len networks (n ∷ rest) before
+    let behind : AreMaximalBlocks (IsInRange new) old.min_prefix_len rest = subst (λ m. AreMaximalBlocks (IsInRange new) m rest) advanced.min_prefix_len after in
+    AreMaximalBlocks-unique (IsInRange old) old.min_prefix_len networks (n ∷ rest) before
     (AreMaximalBlocks-step old.family old.start old.end old.min_prefix_len n rest step
-    (AreMaximalBlocks-same_set (IsLeft new) (IsBetween old.family (last_of n + 1) old.end) old.min_prefix_len rest
+    (AreMaximalBlocks-same_set (IsInRange new) (IsBetween old.family (last_of n + 1) old.end) old.min_prefix_len rest
     (left_behind old new (last_of n) advanced (end_becomes old new (last_of n) (omega (arith, fits)) within.0 within.1 advanced)) behind))
 
 -- the greatest address of a block has its last number

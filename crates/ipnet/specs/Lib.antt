@@ -1,5 +1,7 @@
 -- What the contracts of this crate cite, and the definitions of the base crate, for those who use this crate alone.
 pub mod NetworkOf
+pub mod NetworkParts
+pub mod NetLaws
 pub mod Grammar
 pub mod Numerals
 pub mod AddressTexts

@@ -1,8 +1,8 @@
 -- What contracts see of a walk: the range that is left to it, and the list of the networks that it still gives.
-use Rattle.std.specs.Prelude.{ℕ, List}
-use Rattle.ipnet_base.specs.Address.{Address, IPv4, IPv6, IsBetween}
+use Rattle.std.specs.Prelude.{◌≡◌, ℕ, ◌-◌, ◌*◌, ◌≤◌, List, length}
+use Rattle.ipnet_base.specs.Address.{Address, IPv4, IPv6, IsBetween, width}
 use Rattle.ipnet_base.specs.Network.{Network}
-use Rattle.ipnet_base.specs.Blocks.{AreMaximalBlocks}
+use Rattle.ipnet_base.specs.Blocks.{AreMaximalBlocks, ArePairwiseDisjoint, IsShortestCover}
 use Rattle.ipnet_base.specs.Subnets.{SubnetRange}
 use Rattle.ipnet_base.proofs.WalkLaws.{blocks_exist}
 use Rattle.ipnet.specs.declared.subnets.IpSubnets.{IpSubnets}
@@ -21,6 +21,16 @@ ipv6_range_of start end min_prefix_len = record { family = IPv6; start = start; 
 -- the addresses of the range
 abbrev pub IsInRange : SubnetRange → Address → Type 0
 IsInRange range = IsBetween range.family range.start range.end
+
+-- The networks that a walk over the range gives: the maximal blocks of its addresses, ascending.
+pub record IsWalkOf (range : SubnetRange) (networks : List Network) : Type 0 where
+  pub blocks : AreMaximalBlocks (IsInRange range) range.min_prefix_len networks
+  -- no two of them share an address
+  pub apart : ArePairwiseDisjoint networks
+  -- together they have the addresses of the range and no other, and no fewer networks have
+  pub shortest : IsShortestCover (IsInRange range) range.min_prefix_len networks
+  -- without a least length they are few: at most 62 for IPv4, 254 for IPv6
+  pub few : range.min_prefix_len ≡ 0 → length networks ≤ 2 * width range.family - 2
 
 -- the range that the walk has left, by its stored ends
 abbrev pub ipv4_subnet_range : Ipv4Subnets → SubnetRange

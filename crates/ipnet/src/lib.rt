@@ -1,6 +1,7 @@
 //! Networks of IPv4 and IPv6 addresses: their blocks, subnets, aggregates, texts and bytes.
 #![tactic(auto)]
 
+pub mod aggregate;
 pub mod net;
 pub mod parser;
 pub mod print;

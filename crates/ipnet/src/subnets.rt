@@ -3,22 +3,23 @@ ghost use Rattle.std.specs.Prelude.{◌≡◌, ◌<◌, ◌≤◌, ◌↔◌, �
 ghost use Rattle.std.specs.Iterator.{YieldsFirstBy, MakesProgress, item_count};
 ghost use Rattle.ipnet_base.specs.Address.{Address};
 ghost use Rattle.ipnet_base.specs.Network.{IsGreatestOf};
-ghost use Rattle.ipnet_base.specs.Blocks.{AreMaximalBlocks};
 ghost use Rattle.ipnet_base.specs.Subnets.{IsLargestSubnetAt, IsAdvancedPast};
 ghost use Rattle.ipnet.specs.NetworkOf.{ip_network};
 ghost use Rattle.ipnet.specs.declared.subnets.IpSubnets.TheVariants.{V4, V6};
-ghost use Rattle.ipnet.specs.SubnetsLeft.{ip_subnet_range, ip_subnets_left, IsInRange};
+ghost use Rattle.ipnet.specs.SubnetsLeft.{IsWalkOf, ip_subnet_range, ip_subnets_left};
 
 use crate::net::IpNet;
 use std::iter::FusedIterator;
 
 mod ipv4_subnets;
 mod ipv6_subnets;
+pub mod laws;
 
 pub use ipv4_subnets::Ipv4Subnets;
 pub use ipv6_subnets::Ipv6Subnets;
 
-/// The walk over a range of either family: an IPv4 one stands before every IPv6 one.
+/// A walk over a range of addresses of either family, made from a walk of that family by `From`: it gives the
+/// same networks. An IPv4 one stands before every IPv6 one.
 #[derive(Clone, Copy, PartialEq, Eq, PartialOrd, Ord, Hash, Debug)]
 pub enum IpSubnets {
     V4(Ipv4Subnets),
@@ -50,7 +51,7 @@ impl Iterator for IpSubnets {
 
     ghost remaining = { item_count ip_subnets_left };
 
-    /// The largest network that starts at the start of what is left, or none where nothing is left.
+    /// What the walk that it holds gives next: `None`, then and ever after, where the start lies above the end.
     fn next(&mut self) -> Option<IpNet>
         ensures steps { YieldsFirstBy ip_network ip_subnets_left self.old result self.new }
         ensures goes { MakesProgress (λ _. ⊤) (item_count ip_subnets_left) self.old result self.new }
@@ -58,17 +59,18 @@ impl Iterator for IpSubnets {
             IfSome result (λ n. IsLargestSubnetAt range.family range.start range.end range.min_prefix_len (ip_network n)) }
         ensures advanced { IfSome result (λ n. (x : Address) → IsGreatestOf (ip_network n) x
             → IsAdvancedPast x.number (ip_subnet_range self.old) (ip_subnet_range self.new)) }
-        ensures blocks { AreMaximalBlocks (IsInRange (ip_subnet_range self.new)) (ip_subnet_range self.new).min_prefix_len (ip_subnets_left self.new) }
+        ensures walk { IsWalkOf (ip_subnet_range self.old) (ip_subnets_left self.old) }
+        ensures rest { IsWalkOf (ip_subnet_range self.new) (ip_subnets_left self.new) }
         ensures over { IsNone result ↔ ((ip_subnet_range self.old).end < (ip_subnet_range self.old).start) }
         ensures unchanged { IfNone result (self.new ≡ self.old) }
     {
         match self {
-            IpSubnets::V4(subnets) => {
-                let network = subnets.next()?;
+            IpSubnets::V4(walk) => {
+                let network = walk.next()?;
                 Some(IpNet::V4(network))
             }
-            IpSubnets::V6(subnets) => {
-                let network = subnets.next()?;
+            IpSubnets::V6(walk) => {
+                let network = walk.next()?;
                 Some(IpNet::V6(network))
             }
         }

@@ -1,22 +1,16 @@
 -- Aggregates of lists: the four conditions on neighbours, the shortest cover, equal answers and equal covers.
-use Rattle.std.proofs.Common.{◌≡◌, ◌+◌, ◌^◌, ◌<◌, ◌≤◌, ◌⊎◌, ◌↔◌, List, ◌∷◌, length, get_or, Contains, All, refl, sym, ap, subst, arith, inl, inr}
+use Rattle.std.proofs.Common.{◌≡◌, ◌+◌, ◌^◌, ◌<◌, ◌≤◌, ◌⊎◌, ◌↔◌, List, ◌∷◌, length, get_or, map, Contains, All, sym, ap, subst, arith, inl, inr}
 use Rattle.std.proofs.lemmas.Bool.{cases_lt}
-use Rattle.ipnet_base.specs.Address.{Family, Address, IsAddress, IPv4, IPv6, width, family_index}
-use Rattle.ipnet_base.specs.Network.{Network, IsNetwork, InBlock, IsSubnetOf, AreHalves, IsSupernetOf}
+use Rattle.ipnet_base.specs.Address.{Address, IsAddress, width, family_index}
+use Rattle.ipnet_base.specs.Network.{Network, IsNetwork, InBlock, IsSubnetOf, AreHalves, IsSupernetOf, truncation}
 use Rattle.ipnet_base.specs.Blocks.{IsCoveredBy, HaveSameCover, IsExactCover, IsShortestCover, ArePairwiseDisjoint, IsAggregateOf, AreAggregatedNeighbours}
 use Rattle.ipnet_base.proofs.BlockLaws.{between_from_block, last_fits, supernet_to_halves, halves_to_supernet}
 use Rattle.ipnet_base.proofs.ListLaws.{contains_here, contains_there, contains_cases, any_from_contains, all_at}
-use Rattle.ipnet_base.proofs.UniqueLaws.{AreMaximalBlocks-unique}
+use Rattle.ipnet_base.proofs.UniqueLaws.{AreMaximalBlocks-unique, same_family_from_index}
 use Rattle.ipnet_base.proofs.NeighbourLaws.{LiesBefore, AreSettled, AreMaximalBlocks-from_neighbours}
 use Rattle.ipnet_base.proofs.SupernetLaws.{IsDecided-cover, blocks_cover, AreMaximalBlocks-same_set, neighbours_from_blocks}
+use Rattle.ipnet_base.proofs.StackLaws.{cover_truncation}
 use Rattle.ipnet_base.proofs.CoverLaws.{IsExactCover-of_maximal, IsShortestCover-of_maximal, maximal_blocks_apart}
-
--- the place of a family in the order tells the family
-pub same_family_from_index : (f g : Family) → family_index f ≡ family_index g → f ≡ g
-same_family_from_index IPv4 IPv4 e = refl
-same_family_from_index IPv4 IPv6 e = absurd (omega (arith, e))
-same_family_from_index IPv6 IPv4 e = absurd (omega (arith, e))
-same_family_from_index IPv6 IPv6 e = refl
 
 -- the four conditions are the three that lemmas take
 pub AreSettled-from_neighbours : (networks : List Network) → AreAggregatedNeighbours networks → AreSettled networks
@@ -174,3 +168,15 @@ HaveSameCover-sym networks others h x = ((h x).1, (h x).0)
 
 pub HaveSameCover-trans : (a b c : List Network) → HaveSameCover a b → HaveSameCover b c → HaveSameCover a c
 HaveSameCover-trans a b c h k x = (λ y. (k x).0 ((h x).0 y), λ y. (h x).1 ((k x).1 y))
+
+-- lists with the same truncated members have the same aggregate
+pub aggregate_of_same_truncations : (networks others answer : List Network) → ((n : Network) → Contains (map truncation networks) n ↔ Contains (map truncation others) n)
+    → IsAggregateOf answer networks ↔ IsAggregateOf answer others
+aggregate_of_same_truncations networks others answer same = (
+  λ h. aggregate_of_same_cover networks others answer cover h,
+  λ h. aggregate_of_same_cover others networks answer (HaveSameCover-sym networks others cover) h,
+)
+  where
+    cover : HaveSameCover networks others
+    cover = HaveSameCover-trans networks (map truncation networks) others (HaveSameCover-sym (map truncation networks) networks (cover_truncation networks))
+        (HaveSameCover-trans (map truncation networks) (map truncation others) others (cover_same_members (map truncation networks) (map truncation others) same) (cover_truncation others))

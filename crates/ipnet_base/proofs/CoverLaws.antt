@@ -1,8 +1,8 @@
 -- Maximal blocks as exact and shortest covers, for every set of addresses that can be decided; and ranges.
-use Rattle.std.proofs.Common.{◌≡◌, ℕ, ◌-◌, ◌/◌, ◌^◌, ◌<◌, ◌≤◌, List, sym, ap, ◌∙◌, subst, arith, inl, inr}
+use Rattle.std.proofs.Common.{◌≡◌, ℕ, ◌-◌, ◌/◌, ◌^◌, ◌<◌, ◌≤◌, ◌⊎◌, ◌↔◌, List, Bool, true, false, IsTrue, refl, sym, ap, ◌∙◌, subst, arith, inl, inr}
 use Rattle.std.proofs.Math.Nat.{div-one}
 use Rattle.std.proofs.lemmas.Bool.{cases_lt}
-use Rattle.ipnet_base.specs.Address.{Family, Address, IsAddress, width, IsBetween}
+use Rattle.ipnet_base.specs.Address.{Family, Address, IsAddress, IsAcceptedBy, width, IsBetween}
 use Rattle.ipnet_base.specs.Network.{Network, IsNetwork, InBlock, AreDisjoint, IsBefore}
 use Rattle.ipnet_base.specs.Blocks.{IsCoveredBy, IsInside, AreMaximalBlocks, IsExactCover, IsShortestCover, ArePairwiseDisjoint}
 use Rattle.ipnet_base.proofs.BlockLaws.{own_in, cases_family}
@@ -92,3 +92,16 @@ pub IsShortestCover-of_range : (f : Family) (s e m : ℕ) (networks : List Netwo
     → AreMaximalBlocks (IsBetween f s e) m networks → IsShortestCover (IsBetween f s e) m networks
 IsShortestCover-of_range f s e m networks fits short blocks =
     IsShortestCover-of_maximal (IsBetween f s e) m networks blocks (IsExactCover-of_range f s e m networks fits short blocks)
+
+-- a set that can be decided is told by a test
+answer_of : {P : Type 0} → P ⊎ (P → ⊥) → Bool
+answer_of (inl holds) = true
+answer_of (inr fails) = false
+
+answer_is : {P : Type 0} (decided : P ⊎ (P → ⊥)) → P ↔ IsTrue (answer_of decided)
+unfolding answer_of
+answer_is (inl holds) = (λ p. refl, λ t. holds)
+answer_is (inr fails) = (λ p. absurd (fails p), λ t. cc)
+
+pub test_of_decided : (InSet : Address → Type 0) → IsDecided InSet → (test : Address → Bool) × ((x : Address) → InSet x ↔ IsAcceptedBy test x)
+test_of_decided InSet decided = (λ x. answer_of (decided x), λ x. answer_is (decided x))

@@ -9,9 +9,13 @@ pub mod WalkLaws
 pub mod ShortestLaws
 pub mod SupernetLaws
 pub mod CoverLaws
-pub mod AggregateLaws
 pub mod MaskLaws
 pub mod AddressLaws
 pub mod StepLaws
 pub mod StackLaws
+pub mod AggregateLaws
 pub mod CountLaws
+pub mod DigitLaws
+pub mod ArithmeticLaws
+pub mod RangeLaws
+pub mod CallLaws

@@ -1,11 +1,9 @@
 -- No exact cover is shorter than the maximal blocks, and one as short is them, truncated and sorted.
 use Rattle.std.proofs.Common.{◌≡◌, ℕ, ◌<◌, ◌≤◌, List, [], ◌∷◌, ◌++◌, length, get_or, map, remove, Contains, AllPairs, IsPermutation, sym, ap, ◌∙◌, subst, arith, inl, inr}
 use Rattle.std.specs.List.{AllZip}
-use Rattle.std.proofs.lemmas.List.{length-append, nil_from_length}
+use Rattle.std.proofs.lemmas.List.{length-append, nil_from_length, same_lists, get_or-map, length-map, append-nil}
 use Rattle.std.proofs.lemmas.List.Sorted.{IsPermutation-refl, IsPermutation-cons, IsPermutation-trans, IsPermutation-remove, IsPermutation-sym, Contains-permutation, length_permutation, IsPermutation-map}
-use Rattle.std.proofs.lemmas.List.Elements.{length_all_zip}
-use Rattle.std.proofs.lemmas.List.{same_lists, get_or-map, length-map, append-nil}
-use Rattle.std.proofs.lemmas.List.Elements.{AllZip-get_or}
+use Rattle.std.proofs.lemmas.List.Elements.{length_all_zip, AllZip-get_or}
 use Rattle.std.proofs.lemmas.Slice.Zip.{AllZip-long}
 use Rattle.std.proofs.lemmas.Bool.{cases_order}
 use Rattle.ipnet_base.specs.Address.{Address}

@@ -1,3 +1,12 @@
 //! Addresses, masks and ranges of addresses; and, for every crate above, what networks, their blocks and
 //! lists of them are, with the laws of these.
 #![tactic(auto)]
+
+pub mod laws;
+pub mod addr;
+pub mod ipext;
+pub mod mask;
+
+pub use addr::{IpAddr, Ipv4Addr, Ipv6Addr};
+pub use ipext::{IpAdd, IpAddrRange, IpBitAnd, IpBitOr, IpSub, Ipv4AddrRange, Ipv6AddrRange};
+pub use mask::{PrefixLenError, ip_mask_to_prefix, ipv4_mask_to_prefix, ipv6_mask_to_prefix};

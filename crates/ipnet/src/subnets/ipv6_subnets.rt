@@ -1,7 +1,6 @@
 ghost use Rattle.std.specs.Prelude.{◌≡◌, ◌<◌, ◌≤◌, ◌-◌, ◌^◌};
 ghost use Rattle.std.specs.Net.Addr.{ipv6_bits};
-ghost use Rattle.ipnet_base.specs.Address.{IPv6, IsBetween};
-ghost use Rattle.ipnet_base.specs.Blocks.{AreMaximalBlocks};
+ghost use Rattle.ipnet_base.specs.Address.{IPv6};
 ghost use Rattle.ipnet_base.specs.Subnets.{IsLargestSubnetAt, IsAdvancedPast};
 ghost use Rattle.ipnet_base.proofs.StepLaws.{IsMostBits};
 ghost use Rattle.ipnet.specs.NetworkOf.{ipv6_network};
@@ -10,7 +9,17 @@ use crate::net::Ipv6Net;
 use std::iter::FusedIterator;
 use std::net::Ipv6Addr;
 
-/// The walk over a range of IPv6 addresses by the fewest networks that tile it.
+/// A walk over a range of IPv6 addresses: the networks that tile it in ascending order, each the largest that
+/// starts behind the one before. They are the fewest networks, of at least a least prefix length, that have
+/// together exactly the addresses of the range.
+///
+/// ```text
+/// 2001:db8:: to 2001:db8::ef, least length 0:   2001:db8::/121, 2001:db8::80/122, 2001:db8::c0/123, 2001:db8::e0/124
+/// 2001:db8:: to 2001:db8::ef, least length 122: 2001:db8::/122, 2001:db8::40/122, 2001:db8::80/122, 2001:db8::c0/123, 2001:db8::e0/124
+/// ```
+///
+/// Walks compare by what they store, the start, then the end, then the least length of what is left, and not
+/// by the networks that they still give: two walks that are over may differ.
 #[derive(Clone, Copy, PartialEq, Eq, PartialOrd, Ord, Hash, Debug)]
 pub struct Ipv6Subnets {
     start: u128,
@@ -48,13 +57,17 @@ fn largest_subnet_at(start: u128, end: u128, min_prefix_len: u32) -> Ipv6Net
 }
 
 impl Ipv6Subnets {
-    ghost use Rattle.ipnet.specs.SubnetsLeft.{ipv6_range_of, ipv6_subnet_range, ipv6_subnets_left};
+    ghost use Rattle.ipnet.specs.SubnetsLeft.{IsWalkOf, ipv6_range_of, ipv6_subnet_range, ipv6_subnets_left};
 
-    /// The walk from the start to the end by networks of at least the length.
+    /// The walk from the first address to the last, both of them in the range, by networks whose prefix length is
+    /// at least `min_prefix_len`. A start above the end is the walk that gives nothing. Under the least length
+    /// 0 a walk gives at most 254 networks.
+    ///
+    /// The caller sees to it that the least length is at most 128, as by `min_prefix_len <= 128`.
     pub fn new(start: Ipv6Addr, end: Ipv6Addr, min_prefix_len: u8) -> Ipv6Subnets
         requires { min_prefix_len ≤ 128 }
         ensures range { ipv6_subnet_range result ≡ ipv6_range_of (ipv6_bits start) (ipv6_bits end) min_prefix_len }
-        ensures blocks { AreMaximalBlocks (IsBetween IPv6 (ipv6_bits start) (ipv6_bits end)) min_prefix_len (ipv6_subnets_left result) }
+        ensures walk { IsWalkOf (ipv6_range_of (ipv6_bits start) (ipv6_bits end) min_prefix_len) (ipv6_subnets_left result) }
     {
         Ipv6Subnets {
             start: start.to_bits(),
@@ -81,13 +94,17 @@ impl Iterator for Ipv6Subnets {
     ghost use Rattle.std.specs.Iterator.{YieldsFirstBy, MakesProgress, item_count};
     ghost use Rattle.ipnet_base.specs.Address.{Address};
     ghost use Rattle.ipnet_base.specs.Network.{IsGreatestOf};
-    ghost use Rattle.ipnet.specs.SubnetsLeft.{ipv6_subnet_range, ipv6_subnets_left, IsInRange};
+    ghost use Rattle.ipnet.specs.SubnetsLeft.{IsWalkOf, ipv6_subnet_range, ipv6_subnets_left};
 
     ghost next_gives = { YieldsFirstBy ipv6_network ipv6_subnets_left };
 
     ghost remaining = { item_count ipv6_subnets_left };
 
-    /// The largest network that starts at the start of what is left, or none where nothing is left.
+    /// The largest network that starts at the stored start, ends at or before the stored end and has a prefix of
+    /// at least the least length; or `None`, then and ever after, where the start lies above the end.
+    ///
+    /// The start becomes the address behind the network, held at the last address of all. The end becomes `::`
+    /// where the network ended at that last address, or where the start was the end; otherwise it stays.
     fn next(&mut self) -> Option<Ipv6Net>
         ensures steps { YieldsFirstBy ipv6_network ipv6_subnets_left self.old result self.new }
         ensures goes { MakesProgress (λ _. ⊤) (item_count ipv6_subnets_left) self.old result self.new }
@@ -95,7 +112,8 @@ impl Iterator for Ipv6Subnets {
             IfSome result (λ n. IsLargestSubnetAt IPv6 range.start range.end range.min_prefix_len (ipv6_network n)) }
         ensures advanced { IfSome result (λ n. (x : Address) → IsGreatestOf (ipv6_network n) x
             → IsAdvancedPast x.number (ipv6_subnet_range self.old) (ipv6_subnet_range self.new)) }
-        ensures blocks { AreMaximalBlocks (IsInRange (ipv6_subnet_range self.new)) (ipv6_subnet_range self.new).min_prefix_len (ipv6_subnets_left self.new) }
+        ensures walk { IsWalkOf (ipv6_subnet_range self.old) (ipv6_subnets_left self.old) }
+        ensures rest { IsWalkOf (ipv6_subnet_range self.new) (ipv6_subnets_left self.new) }
         ensures over { IsNone result ↔ ((ipv6_subnet_range self.old).end < (ipv6_subnet_range self.old).start) }
         ensures unchanged { IfNone result (self.new ≡ self.old) }
     {

@@ -2,7 +2,7 @@ use Rattle.std.proofs.Common.{rules, ◌∙◌, sym, subst, ap, length}
 use Rattle.ipnet_base.specs.Subnets.{IsAdvancedPast}
 use Rattle.ipnet.specs.NetworkOf.{ipv6_network}
 use Rattle.ipnet.specs.SubnetsLeft.{ipv6_subnet_range, ipv6_subnets_left, ipv6_subnets_left-are_blocks}
-use Rattle.ipnet.proofs.SubnetsLaws.{nothing_left, left_advanced, greatest_is_last}
+use Rattle.ipnet.proofs.SubnetsLaws.{ipv6_walk, nothing_left, left_advanced, greatest_is_last}
 use Rattle.ipnet.proofs.subnets.ipv6_subnets.Ipv6SubnetsIterator.next.Goals as goal
 
 pub returns-then-self-clause-steps : goal.returns-then-self-clause-steps
@@ -11,8 +11,11 @@ returns-then-self-clause-steps c =
     nothing_left (ipv6_subnet_range c.args.self.now) (ipv6_subnets_left c.args.self.now) (ipv6_subnets_left-are_blocks c.args.self.now) c.if-self.true in
     (nothing, nothing)
 
-pub returns-then-self-clause-blocks : goal.returns-then-self-clause-blocks
-returns-then-self-clause-blocks c = ipv6_subnets_left-are_blocks c.args.self.now
+pub returns-then-self-clause-walk : goal.returns-then-self-clause-walk
+returns-then-self-clause-walk c = ipv6_walk c.args.self.now
+
+pub returns-then-self-clause-rest : goal.returns-then-self-clause-rest
+returns-then-self-clause-rest c = ipv6_walk c.args.self.now
 
 pub returns-clause-steps : goal.returns-clause-steps
 returns-clause-steps c =
@@ -33,5 +36,8 @@ returns-clause-advanced c x greatest =
     subst (λ last. IsAdvancedPast last (ipv6_subnet_range c.args.self.now) (ipv6_subnet_range c.advance_past.new.self))
     (c.last_number.ensures ∙ sym last) c.advance_past.ensures
 
-pub returns-clause-blocks : goal.returns-clause-blocks
-returns-clause-blocks c = ipv6_subnets_left-are_blocks c.advance_past.new.self
+pub returns-clause-walk : goal.returns-clause-walk
+returns-clause-walk c = ipv6_walk c.args.self.now
+
+pub returns-clause-rest : goal.returns-clause-rest
+returns-clause-rest c = ipv6_walk c.advance_past.new.self

@@ -1,0 +1,172 @@
+-- Numbers and their digits, the highest first: the order of digits is the order of the number that they write.
+use Rattle.std.proofs.Common.{◌≡◌, ℕ, ◌+◌, ◌*◌, ◌/◌, ◌%◌, ◌^◌, ◌<◌, ◌≤◌, List, [], ◌∷◌, length, slice_index, refl, sym, ap, ◌∙◌, arith, zero, suc, inl, inr}
+use Rattle.std.specs.Bool.{⊤}
+use Rattle.std.specs.Int.{w32, w128, byte_at, bytes_high_first, to_be_bytes, from_be_bytes}
+use Rattle.std.specs.Net.Addr.{octets_of, segments_of}
+use Rattle.std.specs.Cmp.Lexicographic.{slice_cmp}
+use Rattle.std.specs.Ordering.{nat_cmp, ordering_then}
+use Rattle.std.proofs.lemmas.Bool.{cases_lt}
+use Rattle.std.proofs.lemmas.Bool.Decides.{nat_tests}
+use Rattle.std.proofs.lemmas.Nat.{mul-add-lt, div-mul-add, mod-mul-add, mod_below, div-add-mod', pow_pos}
+use Rattle.std.proofs.Math.Nat.{mul_comm, mul_assoc, add-mul, add_assoc, pow-zero, pow-suc, pow-succ', div-one, mod-eq_of_lt, mul-add-mod_self_right, mul-le-mul_right, mod-lt}
+
+-- the number that the digits write to the base r
+abbrev pub value : ℕ → List ℕ → ℕ
+value r [] = 0
+value r (x ∷ xs) = x * r ^ length xs + value r xs
+
+-- each is a digit to the base r
+abbrev pub Below : ℕ → List ℕ → Type 0
+Below r [] = ⊤
+Below r (x ∷ xs) = (x < r) × Below r xs
+
+value_below : (r : ℕ) (xs : List ℕ) → Below r xs → value r xs < r ^ length xs
+value_below r [] h = rw (pow-zero r) (omega arith)
+value_below r (x ∷ xs) h =
+    let lower = mul-add-lt x (r ^ length xs) (value r xs) r h.0 (value_below r xs h.1) in
+    let p : r ^ suc (length xs) ≡ r * r ^ length xs = pow-succ' r (length xs) in
+    let turned = mul_comm r (r ^ length xs) in
+    omega (arith, lower, p, turned)
+
+-- the first digit decides, and where it is the same the others do
+cmp_first : (x y p u v : ℕ) → u < p → v < p → ordering_then (nat_cmp x y) (nat_cmp u v) ≡ nat_cmp (x * p + u) (y * p + v)
+cmp_first x y p u v hu hv = elim (cases_lt x y) [
+  | inl lt ↦
+      let low = mul-add-lt x p u y lt hu in
+      let turned = mul_comm p y in
+      let below : x * p + u < y * p + v = omega (arith, low, turned) in
+      grind (arith, nat_tests)
+  | inr ge ↦ elim (cases_lt y x) [
+    | inl gt ↦
+        let low = mul-add-lt y p v x gt hv in
+        let turned = mul_comm p x in
+        let below : y * p + v < x * p + u = omega (arith, low, turned) in
+        grind (arith, nat_tests)
+    | inr le ↦
+        let e : x ≡ y = omega arith in
+        rw e (grind (arith, nat_tests))
+  ]
+]
+
+cmp_value : (r : ℕ) (xs ys : List ℕ) → length xs ≡ length ys → Below r xs → Below r ys → slice_cmp nat_cmp xs ys ≡ nat_cmp (value r xs) (value r ys)
+cmp_value r [] [] e h k = refl
+cmp_value r [] (y ∷ ys) e h k = absurd (omega arith)
+cmp_value r (x ∷ xs) [] e h k = absurd (omega arith)
+cmp_value r (x ∷ xs) (y ∷ ys) e h k =
+    let same : length xs ≡ length ys = omega arith in
+    let ih = cmp_value r xs ys same h.1 k.1 in
+    let by : value r ys < r ^ length xs = rw (sym same) at (value_below r ys k.1) in
+    ap (ordering_then (nat_cmp x y)) ih
+    ∙ cmp_first x y (r ^ length xs) (value r xs) (value r ys) (value_below r xs h.1) by
+    ∙ ap (λ (l : ℕ). nat_cmp (x * r ^ length xs + value r xs) (y * r ^ l + value r ys)) same
+
+below_all : (r : ℕ) (xs : List ℕ) → ((k : ℕ) → slice_index xs k < r) → Below r xs
+below_all r [] h = tt
+below_all r (x ∷ xs) h = (h 0, below_all r xs (λ k. h (suc k)))
+
+-- ---- four octets
+
+value_4 : (xs : List ℕ) → length xs ≡ 4 → from_be_bytes w32 xs ≡ value 256 xs
+value_4 [] e = absurd (omega arith)
+value_4 (a ∷ []) e = absurd (omega arith)
+value_4 (a ∷ b ∷ []) e = absurd (omega arith)
+value_4 (a ∷ b ∷ c ∷ []) e = absurd (omega arith)
+value_4 (a ∷ b ∷ c ∷ d ∷ []) e = omega arith
+value_4 (a ∷ b ∷ c ∷ d ∷ x ∷ xs) e = absurd (omega arith)
+
+pub cmp_octets : (xs ys : List ℕ) → length xs ≡ 4 → length ys ≡ 4
+    → ((k : ℕ) → slice_index xs k < 256) → ((k : ℕ) → slice_index ys k < 256)
+    → slice_cmp nat_cmp xs ys ≡ nat_cmp (from_be_bytes w32 xs) (from_be_bytes w32 ys)
+cmp_octets xs ys ex ey hx hy =
+    cmp_value 256 xs ys (ex ∙ sym ey) (below_all 256 xs hx) (below_all 256 ys hy)
+    ∙ ap (λ (m : ℕ). nat_cmp m (value 256 ys)) (sym (value_4 xs ex))
+    ∙ ap (λ (m : ℕ). nat_cmp (from_be_bytes w32 xs) m) (sym (value_4 ys ey))
+
+-- ---- eight segments of two octets
+
+-- a segment is its two octets
+halves : (s : ℕ) → s / 256 * 256 + s % 256 ≡ s
+halves s = omega arith
+
+value_8 : (xs : List ℕ) → length xs ≡ 8 → from_be_bytes w128 (octets_of xs) ≡ value 65536 xs
+value_8 [] e = absurd (omega arith)
+value_8 (a ∷ []) e = absurd (omega arith)
+value_8 (a ∷ b ∷ []) e = absurd (omega arith)
+value_8 (a ∷ b ∷ c ∷ []) e = absurd (omega arith)
+value_8 (a ∷ b ∷ c ∷ d ∷ []) e = absurd (omega arith)
+value_8 (a ∷ b ∷ c ∷ d ∷ f ∷ []) e = absurd (omega arith)
+value_8 (a ∷ b ∷ c ∷ d ∷ f ∷ g ∷ []) e = absurd (omega arith)
+value_8 (a ∷ b ∷ c ∷ d ∷ f ∷ g ∷ h ∷ []) e = absurd (omega arith)
+value_8 (a ∷ b ∷ c ∷ d ∷ f ∷ g ∷ h ∷ i ∷ []) e =
+    omega (arith, halves a, halves b, halves c, halves d, halves f, halves g, halves h, halves i)
+value_8 (a ∷ b ∷ c ∷ d ∷ f ∷ g ∷ h ∷ i ∷ x ∷ xs) e = absurd (omega arith)
+
+pub cmp_segments : (xs ys : List ℕ) → length xs ≡ 8 → length ys ≡ 8
+    → ((k : ℕ) → slice_index xs k < 65536) → ((k : ℕ) → slice_index ys k < 65536)
+    → slice_cmp nat_cmp xs ys ≡ nat_cmp (from_be_bytes w128 (octets_of xs)) (from_be_bytes w128 (octets_of ys))
+cmp_segments xs ys ex ey hx hy =
+    cmp_value 65536 xs ys (ex ∙ sym ey) (below_all 65536 xs hx) (below_all 65536 ys hy)
+    ∙ ap (λ (m : ℕ). nat_cmp m (value 65536 ys)) (sym (value_8 xs ex))
+    ∙ ap (λ (m : ℕ). nat_cmp (from_be_bytes w128 (octets_of xs)) m) (sym (value_8 ys ey))
+
+-- ---- the octets of a number write that number
+
+byte_at_below : (k n : ℕ) → byte_at k n < 256
+byte_at_below zero n = mod_below n 256 (omega arith)
+byte_at_below (suc k) n = mod_below (n / 256 ^ suc k) 256 (omega arith)
+
+-- twice a number, by a recursion that a list of pairs follows
+pairs : ℕ → ℕ
+pairs zero = 0
+pairs (suc k) = suc (suc (pairs k))
+
+octets_of-segments_of : (k n : ℕ) → octets_of (segments_of (bytes_high_first (pairs k) n)) ≡ bytes_high_first (pairs k) n
+unfolding pairs
+octets_of-segments_of zero n = refl
+octets_of-segments_of (suc k) n =
+    let a = byte_at (suc (pairs k)) n in
+    let b = byte_at (pairs k) n in
+    let small = byte_at_below (pairs k) n in
+    rw (div-mul-add a 256 b small, mod-mul-add a 256 b small, octets_of-segments_of k n) refl
+
+length-bytes_high_first : (k n : ℕ) → length (bytes_high_first k n) ≡ k
+length-bytes_high_first zero n = refl
+length-bytes_high_first (suc k) n = let e = length-bytes_high_first k n in omega (arith, e)
+
+byte_at-pow : (k n : ℕ) → byte_at k n ≡ n / 256 ^ k % 256
+byte_at-pow zero n = ap (λ (y : ℕ). y % 256) (sym (div-one n))
+byte_at-pow (suc k) n = refl
+
+-- the two low digits of n, to the bases c and then m
+mod-split : (n m c : ℕ) → 0 < m → 0 < c → n % (m * c) ≡ n / c % m * c + n % c
+mod-split n m c hm hc =
+    let a = mod-lt (n / c) hm in
+    let b = mod-lt n hc in
+    let top : (n / c % m + 1) * c ≤ m * c = mul-le-mul_right c (omega arith) in
+    let expand : (n / c % m + 1) * c ≡ n / c % m * c + 1 * c = add-mul (n / c % m) 1 c in
+    let split : n ≡ n / c / m * (m * c) + (n / c % m * c + n % c) =
+    sym (div-add-mod' n c)
+    ∙ ap (λ (x : ℕ). x * c + n % c) (sym (div-add-mod' (n / c) m))
+    ∙ ap (λ (x : ℕ). x + n % c) (add-mul (n / c / m * m) (n / c % m) c ∙ ap (λ (x : ℕ). x + n / c % m * c) (mul_assoc (n / c / m) m c))
+    ∙ add_assoc (n / c / m * (m * c)) (n / c % m * c) (n % c) in
+    ap (λ (x : ℕ). x % (m * c)) split ∙ mul-add-mod_self_right (n / c / m) (m * c) (n / c % m * c + n % c) ∙ mod-eq_of_lt (omega arith)
+
+value-bytes_high_first : (k n : ℕ) → value 256 (bytes_high_first k n) ≡ n % 256 ^ k
+value-bytes_high_first zero n = omega arith
+value-bytes_high_first (suc k) n =
+    rw (length-bytes_high_first k n, value-bytes_high_first k n, byte_at-pow k n, pow-succ' 256 k, mod-split n 256 (256 ^ k) (omega arith) (positive k)) refl
+  where
+    positive : (j : ℕ) → 0 < 256 ^ j
+    positive zero = omega (arith, pow-zero 256)
+    positive (suc j) = omega (arith, pow-suc 256 j, positive j)
+
+whole : (n : ℕ) → from_be_bytes w128 (to_be_bytes w128 n) ≡ value 256 (to_be_bytes w128 n)
+whole n = omega arith
+
+pub octets_of_number : (n : ℕ) → n < 2 ^ 128 → from_be_bytes w128 (octets_of (segments_of (to_be_bytes w128 n))) ≡ n
+unfolding pairs
+octets_of_number n fits =
+    ap (from_be_bytes w128) (octets_of-segments_of 8 n)
+    ∙ whole n
+    ∙ value-bytes_high_first 16 n
+    ∙ mod-eq_of_lt fits

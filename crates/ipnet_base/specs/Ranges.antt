@@ -1,0 +1,96 @@
+-- Ranges of addresses, walked from both ends: the addresses from a first to a last one, the two ends that a
+-- range keeps, and what each call answers and leaves.
+use Rattle.std.specs.Prelude.{◌≡◌, ℕ, ◌+◌, ◌-◌, ◌<◌, ◌≤◌, ◌⊎◌, ⊤, Option, Some, None, List, [], ◌∷◌, map}
+use Rattle.std.specs.List.{range_with_len, filter_map}
+use Rattle.ipnet_base.specs.Address.{Family, Address, family_index}
+
+-- What a range keeps: its family, and the numbers of its first and its last address. With start > end it is a
+-- range with no address.
+pub record AddressRange : Type 0 where
+  pub family : Family
+  pub start : ℕ
+  pub end : ℕ
+
+-- the numbers from start to end, ascending; none where start > end
+unfoldable pub numbers_between : ℕ → ℕ → List ℕ
+numbers_between start end = range_with_len start (end + 1 - start)
+
+-- the address of this number in the range's family
+abbrev pub address_at : AddressRange → ℕ → Address
+address_at r number = record { family = r.family; number = number }
+
+-- the addresses that the range still gives, ascending
+abbrev pub addresses_of : AddressRange → List Address
+addresses_of r = map (address_at r) (numbers_between r.start r.end)
+
+-- how many these are; 2 ^ 128 for all IPv6 addresses
+abbrev pub address_count : AddressRange → ℕ
+address_count r = r.end + 1 - r.start
+
+-- the range of the same family with these ends
+abbrev pub with_ends : AddressRange → ℕ → ℕ → AddressRange
+with_ends r start end = record { family = r.family; start = start; end = end }
+
+-- `next`: from old it answers this and leaves new
+pub record IsNext (old : AddressRange) (answer : Option Address) (new : AddressRange) : Type 0 where
+  pub several : old.start < old.end → (answer ≡ Some (address_at old old.start)) × (new ≡ with_ends old (old.start + 1) old.end)
+  pub one : old.start ≡ old.end → (answer ≡ Some (address_at old old.start)) × (new ≡ with_ends old 1 0)
+  pub none : old.end < old.start → (answer ≡ None) × (new ≡ old)
+
+-- `next_back`
+pub record IsNextBack (old : AddressRange) (answer : Option Address) (new : AddressRange) : Type 0 where
+  pub several : old.start < old.end → (answer ≡ Some (address_at old old.end)) × (new ≡ with_ends old old.start (old.end - 1))
+  pub one : old.start ≡ old.end → (answer ≡ Some (address_at old old.start)) × (new ≡ with_ends old 1 0)
+  pub none : old.end < old.start → (answer ≡ None) × (new ≡ old)
+
+-- `nth n`: past the end, at the last address, or before it
+pub record IsNth (n : ℕ) (old : AddressRange) (answer : Option Address) (new : AddressRange) : Type 0 where
+  pub past : address_count old ≤ n → (answer ≡ None) × (new ≡ with_ends old 1 0)
+  pub last : n + 1 ≡ address_count old → (answer ≡ Some (address_at old old.end)) × (new ≡ with_ends old 1 0)
+  pub before : n + 1 < address_count old → (answer ≡ Some (address_at old (old.start + n))) × (new ≡ with_ends old (old.start + n + 1) old.end)
+
+-- `nth_back n`: past the start, at the first address, or behind it
+pub record IsNthBack (n : ℕ) (old : AddressRange) (answer : Option Address) (new : AddressRange) : Type 0 where
+  pub past : address_count old ≤ n → (answer ≡ None) × (new ≡ with_ends old 1 0)
+  pub first : n + 1 ≡ address_count old → (answer ≡ Some (address_at old old.start)) × (new ≡ with_ends old 1 0)
+  pub behind : n + 1 < address_count old → (answer ≡ Some (address_at old (old.end - n))) × (new ≡ with_ends old old.start (old.end - n - 1))
+
+-- one of the four calls
+pub data Call : Type 0 where
+  Next : Call
+  NextBack : Call
+  Nth : ℕ → Call
+  NthBack : ℕ → Call
+
+-- from old the call answers this and leaves new
+abbrev pub IsCall : Call → AddressRange → Option Address → AddressRange → Type 0
+IsCall Next = IsNext
+IsCall NextBack = IsNextBack
+IsCall (Nth n) = IsNth n
+IsCall (NthBack n) = IsNthBack n
+
+-- the call passes over no address
+abbrev pub SkipsNone : Call → Type 0
+SkipsNone Next = ⊤
+SkipsNone NextBack = ⊤
+SkipsNone (Nth n) = n ≡ 0
+SkipsNone (NthBack n) = n ≡ 0
+
+-- a call, and what it answered
+pub record Step : Type 0 where
+  pub call : Call
+  pub answer : Option Address
+
+-- The calls, made one after another from r on, gave these answers and left s.
+abbrev pub IsRun : AddressRange → List Step → AddressRange → Type 0
+IsRun r [] s = r ≡ s
+IsRun r (step ∷ steps) s = (next : AddressRange) × IsCall step.call r step.answer next × IsRun next steps s
+
+-- the addresses that these steps gave, in their order
+abbrev pub given : List Step → List Address
+given steps = filter_map (λ step. step.answer) steps
+
+-- The order of ranges: IPv4 before IPv6, then the stored start, then the stored end.
+abbrev pub IsRangeBefore : AddressRange → AddressRange → Type 0
+IsRangeBefore r s = (family_index r.family < family_index s.family)
+    ⊎ ((r.family ≡ s.family) × ((r.start < s.start) ⊎ ((r.start ≡ s.start) × (r.end < s.end))))

@@ -1,0 +1,205 @@
+//! Ranges of IPv4 addresses.
+ghost use Rattle.std.specs.Prelude.{◌≡◌, ◌+◌, ◌-◌, ◌^◌, ◌<◌, ◌≤◌, ◌↔◌, IsTrue, option_map, slice_get, drop, take, reverse};
+ghost use Rattle.std.specs.Option.{SomeIff};
+ghost use Rattle.std.specs.Ordering.{MatchOrdering};
+ghost use Rattle.std.specs.Net.Addr.{ipv4_bits};
+ghost use Rattle.ipnet_base.specs.Address.{ipv4_address};
+ghost use Rattle.ipnet_base.specs.Ranges.{address_at, address_count, with_ends, IsNth, IsNthBack, IsRangeBefore};
+
+use crate::addr::{Ipv4Addr, ipv4_from_number};
+use std::iter::FusedIterator;
+
+/// The IPv4 addresses from a first to a last one, given in ascending order from the front and in descending
+/// order from the back.
+///
+/// Two ranges are equal, and ordered, by their stored ends, and not by the addresses that they still give.
+#[derive(Clone, Copy, PartialEq, Eq, PartialOrd, Ord, Hash, Debug)]
+pub struct Ipv4AddrRange {
+    start: u32,
+    end: u32,
+    ghost start_fits: { start < 2 ^ 32 },
+    ghost end_fits: { end < 2 ^ 32 },
+}
+
+impl Ipv4AddrRange {
+    ghost use Rattle.ipnet_base.specs.RangeOf.{ipv4_range, ipv4_addresses};
+
+    /// The range from `start` to `end`, both of them in it. It has no address where `start` is above `end`; it
+    /// keeps both ends then too.
+    pub fn new(start: Ipv4Addr, end: Ipv4Addr) -> Ipv4AddrRange
+        ensures start { (ipv4_range result).start ≡ ipv4_bits start }
+        ensures end { (ipv4_range result).end ≡ ipv4_bits end }
+    {
+        Ipv4AddrRange {
+            start: start.to_bits(),
+            end: end.to_bits(),
+        }
+    }
+
+    /// How many addresses are left: 0 to 2^32.
+    pub fn count(self) -> usize
+        ensures { result ≡ address_count (ipv4_range self) }
+    {
+        if self.start <= self.end {
+            (self.end - self.start) as usize + 1
+        } else {
+            0
+        }
+    }
+
+    /// The least address that is left, or `None` if none is.
+    pub fn min(self) -> Option<Ipv4Addr>
+        ensures { let r = ipv4_range self in
+            SomeIff (option_map ipv4_address result) (r.start ≤ r.end) (address_at r r.start) }
+    {
+        if self.start <= self.end {
+            Some(ipv4_from_number(self.start))
+        } else {
+            None
+        }
+    }
+
+    /// The greatest address that is left, or `None` if none is.
+    pub fn max(self) -> Option<Ipv4Addr>
+        ensures { let r = ipv4_range self in
+            SomeIff (option_map ipv4_address result) (r.start ≤ r.end) (address_at r r.end) }
+    {
+        if self.start <= self.end {
+            Some(ipv4_from_number(self.end))
+        } else {
+            None
+        }
+    }
+
+    /// The last address from the front, which is the greatest, or `None` if none is left.
+    pub fn last(self) -> Option<Ipv4Addr>
+        ensures { let r = ipv4_range self in
+            SomeIff (option_map ipv4_address result) (r.start ≤ r.end) (address_at r r.end) }
+    {
+        self.max()
+    }
+
+    /// Passes over `n` addresses from the front and gives the next. Where there are no more than `n`, it answers
+    /// `None`, and nothing is left.
+    ///
+    /// The stored ends of a range of which nothing is left are 1 and 0.
+    pub fn nth(&mut self, n: usize) -> Option<Ipv4Addr>
+        ensures item { option_map ipv4_address result ≡ slice_get (ipv4_addresses self.old) n }
+        ensures left { ipv4_addresses self.new ≡ drop (n + 1) (ipv4_addresses self.old) }
+        ensures ends { IsNth n (ipv4_range self.old) (option_map ipv4_address result) (ipv4_range self.new) }
+    {
+        if self.start > self.end || n > (self.end - self.start) as usize {
+            self.use_up();
+            return None;
+        }
+        let item = self.start + n as u32;
+        if item < self.end {
+            self.start = item + 1;
+        } else {
+            self.use_up();
+        }
+        Some(ipv4_from_number(item))
+    }
+
+    /// Passes over `n` addresses from the back and gives the next. Where there are no more than `n`, it answers
+    /// `None`, and nothing is left.
+    ///
+    /// The stored ends of a range of which nothing is left are 1 and 0.
+    pub fn nth_back(&mut self, n: usize) -> Option<Ipv4Addr>
+        ensures item { option_map ipv4_address result ≡ slice_get (reverse (ipv4_addresses self.old)) n }
+        ensures left { ipv4_addresses self.new
+            ≡ take (address_count (ipv4_range self.old) - (n + 1)) (ipv4_addresses self.old) }
+        ensures ends { IsNthBack n (ipv4_range self.old) (option_map ipv4_address result) (ipv4_range self.new) }
+    {
+        if self.start > self.end || n > (self.end - self.start) as usize {
+            self.use_up();
+            return None;
+        }
+        let item = self.end - n as u32;
+        if self.start < item {
+            self.end = item - 1;
+        } else {
+            self.use_up();
+        }
+        Some(ipv4_from_number(item))
+    }
+
+    /// Stores the ends of a range of which nothing is left.
+    fn use_up(&mut self)
+        ensures { ipv4_range self.new ≡ with_ends (ipv4_range self.old) 1 0 }
+    {
+        self.start = 1;
+        self.end = 0;
+    }
+}
+
+impl Iterator for Ipv4AddrRange {
+    type Item = Ipv4Addr;
+
+    ghost use Rattle.std.specs.Prelude.{⊤, IfSome, option_map};
+    ghost use Rattle.std.specs.Iterator.{YieldsFirstBy, MakesProgress, UpTo, at_most};
+    ghost use Rattle.std.specs.Iterator.SizeHint.{IsWithinCount, IsExactHint};
+    ghost use Rattle.ipnet_base.specs.Address.{ipv4_address};
+    ghost use Rattle.ipnet_base.specs.Ranges.{address_count, IsNext};
+    ghost use Rattle.ipnet_base.specs.RangeOf.{ipv4_range, ipv4_addresses};
+
+    ghost next_gives = { YieldsFirstBy ipv4_address ipv4_addresses };
+
+    ghost remaining = { λ r. at_most (address_count (ipv4_range r)) };
+
+    /// The first address that is left, or `None`, then and ever after, if none is.
+    fn next(&mut self) -> Option<Ipv4Addr>
+        ensures steps { YieldsFirstBy ipv4_address ipv4_addresses self.old result self.new }
+        ensures goes { MakesProgress (λ _. ⊤) (λ r. at_most (address_count (ipv4_range r))) self.old result self.new }
+        ensures ends { IsNext (ipv4_range self.old) (option_map ipv4_address result) (ipv4_range self.new) }
+    {
+        let item = self.start;
+        if item < self.end {
+            self.start = item + 1;
+        } else if item == self.end {
+            self.use_up();
+        } else {
+            return None;
+        }
+        Some(ipv4_from_number(item))
+    }
+
+    /// The count of the addresses that are left, as both bounds: it always fits.
+    fn size_hint(&self) -> (usize, Option<usize>)
+        ensures exact { IsExactHint result (address_count (ipv4_range self.now)) }
+        ensures lower { IsWithinCount result.0 (at_most (address_count (ipv4_range self.now))) }
+        ensures upper { IfSome result.1 (UpTo (at_most (address_count (ipv4_range self.now)))) }
+    {
+        let count = self.count();
+        (count, Some(count))
+    }
+}
+
+impl DoubleEndedIterator for Ipv4AddrRange {
+    ghost use Rattle.std.specs.Prelude.{⊤, option_map};
+    ghost use Rattle.std.specs.Iterator.{YieldsLastBy, MakesProgress, at_most};
+    ghost use Rattle.ipnet_base.specs.Address.{ipv4_address};
+    ghost use Rattle.ipnet_base.specs.Ranges.{address_count, IsNextBack};
+    ghost use Rattle.ipnet_base.specs.RangeOf.{ipv4_range, ipv4_addresses};
+
+    ghost next_back_gives = { YieldsLastBy ipv4_address ipv4_addresses };
+
+    /// The last address that is left, or `None`, then and ever after, if none is.
+    fn next_back(&mut self) -> Option<Ipv4Addr>
+        ensures steps { YieldsLastBy ipv4_address ipv4_addresses self.old result self.new }
+        ensures goes { MakesProgress (λ _. ⊤) (λ r. at_most (address_count (ipv4_range r))) self.old result self.new }
+        ensures ends { IsNextBack (ipv4_range self.old) (option_map ipv4_address result) (ipv4_range self.new) }
+    {
+        let item = self.end;
+        if self.start < item {
+            self.end = item - 1;
+        } else if self.start == item {
+            self.use_up();
+        } else {
+            return None;
+        }
+        Some(ipv4_from_number(item))
+    }
+}
+
+impl FusedIterator for Ipv4AddrRange {}

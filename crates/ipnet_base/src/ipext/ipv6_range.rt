@@ -1,0 +1,217 @@
+//! Ranges of IPv6 addresses.
+ghost use Rattle.std.specs.Prelude.{◌≡◌, ◌+◌, ◌-◌, ◌^◌, ◌<◌, ◌≤◌, ◌↔◌, IsTrue, option_map, slice_get, drop, take, reverse};
+ghost use Rattle.std.specs.Option.{SomeIff};
+ghost use Rattle.std.specs.Ordering.{MatchOrdering};
+ghost use Rattle.std.specs.Net.Addr.{ipv6_bits};
+ghost use Rattle.ipnet_base.specs.Address.{ipv6_address};
+ghost use Rattle.ipnet_base.specs.Ranges.{address_at, address_count, with_ends, IsNth, IsNthBack, IsRangeBefore};
+
+use crate::addr::{Ipv6Addr, ipv6_from_number};
+use std::iter::FusedIterator;
+
+/// The IPv6 addresses from a first to a last one, given in ascending order from the front and in descending
+/// order from the back.
+///
+/// Two ranges are equal, and ordered, by their stored ends, and not by the addresses that they still give.
+#[derive(Clone, Copy, PartialEq, Eq, PartialOrd, Ord, Hash, Debug)]
+pub struct Ipv6AddrRange {
+    start: u128,
+    end: u128,
+    ghost start_fits: { start < 2 ^ 128 },
+    ghost end_fits: { end < 2 ^ 128 },
+}
+
+impl Ipv6AddrRange {
+    ghost use Rattle.ipnet_base.specs.RangeOf.{ipv6_range, ipv6_addresses};
+
+    /// The range from `start` to `end`, both of them in it. It has no address where `start` is above `end`; it
+    /// keeps both ends then too.
+    pub fn new(start: Ipv6Addr, end: Ipv6Addr) -> Ipv6AddrRange
+        ensures start { (ipv6_range result).start ≡ ipv6_bits start }
+        ensures end { (ipv6_range result).end ≡ ipv6_bits end }
+    {
+        Ipv6AddrRange {
+            start: start.to_bits(),
+            end: end.to_bits(),
+        }
+    }
+
+    /// How many addresses are left, where a `usize` holds that number: a range may have 2^128 of them.
+    ///
+    /// `size_hint` is the test: it has an upper bound exactly where the number fits.
+    pub fn count(self) -> usize
+        requires { address_count (ipv6_range self) < 2 ^ 64 }
+        ensures { result ≡ address_count (ipv6_range self) }
+    {
+        if self.start <= self.end {
+            (self.end - self.start) as usize + 1
+        } else {
+            0
+        }
+    }
+
+    /// The least address that is left, or `None` if none is.
+    pub fn min(self) -> Option<Ipv6Addr>
+        ensures { let r = ipv6_range self in
+            SomeIff (option_map ipv6_address result) (r.start ≤ r.end) (address_at r r.start) }
+    {
+        if self.start <= self.end {
+            Some(ipv6_from_number(self.start))
+        } else {
+            None
+        }
+    }
+
+    /// The greatest address that is left, or `None` if none is.
+    pub fn max(self) -> Option<Ipv6Addr>
+        ensures { let r = ipv6_range self in
+            SomeIff (option_map ipv6_address result) (r.start ≤ r.end) (address_at r r.end) }
+    {
+        if self.start <= self.end {
+            Some(ipv6_from_number(self.end))
+        } else {
+            None
+        }
+    }
+
+    /// The last address from the front, which is the greatest, or `None` if none is left.
+    pub fn last(self) -> Option<Ipv6Addr>
+        ensures { let r = ipv6_range self in
+            SomeIff (option_map ipv6_address result) (r.start ≤ r.end) (address_at r r.end) }
+    {
+        self.max()
+    }
+
+    /// Passes over `n` addresses from the front and gives the next. Where there are no more than `n`, it answers
+    /// `None`, and nothing is left.
+    ///
+    /// The stored ends of a range of which nothing is left are 1 and 0.
+    pub fn nth(&mut self, n: usize) -> Option<Ipv6Addr>
+        ensures item { option_map ipv6_address result ≡ slice_get (ipv6_addresses self.old) n }
+        ensures left { ipv6_addresses self.new ≡ drop (n + 1) (ipv6_addresses self.old) }
+        ensures ends { IsNth n (ipv6_range self.old) (option_map ipv6_address result) (ipv6_range self.new) }
+    {
+        if self.start > self.end || n as u128 > self.end - self.start {
+            self.use_up();
+            return None;
+        }
+        let item = self.start + n as u128;
+        if item < self.end {
+            self.start = item + 1;
+        } else {
+            self.use_up();
+        }
+        Some(ipv6_from_number(item))
+    }
+
+    /// Passes over `n` addresses from the back and gives the next. Where there are no more than `n`, it answers
+    /// `None`, and nothing is left.
+    ///
+    /// The stored ends of a range of which nothing is left are 1 and 0.
+    pub fn nth_back(&mut self, n: usize) -> Option<Ipv6Addr>
+        ensures item { option_map ipv6_address result ≡ slice_get (reverse (ipv6_addresses self.old)) n }
+        ensures left { ipv6_addresses self.new
+            ≡ take (address_count (ipv6_range self.old) - (n + 1)) (ipv6_addresses self.old) }
+        ensures ends { IsNthBack n (ipv6_range self.old) (option_map ipv6_address result) (ipv6_range self.new) }
+    {
+        if self.start > self.end || n as u128 > self.end - self.start {
+            self.use_up();
+            return None;
+        }
+        let item = self.end - n as u128;
+        if self.start < item {
+            self.end = item - 1;
+        } else {
+            self.use_up();
+        }
+        Some(ipv6_from_number(item))
+    }
+
+    /// Stores the ends of a range of which nothing is left.
+    fn use_up(&mut self)
+        ensures { ipv6_range self.new ≡ with_ends (ipv6_range self.old) 1 0 }
+    {
+        self.start = 1;
+        self.end = 0;
+    }
+}
+
+impl Iterator for Ipv6AddrRange {
+    type Item = Ipv6Addr;
+
+    ghost use Rattle.std.specs.Prelude.{⊤, IfSome, option_map};
+    ghost use Rattle.std.specs.Iterator.{YieldsFirstBy, MakesProgress, UpTo, at_most};
+    ghost use Rattle.std.specs.Iterator.SizeHint.{IsWithinCount, IsExactHint};
+    ghost use Rattle.ipnet_base.specs.Address.{ipv6_address};
+    ghost use Rattle.ipnet_base.specs.Ranges.{address_count, IsNext};
+    ghost use Rattle.ipnet_base.specs.RangeOf.{ipv6_range, ipv6_addresses};
+
+    ghost next_gives = { YieldsFirstBy ipv6_address ipv6_addresses };
+
+    ghost remaining = { λ r. at_most (address_count (ipv6_range r)) };
+
+    /// The first address that is left, or `None`, then and ever after, if none is.
+    fn next(&mut self) -> Option<Ipv6Addr>
+        ensures steps { YieldsFirstBy ipv6_address ipv6_addresses self.old result self.new }
+        ensures goes { MakesProgress (λ _. ⊤) (λ r. at_most (address_count (ipv6_range r))) self.old result self.new }
+        ensures ends { IsNext (ipv6_range self.old) (option_map ipv6_address result) (ipv6_range self.new) }
+    {
+        let item = self.start;
+        if item < self.end {
+            self.start = item + 1;
+        } else if item == self.end {
+            self.use_up();
+        } else {
+            return None;
+        }
+        Some(ipv6_from_number(item))
+    }
+
+    /// The count of the addresses that are left, as both bounds, or `(usize::MAX, None)` where no `usize` holds
+    /// it.
+    fn size_hint(&self) -> (usize, Option<usize>)
+        ensures exact { IsExactHint result (address_count (ipv6_range self.now)) }
+        ensures lower { IsWithinCount result.0 (at_most (address_count (ipv6_range self.now))) }
+        ensures upper { IfSome result.1 (UpTo (at_most (address_count (ipv6_range self.now)))) }
+    {
+        if self.start > self.end {
+            return (0, Some(0));
+        }
+        let distance = self.end - self.start;
+        if distance < usize::MAX as u128 {
+            let count = distance as usize + 1;
+            (count, Some(count))
+        } else {
+            (usize::MAX, None)
+        }
+    }
+}
+
+impl DoubleEndedIterator for Ipv6AddrRange {
+    ghost use Rattle.std.specs.Prelude.{⊤, option_map};
+    ghost use Rattle.std.specs.Iterator.{YieldsLastBy, MakesProgress, at_most};
+    ghost use Rattle.ipnet_base.specs.Address.{ipv6_address};
+    ghost use Rattle.ipnet_base.specs.Ranges.{address_count, IsNextBack};
+    ghost use Rattle.ipnet_base.specs.RangeOf.{ipv6_range, ipv6_addresses};
+
+    ghost next_back_gives = { YieldsLastBy ipv6_address ipv6_addresses };
+
+    /// The last address that is left, or `None`, then and ever after, if none is.
+    fn next_back(&mut self) -> Option<Ipv6Addr>
+        ensures steps { YieldsLastBy ipv6_address ipv6_addresses self.old result self.new }
+        ensures goes { MakesProgress (λ _. ⊤) (λ r. at_most (address_count (ipv6_range r))) self.old result self.new }
+        ensures ends { IsNextBack (ipv6_range self.old) (option_map ipv6_address result) (ipv6_range self.new) }
+    {
+        let item = self.end;
+        if self.start < item {
+            self.end = item - 1;
+        } else if self.start == item {
+            self.use_up();
+        } else {
+            return None;
+        }
+        Some(ipv6_from_number(item))
+    }
+}
+
+impl FusedIterator for Ipv6AddrRange {}

@@ -1,0 +1,110 @@
+//! Netmasks, read as prefix lengths (RFC 4632, section 3.1).
+ghost use Rattle.std.specs.Prelude.{◌≡◌, ◌≤◌, ◌↔◌, ℕ, IsErr};
+ghost use Rattle.std.specs.declared.result.Result.TheVariants.{Ok};
+ghost use Rattle.std.specs.Net.Addr.{ipv4_bits, ipv6_bits};
+ghost use Rattle.ipnet_base.specs.Address.{IPv4, IPv6, ip_address};
+ghost use Rattle.ipnet_base.specs.Masks.{netmask_number, IsNetmaskOf};
+
+use crate::addr::{IpAddr, Ipv4Addr, Ipv6Addr};
+use thiserror::Error;
+
+/// The refusal of a prefix length longer than an address of the family, or of an address that is no netmask.
+///
+/// Its text is `invalid IP prefix length`.
+#[derive(Clone, Debug, PartialEq, Eq, Drop, Error)]
+#[error("invalid IP prefix length")]
+pub struct PrefixLenError;
+
+/// The number of the IPv4 netmask with this many ones.
+fn ipv4_netmask(prefix_len: u32) -> u32
+    requires { prefix_len ≤ 32 }
+    ensures { result ≡ netmask_number IPv4 prefix_len }
+{
+    u32::MAX.checked_shl(32 - prefix_len).unwrap_or(0)
+}
+
+/// The number of the IPv6 netmask with this many ones.
+fn ipv6_netmask(prefix_len: u32) -> u128
+    requires { prefix_len ≤ 128 }
+    ensures { result ≡ netmask_number IPv6 prefix_len }
+{
+    u128::MAX.checked_shl(128 - prefix_len).unwrap_or(0)
+}
+
+/// The prefix length, 0 to 32, of an IPv4 netmask: the number of its ones, which no zero stands before.
+///
+/// An address whose bits are not ones followed by zeros is refused. All zeros are the mask of length 0, all
+/// ones that of length 32.
+///
+/// ```text
+/// 255.255.255.128   Ok(25)
+/// 0.0.0.0           Ok(0)
+/// 255.0.255.0       Err(PrefixLenError)
+/// ```
+pub fn ipv4_mask_to_prefix(mask: Ipv4Addr) -> Result<u8, PrefixLenError>
+    ensures exact { (p : ℕ) → (result ≡ Ok p) ↔ IsNetmaskOf IPv4 (ipv4_bits mask) p }
+    ensures refused { IsErr result ↔ ((p : ℕ) → ¬ (IsNetmaskOf IPv4 (ipv4_bits mask) p)) }
+{
+    let number = mask.to_bits();
+    let ones = number.leading_ones();
+    if number == ipv4_netmask(ones) {
+        Ok(ones as u8)
+    } else {
+        Err(PrefixLenError)
+    }
+}
+
+/// The prefix length, 0 to 128, of an IPv6 netmask: the number of its ones, which no zero stands before.
+///
+/// An address whose bits are not ones followed by zeros is refused. All zeros are the mask of length 0, all
+/// ones that of length 128.
+///
+/// ```text
+/// ffff:ffff:ffff::   Ok(48)
+/// ::                 Ok(0)
+/// 0:0:ffff::         Err(PrefixLenError)
+/// ```
+pub fn ipv6_mask_to_prefix(mask: Ipv6Addr) -> Result<u8, PrefixLenError>
+    ensures exact { (p : ℕ) → (result ≡ Ok p) ↔ IsNetmaskOf IPv6 (ipv6_bits mask) p }
+    ensures refused { IsErr result ↔ ((p : ℕ) → ¬ (IsNetmaskOf IPv6 (ipv6_bits mask) p)) }
+{
+    let number = mask.to_bits();
+    let ones = number.leading_ones();
+    if number == ipv6_netmask(ones) {
+        Ok(ones as u8)
+    } else {
+        Err(PrefixLenError)
+    }
+}
+
+/// The prefix length of a netmask of either family, as `ipv4_mask_to_prefix` or `ipv6_mask_to_prefix` reads it.
+///
+/// ```text
+/// 255.255.0.0   Ok(16)
+/// ffff::        Ok(16)
+/// ::ffff        Err(PrefixLenError)
+/// ```
+pub fn ip_mask_to_prefix(mask: IpAddr) -> Result<u8, PrefixLenError>
+    ensures exact { let a = ip_address mask in
+        (p : ℕ) → (result ≡ Ok p) ↔ IsNetmaskOf a.family a.number p }
+    ensures refused { let a = ip_address mask in
+        IsErr result ↔ ((p : ℕ) → ¬ (IsNetmaskOf a.family a.number p)) }
+{
+    match mask {
+        IpAddr::V4(mask) => ipv4_mask_to_prefix(mask),
+        IpAddr::V6(mask) => ipv6_mask_to_prefix(mask),
+    }
+}
+
+#[cfg(test)]
+mod tests {
+    use super::*;
+    use std::test::Fail;
+
+    #[test]
+    fn the_error_has_its_text(rt: HostRuntime) -> Result<(), Fail> {
+        let text = format!(in rt.alloc(); "{}", PrefixLenError)?;
+        assert_eq!(rt; text.as_str(), "invalid IP prefix length");
+        Ok(())
+    }
+}
