@@ -1,7 +1,7 @@
 //! The canonical text of addresses and networks (RFC 4632, section 3.1; RFC 4291, section 2.3; RFC 5952).
 //!
 //! Every text is made in a buffer of fixed capacity, so printing takes no memory.
-ghost use Rattle.std.specs.Prelude.{◌≡◌, ◌+◌, ◌-◌, ◌*◌, ◌≤◌, ◌<◌, [], ◌∷◌, ◌++◌, length, decimal, Some};
+ghost use Rattle.std.specs.Prelude.{◌≡◌, ◌+◌, ◌-◌, ◌*◌, ◌≤◌, ◌<◌, [], ◌∷◌, ◌++◌, length, codes, decimal, Some};
 ghost use Rattle.std.specs.Char.{digit_char};
 ghost use Rattle.std.specs.Net.Addr.{ipv4_octets, ipv4_bits, ipv6_segments, ipv6_bits};
 ghost use Rattle.std.specs.Net.Text.{ipv4_text, ipv6_text, hex, groups_text};
@@ -88,6 +88,16 @@ fn push_octets(out: &mut Buffer, octets: [u8; 4])
     push_decimal(out, c);
     out.push_str(".");
     push_decimal(out, d);
+}
+
+/// Appends "/" and the length in decimal, without leading zeros.
+fn push_length(out: &mut Buffer, prefix_len: u8)
+    requires { array_string_len out.old + 4 ≤ IPV6_NETWORK_LEN }
+    ensures bytes { out.new.bytes ≡ out.old.bytes ++ codes "/" ++ decimal prefix_len }
+    ensures shorter { prefix_len < 100 → array_string_len out.new ≤ array_string_len out.old + 3 }
+{
+    out.push_str("/");
+    push_decimal(out, prefix_len);
 }
 
 /// Appends the group in hexadecimal, without leading zeros.
@@ -222,8 +232,7 @@ fn ipv4_network_text(net: &Ipv4Net) -> Buffer
 {
     let mut out = Buffer::new();
     push_octets(&mut out, Ipv4Addr::from_bits(net.number()).octets());
-    out.push_str("/");
-    push_decimal(&mut out, net.prefix_len());
+    push_length(&mut out, net.prefix_len());
     out
 }
 
@@ -256,8 +265,7 @@ impl Ipv6Net {
     {
         let mut out = ArrayString::new();
         push_ipv6(&mut out, Ipv6Addr::from_bits(self.number()));
-        out.push_str("/");
-        push_decimal(&mut out, self.prefix_len());
+        push_length(&mut out, self.prefix_len());
         out
     }
 }
@@ -315,7 +323,7 @@ impl fmt::Debug for Ipv4Net {
     ghost debug_output = { λ n. Some (canonical_text (ipv4_network n)) };
 
     fn fmt<W: fmt::Write>(&self, f: &mut fmt::Formatter<W>) -> fmt::Result {
-        fmt::Display::fmt(self, f)
+        <Ipv4Net as fmt::Display>::fmt(self, f)
     }
 }
 
@@ -324,7 +332,7 @@ impl fmt::Debug for Ipv6Net {
     ghost debug_output = { λ n. Some (canonical_text (ipv6_network n)) };
 
     fn fmt<W: fmt::Write>(&self, f: &mut fmt::Formatter<W>) -> fmt::Result {
-        fmt::Display::fmt(self, f)
+        <Ipv6Net as fmt::Display>::fmt(self, f)
     }
 }
 
@@ -333,6 +341,6 @@ impl fmt::Debug for IpNet {
     ghost debug_output = { λ n. Some (canonical_text (ip_network n)) };
 
     fn fmt<W: fmt::Write>(&self, f: &mut fmt::Formatter<W>) -> fmt::Result {
-        fmt::Display::fmt(self, f)
+        <IpNet as fmt::Display>::fmt(self, f)
     }
 }
