@@ -1,2 +1,23 @@
 -- Lemmas that the proofs of this crate share.
+pub mod FrontLaws
+pub mod AnswerLaws
+pub mod EqualLaws
+pub mod SubnetsLaws
+pub mod SubnetCountLaws
+pub mod NetLaws
+pub mod NetOrderLaws
 pub use Rattle.ipnet_base.proofs.BlockLaws
+pub mod NumberOctets
+pub mod DigitTexts
+pub mod Ipv4Texts
+pub mod Ipv6Texts
+pub mod WholeTexts
+pub mod StrictTexts
+pub mod PrintedTexts
+pub mod PrintedDigits
+pub mod ZeroRuns
+pub mod LineLaws
+pub mod ReaderTurns
+pub use Rattle.ipnet_base.proofs.FamilyLaws
+pub use Rattle.ipnet_base.proofs.AggregateLaws
+pub use Rattle.ipnet_base.proofs.WalkLaws

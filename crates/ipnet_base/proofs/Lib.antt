@@ -1,18 +1,22 @@
 -- Facts of the definitions in specs/, proved once for all crates.
 pub mod PrefixLaws
 pub mod BlockLaws
+pub mod NetworkLaws
 pub mod ListLaws
 pub mod UniqueLaws
 pub mod NeighbourLaws
 pub mod WalkLaws
 pub mod ShortestLaws
 pub mod SupernetLaws
+pub mod CoverLaws
 pub mod MaskLaws
 pub mod AddressLaws
 pub mod StepLaws
 pub mod StackLaws
+pub mod AggregateLaws
 pub mod CountLaws
 pub mod DigitLaws
 pub mod ArithmeticLaws
 pub mod RangeLaws
 pub mod CallLaws
+pub mod FamilyLaws

@@ -1,11 +1,10 @@
 -- No exact cover is shorter than the maximal blocks, and one as short is them, truncated and sorted.
 use Rattle.std.proofs.Common.{◌≡◌, ℕ, ◌<◌, ◌≤◌, List, [], ◌∷◌, ◌++◌, length, get_or, map, remove, Contains, AllPairs, IsPermutation, sym, ap, ◌∙◌, subst, arith, inl, inr}
 use Rattle.std.specs.List.{AllZip}
-use Rattle.std.proofs.lemmas.List.{length-append, nil_from_length}
+use Rattle.std.proofs.lemmas.List.{length-append, nil_from_length, same_lists, get_or-map, length-map, append-nil}
 use Rattle.std.proofs.lemmas.List.Sorted.{IsPermutation-refl, IsPermutation-cons, IsPermutation-trans, IsPermutation-remove, IsPermutation-sym, Contains-permutation, length_permutation, IsPermutation-map}
-use Rattle.std.proofs.lemmas.List.Elements.{length_all_zip}
-use Rattle.std.proofs.lemmas.List.{same_lists, get_or-map, length-map, append-nil}
-use Rattle.std.proofs.lemmas.List.Elements.{AllZip-get_or}
+use Rattle.std.proofs.lemmas.List.Elements.{length_all_zip, AllZip-get_or}
+use Rattle.std.proofs.lemmas.Slice.Zip.{AllZip-long}
 use Rattle.std.proofs.lemmas.Bool.{cases_order}
 use Rattle.ipnet_base.specs.Address.{Address}
 use Rattle.ipnet_base.specs.Network.{Network, IsNetwork, InBlock, IsSubnetOf, IsBefore, truncation}
@@ -32,6 +31,15 @@ partners {X} {Y} R (x ∷ xs) ys each apart =
     ])
     (pairs_tail (λ u w. (t : Y) → R u t → R w t → ⊥) x xs apart) in
     (y ∷ chosen, rest, IsPermutation-trans ys (y ∷ remove ys at_y.0) (y ∷ (chosen ++ rest)) first (IsPermutation-cons y (remove ys at_y.0) (chosen ++ rest) later), (r, zip))
+
+-- so xs is no longer than ys
+pub partners_no_more : {X Y : Type 0} (R : X → Y → Type 0) (xs : List X) (ys : List Y)
+    → ((x : X) → Contains xs x → (y : Y) × Contains ys y × R x y)
+    → AllPairs (λ x z. (y : Y) → R x y → R z y → ⊥) xs
+    → length xs ≤ length ys
+partners_no_more R xs ys each apart =
+    let (chosen, rest, moved, zip) = partners R xs ys each apart in
+    omega (arith, length_permutation ys (chosen ++ rest) moved, length-append chosen rest, AllZip-long R xs chosen zip)
 
 -- maximal networks that share an address are one
 pub one_maximal : (InSet : Address → Type 0) (least : ℕ) (n k : Network) → IsMaximal InSet least n → IsMaximal InSet least k
@@ -88,9 +96,7 @@ module _ (InSet : Address → Type 0) (least : ℕ) (networks cover : List Netwo
 
   -- no exact cover is shorter
   pub shortest : length networks ≤ length cover
-  shortest =
-      let (chosen, rest, moved, zip) = found in
-      omega (arith, length_permutation cover (chosen ++ rest) moved, length-append chosen rest, length_all_zip (λ n k. IsSubnetOf k n) networks chosen zip)
+  shortest = partners_no_more (λ n k. IsSubnetOf k n) networks cover partner apart
 
   -- a member of the list stands at one place
   place_is : (n : Network) (c : Contains networks n) (j : ℕ) (d : Network) → j < length networks → get_or networks j d ≡ n → j ≡ c.0

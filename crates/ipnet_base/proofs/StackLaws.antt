@@ -1,25 +1,16 @@
 -- One network more on a stack of networks that shows the four conditions on neighbours.
-use Rattle.std.proofs.Common.{◌≡◌, ℕ, zero, suc, ◌+◌, ◌-◌, ◌<◌, ◌≤◌, ◌⊎◌, ◌↔◌, List, [], ◌∷◌, ◌++◌, length, get_or, Contains, All, refl, sym, ap, ◌∙◌, subst, subst₂, arith, inl, inr}
+use Rattle.std.proofs.Common.{◌≡◌, ℕ, zero, suc, ◌+◌, ◌-◌, ◌<◌, ◌≤◌, ◌⊎◌, ◌↔◌, List, [], ◌∷◌, ◌++◌, length, get_or, Contains, All, refl, sym, ap, ◌∙◌, subst, subst₂, arith, inl, inr, map, take, IsPermutation, IsSorted, Ordering, Less, is_lt, add-one, true, false}
 use Rattle.std.specs.List.{AllAdjacentBelow}
 use Rattle.std.proofs.lemmas.Bool.{cases_lt, cases_eq, cases_order}
-use Rattle.std.proofs.lemmas.List.{length_push, get_or_push, get_or_append_left}
-use Rattle.std.proofs.lemmas.List.Elements.{All-push, Contains-append_left, Contains-append_right, Contains-append_cases}
-use Rattle.std.proofs.Common.{map, take, IsPermutation, IsSorted, Ordering, Less, is_lt, add-one, true, false}
-use Rattle.std.proofs.lemmas.List.{length-map, get_or-map}
-use Rattle.std.proofs.lemmas.List.Elements.{All-map}
-use Rattle.std.proofs.lemmas.List.Sorted.{All-permutation, IsPermutation-map}
+use Rattle.std.proofs.lemmas.List.{length_push, get_or_push, get_or_append_left, length-map, get_or-map, take_more, take_all}
+use Rattle.std.proofs.lemmas.List.Elements.{All-push, Contains-append_left, Contains-append_right, Contains-append_cases, All-map, All-weaker}
+use Rattle.std.proofs.lemmas.List.Sorted.{All-permutation, IsPermutation-map, Contains-permutation, IsPermutation-sym}
+use Rattle.ipnet_base.specs.Network.{truncation, Network, IsNetwork, host_bits, InBlock, IsSubnetOf, IsTruncated, IsBefore, AreHalves, IsSupernetOf}
+use Rattle.ipnet_base.specs.Blocks.{HaveSameCover, IsCoveredBy}
+use Rattle.ipnet_base.specs.Address.{Address, width, family_index}
 use Rattle.ipnet_base.proofs.NeighbourLaws.{LiesBefore, AreSettled}
-use Rattle.ipnet_base.proofs.BlockLaws.{IsTruncated-truncation}
-use Rattle.std.proofs.lemmas.List.{take_more, take_all}
-use Rattle.std.proofs.lemmas.List.Elements.{All-weaker}
-use Rattle.std.proofs.lemmas.List.Sorted.{Contains-permutation, IsPermutation-sym}
-use Rattle.ipnet_base.specs.Network.{truncation}
-use Rattle.ipnet_base.specs.Blocks.{HaveSameCover}
-use Rattle.ipnet_base.proofs.BlockLaws.{same_network, truncation_in, in_truncation}
-use Rattle.ipnet_base.specs.Address.{Family, IPv4, IPv6, Address, width, family_index}
-use Rattle.ipnet_base.specs.Network.{Network, IsNetwork, host_bits, InBlock, IsSubnetOf, IsTruncated, IsBefore, AreHalves, IsSupernetOf}
-use Rattle.ipnet_base.specs.Blocks.{IsCoveredBy}
-use Rattle.ipnet_base.proofs.BlockLaws.{own, own_in, block_between, nested_or_disjoint, nested, supernet_to_halves, halves_to_supernet}
+use Rattle.ipnet_base.proofs.BlockLaws.{IsTruncated-truncation, same_network, truncation_in, in_truncation, own, own_in, block_between, nested_or_disjoint, nested, supernet_to_halves, halves_to_supernet}
+use Rattle.ipnet_base.proofs.UniqueLaws.{same_family_from_index}
 use Rattle.ipnet_base.proofs.ListLaws.{contains_nil, contains_here, contains_cases, any_from_contains, at_place}
 
 -- in the order of networks, the first is the second or stands before it
@@ -253,7 +244,7 @@ order_total n k =
       | inr (inl lt) ↦ inl (inr (inl lt))
       | inr (inr gt) ↦ inr (inl gt)
       | inl same ↦
-          let f : n.family ≡ k.family = same_family n.family k.family same in
+          let f : n.family ≡ k.family = same_family_from_index n.family k.family same in
           elim (cases_order n.number k.number) [
             | inr (inl lt) ↦ inl (inr (inr (f, inl lt)))
             | inr (inr gt) ↦ inr (inr (sym f, inl gt))
@@ -264,12 +255,6 @@ order_total n k =
             ]
           ]
     ]
-  where
-    same_family : (f g : Family) → family_index f ≡ family_index g → f ≡ g
-    same_family IPv4 IPv4 e = refl
-    same_family IPv4 IPv6 e = absurd (omega (arith, e))
-    same_family IPv6 IPv4 e = absurd (omega (arith, e))
-    same_family IPv6 IPv6 e = refl
 
 -- the networks stand in order, equal ones beside each other
 abbrev pub IsInOrder : List Network → Type 0

@@ -179,29 +179,30 @@ same_blocks_iff_same_cover networks others blocks u v h = (to, from)
     from : HaveSameCover others networks → AreMaximalBlocks (IsCoveredBy others) 0 blocks
     from same = AreMaximalBlocks-same_set (IsCoveredBy networks) (IsCoveredBy others) 0 blocks (λ x. ((same x).1, (same x).0)) h
 
+-- of two maximal networks the one that stands before the other ends before it
+pub lies_before_from_maximal : (InSet : Address → Type 0) (least : ℕ) (n k : Network) → IsMaximal InSet least n → IsMaximal InSet least k → IsBefore n k → LiesBefore n k
+lies_before_from_maximal InSet least n k p q (inl lt) = inl lt
+lies_before_from_maximal InSet least n k p q (inr (f, order)) = inr (
+  f,
+  λ x a. elim (cases_lt x.number k.number) [
+    | inl lt ↦ lt
+    | inr ge ↦
+        let last : x.number ≤ last_of n = (between_from_block n x a).to_end in
+        let start : n.number ≡ first_of n = number_from_truncated n p.inside.truncated in
+        let inside : InBlock n (own k) = block_from_between n (own k) (record { of_family = sym f; from_start = omega (arith, start, order); to_end = omega (arith, last, ge) }) in
+        let one : n ≡ k = one_maximal InSet least n k p q (own k) inside (own_in k) in
+        absurd (IsBefore-asymmetric n n (subst (IsBefore n) (sym one) (inr (f, order))) (subst (IsBefore n) (sym one) (inr (f, order))))
+  ],
+)
+
 -- A list that is the blocks of its own cover shows the four conditions on neighbours.
 pub neighbours_from_blocks : (networks : List Network) → AreMaximalBlocks (IsCoveredBy networks) 0 networks → AreSettled networks
 neighbours_from_blocks networks h = record {
   truncated = all_from_members IsTruncated networks (λ n c. ((h.members n).0 c).inside.truncated);
-  apart = adjacent_from_pairs LiesBefore networks (pairs_from_members IsBefore LiesBefore networks (λ n k c e b. ends n k ((h.members n).0 c) ((h.members k).0 e) b) h.ascending);
+  apart = adjacent_from_pairs LiesBefore networks (pairs_from_members IsBefore LiesBefore networks (λ n k c e b. lies_before_from_maximal (IsCoveredBy networks) 0 n k ((h.members n).0 c) ((h.members k).0 e) b) h.ascending);
   unjoined = adjacent_from_pairs (λ n k. ¬ (AreHalves n k)) networks (pairs_from_members IsBefore (λ n k. ¬ (AreHalves n k)) networks (λ n k c e b. unjoined n k c e) h.ascending);
 }
   where
-    ends : (n k : Network) → IsMaximal (IsCoveredBy networks) 0 n → IsMaximal (IsCoveredBy networks) 0 k → IsBefore n k → LiesBefore n k
-    ends n k p q (inl lt) = inl lt
-    ends n k p q (inr (f, order)) = inr (
-      f,
-      λ x a. elim (cases_lt x.number k.number) [
-        | inl lt ↦ lt
-        | inr ge ↦
-            let last : x.number ≤ last_of n = (between_from_block n x a).to_end in
-            let start : n.number ≡ first_of n = number_from_truncated n p.inside.truncated in
-            let inside : InBlock n (own k) = block_from_between n (own k) (record { of_family = sym f; from_start = omega (arith, start, order); to_end = omega (arith, last, ge) }) in
-            let one : n ≡ k = one_maximal (IsCoveredBy networks) 0 n k p q (own k) inside (own_in k) in
-            absurd (IsBefore-asymmetric n n (subst (IsBefore n) (sym one) (inr (f, order))) (subst (IsBefore n) (sym one) (inr (f, order))))
-      ],
-    )
-
     unjoined : (n k : Network) → Contains networks n → Contains networks k → ¬ (AreHalves n k)
     unjoined n k c e halves =
         let p : IsMaximal (IsCoveredBy networks) 0 n = (h.members n).0 c in

@@ -1,6 +1,6 @@
--- At most one list is the maximal blocks of a set.
-use Rattle.std.proofs.Common.{◌≡◌, ℕ, ◌<◌, ◌⊎◌, List, ap, arith, inl, inr}
-use Rattle.ipnet_base.specs.Address.{Address, family_index}
+-- The order of networks; and at most one list is the maximal blocks of a set.
+use Rattle.std.proofs.Common.{◌≡◌, ℕ, ◌<◌, ◌⊎◌, List, refl, ap, arith, inl, inr}
+use Rattle.ipnet_base.specs.Address.{Family, IPv4, IPv6, Address, family_index}
 use Rattle.ipnet_base.specs.Network.{Network, IsBefore}
 use Rattle.ipnet_base.specs.Blocks.{AreMaximalBlocks}
 use Rattle.ipnet_base.proofs.ListLaws.{same_from_members}
@@ -15,6 +15,13 @@ before_by_numbers n k (inr h) = inr (ap family_index h.0, h.1)
 
 asymmetric_by_numbers : (f g a b p q : ℕ) → OrderedBy f g a b p q → OrderedBy g f b a q p → ⊥
 asymmetric_by_numbers f g a b p q h k = omega arith
+
+-- the place of a family in the order tells the family
+pub same_family_from_index : (f g : Family) → family_index f ≡ family_index g → f ≡ g
+same_family_from_index IPv4 IPv4 e = refl
+same_family_from_index IPv4 IPv6 e = absurd (omega (arith, e))
+same_family_from_index IPv6 IPv4 e = absurd (omega (arith, e))
+same_family_from_index IPv6 IPv6 e = refl
 
 -- no two networks stand before each other
 pub IsBefore-asymmetric : (n k : Network) → IsBefore n k → IsBefore k n → ⊥

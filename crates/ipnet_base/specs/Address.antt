@@ -1,5 +1,5 @@
 -- Addresses and sets of addresses.
-use Rattle.std.specs.Prelude.{◌≡◌, ℕ, ◌-◌, ◌^◌, ◌<◌, ◌≤◌}
+use Rattle.std.specs.Prelude.{◌≡◌, ℕ, ◌-◌, ◌^◌, ◌<◌, ◌≤◌, Bool, IsTrue}
 use Rattle.std.specs.Net.Addr.{ipv4_bits, ipv6_bits}
 use Rattle.std.specs.declared.net.ip_addr.IpAddr.{IpAddr}
 use Rattle.std.specs.declared.net.ip_addr.IpAddr.TheVariants as Ip
@@ -39,6 +39,10 @@ pub record IsBetween (family : Family) (start end : ℕ) (x : Address) : Type 0 
   pub of_family : x.family ≡ family
   pub from_start : start ≤ x.number
   pub to_end : x.number ≤ end
+
+-- the set of the addresses that a test accepts
+abbrev pub IsAcceptedBy : (Address → Bool) → Address → Type 0
+IsAcceptedBy test x = IsTrue (test x)
 
 -- the addresses that std's types stand for
 abbrev pub ipv4_address : Ipv4Addr → Address

@@ -52,6 +52,13 @@ IsTruncated n = (x : Address) → InBlock n x → n.number ≤ x.number
 abbrev pub truncation : Network → Network
 truncation n = record n { number = n.number / 2 ^ host_bits n * 2 ^ host_bits n }
 
+-- t is n without its host bits: the truncated network with n's block and n's length
+pub record IsTruncationOf (t n : Network) : Type 0 where
+  pub network : IsNetwork t
+  pub truncated : IsTruncated t
+  pub same_len : t.prefix_len ≡ n.prefix_len
+  pub same_block : HaveSameBlock t n
+
 -- s is the supernet of n: truncated, one bit shorter, and its block contains n's block
 pub record IsSupernetOf (s n : Network) : Type 0 where
   pub network : IsNetwork s

@@ -2,6 +2,7 @@
 //! lists of them are, with the laws of these.
 #![tactic(auto)]
 
+pub mod laws;
 pub mod addr;
 pub mod ipext;
 pub mod mask;

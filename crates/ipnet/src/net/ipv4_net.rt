@@ -1,6 +1,16 @@
-ghost use Rattle.std.specs.Prelude.{◌≡◌, ◌-◌, ◌*◌, ◌/◌, ◌^◌, ◌<◌, ◌≤◌};
+ghost use Rattle.std.specs.Prelude.{◌≡◌, ◌-◌, ◌*◌, ◌/◌, ◌^◌, ◌<◌, ◌≤◌, ◌⊎◌, ◌↔◌, IsTrue, IsErr, IfOk, IsNone, IfSome};
+ghost use Rattle.std.specs.Net.Addr.{ipv4_bits};
+ghost use Rattle.ipnet_base.specs.Address.{IPv4, width, ipv4_address};
+ghost use Rattle.ipnet_base.specs.Network.{Network, IsLeastOf, IsGreatestOf, IsSubnetOf, InBlock, IsSupernetOf, AreSiblings, IsTruncationOf};
+ghost use Rattle.ipnet.specs.NetworkParts.{address_at, network_at, own_address, netmask, hostmask, HasAddressAndNetmask, AreSubnetsOfLength, IsHostRange};
+
+use super::{Contains, Net};
+use crate::subnets::Ipv4Subnets;
+use ipnet_base::{Ipv4Addr, Ipv4AddrRange, PrefixLenError, ipv4_mask_to_prefix};
 
 /// An IPv4 network: an address, with its host bits, and a prefix length of at most 32.
+///
+/// Networks are ordered by the address, host bits and all, and then by the length.
 //
 // The length is kept in a word as wide as the number, since sorting copies networks of two words faster
 // than those of a word and a byte.
@@ -28,9 +38,215 @@ fn hostmask_number(prefix_len: u32) -> u32
     u32::MAX.checked_shr(prefix_len).unwrap_or(0)
 }
 
+/// The address of this number.
+fn address_of(number: u32) -> Ipv4Addr
+    ensures { ipv4_address result ≡ address_at IPv4 number }
+{
+    Ipv4Addr::from_bits(number)
+}
+
 impl Ipv4Net {
     ghost use Rattle.ipnet_base.proofs.BlockLaws.{last_of};
     ghost use Rattle.ipnet.specs.NetworkOf.{ipv4_network, ipv4_network_of};
+    ghost use Rattle.ipnet_base.specs.RangeOf.{ipv4_range};
+    ghost use Rattle.ipnet.specs.SubnetsLeft.{ipv4_subnets_left};
+
+    /// The network of the address and the length; the address keeps its host bits.
+    ///
+    /// An error where the length is above 32.
+    ///
+    /// ```text
+    /// Ipv4Net::new(10.1.1.7, 24) is 10.1.1.7/24, and Ipv4Net::new(10.1.1.7, 33) an error
+    /// ```
+    pub fn new(ip: Ipv4Addr, prefix_len: u8) -> Result<Ipv4Net, PrefixLenError>
+        ensures made { IfOk result (λ n. ipv4_network n ≡ network_at (ipv4_address ip) prefix_len) }
+        ensures refused { IsErr result ↔ (32 < prefix_len) }
+    {
+        if prefix_len > 32 {
+            return Err(PrefixLenError);
+        }
+        Ok(Ipv4Net::new_assert(ip, prefix_len))
+    }
+
+    /// The network of the address and a length that the caller knows to be at most 32; `new` is the test.
+    pub fn new_assert(ip: Ipv4Addr, prefix_len: u8) -> Ipv4Net
+        requires { prefix_len ≤ 32 }
+        ensures { ipv4_network result ≡ network_at (ipv4_address ip) prefix_len }
+    {
+        Ipv4Net::from_number(ip.to_bits(), u32::from(prefix_len))
+    }
+
+    /// The network of the address and the length that the netmask says; the address keeps its host bits.
+    ///
+    /// An error where the mask is not ones followed by zeros.
+    ///
+    /// ```text
+    /// Ipv4Net::with_netmask(10.1.1.7, 255.255.0.0) is 10.1.1.7/16, with 255.0.255.0 an error
+    /// ```
+    pub fn with_netmask(ip: Ipv4Addr, netmask: Ipv4Addr) -> Result<Ipv4Net, PrefixLenError>
+        ensures made { IfOk result (λ n. HasAddressAndNetmask (ipv4_network n) (ipv4_address ip) (ipv4_address netmask)) }
+        ensures refused { IsErr result ↔ ((n : Network) → ¬ (HasAddressAndNetmask n (ipv4_address ip) (ipv4_address netmask))) }
+    {
+        let prefix_len = ipv4_mask_to_prefix(netmask)?;
+        Ipv4Net::new(ip, prefix_len)
+    }
+
+    /// The address, with its host bits.
+    pub fn addr(&self) -> Ipv4Addr
+        ensures { ipv4_address result ≡ own_address (ipv4_network self.now) }
+    {
+        address_of(self.number())
+    }
+
+    /// The prefix length, from 0 to 32.
+    pub fn prefix_len(&self) -> u8
+        ensures { result ≡ (ipv4_network self.now).prefix_len }
+    {
+        self.leading_bits() as u8
+    }
+
+    /// The greatest prefix length of an IPv4 network: 32.
+    pub fn max_prefix_len(&self) -> u8
+        ensures { result ≡ width (ipv4_network self.now).family }
+    {
+        u32::BITS as u8
+    }
+
+    /// The netmask: as many ones as the prefix length says, followed by zeros (RFC 4632, section 3.1).
+    ///
+    /// ```text
+    /// the netmask of 10.1.0.0/20 is 255.255.240.0
+    /// ```
+    pub fn netmask(&self) -> Ipv4Addr
+        ensures { ipv4_address result ≡ netmask (ipv4_network self.now) }
+    {
+        address_of(netmask_number(self.leading_bits()))
+    }
+
+    /// The host mask: as many zeros as the prefix length says, followed by ones.
+    ///
+    /// ```text
+    /// the host mask of 10.1.0.0/20 is 0.0.15.255
+    /// ```
+    pub fn hostmask(&self) -> Ipv4Addr
+        ensures { ipv4_address result ≡ hostmask (ipv4_network self.now) }
+    {
+        address_of(hostmask_number(self.leading_bits()))
+    }
+
+    /// The least address of the block.
+    ///
+    /// ```text
+    /// that of 172.16.123.123/16 is 172.16.0.0
+    /// ```
+    pub fn network(&self) -> Ipv4Addr
+        ensures { IsLeastOf (ipv4_network self.now) (ipv4_address result) }
+    {
+        address_of(self.leading_number(self.leading_bits()))
+    }
+
+    /// The greatest address of the block.
+    ///
+    /// ```text
+    /// that of 172.16.0.0/22 is 172.16.3.255
+    /// ```
+    pub fn broadcast(&self) -> Ipv4Addr
+        ensures { IsGreatestOf (ipv4_network self.now) (ipv4_address result) }
+    {
+        address_of(self.last_number())
+    }
+
+    /// The network without its host bits: the same block and length, and the least address of the block.
+    ///
+    /// ```text
+    /// 192.168.12.34/16 becomes 192.168.0.0/16
+    /// ```
+    pub fn trunc(&self) -> Ipv4Net
+        ensures { IsTruncationOf (ipv4_network result) (ipv4_network self.now) }
+    {
+        let len = self.leading_bits();
+        Ipv4Net::from_number(self.leading_number(len), len)
+    }
+
+    /// The network that is one bit shorter and contains this one, without host bits; none at length 0.
+    ///
+    /// ```text
+    /// that of 172.16.0.0/12 is 172.0.0.0/11
+    /// ```
+    pub fn supernet(&self) -> Option<Ipv4Net>
+        ensures none { IsNone result ↔ ((ipv4_network self.now).prefix_len ≡ 0) }
+        ensures some { IfSome result (λ s. IsSupernetOf (ipv4_network s) (ipv4_network self.now)) }
+    {
+        if self.leading_bits() == 0 {
+            return None;
+        }
+        Some(self.joined())
+    }
+
+    /// Whether both have one length above 0 and one supernet.
+    ///
+    /// So each network of length above 0 is its own sibling, and host bits do not matter.
+    ///
+    /// ```text
+    /// 10.1.0.0/24 and 10.1.1.0/24 are siblings, 10.1.1.0/24 and 10.1.2.0/24 are not
+    /// ```
+    pub fn is_sibling(&self, other: &Ipv4Net) -> bool
+        ensures { IsTrue result ↔ AreSiblings (ipv4_network self.now) (ipv4_network other.now) }
+    {
+        let len = self.leading_bits();
+        if len == 0 || len != other.leading_bits() {
+            return false;
+        }
+        self.leading_number(len - 1) == other.leading_number(len - 1)
+    }
+
+    /// The addresses that hosts may have: those between the least and the greatest of the block, and at the lengths
+    /// 31 and 32 these two as well (RFC 3021).
+    ///
+    /// ```text
+    /// 10.0.0.0/30: 10.0.0.1, 10.0.0.2; 10.0.0.0/31: 10.0.0.0, 10.0.0.1; 10.0.0.7/32: 10.0.0.7
+    /// ```
+    pub fn hosts(&self) -> Ipv4AddrRange
+        ensures { IsHostRange (ipv4_network self.now) (ipv4_range result) }
+    {
+        let len = self.leading_bits();
+        if len >= 31 {
+            return Ipv4AddrRange::new(self.network(), self.broadcast());
+        }
+        let first = self.leading_number(len) + 1;
+        let last = self.last_number() - 1;
+        Ipv4AddrRange::new(address_of(first), address_of(last))
+    }
+
+    /// The walk over all networks of this length in the block, ascending; there are 2^(new - own length) of them.
+    ///
+    /// An error where the new length is below this network's own, or above 32.
+    ///
+    /// ```text
+    /// 10.0.0.0/24 at 26: 10.0.0.0/26, 10.0.0.64/26, 10.0.0.128/26, 10.0.0.192/26; at 23 an error
+    /// ```
+    pub fn subnets(&self, new_prefix_len: u8) -> Result<Ipv4Subnets, PrefixLenError>
+        ensures walk { IfOk result (λ s. AreSubnetsOfLength (ipv4_network self.now) new_prefix_len (ipv4_subnets_left s)) }
+        ensures refused { IsErr result ↔ ((new_prefix_len < (ipv4_network self.now).prefix_len) ⊎ (32 < new_prefix_len)) }
+    {
+        if new_prefix_len < self.prefix_len() || new_prefix_len > 32 {
+            return Err(PrefixLenError);
+        }
+        Ok(Ipv4Subnets::new(self.network(), self.broadcast(), new_prefix_len))
+    }
+
+    /// Whether the block contains the address, or all of the other network's block.
+    ///
+    /// ```text
+    /// 172.16.0.7/24 contains 172.16.0.0/25 and 172.16.0.9; 172.16.0.0/25 does not contain 172.16.0.0/24
+    /// ```
+    pub fn contains<T>(&self, other: T) -> bool
+    where
+        Self: Contains<T>,
+        ensures { IsTrue result ↔ ⟦<Self as Contains<T>>⟧.holds self.now other }
+    {
+        Contains::contains(self, other)
+    }
 
     /// The network of this number and this length.
     pub(crate) fn from_number(number: u32, prefix_len: u32) -> Ipv4Net
@@ -47,18 +263,112 @@ impl Ipv4Net {
         self.number
     }
 
+    /// The prefix length, as shifts take it.
+    pub(crate) fn leading_bits(&self) -> u32
+        ensures { result ≡ (ipv4_network self.now).prefix_len }
+    {
+        self.prefix_len
+    }
+
     /// The number of the address without the bits behind a prefix of this length.
     pub(crate) fn leading_number(&self, prefix_len: u32) -> u32
         requires { prefix_len ≤ 32 }
         ensures { result ≡ (ipv4_network self.now).number / 2 ^ (32 - prefix_len) * 2 ^ (32 - prefix_len) }
     {
-        self.number & netmask_number(prefix_len)
+        self.number() & netmask_number(prefix_len)
     }
 
     /// The greatest number of the block.
     pub(crate) fn last_number(&self) -> u32
         ensures { result ≡ last_of (ipv4_network self.now) }
     {
-        self.number | hostmask_number(self.prefix_len)
+        self.number() | hostmask_number(self.leading_bits())
+    }
+
+    /// Whether the block has the address of this number.
+    fn has_number(&self, number: u32) -> bool
+        ensures { IsTrue result ↔ InBlock (ipv4_network self.now) (address_at IPv4 number) }
+    {
+        let len = self.leading_bits();
+        number & netmask_number(len) == self.leading_number(len)
+    }
+}
+
+impl Contains<&Ipv4Net> for Ipv4Net {
+    ghost use Rattle.ipnet.specs.NetworkOf.{ipv4_network};
+
+    ghost holds = { λ n k. IsSubnetOf (ipv4_network k.now) (ipv4_network n) };
+
+    fn contains(&self, other: &Ipv4Net) -> bool {
+        if self.leading_bits() > other.leading_bits() {
+            return false;
+        }
+        self.has_number(other.number())
+    }
+}
+
+impl Contains<&Ipv4Addr> for Ipv4Net {
+    ghost use Rattle.ipnet.specs.NetworkOf.{ipv4_network};
+
+    ghost holds = { λ n ip. InBlock (ipv4_network n) (ipv4_address ip.now) };
+
+    fn contains(&self, other: &Ipv4Addr) -> bool {
+        self.has_number(other.to_bits())
+    }
+}
+
+impl Default for Ipv4Net {
+    ghost use Rattle.ipnet.specs.NetworkOf.{ipv4_network, ipv4_network_of};
+
+    ghost is_default = { λ n. ipv4_network n ≡ ipv4_network_of 0 0 };
+
+    /// 0.0.0.0/0, the network of all IPv4 addresses.
+    fn default() -> Ipv4Net {
+        Ipv4Net::from_number(0, 0)
+    }
+}
+
+impl From<Ipv4Addr> for Ipv4Net {
+    ghost use Rattle.ipnet.specs.NetworkOf.{ipv4_network};
+
+    ghost from_gives = { λ ip n. ipv4_network n ≡ network_at (ipv4_address ip) 32 };
+
+    /// The network of this one address: the length is 32.
+    fn from(ip: Ipv4Addr) -> Ipv4Net {
+        Ipv4Net::new_assert(ip, 32)
+    }
+}
+
+impl Net for Ipv4Net {
+    ghost use Rattle.ipnet.specs.NetworkOf.{ipv4_network};
+    ghost use Rattle.ipnet.specs.NetLaws.{ipv4_valid, ipv4_one_to_one, ipv4_in_order};
+
+    ghost network = { ipv4_network };
+
+    ghost valid = { ipv4_valid };
+
+    ghost one_to_one = { ipv4_one_to_one };
+
+    ghost in_order = { ipv4_in_order };
+
+    fn truncated(&self) -> Ipv4Net {
+        self.trunc()
+    }
+
+    fn covers(&self, other: &Ipv4Net) -> bool {
+        self.contains(other)
+    }
+
+    fn is_other_half(&self, other: &Ipv4Net) -> bool {
+        if !self.is_sibling(other) {
+            return false;
+        }
+        let len = self.leading_bits();
+        self.leading_number(len) != other.leading_number(len)
+    }
+
+    fn joined(&self) -> Ipv4Net {
+        let shorter = self.leading_bits() - 1;
+        Ipv4Net::from_number(self.leading_number(shorter), shorter)
     }
 }

@@ -1,0 +1,165 @@
+-- What the functions on numbers behind the network types compute, at the width of either family.
+use Rattle.std.proofs.Common.{◌≡◌, ℕ, ◌+◌, ◌-◌, ◌*◌, ◌/◌, ◌%◌, ◌^◌, ◌<◌, ◌≤◌, ◌↔◌, refl, sym, ap, ◌∙◌, subst, arith, Option, Some, None, inl, inr, IsTrue, true, false, not, eqb, eqb-true, eq-eqb, ne_eqb, bit_and, pow_pos, List, Contains}
+use Rattle.std.specs.Option.{unwrap_or, SomeIff}
+use Rattle.std.proofs.Math.Nat.{eq_of_mul-eq-mul_right}
+use Rattle.std.proofs.lemmas.Nat.{pow_below}
+use Rattle.std.proofs.lemmas.Nat.Bits.{ones_shl}
+use Rattle.std.proofs.lemmas.Bool.{cases_eq}
+use Rattle.ipnet_base.specs.Address.{Address, width, IsBetween}
+use Rattle.ipnet_base.specs.Network.{Network, IsNetwork, host_bits, InBlock, IsSubnetOf, AreSiblings, AreHalves, IsLeastOf, IsGreatestOf, IsTruncationOf, IsSupernetOf, truncation}
+use Rattle.ipnet_base.specs.Blocks.{IsMaximal, AreMaximalBlocks}
+use Rattle.ipnet_base.specs.Ranges.{AddressRange}
+use Rattle.ipnet_base.proofs.MaskLaws.{and_mask_is}
+use Rattle.ipnet_base.proofs.BlockLaws.{own, own_in, first_of, last_of, last_fits, first_from_least, last_from_greatest, nested, bits_from_subnet, same_network, same_from_block}
+use Rattle.ipnet_base.proofs.ListLaws.{all_at}
+use Rattle.ipnet_base.proofs.NetworkLaws.{IsTruncationOf-truncation}
+use Rattle.ipnet_base.proofs.SupernetLaws.{supernet, IsSupernetOf-supernet}
+use Rattle.ipnet.specs.NetworkParts.{address_at, IsSubnetOfLength, AreSubnetsOfLength, HasReservedEnds, IsHostRange}
+use Rattle.ipnet.proofs.SubnetCountLaws.{AreOfLength, subnets_of_length}
+
+-- what `MAX.checked_shl(w - p).unwrap_or(0)` gives at w bits
+pub mask_from_shift : (w p : ℕ) (o : Option ℕ) → p ≤ w → SomeIff o (w - p < w) ((2 ^ w - 1) * 2 ^ (w - p) % 2 ^ w) → unwrap_or o 0 ≡ 2 ^ w - 2 ^ (w - p)
+mask_from_shift w p None le h =
+    elim (cases_eq p 0) [
+      | inl none ↦ let all : w - p ≡ w = omega arith in omega (arith, ap (λ k. 2 ^ k) all)
+      | inr some ↦ absurd (h (omega arith))
+    ]
+mask_from_shift w p (Some x) le h = h.1 ∙ ones_shl w (w - p) (omega arith)
+
+-- What the comparison of a masked number with a network's leading bits answers: whether the block has that number.
+pub in_block_test : (n : Network) (number len mask leading : ℕ) → IsNetwork n → number < 2 ^ width n.family → len ≡ n.prefix_len
+    → mask ≡ 2 ^ width n.family - 2 ^ (width n.family - len) → leading ≡ n.number / 2 ^ (width n.family - len) * 2 ^ (width n.family - len)
+    → IsTrue (eqb (bit_and number mask) leading) ↔ InBlock n (address_at n.family number)
+in_block_test n number len mask leading u fits same mask_is leading_is = (to, from)
+  where
+    bits : width n.family - len ≡ host_bits n
+    bits = ap (λ p. width n.family - p) same
+
+    masked : bit_and number mask ≡ number / 2 ^ host_bits n * 2 ^ host_bits n
+    masked = ap (bit_and number) (mask_is ∙ ap (λ b. 2 ^ width n.family - 2 ^ b) bits) ∙ and_mask_is (width n.family) (host_bits n) number (omega arith) fits
+
+    kept : leading ≡ n.number / 2 ^ host_bits n * 2 ^ host_bits n
+    kept = leading_is ∙ ap (λ b. n.number / 2 ^ b * 2 ^ b) bits
+
+    to : IsTrue (eqb (bit_and number mask) leading) → InBlock n (address_at n.family number)
+    to t = record {
+      same_family = refl;
+      same_prefix = eq_of_mul-eq-mul_right (2 ^ host_bits n) (pow_pos (host_bits n)) (number / 2 ^ host_bits n) (n.number / 2 ^ host_bits n)
+          (sym masked ∙ eqb-true (bit_and number mask) leading t ∙ kept);
+    }
+
+    from : InBlock n (address_at n.family number) → IsTrue (eqb (bit_and number mask) leading)
+    from h = eq-eqb (bit_and number mask) leading (masked ∙ ap (λ q. q * 2 ^ host_bits n) h.same_prefix ∙ sym kept)
+
+-- A block lies in another exactly where its prefix is no shorter and its own address is in the other.
+pub longer_from_subnet : (n k : Network) → IsNetwork n → IsNetwork k → IsSubnetOf n k → k.prefix_len ≤ n.prefix_len
+longer_from_subnet n k u v s = omega (arith, bits_from_subnet n k s, ap width (s (own n) (own_in n)).same_family, u.prefix_fits, v.prefix_fits)
+
+pub subnet_from_own : (n k : Network) → k.prefix_len ≤ n.prefix_len → InBlock k (own n) → IsSubnetOf n k
+subnet_from_own n k le h = nested n k (own n) (own_in n) h (omega (arith, le, ap width h.same_family))
+
+-- Siblings are different halves exactly where their leading bits differ.
+pub halves_test : (n k : Network) (len a b : ℕ) → AreSiblings n k → len ≡ n.prefix_len
+    → a ≡ n.number / 2 ^ (width n.family - len) * 2 ^ (width n.family - len) → b ≡ k.number / 2 ^ (width n.family - len) * 2 ^ (width n.family - len)
+    → IsTrue (not (eqb a b)) ↔ AreHalves n k
+halves_test n k len a b s same a_is b_is = (to, from)
+  where
+    bits : width n.family - len ≡ host_bits n
+    bits = ap (λ p. width n.family - p) same
+
+    first : a ≡ n.number / 2 ^ host_bits n * 2 ^ host_bits n
+    first = a_is ∙ ap (λ c. n.number / 2 ^ c * 2 ^ c) bits
+
+    second : b ≡ k.number / 2 ^ host_bits n * 2 ^ host_bits n
+    second = b_is ∙ ap (λ c. k.number / 2 ^ c * 2 ^ c) bits
+
+    to : IsTrue (not (eqb a b)) → AreHalves n k
+    to t = record {
+      siblings = s;
+      differ = λ e. let equal = eq-eqb a b (first ∙ ap (λ q. q * 2 ^ host_bits n) e ∙ sym second) in let both = ap not equal in cc;
+    }
+
+    from : AreHalves n k → IsTrue (not (eqb a b))
+    from h = ap not (ne_eqb a b (λ e. h.differ
+        (eq_of_mul-eq-mul_right (2 ^ host_bits n) (pow_pos (host_bits n)) (n.number / 2 ^ host_bits n) (k.number / 2 ^ host_bits n) (sym first ∙ e ∙ second))))
+
+-- The leading bits but the last, and the length less one, make the supernet.
+pub supernet_from_numbers : (s n : Network) (len number : ℕ) → IsNetwork n → len + 1 ≡ n.prefix_len
+    → number ≡ n.number / 2 ^ (width n.family - len) * 2 ^ (width n.family - len) → s ≡ record { family = n.family; number = number; prefix_len = len } → IsSupernetOf s n
+supernet_from_numbers s n len number u shorter number_is s_is =
+    let bits : width n.family - len ≡ host_bits n + 1 = omega (arith, u.prefix_fits, shorter) in
+    let kept : number ≡ n.number / 2 ^ (host_bits n + 1) * 2 ^ (host_bits n + 1) = number_is ∙ ap (λ b. n.number / 2 ^ b * 2 ^ b) bits in
+    let same : s ≡ supernet n = s_is ∙ same_network (record { family = n.family; number = number; prefix_len = len }) (supernet n) refl kept (omega arith) in
+    subst (λ t. IsSupernetOf t n) (sym same) (IsSupernetOf-supernet n u (omega arith))
+
+-- what is never so is answered by no
+pub never : (P : Type 0) → ¬ P → IsTrue false ↔ P
+never P fails = (λ t. let wrong : false ≡ true = t in absurd (cc), λ p. absurd (fails p))
+
+-- blocks and addresses of two families have nothing in common
+pub families_apart : (n k : Network) → (n.family ≡ k.family → ⊥) → IsSubnetOf n k → ⊥
+families_apart n k other s = other (s (own n) (own_in n)).same_family
+
+-- The leading bits and the length make the truncation.
+pub truncation_from_numbers : (t n : Network) (len number : ℕ) → IsNetwork n → len ≡ n.prefix_len
+    → number ≡ n.number / 2 ^ (width n.family - len) * 2 ^ (width n.family - len) → t ≡ record { family = n.family; number = number; prefix_len = len } → IsTruncationOf t n
+truncation_from_numbers t n len number u same number_is t_is =
+    let kept : number ≡ n.number / 2 ^ host_bits n * 2 ^ host_bits n = number_is ∙ ap (λ p. n.number / 2 ^ (width n.family - p) * 2 ^ (width n.family - p)) same in
+    let whole : t ≡ truncation n = t_is ∙ same_network (record { family = n.family; number = number; prefix_len = len }) (truncation n) refl kept same in
+    subst (λ m. IsTruncationOf m n) (sym whole) (IsTruncationOf-truncation n u)
+
+-- The walk from the least address of a network to the greatest, under a least length from the network's own on, is
+-- all networks of that length inside.
+pub AreSubnetsOfLength-from_walk : (n : Network) (q : ℕ) (networks : List Network) (low high : Address) → IsNetwork n → n.prefix_len ≤ q → q ≤ width n.family
+    → IsLeastOf n low → IsGreatestOf n high → AreMaximalBlocks (IsBetween n.family low.number high.number) q networks → AreSubnetsOfLength n q networks
+AreSubnetsOfLength-from_walk n q networks low high u longer fits least greatest walk = record {
+  ascending = walk.ascending;
+  members = λ k. (to k, from k);
+  count = counted.1.1;
+  blocks = counted.0;
+}
+  where
+    counted : AreMaximalBlocks (InBlock n) q networks × AreOfLength q (2 ^ (q - n.prefix_len)) networks
+    counted = subnets_of_length n q networks u longer fits
+        (subst (λ z. AreMaximalBlocks (IsBetween n.family (first_of n) z) q networks) (last_from_greatest n high greatest)
+        (subst (λ z. AreMaximalBlocks (IsBetween n.family z high.number) q networks) (first_from_least n low least) walk))
+
+    to : (k : Network) → Contains networks k → IsSubnetOfLength n q k
+    to k c =
+        let m : IsMaximal (InBlock n) q k = (counted.0.members k).0 c in
+        record { network = m.inside.network; truncated = m.inside.truncated; of_length = all_at (λ k. k.prefix_len ≡ q) networks counted.1.0 k c; within = m.inside.within }
+
+    from : (k : Network) → IsSubnetOfLength n q k → Contains networks k
+    from k h = (counted.0.members k).1 (record {
+      inside = record { network = h.network; truncated = h.truncated; long_enough = omega (arith, h.of_length); within = h.within };
+      largest = λ m i s.
+          let shared : InBlock m (own k) = s (own k) (own_in k) in
+          let bits : host_bits m ≤ host_bits k = omega (arith, i.long_enough, h.of_length, ap width shared.same_family) in
+          same_from_block m k i.network h.network i.truncated h.truncated (nested m k (own k) shared (own_in k) bits, s);
+    })
+
+-- The hosts of a network: from its least to its greatest address, or between these two.
+pub IsHostRange-whole : (n : Network) (hosts : AddressRange) (low high : Address) → hosts.family ≡ n.family → ¬ (HasReservedEnds n)
+    → IsLeastOf n low → IsGreatestOf n high → hosts.start ≡ low.number → hosts.end ≡ high.number → IsHostRange n hosts
+IsHostRange-whole n hosts low high f none l g start end = record {
+  family = f;
+  inner = λ reserved. absurd (none reserved);
+  whole = λ _ x y p q. (
+    start ∙ first_from_least n low l ∙ sym (first_from_least n x p),
+    end ∙ last_from_greatest n high g ∙ sym (last_from_greatest n y q),
+  );
+}
+
+pub IsHostRange-inner : (n : Network) (hosts : AddressRange) → hosts.family ≡ n.family → HasReservedEnds n
+    → hosts.start ≡ first_of n + 1 → hosts.end + 1 ≡ last_of n → IsHostRange n hosts
+IsHostRange-inner n hosts f reserved start end = record {
+  family = f;
+  inner = λ _ x y p q. (start ∙ ap (λ a. a + 1) (sym (first_from_least n x p)), end ∙ sym (last_from_greatest n y q));
+  whole = λ none. absurd (none reserved);
+}
+
+-- a block below length 31 has two addresses between its ends
+pub reserved_ends_are_apart : (n : Network) → IsNetwork n → HasReservedEnds n → (first_of n + 2 ≤ last_of n) × (last_of n < 2 ^ width n.family)
+reserved_ends_are_apart n u reserved =
+    let bits : 1 < host_bits n = omega (arith, reserved.1, ap width reserved.0) in
+    (omega (arith, pow_below 1 (host_bits n) bits), last_fits n u)

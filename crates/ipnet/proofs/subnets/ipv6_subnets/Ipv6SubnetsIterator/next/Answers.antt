@@ -1,0 +1,43 @@
+use Rattle.std.proofs.Common.{rules, ◌∙◌, sym, subst, ap, length}
+use Rattle.ipnet_base.specs.Subnets.{IsAdvancedPast}
+use Rattle.ipnet.specs.NetworkOf.{ipv6_network}
+use Rattle.ipnet.specs.SubnetsLeft.{ipv6_subnet_range, ipv6_subnets_left, ipv6_subnets_left-are_blocks}
+use Rattle.ipnet.proofs.SubnetsLaws.{ipv6_walk, nothing_left, left_advanced, greatest_is_last}
+use Rattle.ipnet.proofs.subnets.ipv6_subnets.Ipv6SubnetsIterator.next.Goals as goal
+
+pub returns-then-self-clause-steps : goal.returns-then-self-clause-steps
+returns-then-self-clause-steps c =
+    let nothing =
+    nothing_left (ipv6_subnet_range c.args.self.now) (ipv6_subnets_left c.args.self.now) (ipv6_subnets_left-are_blocks c.args.self.now) c.if-self.true in
+    (nothing, nothing)
+
+pub returns-then-self-clause-walk : goal.returns-then-self-clause-walk
+returns-then-self-clause-walk c = ipv6_walk c.args.self.now
+
+pub returns-then-self-clause-rest : goal.returns-then-self-clause-rest
+returns-then-self-clause-rest c = ipv6_walk c.args.self.now
+
+pub returns-clause-steps : goal.returns-clause-steps
+returns-clause-steps c =
+    left_advanced (ipv6_subnet_range c.args.self.now) (ipv6_subnet_range c.advance_past.new.self)
+    (ipv6_network c.largest_subnet_at-network.result) (ipv6_subnets_left c.args.self.now) (ipv6_subnets_left c.advance_past.new.self)
+    c.args.self.now.end_fits c.largest_subnet_at-network.ensures
+    (subst (λ last. IsAdvancedPast last (ipv6_subnet_range c.args.self.now) (ipv6_subnet_range c.advance_past.new.self)) c.last_number.ensures c.advance_past.ensures)
+    (ipv6_subnets_left-are_blocks c.args.self.now) (ipv6_subnets_left-are_blocks c.advance_past.new.self)
+
+pub returns-clause-goes : goal.returns-clause-goes
+returns-clause-goes c =
+    let shorter = ap length (returns-clause-steps c) in
+    search rules
+
+pub returns-clause-advanced : goal.returns-clause-advanced
+returns-clause-advanced c x greatest =
+    let last = greatest_is_last (ipv6_network c.largest_subnet_at-network.result) x greatest in
+    subst (λ last. IsAdvancedPast last (ipv6_subnet_range c.args.self.now) (ipv6_subnet_range c.advance_past.new.self))
+    (c.last_number.ensures ∙ sym last) c.advance_past.ensures
+
+pub returns-clause-walk : goal.returns-clause-walk
+returns-clause-walk c = ipv6_walk c.args.self.now
+
+pub returns-clause-rest : goal.returns-clause-rest
+returns-clause-rest c = ipv6_walk c.advance_past.new.self

@@ -1,0 +1,91 @@
+-- What the private trait `Net` asks of each type: its values stand for networks, one value for each network, and
+-- their order is the order of networks.
+use Rattle.std.proofs.Common.{◌≡◌, ℕ, ◌+◌, ◌*◌, ◌^◌, ◌<◌, ◌≤◌, ◌⊎◌, inl, inr, refl, ap, subst, arith, Less, nat_cmp, lt-ltb}
+use Rattle.std.specs.Coded.{le_prop}
+use Rattle.std.specs.Ordering.{ordering_then}
+use Rattle.std.proofs.lemmas.Bool.{cases_order}
+use Rattle.std.proofs.lemmas.Bool.Decides.{nat_tests}
+use Rattle.ipnet_base.specs.Network.{IsNetwork, IsBefore}
+use Rattle.ipnet.specs.declared.net.IpNet.{IpNet}
+use Rattle.ipnet.specs.declared.net.IpNet.TheVariants as Ip
+use Rattle.ipnet.specs.declared.net.ipv4_net.Ipv4Net.{Ipv4Net}
+use Rattle.ipnet.specs.declared.net.ipv6_net.Ipv6Net.{Ipv6Net}
+use Rattle.ipnet.specs.NetworkOf.{ipv4_network, ipv6_network, ip_network}
+
+pub ipv4_valid : (n : Ipv4Net) → IsNetwork (ipv4_network n)
+ipv4_valid n = record { address_fits = n.number_fits; prefix_fits = n.prefix_fits }
+
+pub ipv6_valid : (n : Ipv6Net) → IsNetwork (ipv6_network n)
+ipv6_valid n = record { address_fits = omega (arith, n.high_fits, n.low_fits); prefix_fits = n.prefix_fits }
+
+pub ip_valid : (n : IpNet) → IsNetwork (ip_network n)
+ip_valid (Ip.V4 n) = ipv4_valid n
+ip_valid (Ip.V6 n) = ipv6_valid n
+
+-- values with equal fields are equal: a bound has one proof at most
+abbrev ipv4_of : (a p : ℕ) → a < 2 ^ 32 → p ≤ 32 → Ipv4Net
+ipv4_of a p h k = record { number = a; prefix_len = p; number_fits = h; prefix_fits = k }
+
+ipv4_same : (a b p q : ℕ) → a ≡ b → p ≡ q → (h : a < 2 ^ 32) (k : p ≤ 32) (h' : b < 2 ^ 32) (k' : q ≤ 32) → ipv4_of a p h k ≡ ipv4_of b q h' k'
+ipv4_same a b p q e f h k =
+    let at : (h' : a < 2 ^ 32) (k' : p ≤ 32) → ipv4_of a p h k ≡ ipv4_of a p h' k' = λ h' k' i. ipv4_of a p (le_prop h h' i) (le_prop k k' i) in
+    let at_b : (h' : b < 2 ^ 32) (k' : p ≤ 32) → ipv4_of a p h k ≡ ipv4_of b p h' k' = subst (λ m. (h' : m < 2 ^ 32) (k' : p ≤ 32) → ipv4_of a p h k ≡ ipv4_of m p h' k') e at in
+    subst (λ m. (h' : b < 2 ^ 32) (k' : m ≤ 32) → ipv4_of a p h k ≡ ipv4_of b m h' k') f at_b
+
+pub ipv4_one_to_one : (x y : Ipv4Net) → ipv4_network x ≡ ipv4_network y → x ≡ y
+ipv4_one_to_one x y e =
+    ipv4_same x.number y.number x.prefix_len y.prefix_len (ap (λ n. n.number) e) (ap (λ n. n.prefix_len) e) x.number_fits x.prefix_fits y.number_fits y.prefix_fits
+
+abbrev ipv6_of : (a b p : ℕ) → a < 2 ^ 64 → b < 2 ^ 64 → p ≤ 128 → Ipv6Net
+ipv6_of a b p h l k = record { high = a; low = b; prefix_len = p; high_fits = h; low_fits = l; prefix_fits = k }
+
+ipv6_same : (a b c d p q : ℕ) → a ≡ c → b ≡ d → p ≡ q → (h : a < 2 ^ 64) (l : b < 2 ^ 64) (k : p ≤ 128) (h' : c < 2 ^ 64) (l' : d < 2 ^ 64) (k' : q ≤ 128)
+    → ipv6_of a b p h l k ≡ ipv6_of c d q h' l' k'
+ipv6_same a b c d p q e f g h l k =
+    let at : (h' : a < 2 ^ 64) (l' : b < 2 ^ 64) (k' : p ≤ 128) → ipv6_of a b p h l k ≡ ipv6_of a b p h' l' k' = λ h' l' k' i. ipv6_of a b p (le_prop h h' i) (le_prop l l' i) (le_prop k k' i) in
+    let at_c : (h' : c < 2 ^ 64) (l' : b < 2 ^ 64) (k' : p ≤ 128) → ipv6_of a b p h l k ≡ ipv6_of c b p h' l' k' = subst (λ m. (h' : m < 2 ^ 64) (l' : b < 2 ^ 64) (k' : p ≤ 128) → ipv6_of a b p h l k ≡ ipv6_of m b p h' l' k') e at in
+    let at_d : (h' : c < 2 ^ 64) (l' : d < 2 ^ 64) (k' : p ≤ 128) → ipv6_of a b p h l k ≡ ipv6_of c d p h' l' k' = subst (λ m. (h' : c < 2 ^ 64) (l' : m < 2 ^ 64) (k' : p ≤ 128) → ipv6_of a b p h l k ≡ ipv6_of c m p h' l' k') f at_c in
+    subst (λ m. (h' : c < 2 ^ 64) (l' : d < 2 ^ 64) (k' : m ≤ 128) → ipv6_of a b p h l k ≡ ipv6_of c d m h' l' k') g at_d
+
+pub ipv6_one_to_one : (x y : Ipv6Net) → ipv6_network x ≡ ipv6_network y → x ≡ y
+ipv6_one_to_one x y e =
+    let number : x.high * 2 ^ 64 + x.low ≡ y.high * 2 ^ 64 + y.low = ap (λ n. n.number) e in
+    ipv6_same x.high x.low y.high y.low x.prefix_len y.prefix_len
+    (omega (arith, x.low_fits, y.low_fits)) (omega (arith, x.low_fits, y.low_fits)) (ap (λ n. n.prefix_len) e)
+    x.high_fits x.low_fits x.prefix_fits y.high_fits y.low_fits y.prefix_fits
+
+pub ip_one_to_one : (x y : IpNet) → ip_network x ≡ ip_network y → x ≡ y
+ip_one_to_one (Ip.V4 x) (Ip.V4 y) e = ap Ip.V4 (ipv4_one_to_one x y e)
+ip_one_to_one (Ip.V4 x) (Ip.V6 y) e = let apart = ap (λ n. n.family) e in cc
+ip_one_to_one (Ip.V6 x) (Ip.V4 y) e = let apart = ap (λ n. n.family) e in cc
+ip_one_to_one (Ip.V6 x) (Ip.V6 y) e = ap Ip.V6 (ipv6_one_to_one x y e)
+
+-- the number is compared first, and the length where the numbers are equal
+cmp_less : (a b p q : ℕ) → (a < b) ⊎ ((a ≡ b) × (p < q)) → ordering_then (nat_cmp a b) (nat_cmp p q) ≡ Less
+cmp_less a b p q (inl h) = rw (lt-ltb a b h) refl
+cmp_less a b p q (inr h) = grind (arith, nat_tests)
+
+-- a number in two halves is compared by its halves, the high one first
+halves_less : (a b c d p q : ℕ) → b < 2 ^ 64 → d < 2 ^ 64 → (a * 2 ^ 64 + b < c * 2 ^ 64 + d) ⊎ ((a * 2 ^ 64 + b ≡ c * 2 ^ 64 + d) × (p < q))
+    → ordering_then (nat_cmp a c) (ordering_then (nat_cmp b d) (nat_cmp p q)) ≡ Less
+halves_less a b c d p q l m h = elim (cases_order a c) [
+  | inl same ↦ let low : (b < d) ⊎ ((b ≡ d) × (p < q)) = elim h [ inl lt ↦ inl (omega arith) | inr k ↦ inr (omega (arith, k.0), k.1) ] in
+      let rest : ordering_then (nat_cmp b d) (nat_cmp p q) ≡ Less = cmp_less b d p q low in
+      grind (arith, nat_tests)
+  | inr (inl lt) ↦ rw (lt-ltb a c lt) refl
+  | inr (inr gt) ↦ absurd (elim h [ inl lt ↦ omega arith | inr k ↦ omega (arith, k.0) ])
+]
+
+pub ipv4_in_order : (x y : Ipv4Net) → IsBefore (ipv4_network x) (ipv4_network y) → ordering_then (nat_cmp x.number y.number) (nat_cmp x.prefix_len y.prefix_len) ≡ Less
+ipv4_in_order x y (inl h) = absurd (omega (arith, h))
+ipv4_in_order x y (inr h) = cmp_less x.number y.number x.prefix_len y.prefix_len h.1
+
+pub ipv6_in_order : (x y : Ipv6Net) → IsBefore (ipv6_network x) (ipv6_network y)
+    → ordering_then (nat_cmp x.high y.high) (ordering_then (nat_cmp x.low y.low) (nat_cmp x.prefix_len y.prefix_len)) ≡ Less
+ipv6_in_order x y (inl h) = absurd (omega (arith, h))
+ipv6_in_order x y (inr h) = halves_less x.high x.low y.high y.low x.prefix_len y.prefix_len x.low_fits y.low_fits h.1
+
+-- no IPv6 network stands before an IPv4 network
+pub ipv6_not_first : (x : Ipv6Net) (y : Ipv4Net) → IsBefore (ipv6_network x) (ipv4_network y) → ⊥
+ipv6_not_first x y (inl h) = omega (arith, h)
+ipv6_not_first x y (inr h) = let same = h.0 in cc

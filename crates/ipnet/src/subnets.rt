@@ -1,0 +1,80 @@
+//! Walks: the fewest networks that tile a range of addresses, in ascending order.
+ghost use Rattle.std.specs.Prelude.{◌≡◌, ◌<◌, ◌≤◌, ◌↔◌, ⊤, IfSome, IfNone, IsNone};
+ghost use Rattle.std.specs.Iterator.{YieldsFirstBy, MakesProgress, item_count};
+ghost use Rattle.ipnet_base.specs.Address.{Address};
+ghost use Rattle.ipnet_base.specs.Network.{IsGreatestOf};
+ghost use Rattle.ipnet_base.specs.Subnets.{IsLargestSubnetAt, IsAdvancedPast};
+ghost use Rattle.ipnet.specs.NetworkOf.{ip_network};
+ghost use Rattle.ipnet.specs.declared.subnets.IpSubnets.TheVariants.{V4, V6};
+ghost use Rattle.ipnet.specs.SubnetsLeft.{IsWalkOf, ip_subnet_range, ip_subnets_left};
+
+use crate::net::IpNet;
+use std::iter::FusedIterator;
+
+mod ipv4_subnets;
+mod ipv6_subnets;
+pub mod laws;
+
+pub use ipv4_subnets::Ipv4Subnets;
+pub use ipv6_subnets::Ipv6Subnets;
+
+/// A walk over a range of addresses of either family, made from a walk of that family by `From`: it gives the
+/// same networks. An IPv4 one stands before every IPv6 one.
+#[derive(Clone, Copy, PartialEq, Eq, PartialOrd, Ord, Hash, Debug)]
+pub enum IpSubnets {
+    V4(Ipv4Subnets),
+    V6(Ipv6Subnets),
+}
+
+impl From<Ipv4Subnets> for IpSubnets {
+    ghost from_gives = { λ subnets result. result ≡ V4 subnets };
+
+    /// The same walk.
+    fn from(subnets: Ipv4Subnets) -> IpSubnets {
+        IpSubnets::V4(subnets)
+    }
+}
+
+impl From<Ipv6Subnets> for IpSubnets {
+    ghost from_gives = { λ subnets result. result ≡ V6 subnets };
+
+    /// The same walk.
+    fn from(subnets: Ipv6Subnets) -> IpSubnets {
+        IpSubnets::V6(subnets)
+    }
+}
+
+impl Iterator for IpSubnets {
+    type Item = IpNet;
+
+    ghost next_gives = { YieldsFirstBy ip_network ip_subnets_left };
+
+    ghost remaining = { item_count ip_subnets_left };
+
+    /// What the walk that it holds gives next: `None`, then and ever after, where the start lies above the end.
+    fn next(&mut self) -> Option<IpNet>
+        ensures steps { YieldsFirstBy ip_network ip_subnets_left self.old result self.new }
+        ensures goes { MakesProgress (λ _. ⊤) (item_count ip_subnets_left) self.old result self.new }
+        ensures largest { let range = ip_subnet_range self.old in
+            IfSome result (λ n. IsLargestSubnetAt range.family range.start range.end range.min_prefix_len (ip_network n)) }
+        ensures advanced { IfSome result (λ n. (x : Address) → IsGreatestOf (ip_network n) x
+            → IsAdvancedPast x.number (ip_subnet_range self.old) (ip_subnet_range self.new)) }
+        ensures walk { IsWalkOf (ip_subnet_range self.old) (ip_subnets_left self.old) }
+        ensures rest { IsWalkOf (ip_subnet_range self.new) (ip_subnets_left self.new) }
+        ensures over { IsNone result ↔ ((ip_subnet_range self.old).end < (ip_subnet_range self.old).start) }
+        ensures unchanged { IfNone result (self.new ≡ self.old) }
+    {
+        match self {
+            IpSubnets::V4(walk) => {
+                let network = walk.next()?;
+                Some(IpNet::V4(network))
+            }
+            IpSubnets::V6(walk) => {
+                let network = walk.next()?;
+                Some(IpNet::V6(network))
+            }
+        }
+    }
+}
+
+impl FusedIterator for IpSubnets {}

@@ -1,0 +1,129 @@
+ghost use Rattle.std.specs.Prelude.{◌≡◌, ◌<◌, ◌≤◌, ◌-◌, ◌^◌};
+ghost use Rattle.std.specs.Net.Addr.{ipv4_bits};
+ghost use Rattle.ipnet_base.specs.Address.{IPv4};
+ghost use Rattle.ipnet_base.specs.Subnets.{IsLargestSubnetAt, IsAdvancedPast};
+ghost use Rattle.ipnet_base.proofs.StepLaws.{IsMostBits};
+ghost use Rattle.ipnet.specs.NetworkOf.{ipv4_network};
+
+use crate::net::Ipv4Net;
+use std::iter::FusedIterator;
+use std::net::Ipv4Addr;
+
+/// A walk over a range of IPv4 addresses: the networks that tile it in ascending order, each the largest that
+/// starts behind the one before. They are the fewest networks, of at least a least prefix length, that have
+/// together exactly the addresses of the range.
+///
+/// ```text
+/// 10.0.0.0 to 10.0.0.239, least length 0:  10.0.0.0/25, 10.0.0.128/26, 10.0.0.192/27, 10.0.0.224/28
+/// 10.0.0.0 to 10.0.0.239, least length 26: 10.0.0.0/26, 10.0.0.64/26, 10.0.0.128/26, 10.0.0.192/27, 10.0.0.224/28
+/// ```
+///
+/// Walks compare by what they store, the start, then the end, then the least length of what is left, and not
+/// by the networks that they still give: two walks that are over may differ.
+#[derive(Clone, Copy, PartialEq, Eq, PartialOrd, Ord, Hash, Debug)]
+pub struct Ipv4Subnets {
+    start: u32,
+    end: u32,
+    min_prefix_len: u32,
+    ghost start_fits: { start < 2 ^ 32 },
+    ghost end_fits: { end < 2 ^ 32 },
+    ghost min_prefix_fits: { min_prefix_len ≤ 32 },
+}
+
+/// The prefix length of the largest block with no more addresses than the range, whose last number lies this
+/// distance behind its first.
+fn range_prefix_len(distance: u32) -> u32
+    ensures fits { result ≤ 32 }
+    ensures most { IsMostBits distance (32 - result) }
+{
+    let zeros = distance.leading_zeros();
+    if zeros + distance.trailing_ones() == u32::BITS {
+        zeros
+    } else {
+        zeros + 1
+    }
+}
+
+/// The largest network that starts at the start and ends at or before the end.
+fn largest_subnet_at(start: u32, end: u32, min_prefix_len: u32) -> Ipv4Net
+    requires ordered { start ≤ end }
+    requires prefix_fits { min_prefix_len ≤ 32 }
+    ensures { IsLargestSubnetAt IPv4 start end min_prefix_len (ipv4_network result) }
+{
+    let by_range = range_prefix_len(end - start);
+    let by_start = u32::BITS - start.trailing_zeros();
+    let prefix_len = by_range.max(by_start).max(min_prefix_len);
+    Ipv4Net::from_number(start, prefix_len)
+}
+
+impl Ipv4Subnets {
+    ghost use Rattle.ipnet.specs.SubnetsLeft.{IsWalkOf, ipv4_range_of, ipv4_subnet_range, ipv4_subnets_left};
+
+    /// The walk from the first address to the last, both of them in the range, by networks whose prefix length is
+    /// at least `min_prefix_len`. A start above the end is the walk that gives nothing. Under the least length
+    /// 0 a walk gives at most 62 networks.
+    ///
+    /// The caller sees to it that the least length is at most 32, as by `min_prefix_len <= 32`.
+    pub fn new(start: Ipv4Addr, end: Ipv4Addr, min_prefix_len: u8) -> Ipv4Subnets
+        requires { min_prefix_len ≤ 32 }
+        ensures range { ipv4_subnet_range result ≡ ipv4_range_of (ipv4_bits start) (ipv4_bits end) min_prefix_len }
+        ensures walk { IsWalkOf (ipv4_range_of (ipv4_bits start) (ipv4_bits end) min_prefix_len) (ipv4_subnets_left result) }
+    {
+        Ipv4Subnets {
+            start: start.to_bits(),
+            end: end.to_bits(),
+            min_prefix_len: u32::from(min_prefix_len),
+        }
+    }
+
+    /// Leaves what lies behind a block that ended at this number.
+    fn advance_past(&mut self, last: u32)
+        ensures { IsAdvancedPast last (ipv4_subnet_range self.old) (ipv4_subnet_range self.new) }
+    {
+        if self.start == self.end || last == u32::MAX {
+            self.end = 0;
+        }
+        self.start = last.saturating_add(1);
+    }
+}
+
+impl Iterator for Ipv4Subnets {
+    type Item = Ipv4Net;
+
+    ghost use Rattle.std.specs.Prelude.{◌↔◌, ⊤, IfSome, IfNone, IsNone};
+    ghost use Rattle.std.specs.Iterator.{YieldsFirstBy, MakesProgress, item_count};
+    ghost use Rattle.ipnet_base.specs.Address.{Address};
+    ghost use Rattle.ipnet_base.specs.Network.{IsGreatestOf};
+    ghost use Rattle.ipnet.specs.SubnetsLeft.{IsWalkOf, ipv4_subnet_range, ipv4_subnets_left};
+
+    ghost next_gives = { YieldsFirstBy ipv4_network ipv4_subnets_left };
+
+    ghost remaining = { item_count ipv4_subnets_left };
+
+    /// The largest network that starts at the stored start, ends at or before the stored end and has a prefix of
+    /// at least the least length; or `None`, then and ever after, where the start lies above the end.
+    ///
+    /// The start becomes the address behind the network, held at the last address of all. The end becomes 0.0.0.0
+    /// where the network ended at that last address, or where the start was the end; otherwise it stays.
+    fn next(&mut self) -> Option<Ipv4Net>
+        ensures steps { YieldsFirstBy ipv4_network ipv4_subnets_left self.old result self.new }
+        ensures goes { MakesProgress (λ _. ⊤) (item_count ipv4_subnets_left) self.old result self.new }
+        ensures largest { let range = ipv4_subnet_range self.old in
+            IfSome result (λ n. IsLargestSubnetAt IPv4 range.start range.end range.min_prefix_len (ipv4_network n)) }
+        ensures advanced { IfSome result (λ n. (x : Address) → IsGreatestOf (ipv4_network n) x
+            → IsAdvancedPast x.number (ipv4_subnet_range self.old) (ipv4_subnet_range self.new)) }
+        ensures walk { IsWalkOf (ipv4_subnet_range self.old) (ipv4_subnets_left self.old) }
+        ensures rest { IsWalkOf (ipv4_subnet_range self.new) (ipv4_subnets_left self.new) }
+        ensures over { IsNone result ↔ ((ipv4_subnet_range self.old).end < (ipv4_subnet_range self.old).start) }
+        ensures unchanged { IfNone result (self.new ≡ self.old) }
+    {
+        if self.start > self.end {
+            return None;
+        }
+        let network = largest_subnet_at(self.start, self.end, self.min_prefix_len);
+        self.advance_past(network.last_number());
+        Some(network)
+    }
+}
+
+impl FusedIterator for Ipv4Subnets {}

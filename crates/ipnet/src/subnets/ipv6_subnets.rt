@@ -1,0 +1,129 @@
+ghost use Rattle.std.specs.Prelude.{◌≡◌, ◌<◌, ◌≤◌, ◌-◌, ◌^◌};
+ghost use Rattle.std.specs.Net.Addr.{ipv6_bits};
+ghost use Rattle.ipnet_base.specs.Address.{IPv6};
+ghost use Rattle.ipnet_base.specs.Subnets.{IsLargestSubnetAt, IsAdvancedPast};
+ghost use Rattle.ipnet_base.proofs.StepLaws.{IsMostBits};
+ghost use Rattle.ipnet.specs.NetworkOf.{ipv6_network};
+
+use crate::net::Ipv6Net;
+use std::iter::FusedIterator;
+use std::net::Ipv6Addr;
+
+/// A walk over a range of IPv6 addresses: the networks that tile it in ascending order, each the largest that
+/// starts behind the one before. They are the fewest networks, of at least a least prefix length, that have
+/// together exactly the addresses of the range.
+///
+/// ```text
+/// 2001:db8:: to 2001:db8::ef, least length 0:   2001:db8::/121, 2001:db8::80/122, 2001:db8::c0/123, 2001:db8::e0/124
+/// 2001:db8:: to 2001:db8::ef, least length 122: 2001:db8::/122, 2001:db8::40/122, 2001:db8::80/122, 2001:db8::c0/123, 2001:db8::e0/124
+/// ```
+///
+/// Walks compare by what they store, the start, then the end, then the least length of what is left, and not
+/// by the networks that they still give: two walks that are over may differ.
+#[derive(Clone, Copy, PartialEq, Eq, PartialOrd, Ord, Hash, Debug)]
+pub struct Ipv6Subnets {
+    start: u128,
+    end: u128,
+    min_prefix_len: u32,
+    ghost start_fits: { start < 2 ^ 128 },
+    ghost end_fits: { end < 2 ^ 128 },
+    ghost min_prefix_fits: { min_prefix_len ≤ 128 },
+}
+
+/// The prefix length of the largest block with no more addresses than the range, whose last number lies this
+/// distance behind its first.
+fn range_prefix_len(distance: u128) -> u32
+    ensures fits { result ≤ 128 }
+    ensures most { IsMostBits distance (128 - result) }
+{
+    let zeros = distance.leading_zeros();
+    if zeros + distance.trailing_ones() == u128::BITS {
+        zeros
+    } else {
+        zeros + 1
+    }
+}
+
+/// The largest network that starts at the start and ends at or before the end.
+fn largest_subnet_at(start: u128, end: u128, min_prefix_len: u32) -> Ipv6Net
+    requires ordered { start ≤ end }
+    requires prefix_fits { min_prefix_len ≤ 128 }
+    ensures { IsLargestSubnetAt IPv6 start end min_prefix_len (ipv6_network result) }
+{
+    let by_range = range_prefix_len(end - start);
+    let by_start = u128::BITS - start.trailing_zeros();
+    let prefix_len = by_range.max(by_start).max(min_prefix_len);
+    Ipv6Net::from_number(start, prefix_len)
+}
+
+impl Ipv6Subnets {
+    ghost use Rattle.ipnet.specs.SubnetsLeft.{IsWalkOf, ipv6_range_of, ipv6_subnet_range, ipv6_subnets_left};
+
+    /// The walk from the first address to the last, both of them in the range, by networks whose prefix length is
+    /// at least `min_prefix_len`. A start above the end is the walk that gives nothing. Under the least length
+    /// 0 a walk gives at most 254 networks.
+    ///
+    /// The caller sees to it that the least length is at most 128, as by `min_prefix_len <= 128`.
+    pub fn new(start: Ipv6Addr, end: Ipv6Addr, min_prefix_len: u8) -> Ipv6Subnets
+        requires { min_prefix_len ≤ 128 }
+        ensures range { ipv6_subnet_range result ≡ ipv6_range_of (ipv6_bits start) (ipv6_bits end) min_prefix_len }
+        ensures walk { IsWalkOf (ipv6_range_of (ipv6_bits start) (ipv6_bits end) min_prefix_len) (ipv6_subnets_left result) }
+    {
+        Ipv6Subnets {
+            start: start.to_bits(),
+            end: end.to_bits(),
+            min_prefix_len: u32::from(min_prefix_len),
+        }
+    }
+
+    /// Leaves what lies behind a block that ended at this number.
+    fn advance_past(&mut self, last: u128)
+        ensures { IsAdvancedPast last (ipv6_subnet_range self.old) (ipv6_subnet_range self.new) }
+    {
+        if self.start == self.end || last == u128::MAX {
+            self.end = 0;
+        }
+        self.start = last.saturating_add(1);
+    }
+}
+
+impl Iterator for Ipv6Subnets {
+    type Item = Ipv6Net;
+
+    ghost use Rattle.std.specs.Prelude.{◌↔◌, ⊤, IfSome, IfNone, IsNone};
+    ghost use Rattle.std.specs.Iterator.{YieldsFirstBy, MakesProgress, item_count};
+    ghost use Rattle.ipnet_base.specs.Address.{Address};
+    ghost use Rattle.ipnet_base.specs.Network.{IsGreatestOf};
+    ghost use Rattle.ipnet.specs.SubnetsLeft.{IsWalkOf, ipv6_subnet_range, ipv6_subnets_left};
+
+    ghost next_gives = { YieldsFirstBy ipv6_network ipv6_subnets_left };
+
+    ghost remaining = { item_count ipv6_subnets_left };
+
+    /// The largest network that starts at the stored start, ends at or before the stored end and has a prefix of
+    /// at least the least length; or `None`, then and ever after, where the start lies above the end.
+    ///
+    /// The start becomes the address behind the network, held at the last address of all. The end becomes `::`
+    /// where the network ended at that last address, or where the start was the end; otherwise it stays.
+    fn next(&mut self) -> Option<Ipv6Net>
+        ensures steps { YieldsFirstBy ipv6_network ipv6_subnets_left self.old result self.new }
+        ensures goes { MakesProgress (λ _. ⊤) (item_count ipv6_subnets_left) self.old result self.new }
+        ensures largest { let range = ipv6_subnet_range self.old in
+            IfSome result (λ n. IsLargestSubnetAt IPv6 range.start range.end range.min_prefix_len (ipv6_network n)) }
+        ensures advanced { IfSome result (λ n. (x : Address) → IsGreatestOf (ipv6_network n) x
+            → IsAdvancedPast x.number (ipv6_subnet_range self.old) (ipv6_subnet_range self.new)) }
+        ensures walk { IsWalkOf (ipv6_subnet_range self.old) (ipv6_subnets_left self.old) }
+        ensures rest { IsWalkOf (ipv6_subnet_range self.new) (ipv6_subnets_left self.new) }
+        ensures over { IsNone result ↔ ((ipv6_subnet_range self.old).end < (ipv6_subnet_range self.old).start) }
+        ensures unchanged { IfNone result (self.new ≡ self.old) }
+    {
+        if self.start > self.end {
+            return None;
+        }
+        let network = largest_subnet_at(self.start, self.end, self.min_prefix_len);
+        self.advance_past(network.last_number());
+        Some(network)
+    }
+}
+
+impl FusedIterator for Ipv6Subnets {}

@@ -1,0 +1,57 @@
+//! Facts of the definitions of texts that no call carries: each function does nothing, and its contract is the fact.
+ghost use Rattle.std.specs.Prelude.{◌≡◌, ℕ, List, ◌↔◌, ◌++◌, drop, codes};
+ghost use Rattle.std.specs.Net.Addr.{IsIpv4Mapped, octets_of};
+ghost use Rattle.std.specs.Net.Text.{ipv4_text, ipv6_text};
+ghost use Rattle.ipnet_base.specs.Network.{Network, IsNetwork};
+ghost use Rattle.ipnet.specs.Grammar.{Grammar, Strict, Legacy};
+ghost use Rattle.ipnet.specs.NetworkTexts.{IsNetworkText, IsIpv4NetworkText, IsIpv6NetworkText};
+ghost use Rattle.ipnet.specs.CanonicalTexts.{canonical_text, IsShortened};
+ghost use Rattle.ipnet.specs.Lines.{AreNetworksOf, IsFirstBadLine};
+
+/// In either grammar a text writes one network at most.
+pub fn one_network()
+    ensures { (grammar : Grammar) (text : List ℕ) (m n : Network)
+        → IsNetworkText grammar text m → IsNetworkText grammar text n → m ≡ n }
+{}
+
+/// No text writes networks of both families.
+pub fn families_apart()
+    ensures { (grammar : Grammar) (text : List ℕ) (m n : Network)
+        → IsIpv4NetworkText grammar text m → ¬ (IsIpv6NetworkText grammar text n) }
+{}
+
+/// Each strict text is a legacy text of the same network.
+pub fn strict_is_legacy()
+    ensures { (text : List ℕ) (n : Network) → IsNetworkText Strict text n → IsNetworkText Legacy text n }
+{}
+
+/// The canonical text of a network writes that network, in both grammars.
+pub fn canonical_is_read()
+    ensures { (grammar : Grammar) (n : Network) → IsNetwork n → IsNetworkText grammar (canonical_text n) n }
+{}
+
+/// Two networks have the same canonical text exactly when they are equal.
+pub fn prints_apart()
+    ensures { (m n : Network) → IsNetwork m → IsNetwork n
+        → (canonical_text m ≡ canonical_text n) ↔ (m ≡ n) }
+{}
+
+/// The canonical text of an IPv6 address, by its groups: in dotted form behind `::ffff:` where the address is
+/// mapped, and else with `::` for the first of the longest runs of two zero groups or more (RFC 5952, sections 4.2
+/// and 5).
+pub fn shortens_longest_run()
+    ensures mapped { (groups : List ℕ) → IsIpv4Mapped groups
+        → ipv6_text groups ≡ codes "::ffff:" ++ ipv4_text (octets_of (drop 6 groups)) }
+    ensures others { (groups : List ℕ) → ¬ (IsIpv4Mapped groups) → IsShortened groups (ipv6_text groups) }
+{}
+
+/// The lines of a text write one list of networks at most, and none where a line is bad; and one line at most is the
+/// first bad one.
+pub fn one_list()
+    ensures one { (grammar : Grammar) (lines : List (List ℕ)) (networks others : List Network)
+        → AreNetworksOf grammar lines networks → AreNetworksOf grammar lines others → networks ≡ others }
+    ensures none_bad { (grammar : Grammar) (lines : List (List ℕ)) (networks : List Network) (number : ℕ)
+        → AreNetworksOf grammar lines networks → ¬ (IsFirstBadLine grammar lines number) }
+    ensures one_number { (grammar : Grammar) (lines : List (List ℕ)) (number other : ℕ)
+        → IsFirstBadLine grammar lines number → IsFirstBadLine grammar lines other → number ≡ other }
+{}

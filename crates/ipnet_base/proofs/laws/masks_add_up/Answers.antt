@@ -1,0 +1,5 @@
+use Rattle.ipnet_base.proofs.NetworkLaws.{masks_add_up}
+use Rattle.ipnet_base.proofs.laws.masks_add_up.Goals as goal
+
+pub returns : goal.returns
+returns c = masks_add_up

@@ -1,0 +1,5 @@
+use Rattle.ipnet_base.proofs.NetworkLaws.{IsNetmaskOf-unique}
+use Rattle.ipnet_base.proofs.laws.netmask_has_one_length.Goals as goal
+
+pub returns : goal.returns
+returns c = IsNetmaskOf-unique

@@ -1,0 +1,11 @@
+use Rattle.ipnet_base.specs.Address.{IsBetween}
+use Rattle.ipnet_base.proofs.WalkLaws.{blocks_exist}
+use Rattle.ipnet_base.proofs.CoverLaws.{IsShortestCover-of_range, maximal_blocks_apart}
+use Rattle.ipnet_base.proofs.laws.range_is_tiled.Goals as goal
+
+pub returns : goal.returns
+returns c = record {
+  exists = blocks_exist;
+  shortest = IsShortestCover-of_range;
+  apart = λ f start end m networks. maximal_blocks_apart (IsBetween f start end) m networks;
+}

@@ -1,0 +1,5 @@
+use Rattle.ipnet_base.proofs.NetworkLaws.{before_by_first}
+use Rattle.ipnet_base.proofs.laws.truncated_networks_are_ordered_by_first_address.Goals as goal
+
+pub returns : goal.returns
+returns c = before_by_first

@@ -1,0 +1,226 @@
+//! Facts of the definitions, each the contract of a function that does nothing. They show that networks, blocks and
+//! lists of networks, as `specs/` defines them, are what a reader takes them for. No part of the crate's surface
+//! for users.
+ghost use Rattle.std.specs.Prelude.{◌≡◌, ◌≢◌, ℕ, ◌+◌, ◌-◌, ◌*◌, ◌^◌, ◌<◌, ◌≤◌, ◌⊎◌, ◌↔◌, Bool, List, ◌∷◌, length, map, Contains, All, IsPermutation};
+ghost use Rattle.ipnet_base.specs.Address.{Family, Address, IsAddress, IsBetween, IsAcceptedBy, width, family_index, greatest_number};
+ghost use Rattle.ipnet_base.specs.Network.{Network, IsNetwork, InBlock, IsLeastOf, IsGreatestOf, IsSubnetOf, HaveSameBlock, AreDisjoint, IsTruncated, IsTruncationOf, IsSupernetOf, AreSiblings, AreHalves, IsBefore, truncation};
+ghost use Rattle.ipnet_base.specs.Blocks.{IsCoveredBy, HaveSameCover, IsMaximal, AreMaximalBlocks, ArePairwiseDisjoint, IsExactCover, IsShortestCover, IsAggregateOf, AreAggregatedNeighbours};
+ghost use Rattle.ipnet_base.specs.Subnets.{IsLargestSubnetAt};
+ghost use Rattle.ipnet_base.specs.Masks.{netmask_number, hostmask_number, IsNetmaskOf};
+
+/// Two blocks are nested, or they share no address.
+pub fn nested_or_disjoint()
+    ensures { (n k : Network) → IsSubnetOf n k ⊎ (IsSubnetOf k n ⊎ AreDisjoint n k) }
+{}
+
+/// Blocks of two families share no address.
+pub fn families_share_no_address()
+    ensures { (n k : Network) → n.family ≢ k.family → AreDisjoint n k }
+{}
+
+/// A block has a least and a greatest address, and holds every address of its family between these two.
+pub fn block_is_an_interval()
+    ensures least { (n : Network) → IsNetwork n → (x : Address) × IsAddress x × IsLeastOf n x }
+    ensures greatest { (n : Network) → IsNetwork n → (x : Address) × IsAddress x × IsGreatestOf n x }
+    ensures between { (n : Network) (low high x : Address) → IsLeastOf n low → IsGreatestOf n high
+        → InBlock n x ↔ IsBetween n.family low.number high.number x }
+{}
+
+/// The network's own address stands between the least address of its block and the greatest.
+pub fn own_address_is_between()
+    ensures { (n : Network) (low high : Address) → IsLeastOf n low → IsGreatestOf n high
+        → (low.number ≤ n.number) × (n.number ≤ high.number) }
+{}
+
+/// At full length a block is the network's own address alone.
+pub fn full_length_is_one_address()
+    ensures { (n : Network) (x : Address) → n.prefix_len ≡ width n.family
+        → InBlock n x ↔ ((x.family ≡ n.family) × (x.number ≡ n.number)) }
+{}
+
+/// At length 0 a block is all addresses of the family.
+pub fn length_zero_is_all_addresses()
+    ensures { (n : Network) (x : Address) → IsNetwork n → IsAddress x → n.prefix_len ≡ 0
+        → InBlock n x ↔ (x.family ≡ n.family) }
+{}
+
+/// Inclusion of blocks is reflexive and transitive, and two blocks include each other exactly where the networks
+/// have one truncation.
+pub fn inclusion_is_an_order()
+    ensures reflexive { (n : Network) → IsSubnetOf n n }
+    ensures transitive { (n k l : Network) → IsSubnetOf n k → IsSubnetOf k l → IsSubnetOf n l }
+    ensures mutual { (n k : Network) → IsNetwork n → IsNetwork k → HaveSameBlock n k ↔ (truncation n ≡ truncation k) }
+{}
+
+/// Truncated networks with equal blocks are equal.
+pub fn truncated_networks_are_their_blocks()
+    ensures { (n k : Network) → IsNetwork n → IsNetwork k → IsTruncated n → IsTruncated k → HaveSameBlock n k → n ≡ k }
+{}
+
+/// A network has one truncation, the one of the formula, and truncated twice is truncated once.
+pub fn truncation_is_one()
+    ensures exists { (n : Network) → IsNetwork n → IsTruncationOf (truncation n) n }
+    ensures one { (t n : Network) → IsTruncationOf t n → t ≡ truncation n }
+    ensures twice { (n : Network) → truncation (truncation n) ≡ truncation n }
+{}
+
+/// A network of a length above 0 has one supernet, and is one of the two halves of it.
+pub fn supernet_is_one()
+    ensures exists { (n : Network) → IsNetwork n → 0 < n.prefix_len → (s : Network) × IsSupernetOf s n }
+    ensures one { (s t n : Network) → IsNetwork n → IsSupernetOf s n → IsSupernetOf t n → s ≡ t }
+    ensures other_half { (n : Network) → IsNetwork n → 0 < n.prefix_len → (k : Network) × IsNetwork k × AreHalves n k }
+{}
+
+/// The block of a supernet is that of the one half and that of the other, which share no address.
+pub fn supernet_is_its_two_halves()
+    ensures union { (s n k : Network) → IsNetwork n → IsSupernetOf s n → AreHalves n k
+        → (x : Address) → InBlock s x ↔ (InBlock n x ⊎ InBlock k x) }
+    ensures apart { (n k : Network) → AreHalves n k → AreDisjoint n k }
+{}
+
+/// To be siblings is symmetric, and each network of a length above 0 is its own sibling.
+pub fn siblings_are_symmetric()
+    ensures symmetric { (n k : Network) → AreSiblings n k → AreSiblings k n }
+    ensures own { (n : Network) → 0 < n.prefix_len → AreSiblings n n }
+{}
+
+/// The netmask and the host mask of a length add up to the family's last number.
+pub fn masks_add_up()
+    ensures { (f : Family) (prefix_len : ℕ) → prefix_len ≤ width f
+        → netmask_number f prefix_len + hostmask_number f prefix_len ≡ greatest_number f }
+{}
+
+/// A number is the netmask of one length at most.
+pub fn netmask_has_one_length()
+    ensures { (f : Family) (number p q : ℕ) → IsNetmaskOf f number p → IsNetmaskOf f number q → p ≡ q }
+{}
+
+/// The order of networks is strict and total.
+pub fn order_is_strict_and_total()
+    ensures asymmetric { (n k : Network) → IsBefore n k → ¬ (IsBefore k n) }
+    ensures transitive { (n k l : Network) → IsBefore n k → IsBefore k l → IsBefore n l }
+    ensures total { (n k : Network) → (n ≡ k) ⊎ (IsBefore n k ⊎ IsBefore k n) }
+{}
+
+/// Truncated networks are ordered by family, then by the first address of their blocks, then by length.
+pub fn truncated_networks_are_ordered_by_first_address()
+    ensures { (n k : Network) (a b : Address) → IsTruncated n → IsTruncated k → IsLeastOf n a → IsLeastOf k b
+        → IsBefore n k ↔ ((family_index a.family < family_index b.family)
+        ⊎ ((a.family ≡ b.family) × ((a.number < b.number) ⊎ ((a.number ≡ b.number) × (n.prefix_len < k.prefix_len))))) }
+{}
+
+/// At most one list is the maximal blocks of a set under a least length: of a set that a test tells, of what a list
+/// covers, of a range.
+pub fn one_list_of_maximal_blocks()
+    ensures of_set { (test : Address → Bool) (m : ℕ) (a b : List Network)
+        → AreMaximalBlocks (IsAcceptedBy test) m a → AreMaximalBlocks (IsAcceptedBy test) m b → a ≡ b }
+    ensures of_cover { (networks : List Network) (m : ℕ) (a b : List Network)
+        → AreMaximalBlocks (IsCoveredBy networks) m a → AreMaximalBlocks (IsCoveredBy networks) m b → a ≡ b }
+    ensures of_range { (f : Family) (start end m : ℕ) (a b : List Network)
+        → AreMaximalBlocks (IsBetween f start end) m a → AreMaximalBlocks (IsBetween f start end) m b → a ≡ b }
+{}
+
+/// Sets with the same addresses have the same maximal blocks; what a list covers, and a range, are sets that a test
+/// tells.
+pub fn same_set_has_same_maximal_blocks()
+    ensures of_set { (test other : Address → Bool) (m : ℕ) (blocks : List Network)
+        → ((x : Address) → IsAcceptedBy test x ↔ IsAcceptedBy other x)
+        → AreMaximalBlocks (IsAcceptedBy test) m blocks ↔ AreMaximalBlocks (IsAcceptedBy other) m blocks }
+    ensures cover_test { (networks : List Network)
+        → (test : Address → Bool) × ((x : Address) → IsCoveredBy networks x ↔ IsAcceptedBy test x) }
+    ensures range_test { (f : Family) (start end : ℕ)
+        → (test : Address → Bool) × ((x : Address) → IsBetween f start end x ↔ IsAcceptedBy test x) }
+{}
+
+/// No exact cover of a set under a least length has fewer members than its maximal blocks, and one with as many is
+/// them, truncated and sorted.
+pub fn no_cover_is_shorter()
+    ensures shortest { (test : Address → Bool) (m : ℕ) (blocks cover : List Network)
+        → AreMaximalBlocks (IsAcceptedBy test) m blocks → IsExactCover (IsAcceptedBy test) m cover
+        → length blocks ≤ length cover }
+    ensures only { (test : Address → Bool) (m : ℕ) (blocks cover : List Network)
+        → AreMaximalBlocks (IsAcceptedBy test) m blocks → IsExactCover (IsAcceptedBy test) m cover
+        → length cover ≡ length blocks → IsPermutation (map truncation cover) blocks }
+{}
+
+/// A list meets the four conditions on neighbours exactly where it is its own aggregate.
+pub fn neighbours_show_an_aggregate()
+    ensures { (networks : List Network) → All IsNetwork networks
+        → AreAggregatedNeighbours networks ↔ IsAggregateOf networks networks }
+{}
+
+/// An aggregate is the shortest list with the cover of its list, no longer than that list, and no two of its networks
+/// share an address.
+pub fn aggregate_is_the_shortest()
+    ensures shortest { (networks answer : List Network) → All IsNetwork networks → IsAggregateOf answer networks
+        → IsShortestCover (IsCoveredBy networks) 0 answer }
+    ensures no_longer { (networks answer : List Network) → All IsNetwork networks → IsAggregateOf answer networks
+        → length answer ≤ length networks }
+    ensures apart { (networks answer : List Network) → IsAggregateOf answer networks → ArePairwiseDisjoint answer }
+{}
+
+/// An aggregate is its own aggregate.
+pub fn aggregate_of_an_aggregate()
+    ensures { (networks answer : List Network) → All IsNetwork networks → IsAggregateOf answer networks
+        → IsAggregateOf answer answer }
+{}
+
+/// Two lists have equal aggregates exactly where they cover the same addresses; so the aggregate of the one is that of
+/// the other exactly there.
+pub fn equal_aggregates_are_equal_covers()
+    ensures equal { (networks others answer other : List Network) → All IsNetwork networks → All IsNetwork others
+        → IsAggregateOf answer networks → IsAggregateOf other others
+        → (answer ≡ other) ↔ HaveSameCover networks others }
+    ensures shared { (networks others answer : List Network) → All IsNetwork networks → All IsNetwork others
+        → IsAggregateOf answer networks
+        → IsAggregateOf answer others ↔ HaveSameCover others networks }
+{}
+
+/// Order, repeats and host bits of a list do not change its aggregate: lists with the same truncated members have the
+/// same aggregate.
+pub fn order_repeats_and_host_bits_do_not_matter()
+    ensures { (networks others answer : List Network)
+        → ((n : Network) → Contains (map truncation networks) n ↔ Contains (map truncation others) n)
+        → IsAggregateOf answer networks ↔ IsAggregateOf answer others }
+{}
+
+/// What keeps a list's cover: truncating its networks; sorting it; dropping a network that lies in another member;
+/// joining two halves to their supernet.
+pub fn cover_is_kept()
+    ensures truncated { (networks : List Network) → HaveSameCover (map truncation networks) networks }
+    ensures sorted { (networks sorted : List Network) → IsPermutation networks sorted → HaveSameCover sorted networks }
+    ensures nested { (n k : Network) (networks : List Network) → Contains networks k → IsSubnetOf n k
+        → HaveSameCover (n ∷ networks) networks }
+    ensures joined { (s n k : Network) (networks : List Network) → IsNetwork n → IsSupernetOf s n → AreHalves n k
+        → HaveSameCover (n ∷ k ∷ networks) (s ∷ networks) }
+{}
+
+/// From every start within a range there is a largest subnet; it is a maximal block of the range, and stands in front
+/// of the maximal blocks of what is left behind its last address.
+pub fn largest_subnet_is_the_next_block()
+    ensures exists { (f : Family) (start end m : ℕ) → start ≤ end → end < 2 ^ width f → m ≤ width f
+        → (n : Network) × IsLargestSubnetAt f start end m n }
+    ensures maximal { (f : Family) (start end m : ℕ) (n : Network) → IsLargestSubnetAt f start end m n
+        → IsMaximal (IsBetween f start end) m n }
+    ensures in_front { (f : Family) (start end m : ℕ) (n : Network) (last : Address) (rest : List Network)
+        → IsLargestSubnetAt f start end m n → IsGreatestOf n last
+        → AreMaximalBlocks (IsBetween f (last.number + 1) end) m rest
+        → AreMaximalBlocks (IsBetween f start end) m (n ∷ rest) }
+{}
+
+/// Every range has its maximal blocks; they are the shortest list that covers it, and no two of them share an address.
+pub fn range_is_tiled()
+    ensures exists { (f : Family) (start end m : ℕ) → end < 2 ^ width f → m ≤ width f
+        → (networks : List Network) × AreMaximalBlocks (IsBetween f start end) m networks }
+    ensures shortest { (f : Family) (start end m : ℕ) (networks : List Network) → end < 2 ^ width f → m ≤ width f
+        → AreMaximalBlocks (IsBetween f start end) m networks
+        → IsShortestCover (IsBetween f start end) m networks }
+    ensures apart { (f : Family) (start end m : ℕ) (networks : List Network)
+        → AreMaximalBlocks (IsBetween f start end) m networks → ArePairwiseDisjoint networks }
+{}
+
+/// Under least length 0 a range has at most twice the width less two maximal blocks: 62 for IPv4, 254 for IPv6.
+pub fn range_has_few_blocks()
+    ensures { (f : Family) (start end : ℕ) (networks : List Network) → end < 2 ^ width f
+        → AreMaximalBlocks (IsBetween f start end) 0 networks → length networks ≤ 2 * width f - 2 }
+{}
