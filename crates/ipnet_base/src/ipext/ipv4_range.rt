@@ -12,6 +12,14 @@ use std::iter::FusedIterator;
 /// order from the back.
 ///
 /// Two ranges are equal, and ordered, by their stored ends, and not by the addresses that they still give.
+///
+/// ```text
+/// from 10.0.0.0 to 10.0.0.3:
+///     next()        10.0.0.0, leaves 10.0.0.1 to 10.0.0.3
+///     next_back()   10.0.0.3, leaves 10.0.0.1 to 10.0.0.2
+///     nth(1)        10.0.0.2, and nothing is left
+///     next()        None, then and ever after
+/// ```
 #[derive(Clone, Copy, PartialEq, Eq, PartialOrd, Ord, Hash, Debug)]
 pub struct Ipv4AddrRange {
     start: u32,

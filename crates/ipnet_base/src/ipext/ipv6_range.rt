@@ -12,6 +12,14 @@ use std::iter::FusedIterator;
 /// order from the back.
 ///
 /// Two ranges are equal, and ordered, by their stored ends, and not by the addresses that they still give.
+///
+/// ```text
+/// from fd00:: to fd00::3:
+///     next()        fd00::, leaves fd00::1 to fd00::3
+///     next_back()   fd00::3, leaves fd00::1 to fd00::2
+///     nth(1)        fd00::2, and nothing is left
+///     next()        None, then and ever after
+/// ```
 #[derive(Clone, Copy, PartialEq, Eq, PartialOrd, Ord, Hash, Debug)]
 pub struct Ipv6AddrRange {
     start: u128,
