@@ -9,11 +9,12 @@ pub returns-else-self-last-2-clause-steps : goal.returns-else-self-last-2-clause
 returns-else-self-last-2-clause-steps c =
     let r = ipv4_range c.args.self.now in
     let ends : IsNextBack r None r = search rules in
-    IsNextBack-yields r None r ends
+    record { list = IsNextBack-yields r None r ends; ends = ends }
 
 pub returns-clause-steps : goal.returns-clause-steps
 returns-clause-steps c =
     let r = ipv4_range c.args.self.now in
+    let s = ipv4_range c.if-self-last.self in
     let item = ipv4_address c.ipv4_from_number.result in
-    let ends : IsNextBack r (Some item) (ipv4_range c.if-self-last.self) = search rules in
-    IsNextBack-yields r (Some item) (ipv4_range c.if-self-last.self) ends
+    let ends : IsNextBack r (Some item) s = search rules in
+    record { list = IsNextBack-yields r (Some item) s ends; ends = ends }

@@ -9,11 +9,12 @@ pub returns-else-first-self-2-clause-steps : goal.returns-else-first-self-2-clau
 returns-else-first-self-2-clause-steps c =
     let r = ipv4_range c.args.self.now in
     let ends : IsNext r None r = search rules in
-    IsNext-yields r None r ends
+    record { list = IsNext-yields r None r ends; ends = ends }
 
 pub returns-clause-steps : goal.returns-clause-steps
 returns-clause-steps c =
     let r = ipv4_range c.args.self.now in
+    let s = ipv4_range c.if-first-self.self in
     let item = ipv4_address c.ipv4_from_number.result in
-    let ends : IsNext r (Some item) (ipv4_range c.if-first-self.self) = search rules in
-    IsNext-yields r (Some item) (ipv4_range c.if-first-self.self) ends
+    let ends : IsNext r (Some item) s = search rules in
+    record { list = IsNext-yields r (Some item) s ends; ends = ends }
