@@ -13,6 +13,7 @@ pub mod Ipv4Texts
 pub mod Ipv6Texts
 pub mod WholeTexts
 pub mod StrictTexts
+pub mod ValidTexts
 pub mod PrintedTexts
 pub mod PrintedDigits
 pub mod ZeroRuns

@@ -130,21 +130,36 @@ octets_of-octets (g ∷ groups) fit zero = let low = fit 0 in omega arith
 octets_of-octets (g ∷ groups) fit (suc zero) = mod_below g 256 (omega arith)
 octets_of-octets (g ∷ groups) fit (suc (suc k)) = octets_of-octets groups (λ j. fit (suc j)) k
 
--- eight groups are those of the number that they write
-pub groups_again : (groups : List ℕ) → length groups ≡ 8 → ((k : ℕ) → get_or groups k 0 < 2 ^ 16) → segments_of (to_be_bytes w128 (from_be_bytes w128 (octets_of groups))) ≡ groups
+length-octets_of : (groups : List ℕ) → length (octets_of groups) ≡ 2 * length groups
+length-octets_of [] = refl
+length-octets_of (g ∷ groups) = let later = length-octets_of groups in omega (arith, later)
+
+-- std's number of eight groups, by their octets
+eight_groups : (groups : List ℕ) → length groups ≡ 8 → from_be_bytes w128 (octets_of groups) ≡ number_of (octets_of groups)
 unfolding number_of
-groups_again [] eight fit = absurd (omega arith)
-groups_again (a ∷ []) eight fit = absurd (omega arith)
-groups_again (a ∷ b ∷ []) eight fit = absurd (omega arith)
-groups_again (a ∷ b ∷ c ∷ []) eight fit = absurd (omega arith)
-groups_again (a ∷ b ∷ c ∷ d ∷ []) eight fit = absurd (omega arith)
-groups_again (a ∷ b ∷ c ∷ d ∷ e ∷ []) eight fit = absurd (omega arith)
-groups_again (a ∷ b ∷ c ∷ d ∷ e ∷ f ∷ []) eight fit = absurd (omega arith)
-groups_again (a ∷ b ∷ c ∷ d ∷ e ∷ f ∷ g ∷ []) eight fit = absurd (omega arith)
-groups_again (a ∷ b ∷ c ∷ d ∷ e ∷ f ∷ g ∷ h ∷ []) eight fit =
-    let groups = a ∷ b ∷ c ∷ d ∷ e ∷ f ∷ g ∷ h ∷ [] in
-    ap segments_of (octets_again (octets_of groups) refl (octets_of-octets groups fit) (omega arith)) ∙ segments_of-octets_of groups
-groups_again (a ∷ b ∷ c ∷ d ∷ e ∷ f ∷ g ∷ h ∷ i ∷ more) eight fit = absurd (omega arith)
+eight_groups [] eight = absurd (omega arith)
+eight_groups (a ∷ []) eight = absurd (omega arith)
+eight_groups (a ∷ b ∷ []) eight = absurd (omega arith)
+eight_groups (a ∷ b ∷ c ∷ []) eight = absurd (omega arith)
+eight_groups (a ∷ b ∷ c ∷ d ∷ []) eight = absurd (omega arith)
+eight_groups (a ∷ b ∷ c ∷ d ∷ e ∷ []) eight = absurd (omega arith)
+eight_groups (a ∷ b ∷ c ∷ d ∷ e ∷ f ∷ []) eight = absurd (omega arith)
+eight_groups (a ∷ b ∷ c ∷ d ∷ e ∷ f ∷ g ∷ []) eight = absurd (omega arith)
+eight_groups (a ∷ b ∷ c ∷ d ∷ e ∷ f ∷ g ∷ h ∷ []) eight = omega arith
+eight_groups (a ∷ b ∷ c ∷ d ∷ e ∷ f ∷ g ∷ h ∷ i ∷ more) eight = absurd (omega arith)
+
+-- eight groups write a number of 128 bits
+pub eight_groups_below : (groups : List ℕ) → length groups ≡ 8 → ((k : ℕ) → get_or groups k 0 < 2 ^ 16) → from_be_bytes w128 (octets_of groups) < 2 ^ 128
+eight_groups_below groups eight fit =
+    let sixteen : length (octets_of groups) ≡ 16 = omega (arith, length-octets_of groups) in
+    let low : number_of (octets_of groups) < 256 ^ 16 = rw sixteen at (number_below (octets_of groups) (octets_of-octets groups fit)) in
+    rw (eight_groups groups eight) low
+
+-- and are the groups of that number
+pub groups_again : (groups : List ℕ) → length groups ≡ 8 → ((k : ℕ) → get_or groups k 0 < 2 ^ 16) → segments_of (to_be_bytes w128 (from_be_bytes w128 (octets_of groups))) ≡ groups
+groups_again groups eight fit =
+    let sixteen : length (octets_of groups) ≡ 16 = omega (arith, length-octets_of groups) in
+    ap segments_of (octets_again (octets_of groups) sixteen (octets_of-octets groups fit) (eight_groups groups eight)) ∙ segments_of-octets_of groups
 
 -- the octets and groups of std's addresses are those of their bits
 pub ipv4_octets_of_bits : (a : Ipv4Addr) → IsIpv4Addr a → to_be_bytes w32 (ipv4_bits a) ≡ ipv4_octets a
