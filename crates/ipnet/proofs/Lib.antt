@@ -13,3 +13,4 @@ pub mod PrintedTexts
 pub mod PrintedDigits
 pub mod ZeroRuns
 pub mod LineLaws
+pub mod CompactLaws
