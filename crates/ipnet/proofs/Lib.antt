@@ -1,4 +1,7 @@
 -- Lemmas that the proofs of this crate share.
+pub mod FrontLaws
+pub mod AnswerLaws
+pub mod EqualLaws
 pub mod SubnetsLaws
 pub mod SubnetCountLaws
 pub mod NetLaws
@@ -14,3 +17,4 @@ pub mod PrintedDigits
 pub mod ZeroRuns
 pub mod LineLaws
 pub mod CompactLaws
+pub mod ReaderTurns

@@ -1,15 +1,19 @@
 -- What the functions on numbers behind the network types compute, at the width of either family.
-use Rattle.std.proofs.Common.{◌≡◌, ℕ, ◌+◌, ◌-◌, ◌*◌, ◌/◌, ◌%◌, ◌^◌, ◌<◌, ◌≤◌, ◌↔◌, refl, sym, ap, ◌∙◌, subst, arith, Option, Some, None, inl, inr, IsTrue, true, false, not, eqb, eqb-true, eq-eqb, ne_eqb, bit_and, pow_pos}
+use Rattle.std.proofs.Common.{◌≡◌, ℕ, ◌+◌, ◌-◌, ◌*◌, ◌/◌, ◌%◌, ◌^◌, ◌<◌, ◌≤◌, ◌↔◌, refl, sym, ap, ◌∙◌, subst, arith, Option, Some, None, inl, inr, IsTrue, true, false, not, eqb, eqb-true, eq-eqb, ne_eqb, bit_and, pow_pos, List, Contains}
 use Rattle.std.specs.Option.{unwrap_or, SomeIff}
 use Rattle.std.proofs.Math.Nat.{eq_of_mul-eq-mul_right}
 use Rattle.std.proofs.lemmas.Nat.Bits.{ones_shl}
 use Rattle.std.proofs.lemmas.Bool.{cases_eq}
-use Rattle.ipnet_base.specs.Address.{width}
-use Rattle.ipnet_base.specs.Network.{Network, IsNetwork, host_bits, InBlock, IsSubnetOf, AreSiblings, AreHalves, IsSupernetOf}
+use Rattle.ipnet_base.specs.Address.{Address, width, IsBetween}
+use Rattle.ipnet_base.specs.Network.{Network, IsNetwork, host_bits, InBlock, IsSubnetOf, AreSiblings, AreHalves, IsLeastOf, IsGreatestOf, IsTruncationOf, IsSupernetOf, truncation}
+use Rattle.ipnet_base.specs.Blocks.{IsMaximal, AreMaximalBlocks}
 use Rattle.ipnet_base.proofs.MaskLaws.{and_mask_is}
-use Rattle.ipnet_base.proofs.BlockLaws.{own, own_in, nested, bits_from_subnet, same_network}
+use Rattle.ipnet_base.proofs.BlockLaws.{own, own_in, first_of, last_of, first_from_least, last_from_greatest, nested, bits_from_subnet, same_network, same_from_block}
+use Rattle.ipnet_base.proofs.ListLaws.{all_at}
+use Rattle.ipnet_base.proofs.NetworkLaws.{IsTruncationOf-truncation}
 use Rattle.ipnet_base.proofs.SupernetLaws.{supernet, IsSupernetOf-supernet}
-use Rattle.ipnet.specs.NetworkParts.{address_at}
+use Rattle.ipnet.specs.NetworkParts.{address_at, IsSubnetOfLength, AreSubnetsOfLength}
+use Rattle.ipnet.proofs.SubnetCountLaws.{AreOfLength, subnets_of_length}
 
 -- what `MAX.checked_shl(w - p).unwrap_or(0)` gives at w bits
 pub mask_from_shift : (w p : ℕ) (o : Option ℕ) → p ≤ w → SomeIff o (w - p < w) ((2 ^ w - 1) * 2 ^ (w - p) % 2 ^ w) → unwrap_or o 0 ≡ 2 ^ w - 2 ^ (w - p)
@@ -93,3 +97,41 @@ never P fails = (λ t. let wrong : false ≡ true = t in absurd (cc), λ p. absu
 -- blocks and addresses of two families have nothing in common
 pub families_apart : (n k : Network) → (n.family ≡ k.family → ⊥) → IsSubnetOf n k → ⊥
 families_apart n k other s = other (s (own n) (own_in n)).same_family
+
+-- The leading bits and the length make the truncation.
+pub truncation_from_numbers : (t n : Network) (len number : ℕ) → IsNetwork n → len ≡ n.prefix_len
+    → number ≡ n.number / 2 ^ (width n.family - len) * 2 ^ (width n.family - len) → t ≡ record { family = n.family; number = number; prefix_len = len } → IsTruncationOf t n
+truncation_from_numbers t n len number u same number_is t_is =
+    let kept : number ≡ n.number / 2 ^ host_bits n * 2 ^ host_bits n = number_is ∙ ap (λ p. n.number / 2 ^ (width n.family - p) * 2 ^ (width n.family - p)) same in
+    let whole : t ≡ truncation n = t_is ∙ same_network (record { family = n.family; number = number; prefix_len = len }) (truncation n) refl kept same in
+    subst (λ m. IsTruncationOf m n) (sym whole) (IsTruncationOf-truncation n u)
+
+-- The walk from the least address of a network to the greatest, under a least length from the network's own on, is
+-- all networks of that length inside.
+pub AreSubnetsOfLength-from_walk : (n : Network) (q : ℕ) (networks : List Network) (low high : Address) → IsNetwork n → n.prefix_len ≤ q → q ≤ width n.family
+    → IsLeastOf n low → IsGreatestOf n high → AreMaximalBlocks (IsBetween n.family low.number high.number) q networks → AreSubnetsOfLength n q networks
+AreSubnetsOfLength-from_walk n q networks low high u longer fits least greatest walk = record {
+  ascending = walk.ascending;
+  members = λ k. (to k, from k);
+  count = counted.1.1;
+  blocks = counted.0;
+}
+  where
+    counted : AreMaximalBlocks (InBlock n) q networks × AreOfLength q (2 ^ (q - n.prefix_len)) networks
+    counted = subnets_of_length n q networks u longer fits
+        (subst (λ z. AreMaximalBlocks (IsBetween n.family (first_of n) z) q networks) (last_from_greatest n high greatest)
+        (subst (λ z. AreMaximalBlocks (IsBetween n.family z high.number) q networks) (first_from_least n low least) walk))
+
+    to : (k : Network) → Contains networks k → IsSubnetOfLength n q k
+    to k c =
+        let m : IsMaximal (InBlock n) q k = (counted.0.members k).0 c in
+        record { network = m.inside.network; truncated = m.inside.truncated; of_length = all_at (λ k. k.prefix_len ≡ q) networks counted.1.0 k c; within = m.inside.within }
+
+    from : (k : Network) → IsSubnetOfLength n q k → Contains networks k
+    from k h = (counted.0.members k).1 (record {
+      inside = record { network = h.network; truncated = h.truncated; long_enough = omega (arith, h.of_length); within = h.within };
+      largest = λ m i s.
+          let shared : InBlock m (own k) = s (own k) (own_in k) in
+          let bits : host_bits m ≤ host_bits k = omega (arith, i.long_enough, h.of_length, ap width shared.same_family) in
+          same_from_block m k i.network h.network i.truncated h.truncated (nested m k (own k) shared (own_in k) bits, s);
+    })

@@ -1,7 +1,8 @@
 -- What a network is made from, and the addresses that belong to it (RFC 4632, section 3.1).
-use Rattle.std.specs.Prelude.{ℕ}
+use Rattle.std.specs.Prelude.{◌≡◌, ℕ, ◌-◌, ◌^◌, ◌↔◌, List, length, Contains}
 use Rattle.ipnet_base.specs.Address.{Family, Address}
-use Rattle.ipnet_base.specs.Network.{Network}
+use Rattle.ipnet_base.specs.Network.{Network, IsNetwork, InBlock, IsSubnetOf, IsTruncated}
+use Rattle.ipnet_base.specs.Blocks.{IsAscending, AreMaximalBlocks}
 use Rattle.ipnet_base.specs.Masks as masks
 
 -- the address of this family and number
@@ -22,3 +23,24 @@ netmask n = record { family = n.family; number = masks.netmask_number n.family n
 
 abbrev pub hostmask : Network → Address
 hostmask n = record { family = n.family; number = masks.hostmask_number n.family n.prefix_len }
+
+-- The network has this address, and the length that the netmask says, which may be one of the other family
+-- as long as it is within the address's width.
+pub record HasAddressAndNetmask (n : Network) (ip mask : Address) : Type 0 where
+  pub network : IsNetwork n
+  pub address : own_address n ≡ ip
+  pub prefix : masks.IsNetmaskOf mask.family mask.number n.prefix_len
+
+-- k is truncated, has this length, and lies in n
+pub record IsSubnetOfLength (n : Network) (prefix_len : ℕ) (k : Network) : Type 0 where
+  pub network : IsNetwork k
+  pub truncated : IsTruncated k
+  pub of_length : k.prefix_len ≡ prefix_len
+  pub within : IsSubnetOf k n
+
+-- All networks of this length in n, ascending: they are the maximal blocks of n under that least length.
+pub record AreSubnetsOfLength (n : Network) (prefix_len : ℕ) (networks : List Network) : Type 0 where
+  pub ascending : IsAscending networks
+  pub members : (k : Network) → Contains networks k ↔ IsSubnetOfLength n prefix_len k
+  pub count : length networks ≡ 2 ^ (prefix_len - n.prefix_len)
+  pub blocks : AreMaximalBlocks (InBlock n) prefix_len networks

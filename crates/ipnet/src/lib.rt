@@ -2,6 +2,7 @@
 #![tactic(auto)]
 
 pub mod compact;
+pub mod aggregate;
 pub mod net;
 pub mod parser;
 pub mod print;

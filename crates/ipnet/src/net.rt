@@ -1,17 +1,17 @@
 //! The three network types.
-ghost use Rattle.std.specs.Prelude.{◌≡◌, ◌<◌, ◌≤◌, ◌↔◌, IsTrue, IsErr, IfOk, IsNone, IfSome, refl};
+ghost use Rattle.std.specs.Prelude.{◌≡◌, ◌<◌, ◌≤◌, ◌⊎◌, ◌↔◌, IsTrue, IsErr, IfOk, IsNone, IfSome, refl};
 ghost use Rattle.std.specs.declared.cmp.Ordering.TheVariants.{Less};
 ghost use Rattle.ipnet_base.specs.Address.{width, ip_address};
 ghost use Rattle.ipnet_base.specs.Network.{Network, IsNetwork, InBlock, IsSubnetOf, IsLeastOf, IsGreatestOf, AreSiblings, AreHalves, IsBefore, IsTruncationOf, IsSupernetOf, truncation};
-ghost use Rattle.ipnet.specs.NetworkParts.{network_at, own_address, netmask, hostmask};
+ghost use Rattle.ipnet.specs.NetworkParts.{network_at, own_address, netmask, hostmask, HasAddressAndNetmask, AreSubnetsOfLength};
 
 mod ipv4_net;
 mod ipv6_net;
 
+use crate::subnets::IpSubnets;
+use ipnet_base::{IpAddr, PrefixLenError, ip_mask_to_prefix};
 pub use ipv4_net::Ipv4Net;
 pub use ipv6_net::Ipv6Net;
-
-use ipnet_base::{IpAddr, PrefixLenError};
 
 /// What a network can be asked to contain: an address of its family, or a network.
 pub trait Contains<T> {
@@ -67,6 +67,7 @@ pub enum IpNet {
 
 impl IpNet {
     ghost use Rattle.ipnet.specs.NetworkOf.{ip_network};
+    ghost use Rattle.ipnet.specs.SubnetsLeft.{ip_subnets_left};
 
     /// The network of the address and the length; the address keeps its host bits.
     ///
@@ -95,6 +96,24 @@ impl IpNet {
             IpAddr::V4(ip) => IpNet::V4(Ipv4Net::new_assert(ip, prefix_len)),
             IpAddr::V6(ip) => IpNet::V6(Ipv6Net::new_assert(ip, prefix_len)),
         }
+    }
+
+    /// The network of the address and the length that the netmask says; the address keeps its host bits.
+    ///
+    /// The families of the two are not compared: an IPv4 address goes with an IPv6 mask of at most 32 ones, an
+    /// IPv6 address with any IPv4 mask. An error where the mask is none, or its length above the width of the
+    /// address.
+    ///
+    /// ```text
+    /// IpNet::with_netmask(10.1.1.0, 255.255.0.0) is 10.1.1.0/16
+    /// IpNet::with_netmask(10.1.1.0, ffff:ff00::) is 10.1.1.0/24, with ffff:ffff:ffff:: an error
+    /// ```
+    pub fn with_netmask(ip: IpAddr, netmask: IpAddr) -> Result<IpNet, PrefixLenError>
+        ensures made { IfOk result (λ n. HasAddressAndNetmask (ip_network n) (ip_address ip) (ip_address netmask)) }
+        ensures refused { IsErr result ↔ ((n : Network) → ¬ (HasAddressAndNetmask n (ip_address ip) (ip_address netmask))) }
+    {
+        let prefix_len = ip_mask_to_prefix(netmask)?;
+        IpNet::new(ip, prefix_len)
     }
 
     /// The address, with its host bits.
@@ -229,6 +248,23 @@ impl IpNet {
         }
     }
 
+    /// The walk over all networks of this length in the block, ascending; there are 2^(new - own length) of them.
+    ///
+    /// An error where the new length is below this network's own, or above the width, 32 or 128.
+    ///
+    /// ```text
+    /// 10.0.0.0/24 at 26: 10.0.0.0/26, 10.0.0.64/26, 10.0.0.128/26, 10.0.0.192/26; at 23 an error
+    /// ```
+    pub fn subnets(&self, new_prefix_len: u8) -> Result<IpSubnets, PrefixLenError>
+        ensures walk { IfOk result (λ s. AreSubnetsOfLength (ip_network self.now) new_prefix_len (ip_subnets_left s)) }
+        ensures refused { IsErr result ↔ ((new_prefix_len < (ip_network self.now).prefix_len) ⊎ (width (ip_network self.now).family < new_prefix_len)) }
+    {
+        match self {
+            IpNet::V4(net) => Ok(IpSubnets::V4(net.subnets(new_prefix_len)?)),
+            IpNet::V6(net) => Ok(IpSubnets::V6(net.subnets(new_prefix_len)?)),
+        }
+    }
+
     /// Whether the block contains the address, or all of the other network's block.
     ///
     /// No across families: an IPv6 address that maps an IPv4 address is no IPv4 address.
@@ -332,8 +368,8 @@ impl Net for IpNet {
     ghost one_to_one = { ip_one_to_one };
 
     ghost in_order = { elim [
-        | V4 x ↦ elim [ V4 y ↦ ipv4_in_order x y | V6 y ↦ λ _. refl ]
-        | V6 x ↦ elim [ V4 y ↦ λ h. absurd (ipv6_not_first x y h) | V6 y ↦ ipv6_in_order x y ]
+      | V4 x ↦ elim [ V4 y ↦ ipv4_in_order x y | V6 y ↦ λ _. refl ]
+      | V6 x ↦ elim [ V4 y ↦ λ h. absurd (ipv6_not_first x y h) | V6 y ↦ ipv6_in_order x y ]
     ] };
 
     fn truncated(&self) -> IpNet {

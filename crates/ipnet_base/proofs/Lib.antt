@@ -18,3 +18,4 @@ pub mod CountLaws
 pub mod DigitLaws
 pub mod ArithmeticLaws
 pub mod RangeLaws
+pub mod CallLaws

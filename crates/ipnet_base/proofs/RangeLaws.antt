@@ -1,11 +1,11 @@
 -- The list that a range gives, and what the calls on a range do to it.
-use Rattle.std.proofs.Common.{◌≡◌, ℕ, ◌+◌, ◌-◌, ◌<◌, ◌≤◌, Option, Some, None, List, [], ◌∷◌, ◌++◌, length, map, take, drop, reverse, slice_get, MatchOption, refl, sym, ap, ap₂, ◌∙◌, subst, arith, zero, suc, inl, inr}
+use Rattle.std.proofs.Common.{◌≡◌, ℕ, ◌+◌, ◌-◌, ◌<◌, ◌≤◌, Option, Some, None, List, [], ◌∷◌, ◌++◌, length, map, take, drop, reverse, slice_get, slice_index_or, Contains, AllPairs, MatchOption, refl, sym, ap, ap₂, ◌∙◌, subst, arith, zero, suc, inl, inr}
 use Rattle.std.specs.List.{range_with_len}
 use Rattle.std.proofs.lemmas.Bool.{cases_lt, cases_eq}
 use Rattle.std.proofs.lemmas.List.{length-reverse, get_or-reverse}
 use Rattle.std.proofs.lemmas.List.FromFn.{length-map-range_with_len, get_or-map-range_with_len, map-range_with_len_more, take-map-range_with_len}
 use Rattle.std.proofs.lemmas.Option.{slice_get-get_or, slice_get_past}
-use Rattle.ipnet_base.specs.Address.{Address}
+use Rattle.ipnet_base.specs.Address.{Address, IsBetween}
 use Rattle.ipnet_base.specs.Ranges.{AddressRange, numbers_between, address_at, addresses_of, address_count, with_ends, IsNext, IsNextBack, IsNth, IsNthBack}
 
 -- ---- the list of a range
@@ -34,12 +34,12 @@ addresses_last r h pos =
     ∙ map-range_with_len_more (address_at r) r.start (r.end - 1 + 1 - r.start) r.end (omega arith)
 
 -- a range of one address, and one of which nothing is left
-addresses_one : (r : AddressRange) → r.start ≡ r.end → addresses_of r ≡ address_at r r.start ∷ []
+pub addresses_one : (r : AddressRange) → r.start ≡ r.end → addresses_of r ≡ address_at r r.start ∷ []
 addresses_one r e =
     addresses_first r (omega arith)
     ∙ ap (λ xs. address_at r r.start ∷ xs) (addresses_none (with_ends r (r.start + 1) r.end) (omega arith))
 
-used_up : (r : AddressRange) → addresses_of (with_ends r 1 0) ≡ []
+pub used_up : (r : AddressRange) → addresses_of (with_ends r 1 0) ≡ []
 used_up r = addresses_none (with_ends r 1 0) (omega arith)
 
 pub addresses_at : (r : AddressRange) (n : ℕ) → n < address_count r → slice_get (addresses_of r) n ≡ Some (address_at r (r.start + n))
@@ -83,6 +83,33 @@ unfolding numbers_between
 addresses_up_to r k h =
     take-map-range_with_len (address_at r) r.start (address_count r) (address_count r - k) (omega arith)
     ∙ ap (λ n. map (address_at r) (range_with_len r.start n)) (omega arith)
+
+address_in_list : (r : AddressRange) (k : ℕ) (d : Address) → k < address_count r → slice_index_or (addresses_of r) k d ≡ address_at r (r.start + k)
+unfolding numbers_between
+address_in_list r k d h = get_or-map-range_with_len (address_at r) r.start (address_count r) k (r.start + k) d h refl
+
+pub between_from_contains : (r : AddressRange) (x : Address) → Contains (addresses_of r) x → IsBetween r.family r.start r.end x
+between_from_contains r x c =
+    let within : c.0 < address_count r = omega (arith, c.1, length-addresses_of r) in
+    let is : address_at r (r.start + c.0) ≡ x = sym (address_in_list r c.0 x within) ∙ c.2 in
+    subst (IsBetween r.family r.start r.end) is (record { of_family = refl; from_start = omega arith; to_end = omega arith })
+
+pub contains_from_between : (r : AddressRange) (x : Address) → IsBetween r.family r.start r.end x → Contains (addresses_of r) x
+contains_from_between r x b =
+    let k : ℕ = x.number - r.start in
+    let within : k < address_count r = omega (arith, b.from_start, b.to_end) in
+    let place : r.start + k ≡ x.number = omega (arith, b.from_start) in (
+      k,
+      omega (arith, within, length-addresses_of r),
+      address_in_list r k x within ∙ ap (address_at r) place ∙ ap (λ f. record { family = f; number = x.number }) (sym b.of_family),
+    )
+
+pub addresses_ascend : (r : AddressRange) → AllPairs (λ x y. x.number < y.number) (addresses_of r)
+addresses_ascend r i j d lt l =
+    let len = length-addresses_of r in
+    let at_i = ap (λ (x : Address). x.number) (address_in_list r i d (omega (arith, lt, l, len))) in
+    let at_j = ap (λ (x : Address). x.number) (address_in_list r j d (omega (arith, l, len))) in
+    omega (arith, at_i, at_j, lt)
 
 -- ---- the first, the last, and the item at a place, and what is left behind these
 

@@ -1,7 +1,7 @@
 -- Ranges of addresses, walked from both ends: the addresses from a first to a last one, the two ends that a
 -- range keeps, and what each call answers and leaves.
-use Rattle.std.specs.Prelude.{◌≡◌, ℕ, ◌+◌, ◌-◌, ◌<◌, ◌≤◌, ◌⊎◌, Option, Some, None, List, map}
-use Rattle.std.specs.List.{range_with_len}
+use Rattle.std.specs.Prelude.{◌≡◌, ℕ, ◌+◌, ◌-◌, ◌<◌, ◌≤◌, ◌⊎◌, ⊤, Option, Some, None, List, [], ◌∷◌, map}
+use Rattle.std.specs.List.{range_with_len, filter_map}
 use Rattle.ipnet_base.specs.Address.{Family, Address, family_index}
 
 -- What a range keeps: its family, and the numbers of its first and its last address. With start > end it is a
@@ -54,6 +54,41 @@ pub record IsNthBack (n : ℕ) (old : AddressRange) (answer : Option Address) (n
   pub past : address_count old ≤ n → (answer ≡ None) × (new ≡ with_ends old 1 0)
   pub first : n + 1 ≡ address_count old → (answer ≡ Some (address_at old old.start)) × (new ≡ with_ends old 1 0)
   pub behind : n + 1 < address_count old → (answer ≡ Some (address_at old (old.end - n))) × (new ≡ with_ends old old.start (old.end - n - 1))
+
+-- one of the four calls
+pub data Call : Type 0 where
+  Next : Call
+  NextBack : Call
+  Nth : ℕ → Call
+  NthBack : ℕ → Call
+
+-- from old the call answers this and leaves new
+abbrev pub IsCall : Call → AddressRange → Option Address → AddressRange → Type 0
+IsCall Next = IsNext
+IsCall NextBack = IsNextBack
+IsCall (Nth n) = IsNth n
+IsCall (NthBack n) = IsNthBack n
+
+-- the call passes over no address
+abbrev pub SkipsNone : Call → Type 0
+SkipsNone Next = ⊤
+SkipsNone NextBack = ⊤
+SkipsNone (Nth n) = n ≡ 0
+SkipsNone (NthBack n) = n ≡ 0
+
+-- a call, and what it answered
+pub record Step : Type 0 where
+  pub call : Call
+  pub answer : Option Address
+
+-- The calls, made one after another from r on, gave these answers and left s.
+abbrev pub IsRun : AddressRange → List Step → AddressRange → Type 0
+IsRun r [] s = r ≡ s
+IsRun r (step ∷ steps) s = (next : AddressRange) × IsCall step.call r step.answer next × IsRun next steps s
+
+-- the addresses that these steps gave, in their order
+abbrev pub given : List Step → List Address
+given steps = filter_map (λ step. step.answer) steps
 
 -- The order of ranges: IPv4 before IPv6, then the stored start, then the stored end.
 abbrev pub IsRangeBefore : AddressRange → AddressRange → Type 0

@@ -1,11 +1,12 @@
-ghost use Rattle.std.specs.Prelude.{◌≡◌, ◌-◌, ◌*◌, ◌/◌, ◌^◌, ◌<◌, ◌≤◌, ◌↔◌, IsTrue, IsErr, IfOk, IsNone, IfSome};
+ghost use Rattle.std.specs.Prelude.{◌≡◌, ◌-◌, ◌*◌, ◌/◌, ◌^◌, ◌<◌, ◌≤◌, ◌⊎◌, ◌↔◌, IsTrue, IsErr, IfOk, IsNone, IfSome};
 ghost use Rattle.std.specs.Net.Addr.{ipv4_bits};
 ghost use Rattle.ipnet_base.specs.Address.{IPv4, width, ipv4_address};
-ghost use Rattle.ipnet_base.specs.Network.{IsLeastOf, IsGreatestOf, IsSubnetOf, InBlock, IsSupernetOf, AreSiblings, IsTruncationOf};
-ghost use Rattle.ipnet.specs.NetworkParts.{address_at, network_at, own_address, netmask, hostmask};
+ghost use Rattle.ipnet_base.specs.Network.{Network, IsLeastOf, IsGreatestOf, IsSubnetOf, InBlock, IsSupernetOf, AreSiblings, IsTruncationOf};
+ghost use Rattle.ipnet.specs.NetworkParts.{address_at, network_at, own_address, netmask, hostmask, HasAddressAndNetmask, AreSubnetsOfLength};
 
 use super::{Contains, Net};
-use ipnet_base::{Ipv4Addr, PrefixLenError};
+use crate::subnets::Ipv4Subnets;
+use ipnet_base::{Ipv4Addr, PrefixLenError, ipv4_mask_to_prefix};
 
 /// An IPv4 network: an address, with its host bits, and a prefix length of at most 32.
 ///
@@ -47,6 +48,7 @@ fn address_of(number: u32) -> Ipv4Addr
 impl Ipv4Net {
     ghost use Rattle.ipnet_base.proofs.BlockLaws.{last_of};
     ghost use Rattle.ipnet.specs.NetworkOf.{ipv4_network, ipv4_network_of};
+    ghost use Rattle.ipnet.specs.SubnetsLeft.{ipv4_subnets_left};
 
     /// The network of the address and the length; the address keeps its host bits.
     ///
@@ -71,6 +73,21 @@ impl Ipv4Net {
         ensures { ipv4_network result ≡ network_at (ipv4_address ip) prefix_len }
     {
         Ipv4Net::from_number(ip.to_bits(), u32::from(prefix_len))
+    }
+
+    /// The network of the address and the length that the netmask says; the address keeps its host bits.
+    ///
+    /// An error where the mask is not ones followed by zeros.
+    ///
+    /// ```text
+    /// Ipv4Net::with_netmask(10.1.1.7, 255.255.0.0) is 10.1.1.7/16, with 255.0.255.0 an error
+    /// ```
+    pub fn with_netmask(ip: Ipv4Addr, netmask: Ipv4Addr) -> Result<Ipv4Net, PrefixLenError>
+        ensures made { IfOk result (λ n. HasAddressAndNetmask (ipv4_network n) (ipv4_address ip) (ipv4_address netmask)) }
+        ensures refused { IsErr result ↔ ((n : Network) → ¬ (HasAddressAndNetmask n (ipv4_address ip) (ipv4_address netmask))) }
+    {
+        let prefix_len = ipv4_mask_to_prefix(netmask)?;
+        Ipv4Net::new(ip, prefix_len)
     }
 
     /// The address, with its host bits.
@@ -180,6 +197,23 @@ impl Ipv4Net {
             return false;
         }
         self.leading_number(len - 1) == other.leading_number(len - 1)
+    }
+
+    /// The walk over all networks of this length in the block, ascending; there are 2^(new - own length) of them.
+    ///
+    /// An error where the new length is below this network's own, or above 32.
+    ///
+    /// ```text
+    /// 10.0.0.0/24 at 26: 10.0.0.0/26, 10.0.0.64/26, 10.0.0.128/26, 10.0.0.192/26; at 23 an error
+    /// ```
+    pub fn subnets(&self, new_prefix_len: u8) -> Result<Ipv4Subnets, PrefixLenError>
+        ensures walk { IfOk result (λ s. AreSubnetsOfLength (ipv4_network self.now) new_prefix_len (ipv4_subnets_left s)) }
+        ensures refused { IsErr result ↔ ((new_prefix_len < (ipv4_network self.now).prefix_len) ⊎ (32 < new_prefix_len)) }
+    {
+        if new_prefix_len < self.prefix_len() || new_prefix_len > 32 {
+            return Err(PrefixLenError);
+        }
+        Ok(Ipv4Subnets::new(self.network(), self.broadcast(), new_prefix_len))
     }
 
     /// Whether the block contains the address, or all of the other network's block.

@@ -1,11 +1,12 @@
-ghost use Rattle.std.specs.Prelude.{◌≡◌, ◌-◌, ◌*◌, ◌/◌, ◌^◌, ◌<◌, ◌≤◌, ◌↔◌, IsTrue, IsErr, IfOk, IsNone, IfSome};
+ghost use Rattle.std.specs.Prelude.{◌≡◌, ◌-◌, ◌*◌, ◌/◌, ◌^◌, ◌<◌, ◌≤◌, ◌⊎◌, ◌↔◌, IsTrue, IsErr, IfOk, IsNone, IfSome};
 ghost use Rattle.std.specs.Net.Addr.{ipv6_bits};
 ghost use Rattle.ipnet_base.specs.Address.{IPv6, width, ipv6_address};
-ghost use Rattle.ipnet_base.specs.Network.{IsLeastOf, IsGreatestOf, IsSubnetOf, InBlock, IsSupernetOf, AreSiblings, IsTruncationOf};
-ghost use Rattle.ipnet.specs.NetworkParts.{address_at, network_at, own_address, netmask, hostmask};
+ghost use Rattle.ipnet_base.specs.Network.{Network, IsLeastOf, IsGreatestOf, IsSubnetOf, InBlock, IsSupernetOf, AreSiblings, IsTruncationOf};
+ghost use Rattle.ipnet.specs.NetworkParts.{address_at, network_at, own_address, netmask, hostmask, HasAddressAndNetmask, AreSubnetsOfLength};
 
 use super::{Contains, Net};
-use ipnet_base::{Ipv6Addr, PrefixLenError};
+use crate::subnets::Ipv6Subnets;
+use ipnet_base::{Ipv6Addr, PrefixLenError, ipv6_mask_to_prefix};
 
 /// An IPv6 network: an address, with its host bits, and a prefix length of at most 128.
 ///
@@ -49,6 +50,7 @@ fn address_of(number: u128) -> Ipv6Addr
 impl Ipv6Net {
     ghost use Rattle.ipnet_base.proofs.BlockLaws.{last_of};
     ghost use Rattle.ipnet.specs.NetworkOf.{ipv6_network, ipv6_network_of};
+    ghost use Rattle.ipnet.specs.SubnetsLeft.{ipv6_subnets_left};
 
     /// The network of the address and the length; the address keeps its host bits.
     ///
@@ -73,6 +75,21 @@ impl Ipv6Net {
         ensures { ipv6_network result ≡ network_at (ipv6_address ip) prefix_len }
     {
         Ipv6Net::from_number(ip.to_bits(), u32::from(prefix_len))
+    }
+
+    /// The network of the address and the length that the netmask says; the address keeps its host bits.
+    ///
+    /// An error where the mask is not ones followed by zeros.
+    ///
+    /// ```text
+    /// Ipv6Net::with_netmask(fd00::7, ffff:ff00::) is fd00::7/24, with ff00:ff:: an error
+    /// ```
+    pub fn with_netmask(ip: Ipv6Addr, netmask: Ipv6Addr) -> Result<Ipv6Net, PrefixLenError>
+        ensures made { IfOk result (λ n. HasAddressAndNetmask (ipv6_network n) (ipv6_address ip) (ipv6_address netmask)) }
+        ensures refused { IsErr result ↔ ((n : Network) → ¬ (HasAddressAndNetmask n (ipv6_address ip) (ipv6_address netmask))) }
+    {
+        let prefix_len = ipv6_mask_to_prefix(netmask)?;
+        Ipv6Net::new(ip, prefix_len)
     }
 
     /// The address, with its host bits.
@@ -182,6 +199,23 @@ impl Ipv6Net {
             return false;
         }
         self.leading_number(len - 1) == other.leading_number(len - 1)
+    }
+
+    /// The walk over all networks of this length in the block, ascending; there are 2^(new - own length) of them.
+    ///
+    /// An error where the new length is below this network's own, or above 128.
+    ///
+    /// ```text
+    /// fd00::/16 at 18: fd00::/18, fd00:4000::/18, fd00:8000::/18, fd00:c000::/18; at 15 an error
+    /// ```
+    pub fn subnets(&self, new_prefix_len: u8) -> Result<Ipv6Subnets, PrefixLenError>
+        ensures walk { IfOk result (λ s. AreSubnetsOfLength (ipv6_network self.now) new_prefix_len (ipv6_subnets_left s)) }
+        ensures refused { IsErr result ↔ ((new_prefix_len < (ipv6_network self.now).prefix_len) ⊎ (128 < new_prefix_len)) }
+    {
+        if new_prefix_len < self.prefix_len() || new_prefix_len > 128 {
+            return Err(PrefixLenError);
+        }
+        Ok(Ipv6Subnets::new(self.network(), self.broadcast(), new_prefix_len))
     }
 
     /// Whether the block contains the address, or all of the other network's block.

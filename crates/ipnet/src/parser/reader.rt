@@ -1,5 +1,19 @@
 //! Reading a text in one forward pass.
-ghost use Rattle.std.specs.Prelude.{◌≤◌, length};
+ghost use Rattle.std.specs.Prelude.{◌≡◌, ℕ, [], ◌∷◌, ◌+◌, ◌<◌, ◌≤◌, length, take, drop, slice_index, IfSome, IfNone, option_map, MatchOption, true};
+ghost use Rattle.std.specs.Bool.{OnTrue, OnFalse};
+ghost use Rattle.std.specs.Char.{digit_value};
+ghost use Rattle.std.specs.Str.Parse.{digits_value};
+ghost use Rattle.std.specs.Net.Addr.{ipv4_octets, ipv6_segments};
+ghost use Rattle.ipnet_base.specs.Network.{Network};
+ghost use Rattle.ipnet.specs.AddressTexts.{expanded};
+ghost use Rattle.ipnet.specs.Grammar.{grammar_of};
+ghost use Rattle.ipnet.specs.NetworkOf.{ip_network};
+ghost use Rattle.ipnet.specs.NetworkTexts.{IsNetworkText};
+ghost use Rattle.ipnet.specs.Reading.{digit_run, all_decimal, run_of, octet_of, read_byte, read_octet, read_dotted, read_length, read_ipv4_network, read_last, read_pieces, read_tail, read_ipv6, read_ipv6_network, is_single_colon};
+
+use crate::net::{IpNet, Ipv4Net, Ipv6Net};
+use arrayvec::ArrayVec;
+use std::net::{Ipv4Addr, Ipv6Addr};
 
 /// Up to four hexadecimal digits: how many, and what they write.
 #[derive(Clone, Copy)]
@@ -9,6 +23,94 @@ struct Run {
     group: Option<u16>,
 }
 
+/// The same, before it is asked what they write.
+#[derive(Clone, Copy)]
+struct Digits {
+    count: usize,
+    in_hex: u16,
+    in_decimal: u16,
+    is_decimal: bool,
+}
+
+fn hex_digit(text: &[u8], index: usize) -> Option<u16>
+    ensures none { IfNone result (16 ≤ digit_value (slice_index text.now index)) }
+    ensures value { IfSome result (λ d. d ≡ digit_value (slice_index text.now index)) }
+    ensures digit { IfSome result (λ d. d < 16) }
+    ensures within { IfSome result (λ _. index < length text.now) }
+{
+    match *text.get(index)? {
+        b @ b'0'..=b'9' => Some(u16::from(b - b'0')),
+        b @ b'a'..=b'f' => Some(u16::from(b - b'a' + 10)),
+        b @ b'A'..=b'F' => Some(u16::from(b - b'A' + 10)),
+        _ => None,
+    }
+}
+
+/// The digits at the front, at most four.
+fn first_digits(rest: &[u8]) -> Digits
+    ensures run { digit_run 4 rest.now ≡ (take result.count rest.now, drop result.count rest.now) }
+    ensures within { result.count ≤ length rest.now }
+    ensures in_hex { result.in_hex ≡ digits_value 16 (take result.count rest.now) }
+    ensures in_decimal { result.in_decimal ≡ digits_value 10 (take result.count rest.now) }
+    ensures is_decimal { result.is_decimal ≡ all_decimal (take result.count rest.now) }
+{
+    let mut count = 0;
+    let mut in_hex = 0u16;
+    let mut in_decimal = 0u16;
+    let mut is_decimal = true;
+    while count < 4 {
+        let Some(digit) = hex_digit(rest, count) else {
+            break;
+        };
+        in_hex = in_hex * 16 + digit;
+        in_decimal = in_decimal * 10 + digit;
+        is_decimal = is_decimal & (digit < 10);
+        count += 1;
+    }
+    Digits {
+        count,
+        in_hex,
+        in_decimal,
+        is_decimal,
+    }
+}
+
+/// The octet that the digits write, if they write one.
+#[tactic(auto, using(std::proofs::lemmas::Bool::Decides::nat_tests), unfolding(crate::specs::Reading::octet_of))]
+fn octet(rest: &[u8], digits: Digits, strict: bool) -> Option<u8>
+    requires within { digits.count ≤ length rest.now }
+    requires in_decimal { digits.in_decimal ≡ digits_value 10 (take digits.count rest.now) }
+    requires is_decimal { digits.is_decimal ≡ all_decimal (take digits.count rest.now) }
+    ensures { result ≡ octet_of strict (take digits.count rest.now) }
+{
+    let count = digits.count;
+    if count == 0 || count > 3 || !digits.is_decimal || digits.in_decimal > 255 {
+        return None;
+    }
+    if strict && count > 1 && rest[0] == b'0' {
+        return None;
+    }
+    Some(digits.in_decimal as u8)
+}
+
+/// Groups, and whether a dotted address stands for the last two.
+#[derive(Drop)]
+struct Pieces {
+    groups: ArrayVec<u16, 8>,
+    is_dotted: bool,
+}
+
+/// The address of these groups with zeros between them.
+fn expand(head: &[u16], tail: &[u16]) -> Ipv6Addr
+    requires { length head.now + length tail.now ≤ 8 }
+    ensures { ipv6_segments result ≡ expanded head.now tail.now }
+{
+    let mut segments = [0; 8];
+    segments[..head.len()].copy_from_slice(head);
+    segments[8 - tail.len()..].copy_from_slice(tail);
+    Ipv6Addr::from_segments(segments)
+}
+
 /// A text and how far it has been read.
 #[derive(Drop)]
 struct Reader<'a> {
@@ -16,4 +118,260 @@ struct Reader<'a> {
     position: usize,
     strict: bool,
     ghost within: { position ≤ length text.now },
+}
+
+impl<'a> Reader<'a> {
+    ghost use Rattle.ipnet.specs.Reader.{rest_of, IsForward, read_to, taken_to};
+
+    /// Takes this byte, if it is next.
+    fn byte(&mut self, byte: u8) -> bool
+        ensures forward { IsForward self.old self.new }
+        ensures value { taken_to result self.new ≡ read_byte byte (rest_of self.old) }
+    {
+        if self.position < self.text.len() && self.text[self.position] == byte {
+            self.position += 1;
+            true
+        } else {
+            false
+        }
+    }
+
+    /// The digits at the front, at most four.
+    #[tactic(auto, using(std::proofs::lemmas::Bool::Decides::nat_tests), unfolding(crate::specs::Reading::group_of))]
+    fn run(&mut self) -> Run
+        ensures forward { IsForward self.old self.new }
+        ensures run { result ≡ run_of self.old.strict (digit_run 4 (rest_of self.old)).0 }
+        ensures rest { rest_of self.new ≡ (digit_run 4 (rest_of self.old)).1 }
+    {
+        let rest = &self.text[self.position..];
+        let digits = first_digits(rest);
+        let count = digits.count;
+        let octet = octet(rest, digits, self.strict);
+        self.position += count;
+        Run {
+            count,
+            octet,
+            group: if count > 0 { Some(digits.in_hex) } else { None },
+        }
+    }
+
+    /// A "." and an octet.
+    #[tactic(auto, unfolding(crate::specs::Reading::read_octet))]
+    fn next_octet(&mut self) -> Option<u8>
+        ensures forward { IsForward self.old self.new }
+        ensures value { read_to result self.new ≡ read_octet self.old.strict (rest_of self.old) }
+    {
+        if !self.byte(b'.') {
+            return None;
+        }
+        self.run().octet
+    }
+
+    /// The dotted address whose first octet has been read.
+    #[tactic(auto, unfolding(crate::specs::Reading::read_dotted))]
+    fn dotted(&mut self, first: u8) -> Option<Ipv4Addr>
+        ensures forward { IsForward self.old self.new }
+        ensures value { option_map (λ a. (ipv4_octets a, rest_of self.new)) result
+            ≡ read_dotted self.old.strict first (rest_of self.old) }
+    {
+        let second = self.next_octet()?;
+        let third = self.next_octet()?;
+        let fourth = self.next_octet()?;
+        Some(Ipv4Addr::new(first, second, third, fourth))
+    }
+
+    /// A "/" and a length, which end the text.
+    #[tactic(auto, unfolding(crate::specs::Reading::read_length))]
+    fn prefix_len(&mut self, most: usize, greatest: u8) -> Option<u8>
+        ensures forward { IsForward self.old self.new }
+        ensures value { result ≡ read_length self.old.strict most greatest (rest_of self.old) }
+        ensures small { IfSome result (λ n. n ≤ greatest) }
+    {
+        if !self.byte(b'/') {
+            return None;
+        }
+        let run = self.run();
+        let n = run.octet?;
+        if n <= greatest && run.count <= most && self.position == self.text.len() {
+            Some(n)
+        } else {
+            None
+        }
+    }
+
+    /// The address and the length of the IPv4 network whose first octet has been read, if the first run was one.
+    #[tactic(auto, unfolding(crate::specs::Reading::read_ipv4_network))]
+    fn ipv4_network(&mut self, first: Option<u8>) -> Option<(Ipv4Addr, u8)>
+        ensures forward { IsForward self.old self.new }
+        ensures value { option_map (λ n. (ipv4_octets n.0, n.1)) result
+            ≡ read_ipv4_network self.old.strict first (rest_of self.old) }
+        ensures small { IfSome result (λ n. n.1 ≤ 32) }
+    {
+        let addr = self.dotted(first?)?;
+        let prefix_len = self.prefix_len(2, 32)?;
+        Some((addr, prefix_len))
+    }
+
+    /// The byte so many behind the next one, or 0 where there is none.
+    fn peek(&self, ahead: usize) -> u8
+        ensures { result ≡ slice_index (rest_of self.now) ahead }
+    {
+        match self.text[self.position..].get(ahead) {
+            Some(byte) => *byte,
+            None => 0,
+        }
+    }
+
+    /// Takes a ":" that isn't followed by another.
+    fn separator(&mut self) -> bool
+        ensures forward { IsForward self.old self.new }
+        ensures single { result ≡ is_single_colon (rest_of self.old) }
+        ensures taken { OnTrue result (rest_of self.new ≡ drop 1 (rest_of self.old)) }
+        ensures not_taken { OnFalse result (rest_of self.new ≡ rest_of self.old) }
+    {
+        match &self.text[self.position..] {
+            [b':', b':', ..] => false,
+            [b':', ..] => {
+                self.position += 1;
+                true
+            }
+            _ => false,
+        }
+    }
+
+    /// The two groups of the dotted address whose first octet has been read, if the run before was one.
+    #[tactic(auto, unfolding(crate::specs::Reading::read_last))]
+    fn last(&mut self, octet: Option<u8>) -> Option<(u16, u16)>
+        ensures forward { IsForward self.old self.new }
+        ensures value { option_map (λ g. (g.0 ∷ g.1 ∷ [], true, rest_of self.new)) result
+            ≡ read_last self.old.strict octet (rest_of self.old) }
+    {
+        let [a, b, c, d] = self.dotted(octet?)?.octets();
+        Some((
+            u16::from(a) * 256 + u16::from(b),
+            u16::from(c) * 256 + u16::from(d),
+        ))
+    }
+
+    /// At most so many groups joined by ":". Their first run has been read.
+    fn pieces(&mut self, first: Run, room: usize) -> Option<Pieces>
+        requires { room ≤ 8 }
+        ensures forward { IsForward self.old self.new }
+        ensures value { option_map (λ p. (p.groups.items, p.is_dotted, rest_of self.new)) result
+            ≡ read_pieces self.old.strict room first (rest_of self.old) }
+        ensures fits { IfSome result (λ p. length p.groups.items ≤ room) }
+    {
+        let mut groups = ArrayVec::new();
+        let mut run = first;
+        'pieces: while groups.len() < room {
+            if self.peek(0) == b'.' {
+                if groups.len() + 1 == room {
+                    return None;
+                }
+                let Some((high, low)) = self.last(run.octet) else {
+                    return None;
+                };
+                groups.push(high);
+                groups.push(low);
+                return Some(Pieces {
+                    groups,
+                    is_dotted: true,
+                });
+            }
+            let Some(group) = run.group else {
+                return None;
+            };
+            groups.push(group);
+            if !self.separator() {
+                return Some(Pieces {
+                    groups,
+                    is_dotted: false,
+                });
+            }
+            run = self.run();
+        }
+        None
+    }
+
+    /// "::" and what stands behind it.
+    #[tactic(auto, unfolding(crate::specs::Reading::read_tail))]
+    fn tail(&mut self, head: &[u16]) -> Option<Ipv6Addr>
+        requires { length head.now ≤ 7 }
+        ensures forward { IsForward self.old self.new }
+        ensures value { option_map (λ a. (ipv6_segments a, rest_of self.new)) result
+            ≡ read_tail self.old.strict head.now (rest_of self.old) }
+    {
+        if !self.byte(b':') {
+            return None;
+        }
+        if !self.byte(b':') {
+            return None;
+        }
+        let run = self.run();
+        if run.count == 0 {
+            return Some(expand(head, &[]));
+        }
+        let most = if self.strict { 7 } else { 8 };
+        let tail = self.pieces(run, most - head.len())?;
+        Some(expand(head, tail.groups.as_slice()))
+    }
+
+    /// The IPv6 address whose first run has been read.
+    #[tactic(auto, unfolding(crate::specs::Reading::read_ipv6))]
+    fn ipv6(&mut self, first: Run) -> Option<Ipv6Addr>
+        ensures forward { IsForward self.old self.new }
+        ensures value { option_map (λ a. (ipv6_segments a, rest_of self.new)) result
+            ≡ read_ipv6 self.old.strict first (rest_of self.old) }
+    {
+        if first.count == 0 {
+            return self.tail(&[]);
+        }
+        let head = self.pieces(first, 8)?;
+        let groups = head.groups.as_slice();
+        if groups.len() == 8 {
+            Some(expand(groups, &[]))
+        } else if head.is_dotted {
+            None
+        } else {
+            self.tail(groups)
+        }
+    }
+
+    /// The address and the length of the IPv6 network whose first run has been read.
+    #[tactic(auto, unfolding(crate::specs::Reading::read_ipv6_network))]
+    fn ipv6_network(&mut self, first: Run) -> Option<(Ipv6Addr, u8)>
+        ensures forward { IsForward self.old self.new }
+        ensures value { option_map (λ n. (ipv6_segments n.0, n.1)) result
+            ≡ read_ipv6_network self.old.strict first (rest_of self.old) }
+        ensures small { IfSome result (λ n. n.1 ≤ 128) }
+    {
+        let addr = self.ipv6(first)?;
+        let prefix_len = self.prefix_len(3, 128)?;
+        Some((addr, prefix_len))
+    }
+}
+
+/// The network that the whole text writes, if it writes one. The byte behind the first run of digits tells the
+/// family.
+pub(super) fn read_network(text: &[u8], strict: bool) -> Option<IpNet>
+    ensures { MatchOption result ((network : Network) → ¬ (IsNetworkText (grammar_of strict) text.now network))
+        (λ n. IsNetworkText (grammar_of strict) text.now (ip_network n)) }
+{
+    let mut reader = Reader {
+        text,
+        position: 0,
+        strict,
+    };
+    let first = reader.run();
+    if reader.peek(0) == b'.' {
+        let Some((addr, prefix_len)) = reader.ipv4_network(first.octet) else {
+            return None;
+        };
+        Some(IpNet::V4(Ipv4Net::from_number(addr.to_bits(), u32::from(prefix_len))))
+    } else {
+        let Some((addr, prefix_len)) = reader.ipv6_network(first) else {
+            return None;
+        };
+        Some(IpNet::V6(Ipv6Net::from_number(addr.to_bits(), u32::from(prefix_len))))
+    }
 }

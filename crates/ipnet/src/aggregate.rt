@@ -1,0 +1,220 @@
+//! Aggregates: the shortest list of networks over the addresses of a list, and lists compared by what they cover.
+ghost use Rattle.std.specs.Prelude.{◌≡◌, ◌↔◌, ◌+◌, ◌<◌, ◌≤◌, List, [], map, take, drop, length, All, Contains, IfOk, IsOk, IsOkAnd, IsTrue};
+ghost use Rattle.ipnet_base.specs.Network.{Network, IsNetwork, IsTruncated, truncation};
+ghost use Rattle.ipnet_base.specs.Blocks.{IsCoveredBy, HaveSameCover, IsAggregateOf, IsShortestCover, ArePairwiseDisjoint, AreAggregatedNeighbours};
+ghost use Rattle.ipnet_base.proofs.NeighbourLaws.{AreSettled, LiesBefore};
+ghost use Rattle.ipnet_base.proofs.StackLaws.{IsAtMost, IsInOrder, IsPushed, IsSwept};
+ghost use Rattle.ipnet.specs.NetworkOf.{ipv4_network, ipv6_network, ip_network};
+
+use crate::net::{IpNet, Ipv4Net, Ipv6Net, Net};
+use std::alloc::{AllocError, Global};
+
+/// A list of the networks without their host bits, in the order that they came in.
+fn without_host_bits<N: Net>(alloc: Global, networks: &Vec<N>) -> Result<Vec<N>, AllocError>
+    ensures empty { networks.now.items ≡ [] → IsOk result }
+    ensures truncated { IfOk result (λ list. map N.network list.items ≡ map truncation (map N.network networks.now.items)) }
+{
+    let mut list = Vec::with_capacity(alloc, networks.len())?;
+    for network in networks {
+        list.push(network.truncated())?;
+    }
+    Ok(list)
+}
+
+/// Puts one network more on the stack that stands in the front of the list: a network that the topmost covers is
+/// left out, and as long as the topmost is its other half both are replaced by their supernet. Answers how many
+/// networks the stack has then.
+fn push_joined<N: Net>(list: &mut [N], stacked: usize, network: N) -> usize
+    requires room { stacked < length list.old }
+    requires settled { AreSettled (map N.network (take stacked list.old)) }
+    requires truncated { IsTruncated (N.network network) }
+    requires order { All (λ m. IsAtMost m (N.network network)) (map N.network (take stacked list.old)) }
+    ensures at_most { result ≤ stacked + 1 }
+    ensures pushed { IsPushed (map N.network (take stacked list.old)) (N.network network) (map N.network (take result list.new)) }
+    ensures rest { drop (stacked + 1) list.new ≡ drop (stacked + 1) list.old }
+{
+    if stacked > 0 && list[stacked - 1].covers(&network) {
+        return stacked;
+    }
+    let mut top = stacked;
+    let mut next = network;
+    while top > 0 && list[top - 1].is_other_half(&next) {
+        next = list[top - 1].joined();
+        top -= 1;
+    }
+    list[top] = next;
+    top + 1
+}
+
+/// Sweeps the networks of the list, which stand in order, onto a stack in its front. Answers how many networks the
+/// stack has at the end.
+fn sweep<N: Net>(list: &mut [N]) -> usize
+    requires truncated { All IsTruncated (map N.network list.old) }
+    requires order { IsInOrder (map N.network list.old) }
+    ensures at_most { result ≤ length list.old }
+    ensures swept { IsSwept (map N.network list.old) (length list.old) (map N.network (take result list.new)) }
+{
+    let mut stacked = 0;
+    for index in 0..list.len() {
+        let network = list[index];
+        stacked = push_joined(list, stacked, network);
+    }
+    stacked
+}
+
+/// The aggregate, in the one list that is made for it.
+fn aggregated<N: Net>(alloc: Global, networks: &Vec<N>) -> Result<Vec<N>, AllocError>
+    ensures empty { networks.now.items ≡ [] → IsOkAnd result (λ answer. answer.items ≡ []) }
+    ensures aggregate { IfOk result (λ answer. IsAggregateOf (map N.network answer.items) (map N.network networks.now.items)) }
+    ensures addresses { IfOk result (λ answer. HaveSameCover (map N.network answer.items) (map N.network networks.now.items)) }
+    ensures disjoint { IfOk result (λ answer. ArePairwiseDisjoint (map N.network answer.items)) }
+    ensures shortest { IfOk result (λ answer. IsShortestCover (IsCoveredBy (map N.network networks.now.items)) 0 (map N.network answer.items)) }
+    ensures no_longer { IfOk result (λ answer. length answer.items ≤ length networks.now.items) }
+    ensures only { IfOk result (λ answer. (other : List Network) → IsAggregateOf other (map N.network networks.now.items) → other ≡ map N.network answer.items) }
+    ensures canonical { IfOk result (λ answer. (others : List Network) → All IsNetwork others
+        → IsAggregateOf (map N.network answer.items) others ↔ HaveSameCover others (map N.network networks.now.items)) }
+    ensures unordered { IfOk result (λ answer. (others : List Network)
+        → ((n : Network) → Contains (map truncation others) n ↔ Contains (map truncation (map N.network networks.now.items)) n) → IsAggregateOf (map N.network answer.items) others) }
+    ensures again { IfOk result (λ answer. IsAggregateOf (map N.network answer.items) (map N.network answer.items)) }
+{
+    let mut list = without_host_bits(alloc, networks)?;
+    list.sort_unstable();
+    let stacked = sweep(list.as_mut_slice());
+    list.truncate(stacked);
+    Ok(list)
+}
+
+impl Ipv4Net {
+    /// The aggregate of the networks.
+    pub fn aggregate(alloc: Global, networks: &Vec<Ipv4Net>) -> Result<Vec<Ipv4Net>, AllocError>
+        ensures empty { networks.now.items ≡ [] → IsOkAnd result (λ answer. answer.items ≡ []) }
+        ensures aggregate { IfOk result (λ answer. IsAggregateOf (map ipv4_network answer.items) (map ipv4_network networks.now.items)) }
+        ensures addresses { IfOk result (λ answer. HaveSameCover (map ipv4_network answer.items) (map ipv4_network networks.now.items)) }
+        ensures disjoint { IfOk result (λ answer. ArePairwiseDisjoint (map ipv4_network answer.items)) }
+        ensures shortest { IfOk result (λ answer. IsShortestCover (IsCoveredBy (map ipv4_network networks.now.items)) 0 (map ipv4_network answer.items)) }
+        ensures no_longer { IfOk result (λ answer. length answer.items ≤ length networks.now.items) }
+        ensures only { IfOk result (λ answer. (other : List Network) → IsAggregateOf other (map ipv4_network networks.now.items) → other ≡ map ipv4_network answer.items) }
+        ensures canonical { IfOk result (λ answer. (others : List Network) → All IsNetwork others
+            → IsAggregateOf (map ipv4_network answer.items) others ↔ HaveSameCover others (map ipv4_network networks.now.items)) }
+        ensures unordered { IfOk result (λ answer. (others : List Network)
+            → ((n : Network) → Contains (map truncation others) n ↔ Contains (map truncation (map ipv4_network networks.now.items)) n) → IsAggregateOf (map ipv4_network answer.items) others) }
+        ensures again { IfOk result (λ answer. IsAggregateOf (map ipv4_network answer.items) (map ipv4_network answer.items)) }
+    {
+        aggregated(alloc, networks)
+    }
+}
+
+impl Ipv6Net {
+    /// The aggregate of the networks.
+    pub fn aggregate(alloc: Global, networks: &Vec<Ipv6Net>) -> Result<Vec<Ipv6Net>, AllocError>
+        ensures empty { networks.now.items ≡ [] → IsOkAnd result (λ answer. answer.items ≡ []) }
+        ensures aggregate { IfOk result (λ answer. IsAggregateOf (map ipv6_network answer.items) (map ipv6_network networks.now.items)) }
+        ensures addresses { IfOk result (λ answer. HaveSameCover (map ipv6_network answer.items) (map ipv6_network networks.now.items)) }
+        ensures disjoint { IfOk result (λ answer. ArePairwiseDisjoint (map ipv6_network answer.items)) }
+        ensures shortest { IfOk result (λ answer. IsShortestCover (IsCoveredBy (map ipv6_network networks.now.items)) 0 (map ipv6_network answer.items)) }
+        ensures no_longer { IfOk result (λ answer. length answer.items ≤ length networks.now.items) }
+        ensures only { IfOk result (λ answer. (other : List Network) → IsAggregateOf other (map ipv6_network networks.now.items) → other ≡ map ipv6_network answer.items) }
+        ensures canonical { IfOk result (λ answer. (others : List Network) → All IsNetwork others
+            → IsAggregateOf (map ipv6_network answer.items) others ↔ HaveSameCover others (map ipv6_network networks.now.items)) }
+        ensures unordered { IfOk result (λ answer. (others : List Network)
+            → ((n : Network) → Contains (map truncation others) n ↔ Contains (map truncation (map ipv6_network networks.now.items)) n) → IsAggregateOf (map ipv6_network answer.items) others) }
+        ensures again { IfOk result (λ answer. IsAggregateOf (map ipv6_network answer.items) (map ipv6_network answer.items)) }
+    {
+        aggregated(alloc, networks)
+    }
+}
+
+impl IpNet {
+    /// The aggregate of the networks.
+    pub fn aggregate(alloc: Global, networks: &Vec<IpNet>) -> Result<Vec<IpNet>, AllocError>
+        ensures empty { networks.now.items ≡ [] → IsOkAnd result (λ answer. answer.items ≡ []) }
+        ensures aggregate { IfOk result (λ answer. IsAggregateOf (map ip_network answer.items) (map ip_network networks.now.items)) }
+        ensures addresses { IfOk result (λ answer. HaveSameCover (map ip_network answer.items) (map ip_network networks.now.items)) }
+        ensures disjoint { IfOk result (λ answer. ArePairwiseDisjoint (map ip_network answer.items)) }
+        ensures shortest { IfOk result (λ answer. IsShortestCover (IsCoveredBy (map ip_network networks.now.items)) 0 (map ip_network answer.items)) }
+        ensures no_longer { IfOk result (λ answer. length answer.items ≤ length networks.now.items) }
+        ensures only { IfOk result (λ answer. (other : List Network) → IsAggregateOf other (map ip_network networks.now.items) → other ≡ map ip_network answer.items) }
+        ensures canonical { IfOk result (λ answer. (others : List Network) → All IsNetwork others
+            → IsAggregateOf (map ip_network answer.items) others ↔ HaveSameCover others (map ip_network networks.now.items)) }
+        ensures unordered { IfOk result (λ answer. (others : List Network)
+            → ((n : Network) → Contains (map truncation others) n ↔ Contains (map truncation (map ip_network networks.now.items)) n) → IsAggregateOf (map ip_network answer.items) others) }
+        ensures again { IfOk result (λ answer. IsAggregateOf (map ip_network answer.items) (map ip_network answer.items)) }
+    {
+        aggregated(alloc, networks)
+    }
+}
+
+/// Whether the network has no host bit.
+fn is_truncated(network: &IpNet) -> bool
+    ensures { IsTrue result ↔ IsTruncated (ip_network network.now) }
+{
+    match network {
+        IpNet::V4(network) => network.number() == network.truncated().number(),
+        IpNet::V6(network) => network.number() == network.truncated().number(),
+    }
+}
+
+/// Whether every address of the first network comes before the second: the first is an IPv4 network and the second
+/// an IPv6 one, or the second starts behind the last address of the first.
+fn lies_before(first: &IpNet, second: &IpNet) -> bool
+    ensures { IsTrue result ↔ LiesBefore (ip_network first.now) (ip_network second.now) }
+{
+    match (first, second) {
+        (IpNet::V4(first), IpNet::V4(second)) => first.last_number() < second.number(),
+        (IpNet::V4(_), IpNet::V6(_)) => true,
+        (IpNet::V6(_), IpNet::V4(_)) => false,
+        (IpNet::V6(first), IpNet::V6(second)) => first.last_number() < second.number(),
+    }
+}
+
+/// Whether the list is its own aggregate: what `IpNet::aggregate` answers for it is the list as it stands.
+///
+/// That is so exactly where its neighbours show it: each network has no host bit, IPv4 stands before IPv6, in a family
+/// each network starts behind the last address of the one before, and no two neighbours are the two halves of one
+/// supernet. Takes no memory. The empty list is its own aggregate.
+///
+/// ```text
+/// 10.0.0.0/25, 10.0.1.0/24                    is its own aggregate
+/// 10.0.0.0/25, 10.0.0.128/25                  is not: the two join
+/// 10.0.1.0/24, 10.0.0.0/25                    is not: it is out of order
+/// 10.0.0.1/24                                 is not: a host bit is set
+/// ```
+pub fn is_aggregated(networks: &[IpNet]) -> bool
+    ensures own_aggregate { IsTrue result ↔ IsAggregateOf (map ip_network networks.now) (map ip_network networks.now) }
+    ensures neighbours { IsTrue result ↔ AreAggregatedNeighbours (map ip_network networks.now) }
+{
+    for index in 0..networks.len() {
+        let network = networks[index];
+        if !is_truncated(&network) {
+            return false;
+        }
+        if index > 0 {
+            let before = networks[index - 1];
+            if !lies_before(&before, &network) || before.is_other_half(&network) {
+                return false;
+            }
+        }
+    }
+    true
+}
+
+/// Whether the two lists cover the same addresses. Both are aggregated, since lists that cover the same have one
+/// aggregate, and the answers compared.
+///
+/// The error is want of memory. Two empty lists need none.
+///
+/// ```text
+/// 10.0.0.0/25, 10.0.0.128/25 and 10.0.0.7/24 cover the same addresses; 10.0.0.0/25 covers fewer
+/// ```
+pub fn same_addresses(
+    alloc: Global,
+    networks: &Vec<IpNet>,
+    others: &Vec<IpNet>,
+) -> Result<bool, AllocError>
+    ensures empty { networks.now.items ≡ [] → others.now.items ≡ [] → IsOkAnd result (λ same. IsTrue same) }
+    ensures addresses { IfOk result (λ same. IsTrue same ↔ HaveSameCover (map ip_network networks.now.items) (map ip_network others.now.items)) }
+{
+    let first = aggregated(alloc, networks)?;
+    let second = aggregated(alloc, others)?;
+    Ok(first == second)
+}
