@@ -17,4 +17,5 @@ pub mod PrintedDigits
 pub mod ZeroRuns
 pub mod LineLaws
 pub mod CompactLaws
+pub mod JsonLaws
 pub mod ReaderTurns

@@ -1,8 +1,9 @@
 //! Networks of IPv4 and IPv6 addresses: their blocks, subnets, aggregates, texts and bytes.
 #![tactic(auto)]
 
-pub mod compact;
 pub mod aggregate;
+pub mod compact;
+pub mod json;
 pub mod net;
 pub mod parser;
 pub mod print;
@@ -10,5 +11,6 @@ pub mod subnets;
 pub mod text_laws;
 
 pub use compact::CompactError;
+pub use json::JsonError;
 pub use net::{IpNet, Ipv4Net, Ipv6Net};
 pub use subnets::{IpSubnets, Ipv4Subnets, Ipv6Subnets};
