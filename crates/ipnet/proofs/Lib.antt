@@ -18,6 +18,8 @@ pub mod PrintedTexts
 pub mod PrintedDigits
 pub mod ZeroRuns
 pub mod LineLaws
+pub mod CompactLaws
+pub mod JsonLaws
 pub mod ReaderTurns
 pub use Rattle.ipnet_base.proofs.FamilyLaws
 pub use Rattle.ipnet_base.proofs.AggregateLaws

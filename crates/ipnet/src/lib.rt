@@ -2,12 +2,16 @@
 #![tactic(auto)]
 
 pub mod aggregate;
+pub mod compact;
+pub mod json;
 pub mod net;
 pub mod parser;
 pub mod print;
 pub mod subnets;
 pub mod text_laws;
 
+pub use compact::CompactError;
+pub use json::JsonError;
 pub use net::{IpNet, Ipv4Net, Ipv6Net};
 pub use print::{ipv4_addr_text, ipv6_addr_text};
 pub use subnets::{IpSubnets, Ipv4Subnets, Ipv6Subnets};
