@@ -13,5 +13,11 @@ pub mod text_laws;
 pub use compact::CompactError;
 pub use json::JsonError;
 pub use net::{IpNet, Ipv4Net, Ipv6Net};
+pub use ipnet_base::{
+    IpAdd, IpAddr, IpAddrRange, IpBitAnd, IpBitOr, IpSub, Ipv4Addr, Ipv4AddrRange, Ipv6Addr,
+    Ipv6AddrRange, PrefixLenError, addr, ip_mask_to_prefix, ipext, ipv4_mask_to_prefix,
+    ipv6_mask_to_prefix, laws, mask,
+};
+pub use net::{Contains, IpNet, Ipv4Net, Ipv6Net};
 pub use print::{ipv4_addr_text, ipv6_addr_text};
 pub use subnets::{IpSubnets, Ipv4Subnets, Ipv6Subnets};
