@@ -1,5 +1,5 @@
 -- The list that a range gives, and what the calls on a range do to it.
-use Rattle.std.proofs.Common.{◌≡◌, ℕ, ◌+◌, ◌-◌, ◌<◌, ◌≤◌, Option, Some, None, List, [], ◌∷◌, ◌++◌, length, map, take, drop, reverse, slice_get, slice_index_or, Contains, AllPairs, MatchOption, refl, sym, ap, ap₂, ◌∙◌, subst, arith, zero, suc, inl, inr}
+use Rattle.std.proofs.Common.{◌≡◌, ℕ, ◌+◌, ◌-◌, ◌<◌, ◌≤◌, Option, Some, None, List, [], ◌∷◌, ◌++◌, length, map, take, drop, reverse, slice_get, slice_index_or, option_map, Contains, AllPairs, MatchOption, refl, sym, ap, ap₂, ◌∙◌, subst, arith, zero, suc, inl, inr}
 use Rattle.std.specs.List.{range_with_len}
 use Rattle.std.proofs.lemmas.Bool.{cases_lt, cases_eq}
 use Rattle.std.proofs.lemmas.Iterator.{YieldsList}
@@ -8,7 +8,7 @@ use Rattle.std.proofs.lemmas.List.{length-reverse, get_or-reverse}
 use Rattle.std.proofs.lemmas.List.FromFn.{length-map-range_with_len, get_or-map-range_with_len, map-range_with_len_more, take-map-range_with_len}
 use Rattle.std.proofs.lemmas.Option.{slice_get-get_or, slice_get_past}
 use Rattle.ipnet_base.specs.Address.{Address, IsBetween}
-use Rattle.ipnet_base.specs.Ranges.{AddressRange, numbers_between, address_at, addresses_of, address_count, with_ends, IsNext, IsNextBack, IsNth, IsNthBack, GivesFirst}
+use Rattle.ipnet_base.specs.Ranges.{AddressRange, numbers_between, address_at, addresses_of, address_count, with_ends, IsNext, IsNextBack, IsNth, IsNthBack, GivesFirst, GivesLast}
 
 -- ---- the list of a range
 
@@ -136,6 +136,17 @@ IsNextBack-yields r answer s h = elim (cases_lt r.end r.start) [
         let n = h.one e in rw (n.0, n.1, used_up r) (addresses_one r e)
   ]
 ]
+
+-- so the ends tell all that `next` does
+pub gives_first : {R A : Type 0} {address_of : A → Address} {range_of : R → AddressRange} {old new : R} {answer : Option A}
+    → IsNext (range_of old) (option_map address_of answer) (range_of new) → GivesFirst address_of range_of old answer new
+gives_first {address_of = address_of} {range_of = range_of} {old = old} {new = new} {answer = None} h = record { list = IsNext-yields (range_of old) None (range_of new) h; ends = h }
+gives_first {address_of = address_of} {range_of = range_of} {old = old} {new = new} {answer = Some x} h = record { list = IsNext-yields (range_of old) (Some (address_of x)) (range_of new) h; ends = h }
+
+pub gives_last : {R A : Type 0} {address_of : A → Address} {range_of : R → AddressRange} {old new : R} {answer : Option A}
+    → IsNextBack (range_of old) (option_map address_of answer) (range_of new) → GivesLast address_of range_of old answer new
+gives_last {address_of = address_of} {range_of = range_of} {old = old} {new = new} {answer = None} h = record { list = IsNextBack-yields (range_of old) None (range_of new) h; ends = h }
+gives_last {address_of = address_of} {range_of = range_of} {old = old} {new = new} {answer = Some x} h = record { list = IsNextBack-yields (range_of old) (Some (address_of x)) (range_of new) h; ends = h }
 
 pub IsNth-item : (n : ℕ) (r : AddressRange) (answer : Option Address) (s : AddressRange) → IsNth n r answer s → answer ≡ slice_get (addresses_of r) n
 IsNth-item n r answer s h = elim (cases_lt n (address_count r)) [
