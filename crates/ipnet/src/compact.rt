@@ -43,6 +43,7 @@ fn tagged(tag: u8, bytes: &[u8]) -> ArrayVec<u8, 18>
 {
     let mut out = ArrayVec::new();
     out.push(tag);
+    // There is room for 18 bytes.
     out.try_extend_from_slice(bytes).unwrap();
     out
 }
@@ -56,7 +57,8 @@ impl Ipv4Net {
     pub fn to_bytes(&self) -> [u8; 5]
         ensures { result ≡ network_bytes (ipv4_network self.now) }
     {
-        with_prefix_len(self.number().to_be_bytes(), self.prefix_len())
+        let octets: [u8; 4] = self.number().to_be_bytes();
+        with_prefix_len(octets, self.prefix_len())
     }
 
     /// The network of which these are the bytes.
@@ -91,7 +93,8 @@ impl Ipv6Net {
     pub fn to_bytes(&self) -> [u8; 17]
         ensures { result ≡ network_bytes (ipv6_network self.now) }
     {
-        with_prefix_len(self.number().to_be_bytes(), self.prefix_len())
+        let octets: [u8; 16] = self.number().to_be_bytes();
+        with_prefix_len(octets, self.prefix_len())
     }
 
     /// The network of which these are the bytes.
@@ -155,5 +158,24 @@ impl IpNet {
             1 => Ok(IpNet::V6(Ipv6Net::from_bytes(rest)?)),
             _ => Err(CompactError::Variant),
         }
+    }
+}
+
+#[cfg(test)]
+mod tests {
+    use super::*;
+    use std::test::Fail;
+
+    #[test]
+    fn error_texts(rt: HostRuntime) -> Result<(), Fail> {
+        let rows = [
+            (CompactError::Length, "invalid length"),
+            (CompactError::Variant, "invalid variant"),
+            (CompactError::Prefix, "invalid IP prefix length"),
+        ];
+        for (error, text) in &rows {
+            assert_eq!(rt; error.to_string(rt.alloc())?.as_str(), *text);
+        }
+        Ok(())
     }
 }

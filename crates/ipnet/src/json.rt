@@ -53,12 +53,14 @@ impl Ipv4Net {
     /// "10.1.1.0/24" is 10.1.1.0/24; 7 gives NotString, and "x" and "fd00::/32" Syntax
     /// ```
     pub fn from_json(value: &Value) -> Result<Ipv4Net, JsonError>
-        ensures ok { IsOkExactlyAt result (λ n. IsNetworkJson (IsIpv4NetworkText Strict) (view value.now) (ipv4_network n)) }
+        ensures ok { IsOkExactlyAt result
+            (λ n. IsNetworkJson (IsIpv4NetworkText Strict) (view value.now) (ipv4_network n)) }
         ensures not_string { (result ≡ Err JsonError.NotString) ↔ IsNoJsonString (view value.now) }
-        ensures syntax { (result ≡ Err JsonError.Syntax) ↔ IsOtherJsonString (IsIpv4NetworkText Strict) (view value.now) }
+        ensures syntax { (result ≡ Err JsonError.Syntax)
+            ↔ IsOtherJsonString (IsIpv4NetworkText Strict) (view value.now) }
     {
         let text = value.as_str().ok_or(JsonError::NotString)?;
-        text.parse().map_err(|_| JsonError::Syntax)
+        text.parse::<Ipv4Net>().map_err(|_| JsonError::Syntax)
     }
 }
 
@@ -84,12 +86,14 @@ impl Ipv6Net {
     /// "fd00::/32" is fd00::/32; null gives NotString, and "" and "10.1.1.0/24" Syntax
     /// ```
     pub fn from_json(value: &Value) -> Result<Ipv6Net, JsonError>
-        ensures ok { IsOkExactlyAt result (λ n. IsNetworkJson (IsIpv6NetworkText Strict) (view value.now) (ipv6_network n)) }
+        ensures ok { IsOkExactlyAt result
+            (λ n. IsNetworkJson (IsIpv6NetworkText Strict) (view value.now) (ipv6_network n)) }
         ensures not_string { (result ≡ Err JsonError.NotString) ↔ IsNoJsonString (view value.now) }
-        ensures syntax { (result ≡ Err JsonError.Syntax) ↔ IsOtherJsonString (IsIpv6NetworkText Strict) (view value.now) }
+        ensures syntax { (result ≡ Err JsonError.Syntax)
+            ↔ IsOtherJsonString (IsIpv6NetworkText Strict) (view value.now) }
     {
         let text = value.as_str().ok_or(JsonError::NotString)?;
-        text.parse().map_err(|_| JsonError::Syntax)
+        text.parse::<Ipv6Net>().map_err(|_| JsonError::Syntax)
     }
 }
 
@@ -115,11 +119,61 @@ impl IpNet {
     /// "10.1.1.0/24" is 10.1.1.0/24; 7 gives NotString, and "x" Syntax
     /// ```
     pub fn from_json(value: &Value) -> Result<IpNet, JsonError>
-        ensures ok { IsOkExactlyAt result (λ n. IsNetworkJson (IsNetworkText Strict) (view value.now) (ip_network n)) }
+        ensures ok { IsOkExactlyAt result
+            (λ n. IsNetworkJson (IsNetworkText Strict) (view value.now) (ip_network n)) }
         ensures not_string { (result ≡ Err JsonError.NotString) ↔ IsNoJsonString (view value.now) }
-        ensures syntax { (result ≡ Err JsonError.Syntax) ↔ IsOtherJsonString (IsNetworkText Strict) (view value.now) }
+        ensures syntax { (result ≡ Err JsonError.Syntax)
+            ↔ IsOtherJsonString (IsNetworkText Strict) (view value.now) }
     {
         let text = value.as_str().ok_or(JsonError::NotString)?;
-        text.parse().map_err(|_| JsonError::Syntax)
+        text.parse::<IpNet>().map_err(|_| JsonError::Syntax)
+    }
+}
+
+#[cfg(test)]
+mod tests {
+    use super::*;
+    use crate::memory::{RUNS, outcomes};
+    use std::test::Fail;
+
+    #[test]
+    fn error_texts(rt: HostRuntime) -> Result<(), Fail> {
+        let rows = [
+            (JsonError::NotString, "not a JSON string"),
+            (JsonError::Syntax, "invalid IP address syntax"),
+        ];
+        for (error, text) in &rows {
+            assert_eq!(rt; error.to_string(rt.alloc())?.as_str(), *text);
+        }
+        Ok(())
+    }
+
+    #[test]
+    fn written_where_there_is_memory(rt: HostRuntime) -> Result<(), Fail> {
+        let alloc = rt.alloc();
+        let v4 = "10.1.1.0/24".parse::<Ipv4Net>()?.to_json(alloc)?;
+        assert_eq!(rt; v4.as_str(), Some("10.1.1.0/24"));
+        let v6 = "fd00::/32".parse::<Ipv6Net>()?.to_json(alloc)?;
+        assert_eq!(rt; v6.as_str(), Some("fd00::/32"));
+        let net = "10.1.1.0/24".parse::<IpNet>()?.to_json(alloc)?;
+        assert_eq!(rt; net.as_str(), Some("10.1.1.0/24"));
+        Ok(())
+    }
+
+    // The string's memory is the only request: it is refused until there is room, and then never again.
+    #[test]
+    fn refused_until_there_is_memory(rt: HostRuntime) -> Result<(), Fail> {
+        let alloc = rt.alloc();
+        let texts = ["10.1.1.0/24", "ffff:ffff:ffff:ffff:ffff:ffff:ffff:ffff/128"];
+        for text in texts {
+            let net: IpNet = text.parse()?;
+            let Some(answers) = outcomes(alloc, || net.to_json(alloc).is_ok())? else {
+                return Ok(());
+            };
+            let refused = answers.iter().take_while(|given| !**given).count();
+            assert!(rt; 0 < refused && refused < RUNS, "{text}: {refused}");
+            assert!(rt; answers[refused..].iter().all(|given| *given), "{text}");
+        }
+        Ok(())
     }
 }

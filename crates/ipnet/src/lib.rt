@@ -4,6 +4,8 @@
 pub mod aggregate;
 pub mod compact;
 pub mod json;
+#[cfg(test)]
+mod memory;
 pub mod net;
 pub mod parser;
 pub mod print;
