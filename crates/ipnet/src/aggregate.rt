@@ -85,7 +85,19 @@ fn aggregated<N: Net>(alloc: Global, networks: &Vec<N>) -> Result<Vec<N>, AllocE
 }
 
 impl Ipv4Net {
-    /// The aggregate of the networks.
+    /// The aggregate: the one shortest list of networks over exactly the addresses of these networks, truncated
+    /// and in order.
+    ///
+    /// It holds, once each, the truncated networks whose block lies in what the networks cover and in no larger such
+    /// block, by ascending first address. Order, repeats and host bits of the input do not matter, and
+    /// lists over the same addresses have the same aggregate.
+    ///
+    /// Makes one list, as long as the input, and no other. The error is want of memory; an empty list needs none.
+    ///
+    /// ```text
+    /// 10.0.1.0/24, 10.0.0.0/24, 10.0.0.7/25    become    10.0.0.0/23
+    /// 0.0.0.0/1, 128.0.0.0/1                   become    0.0.0.0/0
+    /// ```
     pub fn aggregate(alloc: Global, networks: &Vec<Ipv4Net>) -> Result<Vec<Ipv4Net>, AllocError>
         ensures empty { networks.now.items ≡ [] → IsOkAnd result (λ answer. answer.items ≡ []) }
         ensures aggregate { IfOk result (λ answer. IsAggregateOf (map ipv4_network answer.items) (map ipv4_network networks.now.items)) }
@@ -100,12 +112,24 @@ impl Ipv4Net {
             → ((n : Network) → Contains (map truncation others) n ↔ Contains (map truncation (map ipv4_network networks.now.items)) n) → IsAggregateOf (map ipv4_network answer.items) others) }
         ensures again { IfOk result (λ answer. IsAggregateOf (map ipv4_network answer.items) (map ipv4_network answer.items)) }
     {
-        aggregated(alloc, networks)
+        aggregated::<Ipv4Net>(alloc, networks)
     }
 }
 
 impl Ipv6Net {
-    /// The aggregate of the networks.
+    /// The aggregate: the one shortest list of networks over exactly the addresses of these networks, truncated
+    /// and in order.
+    ///
+    /// It holds, once each, the truncated networks whose block lies in what the networks cover and in no larger such
+    /// block, by ascending first address. Order, repeats and host bits of the input do not matter, and
+    /// lists over the same addresses have the same aggregate.
+    ///
+    /// Makes one list, as long as the input, and no other. The error is want of memory; an empty list needs none.
+    ///
+    /// ```text
+    /// fd00:1::/32, fd00::/32, fd00::7/64        become    fd00::/31
+    /// ::/1, 8000::/1                            become    ::/0
+    /// ```
     pub fn aggregate(alloc: Global, networks: &Vec<Ipv6Net>) -> Result<Vec<Ipv6Net>, AllocError>
         ensures empty { networks.now.items ≡ [] → IsOkAnd result (λ answer. answer.items ≡ []) }
         ensures aggregate { IfOk result (λ answer. IsAggregateOf (map ipv6_network answer.items) (map ipv6_network networks.now.items)) }
@@ -120,12 +144,24 @@ impl Ipv6Net {
             → ((n : Network) → Contains (map truncation others) n ↔ Contains (map truncation (map ipv6_network networks.now.items)) n) → IsAggregateOf (map ipv6_network answer.items) others) }
         ensures again { IfOk result (λ answer. IsAggregateOf (map ipv6_network answer.items) (map ipv6_network answer.items)) }
     {
-        aggregated(alloc, networks)
+        aggregated::<Ipv6Net>(alloc, networks)
     }
 }
 
 impl IpNet {
-    /// The aggregate of the networks.
+    /// The aggregate: the one shortest list of networks over exactly the addresses of these networks, truncated
+    /// and in order.
+    ///
+    /// It holds, once each, the truncated networks whose block lies in what the networks cover and in no larger such
+    /// block, IPv4 before IPv6 and by ascending first address. Order, repeats and host bits of the input do not matter, and
+    /// lists over the same addresses have the same aggregate.
+    ///
+    /// Makes one list, as long as the input, and no other. The error is want of memory; an empty list needs none.
+    ///
+    /// ```text
+    /// fd00::/32, 10.0.1.0/24, 10.0.0.7/24    become    10.0.0.0/23, fd00::/32
+    /// ::ffff:10.0.0.0/120, 10.0.0.0/24       become    10.0.0.0/24, ::ffff:10.0.0.0/120
+    /// ```
     pub fn aggregate(alloc: Global, networks: &Vec<IpNet>) -> Result<Vec<IpNet>, AllocError>
         ensures empty { networks.now.items ≡ [] → IsOkAnd result (λ answer. answer.items ≡ []) }
         ensures aggregate { IfOk result (λ answer. IsAggregateOf (map ip_network answer.items) (map ip_network networks.now.items)) }
@@ -140,7 +176,7 @@ impl IpNet {
             → ((n : Network) → Contains (map truncation others) n ↔ Contains (map truncation (map ip_network networks.now.items)) n) → IsAggregateOf (map ip_network answer.items) others) }
         ensures again { IfOk result (λ answer. IsAggregateOf (map ip_network answer.items) (map ip_network answer.items)) }
     {
-        aggregated(alloc, networks)
+        aggregated::<IpNet>(alloc, networks)
     }
 }
 

@@ -8,5 +8,6 @@ pub mod print;
 pub mod subnets;
 pub mod text_laws;
 
+pub use aggregate::{is_aggregated, same_addresses};
 pub use net::{IpNet, Ipv4Net, Ipv6Net};
 pub use subnets::{IpSubnets, Ipv4Subnets, Ipv6Subnets};
