@@ -1,22 +1,47 @@
 //! Aggregates: the shortest list of networks over the addresses of a list, and lists compared by what they cover.
-ghost use Rattle.std.specs.Prelude.{◌≡◌, ◌↔◌, ◌+◌, ◌<◌, ◌≤◌, List, [], map, take, drop, length, All, Contains, IfOk, IsOk, IsOkAnd, IsTrue};
+ghost use Rattle.std.specs.Prelude.{◌≡◌, ◌↔◌, ◌+◌, ◌<◌, ◌≤◌, List, [], map, take, drop, length, All, Contains, IfOk, OnOk, IsOk, IsOkAnd, IsTrue};
 ghost use Rattle.ipnet_base.specs.Network.{Network, IsNetwork, IsTruncated, truncation};
 ghost use Rattle.ipnet_base.specs.Blocks.{IsCoveredBy, HaveSameCover, IsAggregateOf, IsShortestCover, ArePairwiseDisjoint, AreAggregatedNeighbours};
 ghost use Rattle.ipnet_base.proofs.NeighbourLaws.{AreSettled, LiesBefore};
-ghost use Rattle.ipnet_base.proofs.StackLaws.{IsAtMost, IsInOrder, IsPushed, IsSwept};
+ghost use Rattle.ipnet_base.proofs.StackLaws.{IsAtMost, IsInOrder, IsGathered, IsPushed, IsSwept};
 ghost use Rattle.ipnet.specs.NetworkOf.{ipv4_network, ipv6_network, ip_network};
 
 use crate::net::{IpNet, Ipv4Net, Ipv6Net, Net};
 use std::alloc::{AllocError, Global};
 
-/// A list of the networks without their host bits, in the order that they came in.
-fn without_host_bits<N: Net>(alloc: Global, networks: &Vec<N>) -> Result<Vec<N>, AllocError>
+/// Puts one network more at the end of the list, in whatever order they come: a network that the last one covers is
+/// left out, and as long as the last one is its other half both are replaced by their supernet.
+fn gather<N: Net>(list: &mut Vec<N>, network: N) -> Result<(), AllocError>
+    requires list { All IsTruncated (map N.network list.old.items) }
+    requires network { IsTruncated (N.network network) }
+    ensures { OnOk result (IsGathered (map N.network list.old.items) (N.network network) (map N.network list.new.items)) }
+{
+    if let Some(last) = list.last()
+        && last.covers(&network)
+    {
+        return Ok(());
+    }
+    let mut next = network;
+    while let Some(last) = list.last()
+        && last.is_other_half(&next)
+    {
+        next = last.joined();
+        list.pop();
+    }
+    list.push(next)?;
+    Ok(())
+}
+
+/// A list over the same addresses, without host bits: the networks in the order that they came in, but for those that
+/// met the one before. Runs of neighbours come out short, so less is left to sort.
+fn gathered<N: Net>(alloc: Global, networks: &Vec<N>) -> Result<Vec<N>, AllocError>
     ensures empty { networks.now.items ≡ [] → IsOk result }
-    ensures truncated { IfOk result (λ list. map N.network list.items ≡ map truncation (map N.network networks.now.items)) }
+    ensures truncated { IfOk result (λ list. All IsTruncated (map N.network list.items)) }
+    ensures addresses { IfOk result (λ list. HaveSameCover (map N.network list.items) (map N.network networks.now.items)) }
 {
     let mut list = Vec::with_capacity(alloc, networks.len())?;
     for network in networks {
-        list.push(network.truncated())?;
+        gather(&mut list, network.truncated())?;
     }
     Ok(list)
 }
@@ -77,7 +102,7 @@ fn aggregated<N: Net>(alloc: Global, networks: &Vec<N>) -> Result<Vec<N>, AllocE
         → ((n : Network) → Contains (map truncation others) n ↔ Contains (map truncation (map N.network networks.now.items)) n) → IsAggregateOf (map N.network answer.items) others) }
     ensures again { IfOk result (λ answer. IsAggregateOf (map N.network answer.items) (map N.network answer.items)) }
 {
-    let mut list = without_host_bits(alloc, networks)?;
+    let mut list = gathered(alloc, networks)?;
     list.sort_unstable();
     let stacked = sweep(list.as_mut_slice());
     list.truncate(stacked);
