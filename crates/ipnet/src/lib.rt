@@ -2,6 +2,8 @@
 #![tactic(auto)]
 
 pub mod aggregate;
+pub mod compact;
+pub mod json;
 pub mod net;
 pub mod parser;
 pub mod print;
@@ -10,4 +12,14 @@ pub mod text_laws;
 
 pub use aggregate::{is_aggregated, same_addresses};
 pub use net::{IpNet, Ipv4Net, Ipv6Net};
+pub use compact::CompactError;
+pub use ipnet_base::{
+    IpAdd, IpAddr, IpAddrRange, IpBitAnd, IpBitOr, IpSub, Ipv4Addr, Ipv4AddrRange, Ipv6Addr,
+    Ipv6AddrRange, PrefixLenError, addr, ip_mask_to_prefix, ipext, ipv4_mask_to_prefix,
+    ipv6_mask_to_prefix, laws, mask,
+};
+pub use json::JsonError;
+pub use net::{Contains, IpNet, Ipv4Net, Ipv6Net};
+pub use parser::AddrParseError;
+pub use print::{ipv4_addr_text, ipv6_addr_text};
 pub use subnets::{IpSubnets, Ipv4Subnets, Ipv6Subnets};

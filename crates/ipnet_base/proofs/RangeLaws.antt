@@ -2,11 +2,13 @@
 use Rattle.std.proofs.Common.{◌≡◌, ℕ, ◌+◌, ◌-◌, ◌<◌, ◌≤◌, Option, Some, None, List, [], ◌∷◌, ◌++◌, length, map, take, drop, reverse, slice_get, slice_index_or, Contains, AllPairs, MatchOption, refl, sym, ap, ap₂, ◌∙◌, subst, arith, zero, suc, inl, inr}
 use Rattle.std.specs.List.{range_with_len}
 use Rattle.std.proofs.lemmas.Bool.{cases_lt, cases_eq}
+use Rattle.std.proofs.lemmas.Iterator.{YieldsList}
+use Rattle.std.proofs.lemmas.Iterator.Consumers.{YieldsList-from_shown}
 use Rattle.std.proofs.lemmas.List.{length-reverse, get_or-reverse}
 use Rattle.std.proofs.lemmas.List.FromFn.{length-map-range_with_len, get_or-map-range_with_len, map-range_with_len_more, take-map-range_with_len}
 use Rattle.std.proofs.lemmas.Option.{slice_get-get_or, slice_get_past}
 use Rattle.ipnet_base.specs.Address.{Address, IsBetween}
-use Rattle.ipnet_base.specs.Ranges.{AddressRange, numbers_between, address_at, addresses_of, address_count, with_ends, IsNext, IsNextBack, IsNth, IsNthBack}
+use Rattle.ipnet_base.specs.Ranges.{AddressRange, numbers_between, address_at, addresses_of, address_count, with_ends, IsNext, IsNextBack, IsNth, IsNthBack, GivesFirst}
 
 -- ---- the list of a range
 
@@ -175,3 +177,9 @@ IsNthBack-left n r answer s h = elim (cases_lt (n + 1) (address_count r)) [
         | inr ne ↦ ap addresses_of (h.past (omega arith)).1 ∙ used_up r ∙ sym none
       ]
 ]
+
+-- the items of a range that is walked from the front are its addresses
+pub YieldsList-gives_first : {R A : Type 0} (address_of : A → Address) (range_of : R → AddressRange) (r : R)
+    → YieldsList (GivesFirst address_of range_of) address_of r (addresses_of (range_of r))
+YieldsList-gives_first address_of range_of r =
+    YieldsList-from_shown (GivesFirst address_of range_of) address_of (λ s. addresses_of (range_of s)) (λ t u h. ap length h.list.0) (λ t x u h. h.list) r
