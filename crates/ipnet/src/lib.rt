@@ -11,7 +11,6 @@ pub mod subnets;
 pub mod text_laws;
 
 pub use aggregate::{is_aggregated, same_addresses};
-pub use net::{IpNet, Ipv4Net, Ipv6Net};
 pub use compact::CompactError;
 pub use ipnet_base::{
     IpAdd, IpAddr, IpAddrRange, IpBitAnd, IpBitOr, IpSub, Ipv4Addr, Ipv4AddrRange, Ipv6Addr,
