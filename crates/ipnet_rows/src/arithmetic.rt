@@ -6,7 +6,7 @@ use std::net::{IpAddr, Ipv4Addr, Ipv6Addr};
 use std::process::Abort;
 use std::test::Fail;
 
-const ROWS: &str = "\
+const ROWS: &str = "
 sum past the greatest, IPv4             | 255.255.255.254 | saturating_add | 5               | 255.255.255.255
 sum to the greatest, IPv4               | 255.255.255.254 | saturating_add | 1               | 255.255.255.255
 sum, IPv6                               | fd00::ffff      | saturating_add | 1               | fd00::1:0
@@ -23,7 +23,8 @@ and with a number, IPv4                 | 192.168.1.100   | bitand         | 429
 or, IPv4                                | 10.0.0.5        | bitor          | 0.0.255.250     | 10.0.255.255
 or with a number, IPv4                  | 10.0.0.5        | bitor          | 250             | 10.0.0.255
 or, IPv6                                | fd00::5         | bitor          | ::fffe:0:fa     | fd00::fffe:0:ff
-or with a number, IPv6                  | fd00::5         | bitor          | 250             | fd00::ff";
+or with a number, IPv6                  | fd00::5         | bitor          | 250             | fd00::ff
+";
 
 /// The answer of the call on an IPv4 address, printed; the right side is an address or a number.
 fn ipv4_answer(

@@ -6,7 +6,7 @@ use ipnet::{
 };
 use std::net::IpAddr;
 
-const LENGTHS: &str = "\
+const LENGTHS: &str = "
 ones and zeros, IPv4 | 255.255.255.128                         | 25
 all ones, IPv4       | 255.255.255.255                         | 32
 all zeros, IPv4      | 0.0.0.0                                 | 0
@@ -16,9 +16,10 @@ all ones, IPv6       | ffff:ffff:ffff:ffff:ffff:ffff:ffff:ffff | 128
 all zeros, IPv6      | ::                                      | 0
 zeros in front       | 0:0:ffff:ffff::                         | refused
 either family, IPv4  | 255.255.240.0                           | 20
-either family, IPv6  | ffff:ff00::                             | 24";
+either family, IPv6  | ffff:ff00::                             | 24
+";
 
-const NETWORKS: &str = "\
+const NETWORKS: &str = "
 network of a mask, IPv4                         | 127.0.0.1       | 255.0.0.0            | 127.0.0.1/8
 network of a mask with a gap                    | 127.0.0.1       | 255.0.255.0          | refused
 network of a mask, IPv6                         | ff01:0:0:17::2  | ffff:ffff:ffff::     | ff01:0:0:17::2/48
@@ -27,7 +28,8 @@ network of a mask with a one behind the zeros   | ::1             | ffff:ffff:ff
 IPv4 address, IPv6 mask of 24 ones              | 10.1.1.0        | ffff:ff00::          | 10.1.1.0/24
 IPv4 address, IPv6 mask of 48 ones              | 10.1.1.0        | ffff:ffff:ffff::     | refused
 IPv6 address, IPv4 mask                         | fd00::1         | 255.255.0.0          | fd00::1/16
-IPv6 address, IPv4 mask with a gap              | fd00::1         | 255.0.255.0          | refused";
+IPv6 address, IPv4 mask with a gap              | fd00::1         | 255.0.255.0          | refused
+";
 
 #[test]
 fn lengths(rt: HostRuntime) {

@@ -8,7 +8,7 @@ use std::net::{IpAddr, Ipv4Addr, Ipv6Addr};
 use std::process::Abort;
 use std::test::Fail;
 
-const NEW: &str = "\
+const NEW: &str = "
 new, IPv4                           | 10.1.1.0 | 24  | 10.1.1.0/24
 new, IPv6                           | fd::     | 24  | fd::/24
 new keeps host bits                 | 10.0.0.1 | 24  | 10.0.0.1/24
@@ -16,23 +16,26 @@ new, length 33, IPv4                | 10.1.1.0 | 33  | refused
 new, length 129, IPv6               | fd::     | 129 | refused
 new, either family, length 33, IPv4 | 10.1.1.0 | 33  | refused
 new, either family, length 33, IPv6 | fd00::   | 33  | fd00::/33
-new, either family, length 129, IPv6 | fd00::  | 129 | refused";
+new, either family, length 129, IPv6 | fd00::  | 129 | refused
+";
 
-const NEW_ASSERT: &str = "\
+const NEW_ASSERT: &str = "
 checked constructor, IPv4             | 10.1.1.0 | 24  | 10.1.1.0/24
 checked constructor, IPv6             | fd::     | 24  | fd::/24
 checked constructor, either family    | 10.1.1.0 | 32  | 10.1.1.0/32
 checked constructor, length 0, IPv4   | 0.0.0.0  | 0   | 0.0.0.0/0
 checked constructor, length 32, IPv4  | 0.0.0.0  | 32  | 0.0.0.0/32
 checked constructor, length 0, IPv6   | ::       | 0   | ::/0
-checked constructor, length 128, IPv6 | ::       | 128 | ::/128";
+checked constructor, length 128, IPv6 | ::       | 128 | ::/128
+";
 
-const FROM_ADDRESSES: &str = "\
+const FROM_ADDRESSES: &str = "
 from an address, IPv4          | 10.0.0.7 | 10.0.0.7/32
 from an address, IPv6          | fd00::7  | fd00::7/128
-from an address, either family | fd00::7  | fd00::7/128";
+from an address, either family | fd00::7  | fd00::7/128
+";
 
-const ADDRESSES: &str = "\
+const ADDRESSES: &str = "
 address with host bits      | 10.0.0.1/24         | addr      | 10.0.0.1
 netmask of a /20            | 10.1.0.0/20         | netmask   | 255.255.240.0
 hostmask of a /20           | 10.1.0.0/20         | hostmask  | 0.0.15.255
@@ -47,34 +50,39 @@ hostmask at full length     | fd00::/128          | hostmask  | ::
 least address, IPv4         | 172.16.123.123/16   | network   | 172.16.0.0
 least address, IPv6         | fd00:1234:5678::/24 | network   | fd00:1200::
 greatest address, IPv4      | 172.16.0.0/22       | broadcast | 172.16.3.255
-greatest address, IPv6      | fd00:1234:5678::/24 | broadcast | fd00:12ff:ffff:ffff:ffff:ffff:ffff:ffff";
+greatest address, IPv6      | fd00:1234:5678::/24 | broadcast | fd00:12ff:ffff:ffff:ffff:ffff:ffff:ffff
+";
 
-const LENGTHS: &str = "\
+const LENGTHS: &str = "
 prefix length                | 10.0.0.1/24 | prefix_len     | 24
 greatest prefix length, IPv4 | 10.0.0.1/24 | max_prefix_len | 32
-greatest prefix length, IPv6 | fd00::/24   | max_prefix_len | 128";
+greatest prefix length, IPv6 | fd00::/24   | max_prefix_len | 128
+";
 
-const TRUNCATED: &str = "\
+const TRUNCATED: &str = "
 truncated, IPv4 | 192.168.12.34/16 | 192.168.0.0/16
-truncated, IPv6 | fd00::1:2:3:4/16 | fd00::/16";
+truncated, IPv6 | fd00::1:2:3:4/16 | fd00::/16
+";
 
-const SUPERNETS: &str = "\
+const SUPERNETS: &str = "
 supernet, IPv4             | 172.16.1.0/24  | 172.16.0.0/23
 supernet, IPv6             | fd00:ff00::/24 | fd00:fe00::/23
 supernet at length 0       | 172.16.0.0/0   | none
 supernet at length 0, IPv6 | fd00:fe00::/0  | none
-supernet at length 1, IPv6 | fd00::1/1      | ::/0";
+supernet at length 1, IPv6 | fd00::1/1      | ::/0
+";
 
-const SIBLINGS: &str = "\
+const SIBLINGS: &str = "
 siblings                              | 10.1.0.0/24     | 10.1.1.0/24     | true
 neighbours of two supernets           | 10.1.1.0/24     | 10.1.2.0/24     | false
 siblings, IPv6                        | fd00::/18       | fd00:4000::/18  | true
 neighbours of two supernets, IPv6     | fd00:4000::/18  | fd00:8000::/18  | false
 siblings of two families              | 10.1.0.0/24     | fd00:4000::/18  | false
 its own sibling, host bits or not     | 10.0.0.1/24     | 10.0.0.0/24     | true
-no sibling at length 0                | 0.0.0.0/0       | 0.0.0.0/0       | false";
+no sibling at length 0                | 0.0.0.0/0       | 0.0.0.0/0       | false
+";
 
-const NETWORKS_INSIDE: &str = "\
+const NETWORKS_INSIDE: &str = "
 contains a longer one                     | 192.168.0.0/24 | 192.168.0.0/25 | true
 contains a shorter one                    | 192.168.0.0/24 | 192.168.0.0/23 | false
 contains one of the other family          | 192.168.0.0/24 | fd00::/16      | false
@@ -83,23 +91,26 @@ contains a longer one, IPv6               | fd00::/16      | fd00::/17      | tr
 contains a shorter one, IPv6              | fd00::/16      | fd00::/15      | false
 contains one of the other family, IPv6    | fd00::/16      | 192.168.0.0/24 | false
 contains itself with other host bits      | 10.0.0.1/24    | 10.0.0.0/24    | true
-contained by itself with other host bits  | 10.0.0.0/24    | 10.0.0.1/24    | true";
+contained by itself with other host bits  | 10.0.0.0/24    | 10.0.0.1/24    | true
+";
 
-const ADDRESSES_INSIDE: &str = "\
+const ADDRESSES_INSIDE: &str = "
 contains an address inside              | 192.168.0.0/24 | 192.168.0.1     | true
 contains an address behind              | 192.168.0.0/24 | 192.168.1.0     | false
 contains an address inside, IPv6        | fd00::/16      | fd00::1         | true
 contains an address behind, IPv6        | fd00::/16      | fd01::          | false
 contains an address of the other family | fd00::/16      | 192.168.1.0     | false
-contains a mapped address               | 0.0.0.0/0      | ::ffff:1.2.3.4  | false";
+contains a mapped address               | 0.0.0.0/0      | ::ffff:1.2.3.4  | false
+";
 
-const HOSTS: &str = "\
+const HOSTS: &str = "
 hosts of a /30        | 10.0.0.0/30 | [10.0.0.1, 10.0.0.2]
 hosts of a /31        | 10.0.0.0/31 | [10.0.0.0, 10.0.0.1]
 hosts of a /32        | 10.0.0.7/32 | [10.0.0.7]
-hosts of a /126, IPv6 | fd00::/126  | [fd00::, fd00::1, fd00::2, fd00::3]";
+hosts of a /126, IPv6 | fd00::/126  | [fd00::, fd00::1, fd00::2, fd00::3]
+";
 
-const SUBNETS: &str = "\
+const SUBNETS: &str = "
 subnets of an IPv6 /16            | fd00::/16      | 18  | [fd00::/18, fd00:4000::/18, fd00:8000::/18, fd00:c000::/18]
 subnets of a /23                  | 192.168.0.0/23 | 25  | [192.168.0.0/25, 192.168.0.128/25, 192.168.1.0/25, 192.168.1.128/25]
 subnets of its own length         | 10.0.0.9/24    | 24  | [10.0.0.0/24]
@@ -109,7 +120,8 @@ subnets of full length, IPv6      | fd00::/126     | 128 | [fd00::/128, fd00::1/
 subnets of a shorter length, IPv4 | 10.0.0.0/24    | 23  | refused
 subnets of a length above 32      | 10.0.0.0/24    | 33  | refused
 subnets of a shorter length, IPv6 | fd00::/16      | 15  | refused
-subnets of a length above 128     | fd00::/16      | 129 | refused";
+subnets of a length above 128     | fd00::/16      | 129 | refused
+";
 
 /// The network as its address, by std, and its length.
 fn shown(alloc: Global, network: IpNet) -> Result<String, AllocError> {

@@ -4,27 +4,30 @@ use ipnet::{IpAddrRange, IpNet, IpSubnets};
 use std::cmp::Ordering;
 use std::process::Abort;
 
-const NETWORKS: &str = "\
+const NETWORKS: &str = "
 not equal with other host bits | 10.0.0.1/24        | 10.0.0.0/24 | false | Greater
 equal                          | 10.0.0.1/24        | 10.0.0.1/24 | true  | Equal
 same address, other length     | 10.0.0.0/8         | 10.0.0.0/24 | false | Less
 address before length          | 10.0.0.0/32        | 10.0.0.1/8  | false | Less
 IPv4 before IPv6               | 255.255.255.255/32 | ::/0        | false | Less
-order, IPv6                    | fd00::1/64         | fd00::/128  | false | Greater";
+order, IPv6                    | fd00::1/64         | fd00::/128  | false | Greater
+";
 
 /// The two ends of the left range, then those of the right.
-const RANGES: &str = "\
+const RANGES: &str = "
 ranges, start before end    | 10.0.0.0        | 10.0.0.9        | 10.0.0.1 | 10.0.0.2 | false | Less
 ranges of one start         | ::              | ::9             | ::       | ::2      | false | Greater
 ranges of two families      | 255.255.255.255 | 255.255.255.255 | ::       | ::       | false | Less
 empty ranges by stored ends | 0.0.0.5         | 0.0.0.3         | 0.0.0.1  | 0.0.0.0  | false | Greater
-equal ranges                | ::1             | ::              | ::1      | ::       | true  | Equal";
+equal ranges                | ::1             | ::              | ::1      | ::       | true  | Equal
+";
 
 /// The two ends and the least length of the left walk, then those of the right.
-const WALKS: &str = "\
+const WALKS: &str = "
 walks of one range             | 10.0.0.0        | 10.0.0.9        | 24 | 10.0.0.0 | 10.0.0.9 | 8 | false | Greater
 walks, end before least length | 10.0.0.0        | 10.0.0.8        | 24 | 10.0.0.0 | 10.0.0.9 | 8 | false | Less
-walks of two families          | 255.255.255.255 | 255.255.255.255 | 32 | ::       | ::       | 0 | false | Less";
+walks of two families          | 255.255.255.255 | 255.255.255.255 | 32 | ::       | ::       | 0 | false | Less
+";
 
 /// The ordering of this name.
 fn ordering(rt: &impl Abort, name: &str) -> Ordering {

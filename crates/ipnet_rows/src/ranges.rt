@@ -7,7 +7,7 @@ use std::net::IpAddr;
 use std::process::Abort;
 use std::test::Fail;
 
-const IN_TURN: &str = "\
+const IN_TURN: &str = "
 nth first                            | 10.0.0.0 | 10.0.0.3 | nth(0) | 10.0.0.0 | 10.0.0.1, 10.0.0.3
 nth last                             | 10.0.0.0 | 10.0.0.3 | nth(3) | 10.0.0.3 | 0.0.0.1, 0.0.0.0
 nth past                             | 10.0.0.0 | 10.0.0.3 | nth(4) | None | 0.0.0.1, 0.0.0.0
@@ -33,10 +33,11 @@ the two greatest, IPv4               | 255.255.255.254 | 255.255.255.255 | next(
 the two greatest, IPv6               | ffff:ffff:ffff:ffff:ffff:ffff:ffff:fffe | ffff:ffff:ffff:ffff:ffff:ffff:ffff:ffff | next(), next(), next() | ffff:ffff:ffff:ffff:ffff:ffff:ffff:fffe, ffff:ffff:ffff:ffff:ffff:ffff:ffff:ffff, None | ::1, ::
 far into all IPv6 addresses          | :: | ffff:ffff:ffff:ffff:ffff:ffff:ffff:ffff | nth(18446744073709551615) | ::ffff:ffff:ffff:ffff | 0:0:0:1::, ffff:ffff:ffff:ffff:ffff:ffff:ffff:ffff
 far back from all IPv6 addresses     | :: | ffff:ffff:ffff:ffff:ffff:ffff:ffff:ffff | nth_back(18446744073709551615) | ffff:ffff:ffff:ffff:: | ::, ffff:ffff:ffff:fffe:ffff:ffff:ffff:ffff
-all of four, IPv6                    | fd00:: | fd00::3 | next(), next(), next(), next(), next() | fd00::, fd00::1, fd00::2, fd00::3, None | ::1, ::";
+all of four, IPv6                    | fd00:: | fd00::3 | next(), next(), next(), next(), next() | fd00::, fd00::1, fd00::2, fd00::3, None | ::1, ::
+";
 
 /// The start, the end, the size hint, the count or `not allowed`, the least and the greatest address.
-const WHOLE: &str = "\
+const WHOLE: &str = "
 whole calls on four                  | 10.0.0.0 | 10.0.0.3                                | (4, Some(4)) | 4 | Some(10.0.0.0) | Some(10.0.0.3)
 whole calls on four, IPv6            | fd00::   | fd00::3                                 | (4, Some(4)) | 4 | Some(fd00::) | Some(fd00::3)
 whole calls on none                  | 0.0.0.5  | 0.0.0.3                                 | (0, Some(0)) | 0 | None | None
@@ -45,7 +46,8 @@ whole calls on all IPv4 addresses    | 0.0.0.0  | 255.255.255.255               
 greatest count                       | ::       | ::ffff:ffff:ffff:fffe                   | (18446744073709551615, Some(18446744073709551615)) | 18446744073709551615 | Some(::) | Some(::ffff:ffff:ffff:fffe)
 one past the greatest count          | ::       | ::ffff:ffff:ffff:ffff                   | (18446744073709551615, None) | not allowed | Some(::) | Some(::ffff:ffff:ffff:ffff)
 half of all IPv6 addresses and one   | ::       | 8000::                                  | (18446744073709551615, None) | not allowed | Some(::) | Some(8000::)
-whole calls on all IPv6 addresses    | ::       | ffff:ffff:ffff:ffff:ffff:ffff:ffff:ffff | (18446744073709551615, None) | not allowed | Some(::) | Some(ffff:ffff:ffff:ffff:ffff:ffff:ffff:ffff)";
+whole calls on all IPv6 addresses    | ::       | ffff:ffff:ffff:ffff:ffff:ffff:ffff:ffff | (18446744073709551615, None) | not allowed | Some(::) | Some(ffff:ffff:ffff:ffff:ffff:ffff:ffff:ffff)
+";
 
 /// What the call of this text answers, by the type of the range's family.
 fn own_answer(rt: &impl Abort, range: &mut IpAddrRange, call: &str) -> Option<IpAddr> {

@@ -10,6 +10,7 @@ use std::str::Lines;
 
 /// The lines of a table of so many rows.
 pub fn rows(rt: &impl Abort, table: &'static str, count: usize) -> Lines<'static> {
+    let table = table.trim();
     assert_eq!(rt; table.lines().count(), count, "the number of rows");
     table.lines()
 }
@@ -101,6 +102,28 @@ pub fn ip_walk(rt: &impl Abort, start: &str, end: &str, min_prefix_len: &str) ->
             IpSubnets::V6(Ipv6Subnets::new(start, ipv6_addr(rt, end), len))
         }
     }
+}
+
+/// The numbers of a list in brackets.
+pub fn numbers(rt: &impl Abort, alloc: Global, list: &str) -> Result<Vec<u16>, AllocError> {
+    let mut numbers = Vec::new(alloc);
+    for item in items(rt, list).split(", ") {
+        if !item.is_empty() {
+            numbers.push(item.parse::<u16>().expect(rt, item))?;
+        }
+    }
+    Ok(numbers)
+}
+
+/// The bytes of a list in brackets.
+pub fn bytes(rt: &impl Abort, alloc: Global, list: &str) -> Result<Vec<u8>, AllocError> {
+    let mut bytes = Vec::new(alloc);
+    for item in items(rt, list).split(", ") {
+        if !item.is_empty() {
+            bytes.push(item.parse::<u8>().expect(rt, item))?;
+        }
+    }
+    Ok(bytes)
 }
 
 /// What stands in the brackets of a list.
