@@ -91,7 +91,7 @@ fn check(
 #[test]
 fn lists(rt: HostRuntime) -> Result<(), Fail> {
     for row in rows(&rt, ROWS, 28) {
-        let [label, networks, want] = cells::<3>(&rt, row);
+        let [label, networks, want, ..] = cells(&rt, row, 3);
         let networks = ip_nets(&rt, rt.alloc(), networks)?;
         let want = ip_nets(&rt, rt.alloc(), want)?;
         check(&rt, rt.alloc(), &networks, want.as_slice(), label)?;

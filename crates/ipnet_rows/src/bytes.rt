@@ -79,7 +79,7 @@ fn wanted(rt: &impl Abort, cell: &str) -> Result<IpNet, CompactError> {
 #[test]
 fn writing(rt: HostRuntime) -> Result<(), Fail> {
     for row in rows(&rt, WRITTEN, 5) {
-        let [label, name, network, want] = cells::<4>(&rt, row);
+        let [label, name, network, want, ..] = cells(&rt, row, 4);
         let network = ip_net(&rt, network);
         let want = bytes(&rt, rt.alloc(), want)?;
         if name == "IpNet" {
@@ -102,7 +102,7 @@ fn writing(rt: HostRuntime) -> Result<(), Fail> {
 #[test]
 fn reading(rt: HostRuntime) -> Result<(), Fail> {
     for row in rows(&rt, READ, 11) {
-        let [label, name, given, want] = cells::<4>(&rt, row);
+        let [label, name, given, want, ..] = cells(&rt, row, 4);
         let given = bytes(&rt, rt.alloc(), given)?;
         assert_eq!(rt;
             read(&rt, name, given.as_slice()),

@@ -27,6 +27,10 @@ mod printing;
 #[cfg(test)]
 mod ranges;
 #[cfg(test)]
+mod slow_blocks;
+#[cfg(test)]
+mod slow_reader;
+#[cfg(test)]
 mod table;
 #[cfg(test)]
 mod texts;

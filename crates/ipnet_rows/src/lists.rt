@@ -26,7 +26,7 @@ an empty list and another            | []                  | [10.0.0.0/24]      
 #[test]
 fn aggregated(rt: HostRuntime) -> Result<(), Fail> {
     for row in rows(&rt, AGGREGATED, 9) {
-        let [label, networks, want] = cells::<3>(&rt, row);
+        let [label, networks, want, ..] = cells(&rt, row, 3);
         let networks = ip_nets(&rt, rt.alloc(), networks)?;
         assert_eq!(rt;
             is_aggregated(networks.as_slice()),
@@ -40,7 +40,7 @@ fn aggregated(rt: HostRuntime) -> Result<(), Fail> {
 #[test]
 fn addresses(rt: HostRuntime) -> Result<(), Fail> {
     for row in rows(&rt, SAME_ADDRESSES, 5) {
-        let [label, first, second, want] = cells::<4>(&rt, row);
+        let [label, first, second, want, ..] = cells(&rt, row, 4);
         let first = ip_nets(&rt, rt.alloc(), first)?;
         let second = ip_nets(&rt, rt.alloc(), second)?;
         let want = want == "Ok(true)";

@@ -34,7 +34,7 @@ IPv6 address, IPv4 mask with a gap              | fd00::1         | 255.0.255.0 
 #[test]
 fn lengths(rt: HostRuntime) {
     for row in rows(&rt, LENGTHS, 10) {
-        let [label, mask, want] = cells::<3>(&rt, row);
+        let [label, mask, want, ..] = cells(&rt, row, 3);
         let mask = ip_addr(&rt, mask);
         let want = match want {
             "refused" => Err(PrefixLenError),
@@ -52,7 +52,7 @@ fn lengths(rt: HostRuntime) {
 #[test]
 fn networks(rt: HostRuntime) {
     for row in rows(&rt, NETWORKS, 9) {
-        let [label, ip, mask, want] = cells::<4>(&rt, row);
+        let [label, ip, mask, want, ..] = cells(&rt, row, 4);
         let ip = ip_addr(&rt, ip);
         let mask = ip_addr(&rt, mask);
         let want = match want {

@@ -131,7 +131,7 @@ fn shown(alloc: Global, network: IpNet) -> Result<String, AllocError> {
 #[test]
 fn constructors(rt: HostRuntime) -> Result<(), Fail> {
     for row in rows(&rt, NEW, 8) {
-        let [label, ip, prefix_len, want] = cells::<4>(&rt, row);
+        let [label, ip, prefix_len, want, ..] = cells(&rt, row, 4);
         let prefix_len = prefix_len.parse::<u8>().expect(&rt, row);
         let ip = ip_addr(&rt, ip);
         let own = match ip {
@@ -155,7 +155,7 @@ fn constructors(rt: HostRuntime) -> Result<(), Fail> {
 #[test]
 fn checked_constructors(rt: HostRuntime) -> Result<(), Fail> {
     for row in rows(&rt, NEW_ASSERT, 7) {
-        let [label, ip, prefix_len, want] = cells::<4>(&rt, row);
+        let [label, ip, prefix_len, want, ..] = cells(&rt, row, 4);
         let prefix_len = prefix_len.parse::<u8>().expect(&rt, row);
         let (own, either) = match ip_addr(&rt, ip) {
             IpAddr::V4(ip) => {
@@ -186,7 +186,7 @@ fn checked_constructors(rt: HostRuntime) -> Result<(), Fail> {
 #[test]
 fn conversions(rt: HostRuntime) -> Result<(), Fail> {
     for row in rows(&rt, FROM_ADDRESSES, 3) {
-        let [label, ip, want] = cells::<3>(&rt, row);
+        let [label, ip, want, ..] = cells(&rt, row, 3);
         let ip = ip_addr(&rt, ip);
         let own = match ip {
             IpAddr::V4(ip) => IpNet::V4(Ipv4Net::from(ip)),
@@ -256,7 +256,7 @@ fn ip_address(rt: &impl Abort, network: &IpNet, call: &str) -> IpAddr {
 #[test]
 fn addresses(rt: HostRuntime) {
     for row in rows(&rt, ADDRESSES, 15) {
-        let [label, network, call, want] = cells::<4>(&rt, row);
+        let [label, network, call, want, ..] = cells(&rt, row, 4);
         let network = ip_net(&rt, network);
         let want = ip_addr(&rt, want);
         let own = match &network {
@@ -271,7 +271,7 @@ fn addresses(rt: HostRuntime) {
 #[test]
 fn lengths(rt: HostRuntime) {
     for row in rows(&rt, LENGTHS, 3) {
-        let [label, network, call, want] = cells::<4>(&rt, row);
+        let [label, network, call, want, ..] = cells(&rt, row, 4);
         let network = ip_net(&rt, network);
         let want = want.parse::<u8>().expect(&rt, row);
         let (own, either) = match (call, &network) {
@@ -288,7 +288,7 @@ fn lengths(rt: HostRuntime) {
 #[test]
 fn truncations_and_supernets(rt: HostRuntime) {
     for row in rows(&rt, TRUNCATED, 2) {
-        let [label, network, want] = cells::<3>(&rt, row);
+        let [label, network, want, ..] = cells(&rt, row, 3);
         let network = ip_net(&rt, network);
         let want = ip_net(&rt, want);
         let own = match &network {
@@ -299,7 +299,7 @@ fn truncations_and_supernets(rt: HostRuntime) {
         assert_eq!(rt; network.trunc(), want, "networks: {label}");
     }
     for row in rows(&rt, SUPERNETS, 5) {
-        let [label, network, want] = cells::<3>(&rt, row);
+        let [label, network, want, ..] = cells(&rt, row, 3);
         let network = ip_net(&rt, network);
         let want = if want == "none" {
             None
@@ -318,7 +318,7 @@ fn truncations_and_supernets(rt: HostRuntime) {
 #[test]
 fn siblings(rt: HostRuntime) {
     for row in rows(&rt, SIBLINGS, 7) {
-        let [label, network, other, want] = cells::<4>(&rt, row);
+        let [label, network, other, want, ..] = cells(&rt, row, 4);
         let network = ip_net(&rt, network);
         let other = ip_net(&rt, other);
         let want = want == "true";
@@ -336,7 +336,7 @@ fn siblings(rt: HostRuntime) {
 #[test]
 fn containment(rt: HostRuntime) {
     for row in rows(&rt, NETWORKS_INSIDE, 9) {
-        let [label, network, other, want] = cells::<4>(&rt, row);
+        let [label, network, other, want, ..] = cells(&rt, row, 4);
         let network = ip_net(&rt, network);
         let other = ip_net(&rt, other);
         let want = want == "true";
@@ -349,7 +349,7 @@ fn containment(rt: HostRuntime) {
         assert_eq!(rt; network.contains(&other), want, "networks: {label}");
     }
     for row in rows(&rt, ADDRESSES_INSIDE, 6) {
-        let [label, network, other, want] = cells::<4>(&rt, row);
+        let [label, network, other, want, ..] = cells(&rt, row, 4);
         let network = ip_net(&rt, network);
         let other = ip_addr(&rt, other);
         let want = want == "true";
@@ -366,7 +366,7 @@ fn containment(rt: HostRuntime) {
 #[test]
 fn hosts(rt: HostRuntime) -> Result<(), Fail> {
     for row in rows(&rt, HOSTS, 4) {
-        let [label, network, want] = cells::<3>(&rt, row);
+        let [label, network, want, ..] = cells(&rt, row, 3);
         let network = ip_net(&rt, network);
         let want = ip_addrs(&rt, rt.alloc(), want)?;
         let own: Vec<IpAddr> = match &network {
@@ -403,7 +403,7 @@ fn hosts(rt: HostRuntime) -> Result<(), Fail> {
 #[test]
 fn subnets(rt: HostRuntime) -> Result<(), Fail> {
     for row in rows(&rt, SUBNETS, 10) {
-        let [label, network, prefix_len, want] = cells::<4>(&rt, row);
+        let [label, network, prefix_len, want, ..] = cells(&rt, row, 4);
         let network = ip_net(&rt, network);
         let prefix_len = prefix_len.parse::<u8>().expect(&rt, row);
         let own = match &network {

@@ -15,12 +15,13 @@ pub fn rows(rt: &impl Abort, table: &'static str, count: usize) -> Lines<'static
     table.lines()
 }
 
-/// The cells of a row.
-pub fn cells<const N: usize>(rt: &impl Abort, row: &'static str) -> [&'static str; N] {
-    let mut cells = [""; N];
+/// The cells of a row that has so many, nine at most; those behind them are empty.
+pub fn cells(rt: &impl Abort, row: &'static str, count: usize) -> [&'static str; 9] {
+    assert!(rt; count <= 9);
+    let mut cells = [""; 9];
     let mut parts = row.split('|');
-    for cell in cells.iter_mut() {
-        *cell = parts.next().expect(rt, row).trim();
+    for place in 0..count {
+        cells[place] = parts.next().expect(rt, row).trim();
     }
     assert!(rt; parts.next().is_none(), "too many cells: {row}");
     cells

@@ -105,7 +105,7 @@ fn by_family(network: Option<IpNet>) -> (Option<Ipv4Net>, Option<Ipv6Net>) {
 #[test]
 fn reading(rt: HostRuntime) {
     for row in rows(&rt, READ, 44) {
-        let [label, text, strict, legacy] = cells::<4>(&rt, row);
+        let [label, text, strict, legacy, ..] = cells(&rt, row, 4);
         check(&rt, text, wanted(&rt, strict), wanted(&rt, legacy), label);
     }
     check(&rt, "10.0.0.0/24 ", None, None, "blank behind");
@@ -114,7 +114,7 @@ fn reading(rt: HostRuntime) {
 #[test]
 fn reading_as_one_type(rt: HostRuntime) {
     for row in rows(&rt, BY_TYPE, 3) {
-        let [label, text, ipv4, ipv6, either] = cells::<5>(&rt, row);
+        let [label, text, ipv4, ipv6, either, ..] = cells(&rt, row, 5);
         let want = (wanted(&rt, ipv4), wanted(&rt, ipv6), wanted(&rt, either));
         let strict = (
             text.parse().ok().map(IpNet::V4),
@@ -161,7 +161,7 @@ fn long_texts(rt: HostRuntime) -> Result<(), Fail> {
 #[test]
 fn beginnings(rt: HostRuntime) -> Result<(), Fail> {
     for row in rows(&rt, BEGINNINGS, 3) {
-        let [label, text, count, read] = cells::<4>(&rt, row);
+        let [label, text, count, read, ..] = cells(&rt, row, 4);
         let count = count.parse::<usize>().expect(&rt, row);
         assert_eq!(rt; text.len(), count, "texts: {label}");
         let mut beginning = String::new(rt.alloc());

@@ -51,7 +51,7 @@ fn own_next(walk: &mut IpSubnets) -> Option<IpNet> {
 #[test]
 fn items(rt: HostRuntime) -> Result<(), Fail> {
     for row in rows(&rt, ITEMS, 22) {
-        let [label, start, end, min_prefix_len, want, ends] = cells::<6>(&rt, row);
+        let [label, start, end, min_prefix_len, want, ends, ..] = cells(&rt, row, 6);
         let mut own = ip_walk(&rt, start, end, min_prefix_len);
         let mut either = own;
         for network in ip_nets(&rt, rt.alloc(), want)? {
@@ -73,7 +73,17 @@ fn items(rt: HostRuntime) -> Result<(), Fail> {
 #[test]
 fn counts(rt: HostRuntime) -> Result<(), Fail> {
     for row in rows(&rt, COUNTS, 4) {
-        let [label, start, end, min_prefix_len, count, first, last, ends] = cells::<8>(&rt, row);
+        let [
+            label,
+            start,
+            end,
+            min_prefix_len,
+            count,
+            first,
+            last,
+            ends,
+            ..
+        ] = cells(&rt, row, 8);
         let mut walk = ip_walk(&rt, start, end, min_prefix_len);
         let count = count.parse::<usize>().expect(&rt, row);
         let all: Vec<IpNet> = walk.collect(rt.alloc())?;
