@@ -105,7 +105,7 @@ impl IpAddrRange {
     /// Passes over `n` addresses from the front and gives the next. Where there are no more than `n`, it answers
     /// `None`, and nothing is left.
     ///
-    /// The stored ends of a range of which nothing is left are 1 and 0.
+    /// Where nothing is left the stored ends are 1 and 0, also of a range that had other ends and no address.
     pub fn nth(&mut self, n: usize) -> Option<IpAddr>
         ensures item { option_map ip_address result ≡ slice_get (ip_addresses self.old) n }
         ensures left { ip_addresses self.new ≡ drop (n + 1) (ip_addresses self.old) }
@@ -120,7 +120,7 @@ impl IpAddrRange {
     /// Passes over `n` addresses from the back and gives the next. Where there are no more than `n`, it answers
     /// `None`, and nothing is left.
     ///
-    /// The stored ends of a range of which nothing is left are 1 and 0.
+    /// Where nothing is left the stored ends are 1 and 0, also of a range that had other ends and no address.
     pub fn nth_back(&mut self, n: usize) -> Option<IpAddr>
         ensures item { option_map ip_address result ≡ slice_get (reverse (ip_addresses self.old)) n }
         ensures left { ip_addresses self.new
@@ -149,6 +149,8 @@ impl Iterator for IpAddrRange {
     ghost remaining = { λ r. at_most (address_count (ip_range r)) };
 
     /// The first address that is left, or `None`, then and ever after, if none is.
+    ///
+    /// Behind its only address a range stores the ends 1 and 0; a range with no address keeps its ends.
     fn next(&mut self) -> Option<IpAddr> {
         match self {
             IpAddrRange::V4(range) => range.next().map(IpAddr::V4),
@@ -178,6 +180,8 @@ impl DoubleEndedIterator for IpAddrRange {
     ghost next_back_gives = { GivesLast ip_address ip_range };
 
     /// The last address that is left, or `None`, then and ever after, if none is.
+    ///
+    /// Behind its only address a range stores the ends 1 and 0; a range with no address keeps its ends.
     fn next_back(&mut self) -> Option<IpAddr> {
         match self {
             IpAddrRange::V4(range) => range.next_back().map(IpAddr::V4),

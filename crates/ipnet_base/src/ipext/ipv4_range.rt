@@ -89,7 +89,7 @@ impl Ipv4AddrRange {
     /// Passes over `n` addresses from the front and gives the next. Where there are no more than `n`, it answers
     /// `None`, and nothing is left.
     ///
-    /// The stored ends of a range of which nothing is left are 1 and 0.
+    /// Where nothing is left the stored ends are 1 and 0, also of a range that had other ends and no address.
     pub fn nth(&mut self, n: usize) -> Option<Ipv4Addr>
         ensures item { option_map ipv4_address result ≡ slice_get (ipv4_addresses self.old) n }
         ensures left { ipv4_addresses self.new ≡ drop (n + 1) (ipv4_addresses self.old) }
@@ -112,7 +112,7 @@ impl Ipv4AddrRange {
     /// Passes over `n` addresses from the back and gives the next. Where there are no more than `n`, it answers
     /// `None`, and nothing is left.
     ///
-    /// The stored ends of a range of which nothing is left are 1 and 0.
+    /// Where nothing is left the stored ends are 1 and 0, also of a range that had other ends and no address.
     pub fn nth_back(&mut self, n: usize) -> Option<Ipv4Addr>
         ensures item { option_map ipv4_address result ≡ slice_get (reverse (ipv4_addresses self.old)) n }
         ensures left { ipv4_addresses self.new
@@ -140,7 +140,7 @@ impl Ipv4AddrRange {
         self.start > self.end || n > (self.end - self.start) as usize
     }
 
-    /// Stores the ends of a range of which nothing is left.
+    /// Stores the ends of a range that was walked to its end.
     fn use_up(&mut self)
         ensures { ipv4_range self.new ≡ with_ends (ipv4_range self.old) 1 0 }
     {
@@ -164,6 +164,8 @@ impl Iterator for Ipv4AddrRange {
     ghost remaining = { λ r. at_most (address_count (ipv4_range r)) };
 
     /// The first address that is left, or `None`, then and ever after, if none is.
+    ///
+    /// Behind its only address a range stores the ends 1 and 0; a range with no address keeps its ends.
     fn next(&mut self) -> Option<Ipv4Addr> {
         let first = self.start;
         if first < self.end {
@@ -195,6 +197,8 @@ impl DoubleEndedIterator for Ipv4AddrRange {
     ghost next_back_gives = { GivesLast ipv4_address ipv4_range };
 
     /// The last address that is left, or `None`, then and ever after, if none is.
+    ///
+    /// Behind its only address a range stores the ends 1 and 0; a range with no address keeps its ends.
     fn next_back(&mut self) -> Option<Ipv4Addr> {
         let last = self.end;
         if self.start < last {

@@ -92,7 +92,7 @@ impl Ipv6AddrRange {
     /// Passes over `n` addresses from the front and gives the next. Where there are no more than `n`, it answers
     /// `None`, and nothing is left.
     ///
-    /// The stored ends of a range of which nothing is left are 1 and 0.
+    /// Where nothing is left the stored ends are 1 and 0, also of a range that had other ends and no address.
     pub fn nth(&mut self, n: usize) -> Option<Ipv6Addr>
         ensures item { option_map ipv6_address result ≡ slice_get (ipv6_addresses self.old) n }
         ensures left { ipv6_addresses self.new ≡ drop (n + 1) (ipv6_addresses self.old) }
@@ -115,7 +115,7 @@ impl Ipv6AddrRange {
     /// Passes over `n` addresses from the back and gives the next. Where there are no more than `n`, it answers
     /// `None`, and nothing is left.
     ///
-    /// The stored ends of a range of which nothing is left are 1 and 0.
+    /// Where nothing is left the stored ends are 1 and 0, also of a range that had other ends and no address.
     pub fn nth_back(&mut self, n: usize) -> Option<Ipv6Addr>
         ensures item { option_map ipv6_address result ≡ slice_get (reverse (ipv6_addresses self.old)) n }
         ensures left { ipv6_addresses self.new
@@ -143,7 +143,7 @@ impl Ipv6AddrRange {
         self.start > self.end || n as u128 > self.end - self.start
     }
 
-    /// Stores the ends of a range of which nothing is left.
+    /// Stores the ends of a range that was walked to its end.
     fn use_up(&mut self)
         ensures { ipv6_range self.new ≡ with_ends (ipv6_range self.old) 1 0 }
     {
@@ -167,6 +167,8 @@ impl Iterator for Ipv6AddrRange {
     ghost remaining = { λ r. at_most (address_count (ipv6_range r)) };
 
     /// The first address that is left, or `None`, then and ever after, if none is.
+    ///
+    /// Behind its only address a range stores the ends 1 and 0; a range with no address keeps its ends.
     fn next(&mut self) -> Option<Ipv6Addr> {
         let first = self.start;
         if first < self.end {
@@ -207,6 +209,8 @@ impl DoubleEndedIterator for Ipv6AddrRange {
     ghost next_back_gives = { GivesLast ipv6_address ipv6_range };
 
     /// The last address that is left, or `None`, then and ever after, if none is.
+    ///
+    /// Behind its only address a range stores the ends 1 and 0; a range with no address keeps its ends.
     fn next_back(&mut self) -> Option<Ipv6Addr> {
         let last = self.end;
         if self.start < last {
