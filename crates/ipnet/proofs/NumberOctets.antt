@@ -65,17 +65,18 @@ number_of-bytes_high_first (suc len) n =
     let split = mod-mul n {m = 256} {c = 256 ^ len} (omega arith) above in
     rw (length-bytes_high_first len n, number_of-bytes_high_first len n, byte_at-div len n, pow-succ' 256 len, split) refl
 
--- the groups of a number write it
-pub octets_back : (n : ℕ) → n < 2 ^ 128 → from_be_bytes w128 (octets_of (segments_of (to_be_bytes w128 n))) ≡ n
-unfolding pairs number_of
-octets_back n fits =
-    ap (from_be_bytes w128) (octets_of-segments_of 8 n)
-    ∙ whole
-    ∙ number_of-bytes_high_first 16 n
-    ∙ mod-eq_of_lt fits
+-- the octets of a number write it
+pub number_back : (n : ℕ) → n < 2 ^ 128 → from_be_bytes w128 (to_be_bytes w128 n) ≡ n
+unfolding number_of
+number_back n fits = whole ∙ number_of-bytes_high_first 16 n ∙ mod-eq_of_lt fits
   where
     whole : from_be_bytes w128 (to_be_bytes w128 n) ≡ number_of (to_be_bytes w128 n)
     whole = omega arith
+
+-- the groups of a number write it
+pub octets_back : (n : ℕ) → n < 2 ^ 128 → from_be_bytes w128 (octets_of (segments_of (to_be_bytes w128 n))) ≡ n
+unfolding pairs
+octets_back n fits = ap (from_be_bytes w128) (octets_of-segments_of 8 n) ∙ number_back n fits
 
 -- ---- the number of octets, and the octets again
 
@@ -114,6 +115,28 @@ octets_again bytes sixteen fit whole =
     let e : number_of (to_be_bytes w128 (from_be_bytes w128 bytes)) ≡ number_of bytes =
     ap (λ n. number_of (to_be_bytes w128 n)) whole ∙ number_of-bytes_high_first 16 (number_of bytes) ∙ mod-eq_of_lt low in
     same_octets (to_be_bytes w128 (from_be_bytes w128 bytes)) bytes (sym sixteen) (octet_fits 16 (from_be_bytes w128 bytes)) fit e
+
+-- sixteen octets are those of the number that they write
+pub sixteen_again : (bytes : List ℕ) → length bytes ≡ 16 → ((k : ℕ) → get_or bytes k 0 < 2 ^ 8) → to_be_bytes w128 (from_be_bytes w128 bytes) ≡ bytes
+unfolding number_of AreOctets
+sixteen_again [] sixteen fit = absurd (omega arith)
+sixteen_again (a ∷ []) sixteen fit = absurd (omega arith)
+sixteen_again (a ∷ b ∷ []) sixteen fit = absurd (omega arith)
+sixteen_again (a ∷ b ∷ c ∷ []) sixteen fit = absurd (omega arith)
+sixteen_again (a ∷ b ∷ c ∷ d ∷ []) sixteen fit = absurd (omega arith)
+sixteen_again (a ∷ b ∷ c ∷ d ∷ e ∷ []) sixteen fit = absurd (omega arith)
+sixteen_again (a ∷ b ∷ c ∷ d ∷ e ∷ f ∷ []) sixteen fit = absurd (omega arith)
+sixteen_again (a ∷ b ∷ c ∷ d ∷ e ∷ f ∷ g ∷ []) sixteen fit = absurd (omega arith)
+sixteen_again (a ∷ b ∷ c ∷ d ∷ e ∷ f ∷ g ∷ h ∷ []) sixteen fit = absurd (omega arith)
+sixteen_again (a ∷ b ∷ c ∷ d ∷ e ∷ f ∷ g ∷ h ∷ i ∷ []) sixteen fit = absurd (omega arith)
+sixteen_again (a ∷ b ∷ c ∷ d ∷ e ∷ f ∷ g ∷ h ∷ i ∷ j ∷ []) sixteen fit = absurd (omega arith)
+sixteen_again (a ∷ b ∷ c ∷ d ∷ e ∷ f ∷ g ∷ h ∷ i ∷ j ∷ k ∷ []) sixteen fit = absurd (omega arith)
+sixteen_again (a ∷ b ∷ c ∷ d ∷ e ∷ f ∷ g ∷ h ∷ i ∷ j ∷ k ∷ l ∷ []) sixteen fit = absurd (omega arith)
+sixteen_again (a ∷ b ∷ c ∷ d ∷ e ∷ f ∷ g ∷ h ∷ i ∷ j ∷ k ∷ l ∷ m ∷ []) sixteen fit = absurd (omega arith)
+sixteen_again (a ∷ b ∷ c ∷ d ∷ e ∷ f ∷ g ∷ h ∷ i ∷ j ∷ k ∷ l ∷ m ∷ n ∷ []) sixteen fit = absurd (omega arith)
+sixteen_again (a ∷ b ∷ c ∷ d ∷ e ∷ f ∷ g ∷ h ∷ i ∷ j ∷ k ∷ l ∷ m ∷ n ∷ o ∷ []) sixteen fit = absurd (omega arith)
+sixteen_again (a ∷ b ∷ c ∷ d ∷ e ∷ f ∷ g ∷ h ∷ i ∷ j ∷ k ∷ l ∷ m ∷ n ∷ o ∷ p ∷ []) sixteen fit = octets_again (a ∷ b ∷ c ∷ d ∷ e ∷ f ∷ g ∷ h ∷ i ∷ j ∷ k ∷ l ∷ m ∷ n ∷ o ∷ p ∷ []) refl fit (omega arith)
+sixteen_again (a ∷ b ∷ c ∷ d ∷ e ∷ f ∷ g ∷ h ∷ i ∷ j ∷ k ∷ l ∷ m ∷ n ∷ o ∷ p ∷ q ∷ more) sixteen fit = absurd (omega arith)
 
 -- a group is its two octets
 halves : (g : ℕ) → g / 256 * 256 + g % 256 ≡ g

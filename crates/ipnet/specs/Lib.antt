@@ -8,6 +8,7 @@ pub mod AddressTexts
 pub mod NetworkTexts
 pub mod CanonicalTexts
 pub mod Lines
+pub mod Results
 pub mod Bytes
 pub mod JsonTexts
 pub mod Reading
@@ -18,3 +19,6 @@ pub use Rattle.ipnet_base.specs.Network
 pub use Rattle.ipnet_base.specs.Blocks
 pub use Rattle.ipnet_base.specs.Subnets
 pub use Rattle.ipnet_base.specs.Masks
+pub use Rattle.ipnet_base.specs.Ranges
+pub use Rattle.ipnet_base.specs.RangeOf
+pub use Rattle.ipnet_base.specs.Arithmetic

@@ -1,10 +1,9 @@
 //! Ranges of IPv4 addresses.
 ghost use Rattle.std.specs.Prelude.{◌≡◌, ◌+◌, ◌-◌, ◌^◌, ◌<◌, ◌≤◌, ◌↔◌, IsTrue, option_map, slice_get, drop, take, reverse};
 ghost use Rattle.std.specs.Option.{SomeIff};
-ghost use Rattle.std.specs.Ordering.{MatchOrdering};
 ghost use Rattle.std.specs.Net.Addr.{ipv4_bits};
 ghost use Rattle.ipnet_base.specs.Address.{ipv4_address};
-ghost use Rattle.ipnet_base.specs.Ranges.{address_at, address_count, with_ends, IsNth, IsNthBack, IsRangeBefore};
+ghost use Rattle.ipnet_base.specs.Ranges.{address_at, address_count, with_ends, IsNth, IsNthBack};
 
 use crate::addr::{Ipv4Addr, ipv4_from_number};
 use std::iter::FusedIterator;
@@ -13,6 +12,14 @@ use std::iter::FusedIterator;
 /// order from the back.
 ///
 /// Two ranges are equal, and ordered, by their stored ends, and not by the addresses that they still give.
+///
+/// ```text
+/// from 10.0.0.0 to 10.0.0.3:
+///     next()        10.0.0.0, leaves 10.0.0.1 to 10.0.0.3
+///     next_back()   10.0.0.3, leaves 10.0.0.1 to 10.0.0.2
+///     nth(1)        10.0.0.2, and nothing is left
+///     next()        None, then and ever after
+/// ```
 #[derive(Clone, Copy, PartialEq, Eq, PartialOrd, Ord, Hash, Debug)]
 pub struct Ipv4AddrRange {
     start: u32,
@@ -88,7 +95,8 @@ impl Ipv4AddrRange {
         ensures left { ipv4_addresses self.new ≡ drop (n + 1) (ipv4_addresses self.old) }
         ensures ends { IsNth n (ipv4_range self.old) (option_map ipv4_address result) (ipv4_range self.new) }
     {
-        if self.start > self.end || n > (self.end - self.start) as usize {
+        let past_end = self.has_at_most(n);
+        if past_end {
             self.use_up();
             return None;
         }
@@ -111,7 +119,8 @@ impl Ipv4AddrRange {
             ≡ take (address_count (ipv4_range self.old) - (n + 1)) (ipv4_addresses self.old) }
         ensures ends { IsNthBack n (ipv4_range self.old) (option_map ipv4_address result) (ipv4_range self.new) }
     {
-        if self.start > self.end || n > (self.end - self.start) as usize {
+        let past_start = self.has_at_most(n);
+        if past_start {
             self.use_up();
             return None;
         }
@@ -122,6 +131,13 @@ impl Ipv4AddrRange {
             self.use_up();
         }
         Some(ipv4_from_number(item))
+    }
+
+    /// Whether no more than `n` addresses are left.
+    fn has_at_most(&self, n: usize) -> bool
+        ensures { IsTrue result ↔ (address_count (ipv4_range self.now) ≤ n) }
+    {
+        self.start > self.end || n > (self.end - self.start) as usize
     }
 
     /// Stores the ends of a range of which nothing is left.
@@ -136,32 +152,28 @@ impl Ipv4AddrRange {
 impl Iterator for Ipv4AddrRange {
     type Item = Ipv4Addr;
 
-    ghost use Rattle.std.specs.Prelude.{⊤, IfSome, option_map};
-    ghost use Rattle.std.specs.Iterator.{YieldsFirstBy, MakesProgress, UpTo, at_most};
+    ghost use Rattle.std.specs.Prelude.{◌+◌, ◌-◌, IfSome};
+    ghost use Rattle.std.specs.Iterator.{UpTo, at_most};
     ghost use Rattle.std.specs.Iterator.SizeHint.{IsWithinCount, IsExactHint};
     ghost use Rattle.ipnet_base.specs.Address.{ipv4_address};
-    ghost use Rattle.ipnet_base.specs.Ranges.{address_count, IsNext};
-    ghost use Rattle.ipnet_base.specs.RangeOf.{ipv4_range, ipv4_addresses};
+    ghost use Rattle.ipnet_base.specs.Ranges.{address_count, GivesFirst};
+    ghost use Rattle.ipnet_base.specs.RangeOf.{ipv4_range};
 
-    ghost next_gives = { YieldsFirstBy ipv4_address ipv4_addresses };
+    ghost next_gives = { GivesFirst ipv4_address ipv4_range };
 
     ghost remaining = { λ r. at_most (address_count (ipv4_range r)) };
 
     /// The first address that is left, or `None`, then and ever after, if none is.
-    fn next(&mut self) -> Option<Ipv4Addr>
-        ensures steps { YieldsFirstBy ipv4_address ipv4_addresses self.old result self.new }
-        ensures goes { MakesProgress (λ _. ⊤) (λ r. at_most (address_count (ipv4_range r))) self.old result self.new }
-        ensures ends { IsNext (ipv4_range self.old) (option_map ipv4_address result) (ipv4_range self.new) }
-    {
-        let item = self.start;
-        if item < self.end {
-            self.start = item + 1;
-        } else if item == self.end {
+    fn next(&mut self) -> Option<Ipv4Addr> {
+        let first = self.start;
+        if first < self.end {
+            self.start = first + 1;
+        } else if first == self.end {
             self.use_up();
         } else {
             return None;
         }
-        Some(ipv4_from_number(item))
+        Some(ipv4_from_number(first))
     }
 
     /// The count of the addresses that are left, as both bounds: it always fits.
@@ -176,29 +188,23 @@ impl Iterator for Ipv4AddrRange {
 }
 
 impl DoubleEndedIterator for Ipv4AddrRange {
-    ghost use Rattle.std.specs.Prelude.{⊤, option_map};
-    ghost use Rattle.std.specs.Iterator.{YieldsLastBy, MakesProgress, at_most};
     ghost use Rattle.ipnet_base.specs.Address.{ipv4_address};
-    ghost use Rattle.ipnet_base.specs.Ranges.{address_count, IsNextBack};
-    ghost use Rattle.ipnet_base.specs.RangeOf.{ipv4_range, ipv4_addresses};
+    ghost use Rattle.ipnet_base.specs.Ranges.{GivesLast};
+    ghost use Rattle.ipnet_base.specs.RangeOf.{ipv4_range};
 
-    ghost next_back_gives = { YieldsLastBy ipv4_address ipv4_addresses };
+    ghost next_back_gives = { GivesLast ipv4_address ipv4_range };
 
     /// The last address that is left, or `None`, then and ever after, if none is.
-    fn next_back(&mut self) -> Option<Ipv4Addr>
-        ensures steps { YieldsLastBy ipv4_address ipv4_addresses self.old result self.new }
-        ensures goes { MakesProgress (λ _. ⊤) (λ r. at_most (address_count (ipv4_range r))) self.old result self.new }
-        ensures ends { IsNextBack (ipv4_range self.old) (option_map ipv4_address result) (ipv4_range self.new) }
-    {
-        let item = self.end;
-        if self.start < item {
-            self.end = item - 1;
-        } else if self.start == item {
+    fn next_back(&mut self) -> Option<Ipv4Addr> {
+        let last = self.end;
+        if self.start < last {
+            self.end = last - 1;
+        } else if self.start == last {
             self.use_up();
         } else {
             return None;
         }
-        Some(ipv4_from_number(item))
+        Some(ipv4_from_number(last))
     }
 }
 

@@ -1,10 +1,9 @@
 //! Ranges of IPv6 addresses.
 ghost use Rattle.std.specs.Prelude.{◌≡◌, ◌+◌, ◌-◌, ◌^◌, ◌<◌, ◌≤◌, ◌↔◌, IsTrue, option_map, slice_get, drop, take, reverse};
 ghost use Rattle.std.specs.Option.{SomeIff};
-ghost use Rattle.std.specs.Ordering.{MatchOrdering};
 ghost use Rattle.std.specs.Net.Addr.{ipv6_bits};
 ghost use Rattle.ipnet_base.specs.Address.{ipv6_address};
-ghost use Rattle.ipnet_base.specs.Ranges.{address_at, address_count, with_ends, IsNth, IsNthBack, IsRangeBefore};
+ghost use Rattle.ipnet_base.specs.Ranges.{address_at, address_count, with_ends, IsNth, IsNthBack};
 
 use crate::addr::{Ipv6Addr, ipv6_from_number};
 use std::iter::FusedIterator;
@@ -13,6 +12,14 @@ use std::iter::FusedIterator;
 /// order from the back.
 ///
 /// Two ranges are equal, and ordered, by their stored ends, and not by the addresses that they still give.
+///
+/// ```text
+/// from fd00:: to fd00::3:
+///     next()        fd00::, leaves fd00::1 to fd00::3
+///     next_back()   fd00::3, leaves fd00::1 to fd00::2
+///     nth(1)        fd00::2, and nothing is left
+///     next()        None, then and ever after
+/// ```
 #[derive(Clone, Copy, PartialEq, Eq, PartialOrd, Ord, Hash, Debug)]
 pub struct Ipv6AddrRange {
     start: u128,
@@ -91,7 +98,8 @@ impl Ipv6AddrRange {
         ensures left { ipv6_addresses self.new ≡ drop (n + 1) (ipv6_addresses self.old) }
         ensures ends { IsNth n (ipv6_range self.old) (option_map ipv6_address result) (ipv6_range self.new) }
     {
-        if self.start > self.end || n as u128 > self.end - self.start {
+        let past_end = self.has_at_most(n);
+        if past_end {
             self.use_up();
             return None;
         }
@@ -114,7 +122,8 @@ impl Ipv6AddrRange {
             ≡ take (address_count (ipv6_range self.old) - (n + 1)) (ipv6_addresses self.old) }
         ensures ends { IsNthBack n (ipv6_range self.old) (option_map ipv6_address result) (ipv6_range self.new) }
     {
-        if self.start > self.end || n as u128 > self.end - self.start {
+        let past_start = self.has_at_most(n);
+        if past_start {
             self.use_up();
             return None;
         }
@@ -125,6 +134,13 @@ impl Ipv6AddrRange {
             self.use_up();
         }
         Some(ipv6_from_number(item))
+    }
+
+    /// Whether no more than `n` addresses are left.
+    fn has_at_most(&self, n: usize) -> bool
+        ensures { IsTrue result ↔ (address_count (ipv6_range self.now) ≤ n) }
+    {
+        self.start > self.end || n as u128 > self.end - self.start
     }
 
     /// Stores the ends of a range of which nothing is left.
@@ -139,32 +155,28 @@ impl Ipv6AddrRange {
 impl Iterator for Ipv6AddrRange {
     type Item = Ipv6Addr;
 
-    ghost use Rattle.std.specs.Prelude.{⊤, IfSome, option_map};
-    ghost use Rattle.std.specs.Iterator.{YieldsFirstBy, MakesProgress, UpTo, at_most};
+    ghost use Rattle.std.specs.Prelude.{◌+◌, ◌-◌, IfSome};
+    ghost use Rattle.std.specs.Iterator.{UpTo, at_most};
     ghost use Rattle.std.specs.Iterator.SizeHint.{IsWithinCount, IsExactHint};
     ghost use Rattle.ipnet_base.specs.Address.{ipv6_address};
-    ghost use Rattle.ipnet_base.specs.Ranges.{address_count, IsNext};
-    ghost use Rattle.ipnet_base.specs.RangeOf.{ipv6_range, ipv6_addresses};
+    ghost use Rattle.ipnet_base.specs.Ranges.{address_count, GivesFirst};
+    ghost use Rattle.ipnet_base.specs.RangeOf.{ipv6_range};
 
-    ghost next_gives = { YieldsFirstBy ipv6_address ipv6_addresses };
+    ghost next_gives = { GivesFirst ipv6_address ipv6_range };
 
     ghost remaining = { λ r. at_most (address_count (ipv6_range r)) };
 
     /// The first address that is left, or `None`, then and ever after, if none is.
-    fn next(&mut self) -> Option<Ipv6Addr>
-        ensures steps { YieldsFirstBy ipv6_address ipv6_addresses self.old result self.new }
-        ensures goes { MakesProgress (λ _. ⊤) (λ r. at_most (address_count (ipv6_range r))) self.old result self.new }
-        ensures ends { IsNext (ipv6_range self.old) (option_map ipv6_address result) (ipv6_range self.new) }
-    {
-        let item = self.start;
-        if item < self.end {
-            self.start = item + 1;
-        } else if item == self.end {
+    fn next(&mut self) -> Option<Ipv6Addr> {
+        let first = self.start;
+        if first < self.end {
+            self.start = first + 1;
+        } else if first == self.end {
             self.use_up();
         } else {
             return None;
         }
-        Some(ipv6_from_number(item))
+        Some(ipv6_from_number(first))
     }
 
     /// The count of the addresses that are left, as both bounds, or `(usize::MAX, None)` where no `usize` holds
@@ -188,29 +200,23 @@ impl Iterator for Ipv6AddrRange {
 }
 
 impl DoubleEndedIterator for Ipv6AddrRange {
-    ghost use Rattle.std.specs.Prelude.{⊤, option_map};
-    ghost use Rattle.std.specs.Iterator.{YieldsLastBy, MakesProgress, at_most};
     ghost use Rattle.ipnet_base.specs.Address.{ipv6_address};
-    ghost use Rattle.ipnet_base.specs.Ranges.{address_count, IsNextBack};
-    ghost use Rattle.ipnet_base.specs.RangeOf.{ipv6_range, ipv6_addresses};
+    ghost use Rattle.ipnet_base.specs.Ranges.{GivesLast};
+    ghost use Rattle.ipnet_base.specs.RangeOf.{ipv6_range};
 
-    ghost next_back_gives = { YieldsLastBy ipv6_address ipv6_addresses };
+    ghost next_back_gives = { GivesLast ipv6_address ipv6_range };
 
     /// The last address that is left, or `None`, then and ever after, if none is.
-    fn next_back(&mut self) -> Option<Ipv6Addr>
-        ensures steps { YieldsLastBy ipv6_address ipv6_addresses self.old result self.new }
-        ensures goes { MakesProgress (λ _. ⊤) (λ r. at_most (address_count (ipv6_range r))) self.old result self.new }
-        ensures ends { IsNextBack (ipv6_range self.old) (option_map ipv6_address result) (ipv6_range self.new) }
-    {
-        let item = self.end;
-        if self.start < item {
-            self.end = item - 1;
-        } else if self.start == item {
+    fn next_back(&mut self) -> Option<Ipv6Addr> {
+        let last = self.end;
+        if self.start < last {
+            self.end = last - 1;
+        } else if self.start == last {
             self.use_up();
         } else {
             return None;
         }
-        Some(ipv6_from_number(item))
+        Some(ipv6_from_number(last))
     }
 }
 

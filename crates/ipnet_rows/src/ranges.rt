@@ -1,0 +1,206 @@
+//! Rows on ranges: answers, and stored ends as equality with a range that `new` makes of them.
+//!
+//! Each row is asked of the range type of its family and of `IpAddrRange` alike.
+use crate::table::{cells, ip_addr, ip_range, rows};
+use ipnet::IpAddrRange;
+use std::net::IpAddr;
+use std::process::Abort;
+use std::test::Fail;
+
+const IN_TURN: &str = "
+nth first                            | 10.0.0.0 | 10.0.0.3 | nth(0) | 10.0.0.0 | 10.0.0.1, 10.0.0.3
+nth last                             | 10.0.0.0 | 10.0.0.3 | nth(3) | 10.0.0.3 | 0.0.0.1, 0.0.0.0
+nth past                             | 10.0.0.0 | 10.0.0.3 | nth(4) | None | 0.0.0.1, 0.0.0.0
+nth in turn                          | 10.0.0.0 | 10.0.0.3 | nth(1), nth(1), nth(0) | 10.0.0.1, 10.0.0.3, None | 0.0.0.1, 0.0.0.0
+nth in turn, IPv6                    | fd00:: | fd00::3 | nth(1), nth(1), nth(0) | fd00::1, fd00::3, None | ::1, ::
+next after nth past                  | 10.0.0.0 | 10.0.0.3 | nth(99), next() | None, None | 0.0.0.1, 0.0.0.0
+nth_back first                       | 10.0.0.0 | 10.0.0.3 | nth_back(0) | 10.0.0.3 | 10.0.0.0, 10.0.0.2
+nth_back last                        | 10.0.0.0 | 10.0.0.3 | nth_back(3) | 10.0.0.0 | 0.0.0.1, 0.0.0.0
+nth_back past                        | 10.0.0.0 | 10.0.0.3 | nth_back(4) | None | 0.0.0.1, 0.0.0.0
+nth_back in turn                     | 10.0.0.0 | 10.0.0.3 | nth_back(1), nth_back(1), nth_back(0) | 10.0.0.2, 10.0.0.0, None | 0.0.0.1, 0.0.0.0
+next after nth_back past             | 10.0.0.0 | 10.0.0.3 | nth_back(99), next() | None, None | 0.0.0.1, 0.0.0.0
+next after nth_back past, IPv6       | fd00:: | fd00::3 | nth_back(99), next() | None, None | ::1, ::
+from both ends                       | 10.0.0.0 | 10.0.0.3 | next(), next_back(), next(), next_back(), next() | 10.0.0.0, 10.0.0.3, 10.0.0.1, 10.0.0.2, None | 0.0.0.1, 0.0.0.0
+all of four                          | 10.0.0.0 | 10.0.0.3 | next(), next(), next(), next(), next() | 10.0.0.0, 10.0.0.1, 10.0.0.2, 10.0.0.3, None | 0.0.0.1, 0.0.0.0
+all of four from the back            | 10.0.0.0 | 10.0.0.3 | next_back(), next_back(), next_back(), next_back(), next_back() | 10.0.0.3, 10.0.0.2, 10.0.0.1, 10.0.0.0, None | 0.0.0.1, 0.0.0.0
+nth_back in turn, IPv6               | fd00:: | fd00::3 | nth_back(1), nth_back(1), nth_back(0) | fd00::2, fd00::, None | ::1, ::
+the address 0 alone                  | 0.0.0.0 | 0.0.0.0 | next(), next() | 0.0.0.0, None | 0.0.0.1, 0.0.0.0
+the address 0 alone, IPv6            | :: | :: | next(), next() | ::, None | ::1, ::
+next of an empty range               | 0.0.0.5 | 0.0.0.3 | next() | None | 0.0.0.5, 0.0.0.3
+nth of an empty range                | 0.0.0.5 | 0.0.0.3 | nth(0) | None | 0.0.0.1, 0.0.0.0
+last of all IPv4 addresses           | 0.0.0.0 | 255.255.255.255 | nth(4294967295) | 255.255.255.255 | 0.0.0.1, 0.0.0.0
+the two greatest, IPv4               | 255.255.255.254 | 255.255.255.255 | next(), next_back(), next() | 255.255.255.254, 255.255.255.255, None | 0.0.0.1, 0.0.0.0
+the two greatest, IPv6               | ffff:ffff:ffff:ffff:ffff:ffff:ffff:fffe | ffff:ffff:ffff:ffff:ffff:ffff:ffff:ffff | next(), next(), next() | ffff:ffff:ffff:ffff:ffff:ffff:ffff:fffe, ffff:ffff:ffff:ffff:ffff:ffff:ffff:ffff, None | ::1, ::
+far into all IPv6 addresses          | :: | ffff:ffff:ffff:ffff:ffff:ffff:ffff:ffff | nth(18446744073709551615) | ::ffff:ffff:ffff:ffff | 0:0:0:1::, ffff:ffff:ffff:ffff:ffff:ffff:ffff:ffff
+far back from all IPv6 addresses     | :: | ffff:ffff:ffff:ffff:ffff:ffff:ffff:ffff | nth_back(18446744073709551615) | ffff:ffff:ffff:ffff:: | ::, ffff:ffff:ffff:fffe:ffff:ffff:ffff:ffff
+all of four, IPv6                    | fd00:: | fd00::3 | next(), next(), next(), next(), next() | fd00::, fd00::1, fd00::2, fd00::3, None | ::1, ::
+";
+
+/// The start, the end, the size hint, the count or `not allowed`, the least and the greatest address.
+const WHOLE: &str = "
+whole calls on four                  | 10.0.0.0 | 10.0.0.3                                | (4, Some(4)) | 4 | Some(10.0.0.0) | Some(10.0.0.3)
+whole calls on four, IPv6            | fd00::   | fd00::3                                 | (4, Some(4)) | 4 | Some(fd00::) | Some(fd00::3)
+whole calls on none                  | 0.0.0.5  | 0.0.0.3                                 | (0, Some(0)) | 0 | None | None
+whole calls on one                   | ::       | ::                                      | (1, Some(1)) | 1 | Some(::) | Some(::)
+whole calls on all IPv4 addresses    | 0.0.0.0  | 255.255.255.255                         | (4294967296, Some(4294967296)) | 4294967296 | Some(0.0.0.0) | Some(255.255.255.255)
+greatest count                       | ::       | ::ffff:ffff:ffff:fffe                   | (18446744073709551615, Some(18446744073709551615)) | 18446744073709551615 | Some(::) | Some(::ffff:ffff:ffff:fffe)
+one past the greatest count          | ::       | ::ffff:ffff:ffff:ffff                   | (18446744073709551615, None) | not allowed | Some(::) | Some(::ffff:ffff:ffff:ffff)
+half of all IPv6 addresses and one   | ::       | 8000::                                  | (18446744073709551615, None) | not allowed | Some(::) | Some(8000::)
+whole calls on all IPv6 addresses    | ::       | ffff:ffff:ffff:ffff:ffff:ffff:ffff:ffff | (18446744073709551615, None) | not allowed | Some(::) | Some(ffff:ffff:ffff:ffff:ffff:ffff:ffff:ffff)
+";
+
+/// What the call of this text answers, by the type of the range's family.
+fn own_answer(rt: &impl Abort, range: &mut IpAddrRange, call: &str) -> Option<IpAddr> {
+    let (name, rest) = call.split_once('(').expect(rt, call);
+    let n = rest.strip_suffix(')').expect(rt, call).parse().unwrap_or(0);
+    match range {
+        IpAddrRange::V4(range) => match name {
+            "next" => range.next().map(IpAddr::V4),
+            "next_back" => range.next_back().map(IpAddr::V4),
+            "nth" => range.nth(n).map(IpAddr::V4),
+            "nth_back" => range.nth_back(n).map(IpAddr::V4),
+            _ => panic!(rt; "no such call: {call}"),
+        },
+        IpAddrRange::V6(range) => match name {
+            "next" => range.next().map(IpAddr::V6),
+            "next_back" => range.next_back().map(IpAddr::V6),
+            "nth" => range.nth(n).map(IpAddr::V6),
+            "nth_back" => range.nth_back(n).map(IpAddr::V6),
+            _ => panic!(rt; "no such call: {call}"),
+        },
+    }
+}
+
+/// What the call of this text answers, by `IpAddrRange`.
+fn answer(rt: &impl Abort, range: &mut IpAddrRange, call: &str) -> Option<IpAddr> {
+    let (name, rest) = call.split_once('(').expect(rt, call);
+    let n = rest.strip_suffix(')').expect(rt, call).parse().unwrap_or(0);
+    match name {
+        "next" => range.next(),
+        "next_back" => range.next_back(),
+        "nth" => range.nth(n),
+        "nth_back" => range.nth_back(n),
+        _ => panic!(rt; "no such call: {call}"),
+    }
+}
+
+/// The address in `Some(..)`, or none where the text is `None`.
+fn wanted(rt: &impl Abort, text: &str) -> Option<IpAddr> {
+    if text == "None" {
+        return None;
+    }
+    let address = text
+        .strip_prefix("Some(")
+        .and_then(|text| text.strip_suffix(')'));
+    Some(ip_addr(rt, address.expect(rt, text)))
+}
+
+#[test]
+fn calls_in_turn(rt: HostRuntime) {
+    for row in rows(&rt, IN_TURN, 26) {
+        let [label, start, end, calls, answers, ends, ..] = cells(&rt, row, 6);
+        let mut own = ip_range(&rt, start, end);
+        let mut either = own;
+        let mut answers = answers.split(", ");
+        for call in calls.split(", ") {
+            let want = answers.next().expect(&rt, row);
+            let want = if want == "None" {
+                None
+            } else {
+                Some(ip_addr(&rt, want))
+            };
+            assert_eq!(rt; own_answer(&rt, &mut own, call), want, "ranges: {label}");
+            assert_eq!(rt; answer(&rt, &mut either, call), want, "ranges: {label}");
+        }
+        assert!(rt; answers.next().is_none(), "ranges: {label}");
+        let (start, end) = ends.split_once(", ").expect(&rt, row);
+        let left = ip_range(&rt, start, end);
+        assert_eq!(rt; own, left, "ranges: {label}");
+        assert_eq!(rt; either, left, "ranges: {label}");
+    }
+}
+
+#[test]
+fn whole_ranges(rt: HostRuntime) -> Result<(), Fail> {
+    for row in rows(&rt, WHOLE, 9) {
+        let [label, start, end, hint, count, least, greatest, ..] = cells(&rt, row, 7);
+        let range = ip_range(&rt, start, end);
+        let least = wanted(&rt, least);
+        let greatest = wanted(&rt, greatest);
+        let (own_hint, own_ends) = match range {
+            IpAddrRange::V4(range) => {
+                let ends = (range.min(), range.max(), range.last());
+                (
+                    range.size_hint(),
+                    (
+                        ends.0.map(IpAddr::V4),
+                        ends.1.map(IpAddr::V4),
+                        ends.2.map(IpAddr::V4),
+                    ),
+                )
+            }
+            IpAddrRange::V6(range) => {
+                let ends = (range.min(), range.max(), range.last());
+                (
+                    range.size_hint(),
+                    (
+                        ends.0.map(IpAddr::V6),
+                        ends.1.map(IpAddr::V6),
+                        ends.2.map(IpAddr::V6),
+                    ),
+                )
+            }
+        };
+        assert_eq!(rt;
+            format!(in rt.alloc(); "{:?}", own_hint)?.as_str(),
+            hint,
+            "ranges: {label}"
+        );
+        assert_eq!(rt;
+            format!(in rt.alloc(); "{:?}", range.size_hint())?.as_str(),
+            hint,
+            "ranges: {label}"
+        );
+        assert_eq!(rt; own_ends, (least, greatest, greatest), "ranges: {label}");
+        assert_eq!(rt;
+            (range.min(), range.max(), range.last()),
+            (least, greatest, greatest),
+            "ranges: {label}"
+        );
+        let Ok(count) = count.parse::<usize>() else {
+            assert_eq!(rt; count, "not allowed", "ranges: {label}");
+            continue;
+        };
+        assert_eq!(rt; count_of(&rt, range), count, "ranges: {label}");
+    }
+    Ok(())
+}
+
+/// The count by the type of the range's family, which is that by `IpAddrRange`.
+fn count_of(rt: &impl Abort, range: IpAddrRange) -> usize {
+    let (_, Some(_)) = range.size_hint() else {
+        panic!(rt; "the count does not fit");
+    };
+    let own = match range {
+        IpAddrRange::V4(range) => range.count(),
+        IpAddrRange::V6(range) => range.count(),
+    };
+    assert_eq!(rt; range.count(), own);
+    own
+}
+
+#[test]
+fn empty_ranges(rt: HostRuntime) {
+    let empty = ip_range(&rt, "0.0.0.5", "0.0.0.3");
+    let mut after_next = empty;
+    assert_eq!(rt; after_next.next(), None);
+    assert_eq!(rt; after_next == empty, true, "ranges: empty, after next");
+    let mut after_nth = empty;
+    assert_eq!(rt; after_nth.nth(0), None);
+    assert_eq!(rt; after_nth == empty, false, "ranges: empty, after nth");
+    assert_eq!(rt;
+        empty == ip_range(&rt, "0.0.0.1", "0.0.0.0"),
+        false,
+        "ranges: two empty ranges"
+    );
+}

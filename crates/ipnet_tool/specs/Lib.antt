@@ -1,0 +1,5 @@
+-- What the contracts of this crate cite.
+pub mod Answers
+pub mod Runs
+pub mod Families
+pub mod Statuses

@@ -1,0 +1,37 @@
+//! Reads networks from standard input, one a line, and prints the shortest list of the same addresses.
+#![tactic(auto)]
+
+pub mod program;
+pub mod tool;
+
+use crate::program::{Fault, run, told};
+use std::env;
+use std::io::ErrorKind;
+use std::process::ExitCode;
+
+fn main(rt: HostRuntime) -> ExitCode {
+    let mut faults = rt.stderr();
+    let status = match arguments(&rt) {
+        Ok(args) => run(
+            rt.alloc(),
+            args.as_slice(),
+            &mut rt.stdin(),
+            &mut rt.stdout(),
+            &mut faults,
+        ),
+        Err(fault) => told(&mut faults, fault),
+    };
+    ExitCode::from(status)
+}
+
+/// The arguments, without the program's own name. One that is not UTF-8 is refused as any other word is.
+fn arguments(rt: &HostRuntime) -> Result<Vec<String>, Fault> {
+    match env::args(rt) {
+        Ok(args) => {
+            let words = args.skip(1).collect::<Vec<String>>(rt.alloc());
+            words.map_err(|_| Fault::Memory)
+        }
+        Err(error) if error.kind() == ErrorKind::OutOfMemory => Err(Fault::Memory),
+        Err(_) => Err(Fault::Arguments),
+    }
+}
