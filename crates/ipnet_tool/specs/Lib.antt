@@ -2,3 +2,4 @@
 pub mod Answers
 pub mod Runs
 pub mod Families
+pub mod Statuses

@@ -4,23 +4,34 @@
 pub mod program;
 pub mod tool;
 
+use crate::program::{Fault, run, told};
 use std::env;
+use std::io::ErrorKind;
 use std::process::ExitCode;
 
 fn main(rt: HostRuntime) -> ExitCode {
-    let alloc = rt.alloc();
-    let Ok(args) = env::args(&rt) else {
-        return ExitCode::from(3);
+    let mut faults = rt.stderr();
+    let status = match arguments(&rt) {
+        Ok(args) => run(
+            rt.alloc(),
+            args.as_slice(),
+            &mut rt.stdin(),
+            &mut rt.stdout(),
+            &mut faults,
+        ),
+        Err(fault) => told(&mut faults, fault),
     };
-    let Ok(args) = args.skip(1).collect::<Vec<String>>(alloc) else {
-        return ExitCode::from(3);
-    };
-    let status = program::run(
-        alloc,
-        args.as_slice(),
-        &mut rt.stdin(),
-        &mut rt.stdout(),
-        &mut rt.stderr(),
-    );
     ExitCode::from(status)
+}
+
+/// The arguments, without the program's own name. One that is not UTF-8 is refused as any other word is.
+fn arguments(rt: &HostRuntime) -> Result<Vec<String>, Fault> {
+    match env::args(rt) {
+        Ok(args) => {
+            let words = args.skip(1).collect::<Vec<String>>(rt.alloc());
+            words.map_err(|_| Fault::Memory)
+        }
+        Err(error) if error.kind() == ErrorKind::OutOfMemory => Err(Fault::Memory),
+        Err(_) => Err(Fault::Arguments),
+    }
 }

@@ -1,23 +1,50 @@
 //! The program, over any reader and writers.
-ghost use Rattle.std.specs.Prelude.{◌≡◌, ◌<◌, ◌↔◌, ◌⊎◌, ◌∷◌, [], String, length, string_bytes, codes, IfOk, IfErr, IfSome, IfNone, OnOk};
-ghost use Rattle.std.specs.Io.KnownBytes.{Appends, Consumes, IsAtEnd, Keeps};
+ghost use Rattle.std.specs.Prelude.{◌≡◌, ◌⊎◌, ◌↔◌, IfOk, IfErr, IfSome, IfNone, OnOk};
+ghost use Rattle.std.specs.Io.KnownBytes.{Consumes, IsAtEnd, Keeps};
 ghost use Rattle.ipnet.specs.Grammar.{Grammar};
 ghost use Rattle.ipnet_tool.specs.Families.{grammar_of};
 ghost use Rattle.ipnet_tool.specs.Runs.{IsChosenBy, IsAnswered, HasBadLine};
+ghost use Rattle.ipnet_tool.specs.Statuses.{status_of};
 
 use crate::tool::{Reading, ToolError, answer_to};
 use std::alloc::Global;
 use std::io::{ErrorKind, Read, Write};
 use std::str;
+use thiserror::Error;
 
-/// How many bytes are asked for in one read, and gathered before a write.
+/// How many bytes are asked for in one read.
 const PIECE: usize = 65536;
 
-/// Why the input is not there.
-#[derive(Clone, Copy, Drop)]
-enum InputFault {
+/// Why a run writes no answer, or not the whole of it.
+#[derive(Clone, Copy, Debug, Drop, Error)]
+pub(crate) enum Fault {
+    #[error("ipnet: takes no argument or the word legacy")]
+    Arguments,
+    #[error("ipnet: input cannot be read")]
     Unreadable,
+    #[error("ipnet: input is not UTF-8")]
+    NotUtf8,
+    #[error("ipnet: out of memory")]
     Memory,
+    #[error("line {0}: invalid IP address syntax")]
+    Line(usize),
+    #[error("ipnet: output cannot be written")]
+    Unwritable,
+}
+
+impl Fault {
+    ghost use Rattle.ipnet_tool.specs.Statuses.{status_of};
+
+    /// The exit status that tells of this fault.
+    fn status(self) -> u8
+        ensures { result ≡ status_of self }
+    {
+        match self {
+            Fault::Line(_) => 1,
+            Fault::Arguments => 2,
+            Fault::Unreadable | Fault::NotUtf8 | Fault::Memory | Fault::Unwritable => 3,
+        }
+    }
 }
 
 /// Runs the program, and answers its exit status.
@@ -50,24 +77,24 @@ pub fn run<R: Read, W: Write, X: Write>(
     ensures bad_line { result ≡ 1 → HasBadLine args.now (R.remaining input.old) (R.remaining input.new) }
 {
     let Some(reading) = chosen(args) else {
-        return told(faults, 2, "ipnet: takes no argument or the word legacy\n");
+        return told(faults, Fault::Arguments);
     };
     let bytes = match read_all(alloc, input) {
         Ok(bytes) => bytes,
-        Err(InputFault::Unreadable) => return told(faults, 3, "ipnet: input cannot be read\n"),
-        Err(InputFault::Memory) => return told(faults, 3, "ipnet: out of memory\n"),
+        Err(fault) => return told(faults, fault),
     };
     let Ok(text) = str::from_utf8(bytes.as_slice()) else {
-        return told(faults, 3, "ipnet: input is not UTF-8\n");
+        return told(faults, Fault::NotUtf8);
     };
-    match answer_to(alloc, text, reading) {
-        Ok(answer) => written(out, faults, answer.as_bytes()),
-        Err(ToolError::Memory) => told(faults, 3, "ipnet: out of memory\n"),
-        Err(ToolError::Line(number)) => {
-            let _ = writeln!(faults, "{}", ToolError::Line(number));
-            1
-        }
+    let answer = match answer_to(alloc, text, reading) {
+        Ok(answer) => answer,
+        Err(ToolError::Line(number)) => return told(faults, Fault::Line(number)),
+        Err(ToolError::Memory) => return told(faults, Fault::Memory),
+    };
+    if out.write_all(answer.as_bytes()).is_err() || out.flush().is_err() {
+        return told(faults, Fault::Unwritable);
     }
+    0
 }
 
 /// The grammar that the arguments choose.
@@ -82,62 +109,36 @@ fn chosen(args: &[String]) -> Option<Reading>
     }
 }
 
-/// Tells a fault, if that can be written, and answers the status.
-fn told<X: Write>(faults: &mut X, status: u8, text: &str) -> u8
-    ensures { result ≡ status }
+/// Tells the fault in a line, if that can be written, and answers its status.
+pub(crate) fn told<X: Write>(faults: &mut X, fault: Fault) -> u8
+    ensures { result ≡ status_of fault }
 {
-    let _ = faults.write_all(text.as_bytes());
-    status
+    let _ = writeln!(faults, "{fault}");
+    fault.status()
 }
 
-/// Writes the answer in one call, and answers the status.
-fn written<W: Write, X: Write>(out: &mut W, faults: &mut X, answer: &[u8]) -> u8
-    ensures status { (result ≡ 0) ⊎ (result ≡ 3) }
-    ensures written { result ≡ 0 → Appends (W.contents out.old) (W.contents out.new) answer.now }
-    ensures faultless { result ≡ 0 → Keeps (X.contents faults.old) (X.contents faults.new) }
-{
-    if out.write_all(answer).is_err() {
-        return told(faults, 3, "ipnet: output cannot be written\n");
-    }
-    0
-}
-
-/// The bytes that the reader gives up to its end.
-fn read_all<R: Read>(alloc: Global, input: &mut R) -> Result<Vec<u8>, InputFault>
+/// The bytes that the reader gives up to its end. A read that was interrupted is made again.
+fn read_all<R: Read>(alloc: Global, input: &mut R) -> Result<Vec<u8>, Fault>
     ensures bytes { IfOk result (λ bytes. Consumes (R.remaining input.old) (R.remaining input.new) bytes.items) }
     ensures end { OnOk result (IsAtEnd (R.remaining input.new)) }
-{
-    let Ok(mut piece) = Vec::from_elem(alloc, 0u8, PIECE) else {
-        return Err(InputFault::Memory);
-    };
-    read_by_pieces(alloc, input, piece.as_mut_slice())
-}
-
-/// The same, by reads into this piece. A read that was interrupted is made again.
-fn read_by_pieces<R: Read>(
-    alloc: Global,
-    input: &mut R,
-    piece: &mut [u8],
-) -> Result<Vec<u8>, InputFault>
-    requires { 0 < length piece.old }
-    ensures bytes { IfOk result (λ bytes. Consumes (R.remaining input.old) (R.remaining input.new) bytes.items) }
-    ensures end { OnOk result (IsAtEnd (R.remaining input.new)) }
+    ensures status { IfErr result (λ fault. status_of fault ≡ 3) }
 {
     let mut bytes = Vec::new(alloc);
+    let mut piece = [0u8; PIECE];
     for _ in 0..u64::MAX {
-        match input.read(piece) {
+        match input.read(&mut piece) {
             Ok(0) => return Ok(bytes),
             Ok(count) => {
                 let Ok(()) = bytes.extend_from_slice(&piece[..count]) else {
-                    return Err(InputFault::Memory);
+                    return Err(Fault::Memory);
                 };
             }
             Err(error) => {
                 if error.kind() != ErrorKind::Interrupted {
-                    return Err(InputFault::Unreadable);
+                    return Err(Fault::Unreadable);
                 }
             }
         }
     }
-    Err(InputFault::Unreadable)
+    Err(Fault::Unreadable)
 }

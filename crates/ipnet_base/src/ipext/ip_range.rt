@@ -13,6 +13,14 @@ use std::iter::FusedIterator;
 ///
 /// Two ranges are equal, and ordered, by their stored ends, and not by the addresses that they still give; an
 /// IPv4 range stands before every IPv6 range.
+///
+/// ```text
+/// from 10.0.0.0 to 10.0.0.3:
+///     next()        10.0.0.0, leaves 10.0.0.1 to 10.0.0.3
+///     next_back()   10.0.0.3, leaves 10.0.0.1 to 10.0.0.2
+///     nth(1)        10.0.0.2, and nothing is left
+///     next()        None, then and ever after
+/// ```
 #[derive(Clone, Copy, PartialEq, Eq, PartialOrd, Ord, Hash, Debug)]
 pub enum IpAddrRange {
     /// A range of IPv4 addresses.
@@ -129,23 +137,19 @@ impl IpAddrRange {
 impl Iterator for IpAddrRange {
     type Item = IpAddr;
 
-    ghost use Rattle.std.specs.Prelude.{⊤, IfSome, option_map};
-    ghost use Rattle.std.specs.Iterator.{YieldsFirstBy, MakesProgress, UpTo, at_most};
+    ghost use Rattle.std.specs.Prelude.{◌+◌, ◌-◌, IfSome};
+    ghost use Rattle.std.specs.Iterator.{UpTo, at_most};
     ghost use Rattle.std.specs.Iterator.SizeHint.{IsWithinCount, IsExactHint};
     ghost use Rattle.ipnet_base.specs.Address.{ip_address};
-    ghost use Rattle.ipnet_base.specs.Ranges.{address_count, IsNext};
-    ghost use Rattle.ipnet_base.specs.RangeOf.{ip_range, ip_addresses};
+    ghost use Rattle.ipnet_base.specs.Ranges.{address_count, GivesFirst};
+    ghost use Rattle.ipnet_base.specs.RangeOf.{ip_range};
 
-    ghost next_gives = { YieldsFirstBy ip_address ip_addresses };
+    ghost next_gives = { GivesFirst ip_address ip_range };
 
     ghost remaining = { λ r. at_most (address_count (ip_range r)) };
 
     /// The first address that is left, or `None`, then and ever after, if none is.
-    fn next(&mut self) -> Option<IpAddr>
-        ensures steps { YieldsFirstBy ip_address ip_addresses self.old result self.new }
-        ensures goes { MakesProgress (λ _. ⊤) (λ r. at_most (address_count (ip_range r))) self.old result self.new }
-        ensures ends { IsNext (ip_range self.old) (option_map ip_address result) (ip_range self.new) }
-    {
+    fn next(&mut self) -> Option<IpAddr> {
         match self {
             IpAddrRange::V4(range) => range.next().map(IpAddr::V4),
             IpAddrRange::V6(range) => range.next().map(IpAddr::V6),
@@ -167,20 +171,14 @@ impl Iterator for IpAddrRange {
 }
 
 impl DoubleEndedIterator for IpAddrRange {
-    ghost use Rattle.std.specs.Prelude.{⊤, option_map};
-    ghost use Rattle.std.specs.Iterator.{YieldsLastBy, MakesProgress, at_most};
     ghost use Rattle.ipnet_base.specs.Address.{ip_address};
-    ghost use Rattle.ipnet_base.specs.Ranges.{address_count, IsNextBack};
-    ghost use Rattle.ipnet_base.specs.RangeOf.{ip_range, ip_addresses};
+    ghost use Rattle.ipnet_base.specs.Ranges.{GivesLast};
+    ghost use Rattle.ipnet_base.specs.RangeOf.{ip_range};
 
-    ghost next_back_gives = { YieldsLastBy ip_address ip_addresses };
+    ghost next_back_gives = { GivesLast ip_address ip_range };
 
     /// The last address that is left, or `None`, then and ever after, if none is.
-    fn next_back(&mut self) -> Option<IpAddr>
-        ensures steps { YieldsLastBy ip_address ip_addresses self.old result self.new }
-        ensures goes { MakesProgress (λ _. ⊤) (λ r. at_most (address_count (ip_range r))) self.old result self.new }
-        ensures ends { IsNextBack (ip_range self.old) (option_map ip_address result) (ip_range self.new) }
-    {
+    fn next_back(&mut self) -> Option<IpAddr> {
         match self {
             IpAddrRange::V4(range) => range.next_back().map(IpAddr::V4),
             IpAddrRange::V6(range) => range.next_back().map(IpAddr::V6),

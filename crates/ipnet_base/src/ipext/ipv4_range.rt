@@ -12,6 +12,14 @@ use std::iter::FusedIterator;
 /// order from the back.
 ///
 /// Two ranges are equal, and ordered, by their stored ends, and not by the addresses that they still give.
+///
+/// ```text
+/// from 10.0.0.0 to 10.0.0.3:
+///     next()        10.0.0.0, leaves 10.0.0.1 to 10.0.0.3
+///     next_back()   10.0.0.3, leaves 10.0.0.1 to 10.0.0.2
+///     nth(1)        10.0.0.2, and nothing is left
+///     next()        None, then and ever after
+/// ```
 #[derive(Clone, Copy, PartialEq, Eq, PartialOrd, Ord, Hash, Debug)]
 pub struct Ipv4AddrRange {
     start: u32,
@@ -144,23 +152,19 @@ impl Ipv4AddrRange {
 impl Iterator for Ipv4AddrRange {
     type Item = Ipv4Addr;
 
-    ghost use Rattle.std.specs.Prelude.{⊤, IfSome, option_map};
-    ghost use Rattle.std.specs.Iterator.{YieldsFirstBy, MakesProgress, UpTo, at_most};
+    ghost use Rattle.std.specs.Prelude.{◌+◌, ◌-◌, IfSome};
+    ghost use Rattle.std.specs.Iterator.{UpTo, at_most};
     ghost use Rattle.std.specs.Iterator.SizeHint.{IsWithinCount, IsExactHint};
     ghost use Rattle.ipnet_base.specs.Address.{ipv4_address};
-    ghost use Rattle.ipnet_base.specs.Ranges.{address_count, IsNext};
-    ghost use Rattle.ipnet_base.specs.RangeOf.{ipv4_range, ipv4_addresses};
+    ghost use Rattle.ipnet_base.specs.Ranges.{address_count, GivesFirst};
+    ghost use Rattle.ipnet_base.specs.RangeOf.{ipv4_range};
 
-    ghost next_gives = { YieldsFirstBy ipv4_address ipv4_addresses };
+    ghost next_gives = { GivesFirst ipv4_address ipv4_range };
 
     ghost remaining = { λ r. at_most (address_count (ipv4_range r)) };
 
     /// The first address that is left, or `None`, then and ever after, if none is.
-    fn next(&mut self) -> Option<Ipv4Addr>
-        ensures steps { YieldsFirstBy ipv4_address ipv4_addresses self.old result self.new }
-        ensures goes { MakesProgress (λ _. ⊤) (λ r. at_most (address_count (ipv4_range r))) self.old result self.new }
-        ensures ends { IsNext (ipv4_range self.old) (option_map ipv4_address result) (ipv4_range self.new) }
-    {
+    fn next(&mut self) -> Option<Ipv4Addr> {
         let first = self.start;
         if first < self.end {
             self.start = first + 1;
@@ -184,20 +188,14 @@ impl Iterator for Ipv4AddrRange {
 }
 
 impl DoubleEndedIterator for Ipv4AddrRange {
-    ghost use Rattle.std.specs.Prelude.{⊤, option_map};
-    ghost use Rattle.std.specs.Iterator.{YieldsLastBy, MakesProgress, at_most};
     ghost use Rattle.ipnet_base.specs.Address.{ipv4_address};
-    ghost use Rattle.ipnet_base.specs.Ranges.{address_count, IsNextBack};
-    ghost use Rattle.ipnet_base.specs.RangeOf.{ipv4_range, ipv4_addresses};
+    ghost use Rattle.ipnet_base.specs.Ranges.{GivesLast};
+    ghost use Rattle.ipnet_base.specs.RangeOf.{ipv4_range};
 
-    ghost next_back_gives = { YieldsLastBy ipv4_address ipv4_addresses };
+    ghost next_back_gives = { GivesLast ipv4_address ipv4_range };
 
     /// The last address that is left, or `None`, then and ever after, if none is.
-    fn next_back(&mut self) -> Option<Ipv4Addr>
-        ensures steps { YieldsLastBy ipv4_address ipv4_addresses self.old result self.new }
-        ensures goes { MakesProgress (λ _. ⊤) (λ r. at_most (address_count (ipv4_range r))) self.old result self.new }
-        ensures ends { IsNextBack (ipv4_range self.old) (option_map ipv4_address result) (ipv4_range self.new) }
-    {
+    fn next_back(&mut self) -> Option<Ipv4Addr> {
         let last = self.end;
         if self.start < last {
             self.end = last - 1;

@@ -1,8 +1,8 @@
 use Rattle.std.proofs.Common.{◌≡◌, ◌++◌, ◌∙◌, take, sym, subst, ap, append-nil, arith}
 use Rattle.std.specs.Io.KnownBytes.{Consumes}
 use Rattle.std.proofs.KnownBytes.{Consumes-nil, Consumes-trans, Consumes-kept}
-use Rattle.ipnet_tool.proofs.program.read_by_pieces.Goals as goal
-use Rattle.ipnet_tool.proofs.program.read_by_pieces.Goals.{in-Ok+in-Ok-extend_from_slice, in-Err+else-ne}
+use Rattle.ipnet_tool.proofs.program.read_all.Goals as goal
+use Rattle.ipnet_tool.proofs.program.read_all.Goals.{in-Ok+in-Ok-extend_from_slice, in-Err+else-ne}
 
 pub loop-init : goal.loop-init
 loop-init g c =

@@ -1,5 +1,5 @@
 use Rattle.std.specs.Io.KnownBytes.{Consumes}
-use Rattle.ipnet_tool.proofs.program.read_by_pieces.Given as goal
+use Rattle.ipnet_tool.proofs.program.read_all.Given as goal
 
 -- the bytes so far are what the reader gave
 abbrev pub invariant-loop : goal.invariant-loop
