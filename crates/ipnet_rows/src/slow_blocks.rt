@@ -63,7 +63,7 @@ const UNIVERSES: [Universe; 6] = [
     },
 ];
 
-/// A network of a universe: a first cell, host bits and all, a length, and the set of its cells.
+/// A network of a universe, its length, and the set of its cells.
 #[derive(Clone, Copy)]
 struct Sample {
     network: IpNet,
@@ -116,13 +116,16 @@ fn network_at(
     }
 }
 
-/// All networks of the universe whose address is the first of a cell: by cell, then by length.
+/// The networks of the universe, by cell and then by length: each without host bits, and with all of them set.
 fn samples(rt: &impl Abort, alloc: Global, universe: Universe) -> Result<Vec<Sample>, AllocError> {
     let mut samples = Vec::new(alloc);
     for cell in 0..16u32 {
         for (longer, cells) in [(0, 16), (1, 8), (2, 4), (3, 2), (4, 1)] {
-            let prefix_len = universe.prefix_len.wrapping_add(longer);
-            samples.push(network_at(rt, universe, cell, cells, prefix_len))?;
+            let host = cell.checked_rem(cells);
+            if host == Some(0) || host.map(|host| host.wrapping_add(1)) == Some(cells) {
+                let prefix_len = universe.prefix_len.wrapping_add(longer);
+                samples.push(network_at(rt, universe, cell, cells, prefix_len))?;
+            }
         }
     }
     Ok(samples)
@@ -219,7 +222,7 @@ fn walk_left(
     walk_between(
         rt,
         is_ipv4,
-        end.wrapping_add(1).max(1).min(greatest),
+        end.checked_add(1).unwrap_or(greatest).min(greatest),
         left,
         min_prefix_len,
     )
@@ -381,7 +384,9 @@ fn compare_long_lists(
         let mut ipv6_cover = 0;
         for _ in 0..draw(&mut state, 24) {
             let from = if draw(&mut state, 2) == 0 { ipv4 } else { ipv6 };
-            let sample = from.get(draw(&mut state, 80)).expect(rt, "eighty networks");
+            let sample = from
+                .get(draw(&mut state, from.len()))
+                .expect(rt, "a network");
             networks.push(sample.network)?;
             match sample.network {
                 IpNet::V4(_) => ipv4_cover |= sample.cells,
@@ -415,23 +420,22 @@ fn longer_lists_of_both_families(rt: HostRuntime) -> Result<(), Fail> {
     for (ipv4, ipv6) in [(0, 3), (1, 4), (2, 5), (0, 4), (1, 5), (2, 3)] {
         let ipv4 = samples(&rt, rt.alloc(), UNIVERSES[ipv4 % 6])?;
         let ipv6 = samples(&rt, rt.alloc(), UNIVERSES[ipv6 % 6])?;
-        compare_long_lists(&rt, rt.alloc(), ipv4.as_slice(), ipv6.as_slice(), 20_000)?;
+        compare_long_lists(&rt, rt.alloc(), ipv4.as_slice(), ipv6.as_slice(), 2_000)?;
     }
     Ok(())
 }
 
-/// Every two lists of up to two truncated networks of the universe.
+/// Every two lists of at most two networks without host bits.
 fn compare_pairs(rt: &impl Abort, alloc: Global, universe: Universe) -> Result<(), AllocError> {
     let mut lists: Vec<(u16, Vec<IpNet>)> = Vec::new(alloc);
     lists.push((0, Vec::new(alloc)))?;
     let samples = samples(rt, alloc, universe)?;
     for first in samples.iter().filter(|sample| sample.is_truncated) {
-        lists.push((first.cells, vec![in alloc; first.network]?))?;
         for second in samples.iter().filter(|sample| sample.is_truncated) {
-            lists.push((
-                first.cells | second.cells,
-                vec![in alloc; first.network, second.network]?,
-            ))?;
+            if first.network <= second.network {
+                let networks = vec![in alloc; second.network, first.network]?;
+                lists.push((first.cells | second.cells, networks))?;
+            }
         }
     }
     for (cover, networks) in lists.iter() {
@@ -448,9 +452,13 @@ fn compare_pairs(rt: &impl Abort, alloc: Global, universe: Universe) -> Result<(
 }
 
 #[test]
-fn lists_with_the_same_addresses(rt: HostRuntime) -> Result<(), Fail> {
-    for universe in UNIVERSES {
-        compare_pairs(&rt, rt.alloc(), universe)?;
-    }
+fn ipv4_lists_with_the_same_addresses(rt: HostRuntime) -> Result<(), Fail> {
+    compare_pairs(&rt, rt.alloc(), UNIVERSES[1])?;
+    Ok(())
+}
+
+#[test]
+fn ipv6_lists_with_the_same_addresses(rt: HostRuntime) -> Result<(), Fail> {
+    compare_pairs(&rt, rt.alloc(), UNIVERSES[5])?;
     Ok(())
 }
