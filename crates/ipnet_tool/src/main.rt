@@ -2,6 +2,8 @@
 #![tactic(auto)]
 
 pub mod program;
+#[cfg(test)]
+mod tests;
 pub mod tool;
 
 use crate::program::{Fault, run, told};

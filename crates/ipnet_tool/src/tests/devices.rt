@@ -1,0 +1,146 @@
+//! A reader over bytes and a writer over an array. They make no growth, and note the largest piece that they see.
+ghost use Rattle.std.specs.Prelude.{◌≤◌, take, Some};
+
+use std::io;
+use std::io::{ErrorKind, Read, Write};
+
+/// As many bytes as there are.
+pub const WHOLE: usize = usize::MAX;
+
+/// The number of the call that fails, where none does: calls are counted from 1.
+pub const NEVER: usize = 0;
+
+/// Gives at most so many bytes a read, though never none before the end, and fails at one of its reads.
+#[derive(Drop)]
+pub struct ByteReader<'a> {
+    rest: &'a [u8],
+    most: usize,
+    fails_at: usize,
+    kind: ErrorKind,
+    reads: usize,
+    largest: usize,
+}
+
+impl<'a> ByteReader<'a> {
+    /// A reader that gives at most `most` bytes a read. Its read number `fails_at` fails with an error of this kind.
+    pub fn new(bytes: &'a [u8], most: usize, fails_at: usize, kind: ErrorKind) -> ByteReader<'a> {
+        ByteReader {
+            rest: bytes,
+            most,
+            fails_at,
+            kind,
+            reads: 0,
+            largest: 0,
+        }
+    }
+
+    /// A reader that gives all at once, and never fails.
+    pub fn whole(bytes: &'a [u8]) -> ByteReader<'a> {
+        ByteReader::new(bytes, WHOLE, NEVER, ErrorKind::Other)
+    }
+
+    /// How many reads there were.
+    pub fn reads(&self) -> usize {
+        self.reads
+    }
+
+    /// The length of the largest buffer that it was asked to fill.
+    pub fn largest(&self) -> usize {
+        self.largest
+    }
+}
+
+impl Read for ByteReader<'_> {
+    ghost remaining = { λ r. Some r.rest.now };
+
+    fn read(&mut self, buf: &mut [u8]) -> io::Result<usize> {
+        self.reads = self.reads.saturating_add(1);
+        self.largest = self.largest.max(buf.len());
+        if self.reads == self.fails_at {
+            return Err(io::Error::from(self.kind));
+        }
+        let count = self.most.max(1).min(buf.len()).min(self.rest.len());
+        let (front, rest) = self.rest.split_at(count);
+        buf[..count].copy_from_slice(front);
+        self.rest = rest;
+        Ok(count)
+    }
+}
+
+/// How many bytes a writer has room for.
+pub const ROOM: usize = 131072;
+
+/// Takes at most so many bytes a write, and fails at one of its writes.
+#[derive(Drop)]
+pub struct ArrayWriter {
+    room: [u8; ROOM],
+    len: usize,
+    most: usize,
+    fails_at: usize,
+    flushes: bool,
+    writes: usize,
+    largest: usize,
+    ghost inside: { len ≤ 131072 },
+}
+
+impl ArrayWriter {
+    /// A writer that takes at most `most` bytes a write. Its write number `fails_at` fails.
+    pub fn new(most: usize, fails_at: usize) -> ArrayWriter {
+        ArrayWriter {
+            room: [0; ROOM],
+            len: 0,
+            most,
+            fails_at,
+            flushes: true,
+            writes: 0,
+            largest: 0,
+        }
+    }
+
+    /// A writer that takes all at once, and never fails.
+    pub fn whole() -> ArrayWriter {
+        ArrayWriter::new(WHOLE, NEVER)
+    }
+
+    /// A writer that takes all at once, and cannot be flushed.
+    pub fn never_flushed() -> ArrayWriter {
+        let mut writer = ArrayWriter::whole();
+        writer.flushes = false;
+        writer
+    }
+
+    /// The bytes that it took.
+    pub fn held(&self) -> &[u8] {
+        &self.room[..self.len]
+    }
+
+    /// The length of the largest buffer that it was handed.
+    pub fn largest(&self) -> usize {
+        self.largest
+    }
+}
+
+impl Write for ArrayWriter {
+    ghost contents = { λ w. Some (take w.len w.room) };
+
+    fn write(&mut self, buf: &[u8]) -> io::Result<usize> {
+        self.writes = self.writes.saturating_add(1);
+        self.largest = self.largest.max(buf.len());
+        if self.writes == self.fails_at {
+            return Err(io::Error::from(ErrorKind::Other));
+        }
+        let len = self.len;
+        let count = self.most.min(buf.len()).min(ROOM - len);
+        self.room[len..len + count].copy_from_slice(&buf[..count]);
+        self.len = len + count;
+        Ok(count)
+    }
+
+    fn flush(&mut self) -> io::Result<()> {
+        if self.flushes {
+            Ok(())
+        } else {
+            Err(io::Error::from(ErrorKind::Other))
+        }
+    }
+}

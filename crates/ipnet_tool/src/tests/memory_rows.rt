@@ -1,0 +1,94 @@
+//! Rows on want of memory: every request for memory refused in turn, and the first of all.
+use crate::program::run;
+use crate::tests::devices::{ArrayWriter, ByteReader};
+use crate::tests::memory::{Outcome, RUNS, exhaust, is_memory_left, outcomes};
+use crate::tool::{ToolError, aggregate_text, aggregate_text_legacy};
+use std::process::Abort;
+use std::test::Fail;
+
+/// Asserts that a call told want of memory in the first run, gave its answer in the last, and that no run which had
+/// more memory than one with an answer had none.
+fn compare(rt: &impl Abort, label: &str, outcomes: &[Outcome]) {
+    let mut answered = false;
+    for outcome in outcomes {
+        assert_ne!(rt; *outcome, Outcome::Wrong, "{label}");
+        assert!(rt; !answered || *outcome == Outcome::Answered, "{label}");
+        answered = *outcome == Outcome::Answered;
+    }
+    assert!(rt; answered, "{label}");
+    assert_eq!(rt; outcomes.first(), Some(&Outcome::Refused), "{label}");
+}
+
+#[test]
+fn text_tool(rt: HostRuntime) -> Result<(), Fail> {
+    let alloc = rt.alloc();
+    // label, text, the answer or the number of the bad line
+    let rows: [(&str, &str, Result<&str, usize>); 5] = [
+        ("tool", "10.0.1.0/24\n\n10.0.0.0/24", Ok("10.0.0.0/23\n")),
+        ("tool, a bad line", "10.0.0.0/24\n\nx\n", Err(3)),
+        (
+            "tool, a bad line of the older grammar",
+            "10.0.0.0/24\n10.0.01.0/24\n",
+            Err(2),
+        ),
+        (
+            "tool, both families",
+            "fd00::/32\n10.0.0.0/24\n",
+            Ok("10.0.0.0/24\nfd00::/32\n"),
+        ),
+        (
+            "tool, a long line",
+            "2001:db8:1111:2222:3333:4444:5555:6666/128",
+            Ok("2001:db8:1111:2222:3333:4444:5555:6666/128\n"),
+        ),
+    ];
+    for (label, text, wanted) in rows {
+        let call = || match aggregate_text(alloc, text) {
+            Ok(answer) if wanted == Ok(answer.as_str()) => Outcome::Answered,
+            Err(ToolError::Line(number)) if wanted == Err(number) => Outcome::Answered,
+            Err(ToolError::Memory) => Outcome::Refused,
+            _ => Outcome::Wrong,
+        };
+        if let Some(outcomes) = outcomes(alloc, call)? {
+            compare(&rt, label, &outcomes);
+        }
+    }
+    Ok(())
+}
+
+#[test]
+fn program(rt: HostRuntime) -> Result<(), Fail> {
+    let alloc = rt.alloc();
+    let call = || {
+        let mut input = ByteReader::whole(b"10.0.1.0/24\n10.0.0.0/24\n");
+        let mut out = ArrayWriter::whole();
+        let mut faults = ArrayWriter::whole();
+        let status = run(alloc, &[], &mut input, &mut out, &mut faults);
+        match (status, out.held(), faults.held()) {
+            (0, b"10.0.0.0/23\n", b"") => Outcome::Answered,
+            (3, b"", b"ipnet: out of memory\n") => Outcome::Refused,
+            _ => Outcome::Wrong,
+        }
+    };
+    if let Some(outcomes) = outcomes(alloc, call)? {
+        compare(&rt, "program", &outcomes);
+    }
+    Ok(())
+}
+
+#[test]
+fn first_request_refused(rt: HostRuntime) -> Result<(), Fail> {
+    let alloc = rt.alloc();
+    let held = exhaust(alloc)?;
+    let left = is_memory_left(alloc);
+    let empty = aggregate_text(alloc, "");
+    let older_empty = aggregate_text_legacy(alloc, "");
+    let first_line_bad = aggregate_text(alloc, "10.0.0.0/24\r\n");
+    let short = aggregate_text(alloc, "10.0.0.0/24\n");
+    drop(held);
+    assert_eq!(rt; empty.is_ok_and(|text| text.is_empty()), true);
+    assert_eq!(rt; older_empty.is_ok_and(|text| text.is_empty()), true);
+    assert_eq!(rt; first_line_bad.err(), Some(ToolError::Line(1)));
+    assert!(rt; left || short.err() == Some(ToolError::Memory));
+    Ok(())
+}

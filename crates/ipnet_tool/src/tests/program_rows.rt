@@ -1,0 +1,299 @@
+//! Rows of the program.
+use crate::program::run;
+use crate::tests::devices::{ArrayWriter, ByteReader, NEVER, WHOLE};
+use std::alloc::Global;
+use std::io::ErrorKind;
+use std::str;
+use std::test::Fail;
+
+const REFUSED: &str = "ipnet: takes no argument or the word legacy\n";
+
+const UNREADABLE: &str = "ipnet: input cannot be read\n";
+
+const NOT_UTF8: &str = "ipnet: input is not UTF-8\n";
+
+const UNWRITABLE: &str = "ipnet: output cannot be written\n";
+
+const LINE_2: &str = "line 2: invalid IP address syntax\n";
+
+#[test]
+fn runs(rt: HostRuntime) -> Result<(), Fail> {
+    let alloc = rt.alloc();
+    let older = "10.0.0.0/24\n10.0.01.0/24\n";
+    let both = "fd00::/32\n10.0.0.0/24\n";
+    let none = [].as_slice();
+    // label, arguments, input, standard output, standard error, status
+    let rows: [(&str, &[&str], &str, &str, &str, u8); 10] = [
+        (
+            "both families",
+            none,
+            both,
+            "10.0.0.0/24\nfd00::/32\n",
+            "",
+            0,
+        ),
+        ("empty input", none, "", "", "", 0),
+        ("line 2 is bad", none, "10.0.0.0/24\nx\n", "", LINE_2, 1),
+        ("one argument x", ["x"].as_slice(), "", "", REFUSED, 2),
+        (
+            "older grammar with the word",
+            ["legacy"].as_slice(),
+            older,
+            "10.0.0.0/23\n",
+            "",
+            0,
+        ),
+        ("older grammar without the word", none, older, "", LINE_2, 1),
+        (
+            "the word twice",
+            ["legacy", "legacy"].as_slice(),
+            older,
+            "",
+            REFUSED,
+            2,
+        ),
+        (
+            "the word with a blank",
+            ["legacy "].as_slice(),
+            older,
+            "",
+            REFUSED,
+            2,
+        ),
+        ("an empty word", [""].as_slice(), older, "", REFUSED, 2),
+        (
+            "a bad line of the older grammar too",
+            ["legacy"].as_slice(),
+            "10.0.0.0/24\nx\n",
+            "",
+            LINE_2,
+            1,
+        ),
+    ];
+    for (label, words, text, wanted, fault, status) in rows {
+        let mut args = Vec::new(alloc);
+        for word in words {
+            args.push(String::from_str(alloc, word)?)?;
+        }
+        let mut input = ByteReader::whole(text.as_bytes());
+        let mut out = ArrayWriter::whole();
+        let mut faults = ArrayWriter::whole();
+        assert_eq!(rt;
+            run(alloc, args.as_slice(), &mut input, &mut out, &mut faults),
+            status,
+            "{label}"
+        );
+        assert_eq!(rt; str::from_utf8(out.held())?, wanted, "{label}");
+        assert_eq!(rt; str::from_utf8(faults.held())?, fault, "{label}");
+        assert!(rt; status != 2 || input.reads() == 0, "{label}");
+    }
+    Ok(())
+}
+
+#[test]
+fn readers(rt: HostRuntime) -> Result<(), Fail> {
+    let alloc = rt.alloc();
+    let route = b"10.0.0.0/24\n".as_slice();
+    let printed = "10.0.0.0/24\n";
+    // label, input, bytes a read, failing read, its kind, standard output, standard error, status
+    let rows: [(&str, &[u8], usize, usize, ErrorKind, &str, &str, u8); 9] = [
+        (
+            "first read fails",
+            route,
+            WHOLE,
+            1,
+            ErrorKind::Other,
+            "",
+            UNREADABLE,
+            3,
+        ),
+        (
+            "second read fails",
+            route,
+            WHOLE,
+            2,
+            ErrorKind::Other,
+            "",
+            UNREADABLE,
+            3,
+        ),
+        (
+            "second read of one byte fails",
+            route,
+            1,
+            2,
+            ErrorKind::Other,
+            "",
+            UNREADABLE,
+            3,
+        ),
+        (
+            "a read that is refused memory",
+            route,
+            WHOLE,
+            1,
+            ErrorKind::OutOfMemory,
+            "",
+            UNREADABLE,
+            3,
+        ),
+        (
+            "first read is interrupted",
+            route,
+            WHOLE,
+            1,
+            ErrorKind::Interrupted,
+            printed,
+            "",
+            0,
+        ),
+        (
+            "second read of one byte is interrupted",
+            route,
+            1,
+            2,
+            ErrorKind::Interrupted,
+            printed,
+            "",
+            0,
+        ),
+        (
+            "one byte a read",
+            route,
+            1,
+            NEVER,
+            ErrorKind::Other,
+            printed,
+            "",
+            0,
+        ),
+        (
+            "a byte past UTF-8",
+            [255].as_slice(),
+            WHOLE,
+            NEVER,
+            ErrorKind::Other,
+            "",
+            NOT_UTF8,
+            3,
+        ),
+        (
+            "a bad line before a byte past UTF-8",
+            b"x\n\xff\n".as_slice(),
+            WHOLE,
+            NEVER,
+            ErrorKind::Other,
+            "",
+            NOT_UTF8,
+            3,
+        ),
+    ];
+    for (label, bytes, most, fails_at, kind, wanted, fault, status) in rows {
+        let mut input = ByteReader::new(bytes, most, fails_at, kind);
+        let mut out = ArrayWriter::whole();
+        let mut faults = ArrayWriter::whole();
+        assert_eq!(rt;
+            run(alloc, &[], &mut input, &mut out, &mut faults),
+            status,
+            "{label}"
+        );
+        assert_eq!(rt; str::from_utf8(out.held())?, wanted, "{label}");
+        assert_eq!(rt; str::from_utf8(faults.held())?, fault, "{label}");
+    }
+    Ok(())
+}
+
+#[test]
+fn writers(rt: HostRuntime) -> Result<(), Fail> {
+    let alloc = rt.alloc();
+    // label, bytes a write, failing write, standard output, standard error, status
+    let rows = [
+        ("first write fails", WHOLE, 1, "", UNWRITABLE, 3),
+        ("one byte a write", 1, NEVER, "10.0.0.0/24\n", "", 0),
+        ("third write of one byte fails", 1, 3, "10", UNWRITABLE, 3),
+        ("a writer that takes nothing", 0, NEVER, "", UNWRITABLE, 3),
+    ];
+    for (label, most, fails_at, wanted, fault, status) in rows {
+        let mut input = ByteReader::whole(b"10.0.0.0/24\n");
+        let mut out = ArrayWriter::new(most, fails_at);
+        let mut faults = ArrayWriter::whole();
+        assert_eq!(rt;
+            run(alloc, &[], &mut input, &mut out, &mut faults),
+            status,
+            "{label}"
+        );
+        assert_eq!(rt; str::from_utf8(out.held())?, wanted, "{label}");
+        assert_eq!(rt; str::from_utf8(faults.held())?, fault, "{label}");
+    }
+    let mut out = ArrayWriter::never_flushed();
+    let mut faults = ArrayWriter::whole();
+    let status = run(
+        alloc,
+        &[],
+        &mut ByteReader::whole(b"::/0\n"),
+        &mut out,
+        &mut faults,
+    );
+    assert_eq!(rt; status, 3, "a writer that cannot be flushed");
+    assert_eq!(rt;
+        str::from_utf8(faults.held())?,
+        UNWRITABLE,
+        "a writer that cannot be flushed"
+    );
+    Ok(())
+}
+
+#[test]
+fn faults_that_cannot_be_written(rt: HostRuntime) -> Result<(), Fail> {
+    let alloc = rt.alloc();
+    let mut word = Vec::new(alloc);
+    word.push(String::from_str(alloc, "x")?)?;
+    let none = [].as_slice();
+    // label, arguments, input, failing read, failing write, status
+    let rows: [(&str, &[String], &[u8], usize, usize, u8); 5] = [
+        ("arguments", word.as_slice(), b"", NEVER, NEVER, 2),
+        ("a read that fails", none, b"", 1, NEVER, 3),
+        ("not UTF-8", none, b"\xff", NEVER, NEVER, 3),
+        ("a bad line", none, b"10.0.0.0/24\nx\n", NEVER, NEVER, 1),
+        ("a write that fails", none, b"10.0.0.0/24\n", NEVER, 1, 3),
+    ];
+    for (label, args, bytes, read_fails, write_fails, status) in rows {
+        let mut input = ByteReader::new(bytes, WHOLE, read_fails, ErrorKind::Other);
+        let mut out = ArrayWriter::new(WHOLE, write_fails);
+        let mut faults = ArrayWriter::new(WHOLE, 1);
+        assert_eq!(rt;
+            run(alloc, args, &mut input, &mut out, &mut faults),
+            status,
+            "{label}"
+        );
+        assert_eq!(rt; out.held().len(), 0, "{label}");
+        assert_eq!(rt; faults.held().len(), 0, "{label}");
+    }
+    Ok(())
+}
+
+/// Every second address of a block: as many lines as networks, none of which join.
+fn every_second_address(alloc: Global) -> Result<String, Fail> {
+    let mut text = String::new(alloc);
+    for third in 0..64u8 {
+        for half in 0..128u8 {
+            writeln!(text, "10.0.{third}.{}/32", 2 * half)?;
+        }
+    }
+    Ok(text)
+}
+
+#[test]
+fn large_pieces(rt: HostRuntime) -> Result<(), Fail> {
+    let alloc = rt.alloc();
+    let text = every_second_address(alloc)?;
+    assert!(rt; text.len() > 65536);
+    let mut input = ByteReader::whole(text.as_bytes());
+    let mut out = ArrayWriter::whole();
+    let mut faults = ArrayWriter::whole();
+    assert_eq!(rt; run(alloc, &[], &mut input, &mut out, &mut faults), 0);
+    assert!(rt; out.held() == text.as_bytes());
+    assert!(rt; input.largest() >= 65536);
+    assert!(rt; out.largest() >= 65536);
+    Ok(())
+}
