@@ -49,12 +49,16 @@ fn groups(text: &str, may_end_dotted: bool, strict: bool) -> Option<ArrayVec<u16
     if text.is_empty() {
         return Some(groups);
     }
-    let mut parts = text.split(':').peekable();
-    while let Some(part) = parts.next() {
-        if may_end_dotted && parts.peek().is_none() && part.contains('.') {
+    let mut is_over = false;
+    for part in text.split(':') {
+        if is_over {
+            return None;
+        }
+        if may_end_dotted && part.contains('.') {
             let [a, b, c, d] = dotted(part, strict)?.octets();
             groups.try_push(u16::from_be_bytes([a, b])).ok()?;
             groups.try_push(u16::from_be_bytes([c, d])).ok()?;
+            is_over = true;
         } else {
             groups.try_push(group(part)?).ok()?;
         }
