@@ -2,8 +2,9 @@
 //!
 //! Each row is asked of the range type of its family and of `IpAddrRange` alike.
 use crate::table::{cells, ip_addr, ip_range, rows};
-use ipnet::IpAddrRange;
-use std::net::IpAddr;
+use ipnet::{IpAddrRange, Ipv4AddrRange, Ipv6AddrRange};
+use std::alloc::{AllocError, Global};
+use std::net::{IpAddr, Ipv4Addr, Ipv6Addr};
 use std::process::Abort;
 use std::test::Fail;
 
@@ -203,4 +204,111 @@ fn empty_ranges(rt: HostRuntime) {
         false,
         "ranges: two empty ranges"
     );
+}
+
+/// The address of the number.
+fn numbered(rt: &impl Abort, is_ipv4: bool, number: u128) -> IpAddr {
+    if is_ipv4 {
+        IpAddr::V4(Ipv4Addr::from_bits(u32::try_from(number).expect(rt, "an IPv4 address")))
+    } else {
+        IpAddr::V6(Ipv6Addr::from_bits(number))
+    }
+}
+
+/// The range between the addresses of two numbers.
+fn numbered_range(rt: &impl Abort, is_ipv4: bool, start: u128, end: u128) -> IpAddrRange {
+    match (numbered(rt, is_ipv4, start), numbered(rt, is_ipv4, end)) {
+        (IpAddr::V4(start), IpAddr::V4(end)) => IpAddrRange::V4(Ipv4AddrRange::new(start, end)),
+        (IpAddr::V6(start), IpAddr::V6(end)) => IpAddrRange::V6(Ipv6AddrRange::new(start, end)),
+        _ => panic!(rt; "two families"),
+    }
+}
+
+/// The row that tells of the call on a range of these stored ends, the answer, and the stored ends after it.
+fn rule(call: &str, n: u128, start: u128, end: u128) -> (&'static str, Option<u128>, u128, u128) {
+    let count = if start > end {
+        0
+    } else {
+        end.wrapping_sub(start).wrapping_add(1)
+    };
+    match call {
+        "next" if start < end => ("next of several", Some(start), start.wrapping_add(1), end),
+        "next" if start == end => ("next of one", Some(start), 1, 0),
+        "next" => ("next of none", None, start, end),
+        "next_back" if start < end => (
+            "next_back of several",
+            Some(end),
+            start,
+            end.wrapping_sub(1),
+        ),
+        "next_back" if start == end => ("next_back of one", Some(start), 1, 0),
+        "next_back" => ("next_back of none", None, start, end),
+        "nth" if n >= count => ("nth past the end", None, 1, 0),
+        "nth" if n.wrapping_add(1) == count => ("nth at the end", Some(end), 1, 0),
+        "nth" => (
+            "nth before the end",
+            Some(start.wrapping_add(n)),
+            start.wrapping_add(n).wrapping_add(1),
+            end,
+        ),
+        _ if n >= count => ("nth_back past the start", None, 1, 0),
+        _ if n.wrapping_add(1) == count => ("nth_back at the start", Some(start), 1, 0),
+        _ => (
+            "nth_back behind the start",
+            Some(end.wrapping_sub(n)),
+            start,
+            end.wrapping_sub(n).wrapping_sub(1),
+        ),
+    }
+}
+
+/// One call on a range of these stored ends.
+fn compare_call(
+    rt: &impl Abort,
+    alloc: Global,
+    is_ipv4: bool,
+    call: &str,
+    n: u128,
+    ends: (u128, u128),
+) -> Result<(), AllocError> {
+    let (label, want, start, end) = rule(call, n, ends.0, ends.1);
+    let want = want.map(|number| numbered(rt, is_ipv4, number));
+    let left = numbered_range(rt, is_ipv4, start, end);
+    let mut own = numbered_range(rt, is_ipv4, ends.0, ends.1);
+    let mut either = own;
+    let call = format!(in alloc; "{call}({n})")?;
+    assert_eq!(rt;
+        own_answer(rt, &mut own, call.as_str()),
+        want,
+        "ranges: {label}"
+    );
+    assert_eq!(rt;
+        answer(rt, &mut either, call.as_str()),
+        want,
+        "ranges: {label}"
+    );
+    assert_eq!(rt; (own, either), (left, left), "ranges: {label}");
+    Ok(())
+}
+
+#[test]
+fn answers_and_stored_ends(rt: HostRuntime) -> Result<(), Fail> {
+    for (is_ipv4, first) in [
+        (true, 0),
+        (true, 0xffff_fffb),
+        (false, 0),
+        (false, u128::MAX - 4),
+    ] {
+        for start in 0..5u128 {
+            for end in 0..5u128 {
+                let ends = (start.wrapping_add(first), end.wrapping_add(first));
+                for call in ["next", "next_back", "nth", "nth_back"] {
+                    for n in 0..7 {
+                        compare_call(&rt, rt.alloc(), is_ipv4, call, n, ends)?;
+                    }
+                }
+            }
+        }
+    }
+    Ok(())
 }

@@ -49,12 +49,16 @@ fn groups(text: &str, may_end_dotted: bool, strict: bool) -> Option<ArrayVec<u16
     if text.is_empty() {
         return Some(groups);
     }
-    let mut parts = text.split(':').peekable();
-    while let Some(part) = parts.next() {
-        if may_end_dotted && parts.peek().is_none() && part.contains('.') {
+    let mut is_over = false;
+    for part in text.split(':') {
+        if is_over {
+            return None;
+        }
+        if may_end_dotted && part.contains('.') {
             let [a, b, c, d] = dotted(part, strict)?.octets();
             groups.try_push(u16::from_be_bytes([a, b])).ok()?;
             groups.try_push(u16::from_be_bytes([c, d])).ok()?;
+            is_over = true;
         } else {
             groups.try_push(group(part)?).ok()?;
         }
@@ -107,17 +111,14 @@ fn slowly_read(text: &str, strict: bool) -> Option<IpNet> {
     }
 }
 
-/// What texts are made of.
-const PIECES: [&str; 15] = [
+/// What texts are made of. Digits side by side make longer numbers.
+const PIECES: [&str; 12] = [
     "0",
-    "01",
     "8",
-    "33",
+    "f",
     "129",
     "255",
     "256",
-    "ffff",
-    "12345",
     ".",
     ":",
     "::",
@@ -139,8 +140,8 @@ fn read_all(
         text.clear();
         let mut rest = code;
         for _ in 0..pieces {
-            text.push_str(PIECES[(rest % 15) as usize])?;
-            rest /= 15;
+            text.push_str(PIECES[(rest % 12) as usize])?;
+            rest /= 12;
         }
         let text = text.as_str();
         check(
@@ -158,11 +159,11 @@ fn read_all(
 fn texts_of_up_to_five_pieces(rt: HostRuntime) -> Result<(), Fail> {
     for (pieces, count) in [
         (0, 1),
-        (1, 15),
-        (2, 225),
-        (3, 3_375),
-        (4, 50_625),
-        (5, 759_375),
+        (1, 12),
+        (2, 144),
+        (3, 1_728),
+        (4, 20_736),
+        (5, 248_832),
     ] {
         read_all(&rt, rt.alloc(), 0..count, pieces)?;
     }
@@ -170,7 +171,13 @@ fn texts_of_up_to_five_pieces(rt: HostRuntime) -> Result<(), Fail> {
 }
 
 #[test]
-fn texts_of_six_pieces(rt: HostRuntime) -> Result<(), Fail> {
-    read_all(&rt, rt.alloc(), 0..1_000_000, 6)?;
+fn texts_of_six_pieces_first_half(rt: HostRuntime) -> Result<(), Fail> {
+    read_all(&rt, rt.alloc(), 0..1_492_992, 6)?;
+    Ok(())
+}
+
+#[test]
+fn texts_of_six_pieces_second_half(rt: HostRuntime) -> Result<(), Fail> {
+    read_all(&rt, rt.alloc(), 1_492_992..2_985_984, 6)?;
     Ok(())
 }
