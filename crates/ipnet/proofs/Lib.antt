@@ -5,6 +5,7 @@ pub mod EqualLaws
 pub mod SubnetsLaws
 pub mod SubnetCountLaws
 pub mod NetLaws
+pub mod NetOrderLaws
 pub use Rattle.ipnet_base.proofs.BlockLaws
 pub mod NumberOctets
 pub mod DigitTexts
@@ -17,3 +18,6 @@ pub mod PrintedDigits
 pub mod ZeroRuns
 pub mod LineLaws
 pub mod ReaderTurns
+pub use Rattle.ipnet_base.proofs.FamilyLaws
+pub use Rattle.ipnet_base.proofs.AggregateLaws
+pub use Rattle.ipnet_base.proofs.WalkLaws

@@ -2,17 +2,19 @@
 use Rattle.std.proofs.Common.{◌≡◌, ℕ, ◌+◌, ◌-◌, ◌*◌, ◌/◌, ◌%◌, ◌^◌, ◌<◌, ◌≤◌, ◌↔◌, refl, sym, ap, ◌∙◌, subst, arith, Option, Some, None, inl, inr, IsTrue, true, false, not, eqb, eqb-true, eq-eqb, ne_eqb, bit_and, pow_pos, List, Contains}
 use Rattle.std.specs.Option.{unwrap_or, SomeIff}
 use Rattle.std.proofs.Math.Nat.{eq_of_mul-eq-mul_right}
+use Rattle.std.proofs.lemmas.Nat.{pow_below}
 use Rattle.std.proofs.lemmas.Nat.Bits.{ones_shl}
 use Rattle.std.proofs.lemmas.Bool.{cases_eq}
 use Rattle.ipnet_base.specs.Address.{Address, width, IsBetween}
 use Rattle.ipnet_base.specs.Network.{Network, IsNetwork, host_bits, InBlock, IsSubnetOf, AreSiblings, AreHalves, IsLeastOf, IsGreatestOf, IsTruncationOf, IsSupernetOf, truncation}
 use Rattle.ipnet_base.specs.Blocks.{IsMaximal, AreMaximalBlocks}
+use Rattle.ipnet_base.specs.Ranges.{AddressRange}
 use Rattle.ipnet_base.proofs.MaskLaws.{and_mask_is}
-use Rattle.ipnet_base.proofs.BlockLaws.{own, own_in, first_of, last_of, first_from_least, last_from_greatest, nested, bits_from_subnet, same_network, same_from_block}
+use Rattle.ipnet_base.proofs.BlockLaws.{own, own_in, first_of, last_of, last_fits, first_from_least, last_from_greatest, nested, bits_from_subnet, same_network, same_from_block}
 use Rattle.ipnet_base.proofs.ListLaws.{all_at}
 use Rattle.ipnet_base.proofs.NetworkLaws.{IsTruncationOf-truncation}
 use Rattle.ipnet_base.proofs.SupernetLaws.{supernet, IsSupernetOf-supernet}
-use Rattle.ipnet.specs.NetworkParts.{address_at, IsSubnetOfLength, AreSubnetsOfLength}
+use Rattle.ipnet.specs.NetworkParts.{address_at, IsSubnetOfLength, AreSubnetsOfLength, HasReservedEnds, IsHostRange}
 use Rattle.ipnet.proofs.SubnetCountLaws.{AreOfLength, subnets_of_length}
 
 -- what `MAX.checked_shl(w - p).unwrap_or(0)` gives at w bits
@@ -135,3 +137,29 @@ AreSubnetsOfLength-from_walk n q networks low high u longer fits least greatest 
           let bits : host_bits m ≤ host_bits k = omega (arith, i.long_enough, h.of_length, ap width shared.same_family) in
           same_from_block m k i.network h.network i.truncated h.truncated (nested m k (own k) shared (own_in k) bits, s);
     })
+
+-- The hosts of a network: from its least to its greatest address, or between these two.
+pub IsHostRange-whole : (n : Network) (hosts : AddressRange) (low high : Address) → hosts.family ≡ n.family → ¬ (HasReservedEnds n)
+    → IsLeastOf n low → IsGreatestOf n high → hosts.start ≡ low.number → hosts.end ≡ high.number → IsHostRange n hosts
+IsHostRange-whole n hosts low high f none l g start end = record {
+  family = f;
+  inner = λ reserved. absurd (none reserved);
+  whole = λ _ x y p q. (
+    start ∙ first_from_least n low l ∙ sym (first_from_least n x p),
+    end ∙ last_from_greatest n high g ∙ sym (last_from_greatest n y q),
+  );
+}
+
+pub IsHostRange-inner : (n : Network) (hosts : AddressRange) → hosts.family ≡ n.family → HasReservedEnds n
+    → hosts.start ≡ first_of n + 1 → hosts.end + 1 ≡ last_of n → IsHostRange n hosts
+IsHostRange-inner n hosts f reserved start end = record {
+  family = f;
+  inner = λ _ x y p q. (start ∙ ap (λ a. a + 1) (sym (first_from_least n x p)), end ∙ sym (last_from_greatest n y q));
+  whole = λ none. absurd (none reserved);
+}
+
+-- a block below length 31 has two addresses between its ends
+pub reserved_ends_are_apart : (n : Network) → IsNetwork n → HasReservedEnds n → (first_of n + 2 ≤ last_of n) × (last_of n < 2 ^ width n.family)
+reserved_ends_are_apart n u reserved =
+    let bits : 1 < host_bits n = omega (arith, reserved.1, ap width reserved.0) in
+    (omega (arith, pow_below 1 (host_bits n) bits), last_fits n u)

@@ -1,6 +1,6 @@
 -- The walk over a network's own block: with a least length from the network's on, it gives exactly the blocks
 -- of that length.
-use Rattle.std.proofs.Common.{◌≡◌, ℕ, zero, suc, ◌+◌, ◌-◌, ◌*◌, ◌/◌, ◌^◌, ◌<◌, ◌≤◌, List, [], ◌∷◌, length, All, Contains, refl, sym, ap, ◌∙◌, subst, arith, inl, inr, pow_pos, pow-add, add-one}
+use Rattle.std.proofs.Common.{◌≡◌, ℕ, zero, suc, ◌+◌, ◌-◌, ◌*◌, ◌/◌, ◌^◌, ◌<◌, ◌≤◌, List, [], ◌∷◌, length, All, refl, sym, ap, ◌∙◌, subst, arith, inl, inr, pow_pos, pow-add, add-one}
 use Rattle.std.proofs.Math.Nat.{mul_assoc, mul-div_cancel}
 use Rattle.ipnet_base.specs.Address.{Family, width, IsBetween}
 use Rattle.ipnet_base.specs.Network.{Network, IsNetwork, InBlock, host_bits}

@@ -1,5 +1,5 @@
 -- How a step of a walk leaves the list of networks that it still gives, for both families.
-use Rattle.std.proofs.Common.{◌≡◌, ℕ, ◌+◌, ◌-◌, ◌^◌, ◌<◌, ◌≤◌, ◌⊎◌, ◌↔◌, List, [], ◌∷◌, subst, sym, refl, ◌∙◌, arith, min, max, inl, inr, lit<}
+use Rattle.std.proofs.Common.{◌≡◌, ℕ, ◌+◌, ◌-◌, ◌^◌, ◌<◌, ◌≤◌, ◌⊎◌, ◌↔◌, List, [], ◌∷◌, subst, sym, refl, ◌∙◌, arith, max, inl, inr, lit<}
 use mir.Val.{bits}
 use Rattle.std.specs.Int.{Width, trailing_zeros}
 use Rattle.std.proofs.lemmas.Bool.{cases_eq}

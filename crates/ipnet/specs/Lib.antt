@@ -18,3 +18,6 @@ pub use Rattle.ipnet_base.specs.Network
 pub use Rattle.ipnet_base.specs.Blocks
 pub use Rattle.ipnet_base.specs.Subnets
 pub use Rattle.ipnet_base.specs.Masks
+pub use Rattle.ipnet_base.specs.Ranges
+pub use Rattle.ipnet_base.specs.RangeOf
+pub use Rattle.ipnet_base.specs.Arithmetic

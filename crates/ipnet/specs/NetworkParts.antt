@@ -1,8 +1,9 @@
 -- What a network is made from, and the addresses that belong to it (RFC 4632, section 3.1).
-use Rattle.std.specs.Prelude.{◌≡◌, ℕ, ◌-◌, ◌^◌, ◌↔◌, List, length, Contains}
-use Rattle.ipnet_base.specs.Address.{Family, Address}
-use Rattle.ipnet_base.specs.Network.{Network, IsNetwork, InBlock, IsSubnetOf, IsTruncated}
+use Rattle.std.specs.Prelude.{◌≡◌, ℕ, ◌+◌, ◌-◌, ◌^◌, ◌<◌, ◌↔◌, List, length, Contains}
+use Rattle.ipnet_base.specs.Address.{Family, IPv4, Address}
+use Rattle.ipnet_base.specs.Network.{Network, IsNetwork, InBlock, IsSubnetOf, IsTruncated, IsLeastOf, IsGreatestOf}
 use Rattle.ipnet_base.specs.Blocks.{IsAscending, AreMaximalBlocks}
+use Rattle.ipnet_base.specs.Ranges.{AddressRange}
 use Rattle.ipnet_base.specs.Masks as masks
 
 -- the address of this family and number
@@ -44,3 +45,16 @@ pub record AreSubnetsOfLength (n : Network) (prefix_len : ℕ) (networks : List 
   pub members : (k : Network) → Contains networks k ↔ IsSubnetOfLength n prefix_len k
   pub count : length networks ≡ 2 ^ (prefix_len - n.prefix_len)
   pub blocks : AreMaximalBlocks (InBlock n) prefix_len networks
+
+-- The least and the greatest address of an IPv4 network below length 31 are no hosts: they stand for the network
+-- and for all of its hosts (RFC 950; at length 31 both are hosts, RFC 3021).
+abbrev pub HasReservedEnds : Network → Type 0
+HasReservedEnds n = (n.family ≡ IPv4) × (n.prefix_len < 31)
+
+-- The range of a network's hosts: its block, or that without both reserved ends.
+pub record IsHostRange (n : Network) (hosts : AddressRange) : Type 0 where
+  pub family : hosts.family ≡ n.family
+  pub inner : HasReservedEnds n → (low high : Address) → IsLeastOf n low → IsGreatestOf n high
+      → (hosts.start ≡ low.number + 1) × (hosts.end + 1 ≡ high.number)
+  pub whole : ¬ (HasReservedEnds n) → (low high : Address) → IsLeastOf n low → IsGreatestOf n high
+      → (hosts.start ≡ low.number) × (hosts.end ≡ high.number)

@@ -9,4 +9,5 @@ pub mod subnets;
 pub mod text_laws;
 
 pub use net::{IpNet, Ipv4Net, Ipv6Net};
+pub use print::{ipv4_addr_text, ipv6_addr_text};
 pub use subnets::{IpSubnets, Ipv4Subnets, Ipv6Subnets};

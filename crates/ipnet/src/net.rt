@@ -3,13 +3,14 @@ ghost use Rattle.std.specs.Prelude.{◌≡◌, ◌<◌, ◌≤◌, ◌⊎◌, �
 ghost use Rattle.std.specs.declared.cmp.Ordering.TheVariants.{Less};
 ghost use Rattle.ipnet_base.specs.Address.{width, ip_address};
 ghost use Rattle.ipnet_base.specs.Network.{Network, IsNetwork, InBlock, IsSubnetOf, IsLeastOf, IsGreatestOf, AreSiblings, AreHalves, IsBefore, IsTruncationOf, IsSupernetOf, truncation};
-ghost use Rattle.ipnet.specs.NetworkParts.{network_at, own_address, netmask, hostmask, HasAddressAndNetmask, AreSubnetsOfLength};
+ghost use Rattle.ipnet.specs.NetworkParts.{network_at, own_address, netmask, hostmask, HasAddressAndNetmask, AreSubnetsOfLength, IsHostRange};
 
 mod ipv4_net;
 mod ipv6_net;
+pub mod laws;
 
 use crate::subnets::IpSubnets;
-use ipnet_base::{IpAddr, PrefixLenError, ip_mask_to_prefix};
+use ipnet_base::{IpAddr, IpAddrRange, PrefixLenError, ip_mask_to_prefix};
 pub use ipv4_net::Ipv4Net;
 pub use ipv6_net::Ipv6Net;
 
@@ -67,6 +68,7 @@ pub enum IpNet {
 
 impl IpNet {
     ghost use Rattle.ipnet.specs.NetworkOf.{ip_network};
+    ghost use Rattle.ipnet_base.specs.RangeOf.{ip_range};
     ghost use Rattle.ipnet.specs.SubnetsLeft.{ip_subnets_left};
 
     /// The network of the address and the length; the address keeps its host bits.
@@ -248,6 +250,21 @@ impl IpNet {
         }
     }
 
+    /// The addresses that hosts may have: all of the block, but in an IPv4 network of a length below 31 neither its
+    /// least nor its greatest address (RFC 3021).
+    ///
+    /// ```text
+    /// 10.0.0.0/30: 10.0.0.1, 10.0.0.2; 10.0.0.0/31: 10.0.0.0, 10.0.0.1; fd00::/127: fd00::, fd00::1
+    /// ```
+    pub fn hosts(&self) -> IpAddrRange
+        ensures { IsHostRange (ip_network self.now) (ip_range result) }
+    {
+        match self {
+            IpNet::V4(net) => IpAddrRange::V4(net.hosts()),
+            IpNet::V6(net) => IpAddrRange::V6(net.hosts()),
+        }
+    }
+
     /// The walk over all networks of this length in the block, ascending; there are 2^(new - own length) of them.
     ///
     /// An error where the new length is below this network's own, or above the width, 32 or 128.
@@ -323,22 +340,22 @@ impl Default for IpNet {
 impl From<Ipv4Net> for IpNet {
     ghost use Rattle.ipnet.specs.NetworkOf.{ip_network, ipv4_network};
 
-    ghost from_gives = { λ net n. ip_network n ≡ ipv4_network net };
+    ghost from_gives = { λ network n. ip_network n ≡ ipv4_network network };
 
     /// The same network.
-    fn from(net: Ipv4Net) -> IpNet {
-        IpNet::V4(net)
+    fn from(network: Ipv4Net) -> IpNet {
+        IpNet::V4(network)
     }
 }
 
 impl From<Ipv6Net> for IpNet {
     ghost use Rattle.ipnet.specs.NetworkOf.{ip_network, ipv6_network};
 
-    ghost from_gives = { λ net n. ip_network n ≡ ipv6_network net };
+    ghost from_gives = { λ network n. ip_network n ≡ ipv6_network network };
 
     /// The same network.
-    fn from(net: Ipv6Net) -> IpNet {
-        IpNet::V6(net)
+    fn from(network: Ipv6Net) -> IpNet {
+        IpNet::V6(network)
     }
 }
 

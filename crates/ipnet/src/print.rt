@@ -1,7 +1,7 @@
 //! The canonical text of addresses and networks (RFC 4632, section 3.1; RFC 4291, section 2.3; RFC 5952).
 //!
 //! Every text is made in a buffer of fixed capacity, so printing takes no memory.
-ghost use Rattle.std.specs.Prelude.{◌≡◌, ◌+◌, ◌*◌, ◌≤◌, ◌<◌, [], ◌∷◌, ◌++◌, length, decimal, Some};
+ghost use Rattle.std.specs.Prelude.{◌≡◌, ◌+◌, ◌-◌, ◌*◌, ◌≤◌, ◌<◌, [], ◌∷◌, ◌++◌, length, codes, decimal, Some};
 ghost use Rattle.std.specs.Char.{digit_char};
 ghost use Rattle.std.specs.Net.Addr.{ipv4_octets, ipv4_bits, ipv6_segments, ipv6_bits};
 ghost use Rattle.std.specs.Net.Text.{ipv4_text, ipv6_text, hex, groups_text};
@@ -28,99 +28,110 @@ pub const IPV4_NETWORK_LEN: usize = "255.255.255.255/32".len();
 /// The length of the longest IPv6 network text, and so of the longest network text of all.
 pub const IPV6_NETWORK_LEN: usize = "ffff:ffff:ffff:ffff:ffff:ffff:ffff:ffff/128".len();
 
-/// The digit's character, in lower case.
-fn digit(value: u16) -> char
+/// The buffer that a text is written into, piece by piece: it has room for the longest of all.
+type Buffer = ArrayString<IPV6_NETWORK_LEN>;
+
+/// The digit, in lower case.
+fn digit(value: u16) -> &'static str
     requires { value < 16 }
-    ensures value { result ≡ digit_char value }
-    ensures ascii { result < 128 }
+    ensures { result.now ≡ digit_char value ∷ [] }
 {
-    char::from(if value < 10 {
-        b'0' + value as u8
-    } else {
-        b'a' + (value - 10) as u8
-    })
+    match value {
+        0 => "0",
+        1 => "1",
+        2 => "2",
+        3 => "3",
+        4 => "4",
+        5 => "5",
+        6 => "6",
+        7 => "7",
+        8 => "8",
+        9 => "9",
+        10 => "a",
+        11 => "b",
+        12 => "c",
+        13 => "d",
+        14 => "e",
+        _ => "f",
+    }
 }
 
-/// The number in decimal, without leading zeros.
-#[tactic(auto, using(crate::proofs::PrintedDigits::decimal_shown))]
-fn decimal_text(n: u8) -> ArrayString<3>
-    ensures bytes { result.bytes ≡ decimal n }
-    ensures short { n < 100 → array_string_len result ≤ 2 }
+/// Appends the number in decimal, without leading zeros.
+#[tactic(auto, using(crate::proofs::PrintedDigits::decimal_behind))]
+fn push_decimal(out: &mut Buffer, n: u8)
+    requires { array_string_len out.old + 3 ≤ IPV6_NETWORK_LEN }
+    ensures bytes { out.new.bytes ≡ out.old.bytes ++ decimal n }
+    ensures short { array_string_len out.new ≤ array_string_len out.old + 3 }
+    ensures shorter { n < 100 → array_string_len out.new ≤ array_string_len out.old + 2 }
 {
     let n = u16::from(n);
-    let mut out = ArrayString::new();
     if n >= 100 {
-        out.push(digit(n / 100));
+        out.push_str(digit(n / 100));
     }
     if n >= 10 {
-        out.push(digit(n / 10 % 10));
+        out.push_str(digit(n / 10 % 10));
     }
-    out.push(digit(n % 10));
-    out
+    out.push_str(digit(n % 10));
 }
 
-/// The octets in decimal, joined by ".".
-fn join_octets(octets: [u8; 4]) -> ArrayString<IPV4_ADDR_LEN>
-    ensures { result.bytes ≡ ipv4_text octets }
+/// Appends the octets in decimal, joined by ".".
+fn push_octets(out: &mut Buffer, octets: [u8; 4])
+    requires { array_string_len out.old + IPV4_ADDR_LEN ≤ IPV6_NETWORK_LEN }
+    ensures bytes { out.new.bytes ≡ out.old.bytes ++ ipv4_text octets }
+    ensures short { array_string_len out.new ≤ array_string_len out.old + IPV4_ADDR_LEN }
 {
     let [a, b, c, d] = octets;
-    let mut out = ArrayString::new();
-    out.push_str(decimal_text(a).as_str());
+    push_decimal(out, a);
     out.push_str(".");
-    out.push_str(decimal_text(b).as_str());
+    push_decimal(out, b);
     out.push_str(".");
-    out.push_str(decimal_text(c).as_str());
+    push_decimal(out, c);
     out.push_str(".");
-    out.push_str(decimal_text(d).as_str());
-    out
+    push_decimal(out, d);
 }
 
-/// The canonical text of an IPv4 address: its four octets in decimal, joined by ".".
-///
-/// ```text
-/// 10.1.1.0
-/// ```
-pub fn ipv4_addr_text(addr: Ipv4Addr) -> ArrayString<IPV4_ADDR_LEN>
-    ensures of_octets { result.bytes ≡ ipv4_text (ipv4_octets addr) }
-    ensures of_number { result.bytes ≡ address_text IPv4 (ipv4_bits addr) }
+/// Appends "/" and the length in decimal, without leading zeros.
+fn push_length(out: &mut Buffer, prefix_len: u8)
+    requires { array_string_len out.old + 4 ≤ IPV6_NETWORK_LEN }
+    ensures bytes { out.new.bytes ≡ out.old.bytes ++ codes "/" ++ decimal prefix_len }
+    ensures shorter { prefix_len < 100 → array_string_len out.new ≤ array_string_len out.old + 3 }
 {
-    join_octets(addr.octets())
+    out.push_str("/");
+    push_decimal(out, prefix_len);
 }
 
-/// The group in hexadecimal, without leading zeros.
-#[tactic(auto, using(crate::proofs::PrintedDigits::hex_shown))]
-fn hex_text(n: u16) -> ArrayString<4>
-    ensures { result.bytes ≡ hex n }
+/// Appends the group in hexadecimal, without leading zeros.
+#[tactic(auto, using(crate::proofs::PrintedDigits::hex_behind))]
+fn push_group(out: &mut Buffer, n: u16)
+    requires { array_string_len out.old + 4 ≤ IPV6_NETWORK_LEN }
+    ensures bytes { out.new.bytes ≡ out.old.bytes ++ hex n }
+    ensures short { array_string_len out.new ≤ array_string_len out.old + 4 }
 {
-    let mut out = ArrayString::new();
     if n >= 0x1000 {
-        out.push(digit(n / 0x1000));
+        out.push_str(digit(n / 0x1000));
     }
     if n >= 0x100 {
-        out.push(digit(n / 0x100 % 16));
+        out.push_str(digit(n / 0x100 % 16));
     }
     if n >= 0x10 {
-        out.push(digit(n / 0x10 % 16));
+        out.push_str(digit(n / 0x10 % 16));
     }
-    out.push(digit(n % 16));
-    out
+    out.push_str(digit(n % 16));
 }
 
-/// The groups joined by ":".
-fn join_groups(groups: &[u16]) -> ArrayString<IPV6_ADDR_LEN>
-    requires { length groups.now ≤ 8 }
-    ensures bytes { result.bytes ≡ groups_text groups.now }
-    ensures short { array_string_len result ≤ 5 * length groups.now }
+/// Appends the groups, joined by ":".
+fn push_groups(out: &mut Buffer, groups: &[u16])
+    requires { array_string_len out.old + 5 * length groups.now ≤ IPV6_NETWORK_LEN }
+    ensures bytes { out.new.bytes ≡ out.old.bytes ++ groups_text groups.now }
+    ensures short { array_string_len out.new ≤ array_string_len out.old + (5 * length groups.now - 1) }
 {
-    let mut out = ArrayString::new();
     if let [first, rest @ ..] = groups {
-        out.push_str(hex_text(*first).as_str());
+        push_group(out, *first);
         for group in rest {
             out.push_str(":");
-            out.push_str(hex_text(*group).as_str());
+            push_group(out, *group);
         }
     }
-    out
 }
 
 /// The start and the length of the longest run of zero groups, the first one of that length.
@@ -141,35 +152,53 @@ fn longest_zero_run(groups: &[u16]) -> (usize, usize)
     (start, len)
 }
 
-/// The groups, with "::" for the longest run of two zero groups or more.
+/// Appends the groups, with "::" for the longest run of two zero groups or more.
 #[tactic(auto, unfolding(std::specs::Net::Text::hex_groups_text))]
-fn compress_groups(groups: &[u16]) -> ArrayString<IPV6_ADDR_LEN>
-    requires { length groups.now ≡ 8 }
-    ensures { result.bytes ≡ text.hex_groups_text groups.now }
+fn push_shortened(out: &mut Buffer, groups: &[u16])
+    requires eight { length groups.now ≡ 8 }
+    requires room { array_string_len out.old + 40 ≤ IPV6_NETWORK_LEN }
+    ensures bytes { out.new.bytes ≡ out.old.bytes ++ text.hex_groups_text groups.now }
+    ensures short { array_string_len out.new ≤ array_string_len out.old + IPV6_ADDR_LEN }
 {
     let (start, len) = longest_zero_run(groups);
     if len < 2 {
-        return join_groups(groups);
+        push_groups(out, groups);
+    } else {
+        push_groups(out, &groups[..start]);
+        out.push_str("::");
+        push_groups(out, &groups[start + len..]);
     }
-    let mut out = join_groups(&groups[..start]);
-    out.push_str("::");
-    out.push_str(join_groups(&groups[start + len..]).as_str());
-    out
 }
 
-/// The text of a mapped address in dotted form, and of any other in groups.
+/// Appends the address: a mapped one in dotted form, and any other in groups.
 #[tactic(auto, unfolding(std::specs::Net::Text::ipv6_text))]
-fn write_ipv6(addr: Ipv6Addr) -> ArrayString<IPV6_ADDR_LEN>
-    ensures { result.bytes ≡ ipv6_text (ipv6_segments addr) }
+fn push_ipv6(out: &mut Buffer, addr: Ipv6Addr)
+    requires { array_string_len out.old + 40 ≤ IPV6_NETWORK_LEN }
+    ensures bytes { out.new.bytes ≡ out.old.bytes ++ ipv6_text (ipv6_segments addr) }
+    ensures short { array_string_len out.new ≤ array_string_len out.old + IPV6_ADDR_LEN }
 {
     if let Some(mapped) = addr.to_ipv4_mapped() {
-        let mut out = ArrayString::new();
         out.push_str("::ffff:");
-        out.push_str(join_octets(mapped.octets()).as_str());
-        out
+        push_octets(out, mapped.octets());
     } else {
-        compress_groups(&addr.segments())
+        push_shortened(out, &addr.segments());
     }
+}
+
+/// The canonical text of an IPv4 address: its four octets in decimal, joined by ".".
+///
+/// ```text
+/// 10.1.1.0
+/// ```
+pub fn ipv4_addr_text(addr: Ipv4Addr) -> ArrayString<IPV4_ADDR_LEN>
+    ensures of_octets { result.bytes ≡ ipv4_text (ipv4_octets addr) }
+    ensures of_number { result.bytes ≡ address_text IPv4 (ipv4_bits addr) }
+{
+    let mut buffer = Buffer::new();
+    push_octets(&mut buffer, addr.octets());
+    let mut out = ArrayString::new();
+    out.push_str(buffer.as_str());
+    out
 }
 
 /// The canonical text of an IPv6 address (RFC 5952): its groups in lower-case hexadecimal without leading zeros,
@@ -188,7 +217,23 @@ pub fn ipv6_addr_text(addr: Ipv6Addr) -> ArrayString<IPV6_ADDR_LEN>
     ensures of_groups { result.bytes ≡ ipv6_text (ipv6_segments addr) }
     ensures of_number { result.bytes ≡ address_text IPv6 (ipv6_bits addr) }
 {
-    write_ipv6(addr)
+    let mut buffer = Buffer::new();
+    push_ipv6(&mut buffer, addr);
+    let mut out = ArrayString::new();
+    out.push_str(buffer.as_str());
+    out
+}
+
+/// The canonical text of the network, in the buffer that it was written into.
+#[tactic(auto, unfolding(std::specs::Net::Addr::IsIpv4OfBits))]
+fn ipv4_network_text(net: &Ipv4Net) -> Buffer
+    ensures bytes { result.bytes ≡ canonical_text (ipv4_network net.now) }
+    ensures short { array_string_len result ≤ IPV4_NETWORK_LEN }
+{
+    let mut out = Buffer::new();
+    push_octets(&mut out, Ipv4Addr::from_bits(net.number()).octets());
+    push_length(&mut out, net.prefix_len());
+    out
 }
 
 impl Ipv4Net {
@@ -198,15 +243,11 @@ impl Ipv4Net {
     /// ```text
     /// 10.1.1.0/24
     /// ```
-    #[tactic(auto, unfolding(std::specs::Net::Addr::IsIpv4OfBits))]
     pub fn to_text(&self) -> ArrayString<IPV4_NETWORK_LEN>
         ensures { result.bytes ≡ canonical_text (ipv4_network self.now) }
     {
-        let addr = Ipv4Addr::from_bits(self.number());
         let mut out = ArrayString::new();
-        out.push_str(ipv4_addr_text(addr).as_str());
-        out.push_str("/");
-        out.push_str(decimal_text(self.prefix_len()).as_str());
+        out.push_str(ipv4_network_text(self).as_str());
         out
     }
 }
@@ -222,11 +263,9 @@ impl Ipv6Net {
     pub fn to_text(&self) -> ArrayString<IPV6_NETWORK_LEN>
         ensures { result.bytes ≡ canonical_text (ipv6_network self.now) }
     {
-        let addr = Ipv6Addr::from_bits(self.number());
         let mut out = ArrayString::new();
-        out.push_str(ipv6_addr_text(addr).as_str());
-        out.push_str("/");
-        out.push_str(decimal_text(self.prefix_len()).as_str());
+        push_ipv6(&mut out, Ipv6Addr::from_bits(self.number()));
+        push_length(&mut out, self.prefix_len());
         out
     }
 }
@@ -243,11 +282,7 @@ impl IpNet {
         ensures { result.bytes ≡ canonical_text (ip_network self.now) }
     {
         match self {
-            IpNet::V4(net) => {
-                let mut out = ArrayString::new();
-                out.push_str(net.to_text().as_str());
-                out
-            }
+            IpNet::V4(net) => ipv4_network_text(net),
             IpNet::V6(net) => net.to_text(),
         }
     }
@@ -258,7 +293,7 @@ impl fmt::Display for Ipv4Net {
     ghost output = { λ n. Some (canonical_text (ipv4_network n)) };
 
     fn fmt<W: fmt::Write>(&self, f: &mut fmt::Formatter<W>) -> fmt::Result {
-        f.write_str(self.to_text().as_str())
+        f.write_str(ipv4_network_text(self).as_str())
     }
 }
 
@@ -288,7 +323,7 @@ impl fmt::Debug for Ipv4Net {
     ghost debug_output = { λ n. Some (canonical_text (ipv4_network n)) };
 
     fn fmt<W: fmt::Write>(&self, f: &mut fmt::Formatter<W>) -> fmt::Result {
-        fmt::Display::fmt(self, f)
+        <Ipv4Net as fmt::Display>::fmt(self, f)
     }
 }
 
@@ -297,7 +332,7 @@ impl fmt::Debug for Ipv6Net {
     ghost debug_output = { λ n. Some (canonical_text (ipv6_network n)) };
 
     fn fmt<W: fmt::Write>(&self, f: &mut fmt::Formatter<W>) -> fmt::Result {
-        fmt::Display::fmt(self, f)
+        <Ipv6Net as fmt::Display>::fmt(self, f)
     }
 }
 
@@ -306,6 +341,6 @@ impl fmt::Debug for IpNet {
     ghost debug_output = { λ n. Some (canonical_text (ip_network n)) };
 
     fn fmt<W: fmt::Write>(&self, f: &mut fmt::Formatter<W>) -> fmt::Result {
-        fmt::Display::fmt(self, f)
+        <IpNet as fmt::Display>::fmt(self, f)
     }
 }

@@ -19,3 +19,4 @@ pub mod DigitLaws
 pub mod ArithmeticLaws
 pub mod RangeLaws
 pub mod CallLaws
+pub mod FamilyLaws

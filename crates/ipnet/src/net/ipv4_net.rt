@@ -2,11 +2,11 @@ ghost use Rattle.std.specs.Prelude.{◌≡◌, ◌-◌, ◌*◌, ◌/◌, ◌^�
 ghost use Rattle.std.specs.Net.Addr.{ipv4_bits};
 ghost use Rattle.ipnet_base.specs.Address.{IPv4, width, ipv4_address};
 ghost use Rattle.ipnet_base.specs.Network.{Network, IsLeastOf, IsGreatestOf, IsSubnetOf, InBlock, IsSupernetOf, AreSiblings, IsTruncationOf};
-ghost use Rattle.ipnet.specs.NetworkParts.{address_at, network_at, own_address, netmask, hostmask, HasAddressAndNetmask, AreSubnetsOfLength};
+ghost use Rattle.ipnet.specs.NetworkParts.{address_at, network_at, own_address, netmask, hostmask, HasAddressAndNetmask, AreSubnetsOfLength, IsHostRange};
 
 use super::{Contains, Net};
 use crate::subnets::Ipv4Subnets;
-use ipnet_base::{Ipv4Addr, PrefixLenError, ipv4_mask_to_prefix};
+use ipnet_base::{Ipv4Addr, Ipv4AddrRange, PrefixLenError, ipv4_mask_to_prefix};
 
 /// An IPv4 network: an address, with its host bits, and a prefix length of at most 32.
 ///
@@ -48,6 +48,7 @@ fn address_of(number: u32) -> Ipv4Addr
 impl Ipv4Net {
     ghost use Rattle.ipnet_base.proofs.BlockLaws.{last_of};
     ghost use Rattle.ipnet.specs.NetworkOf.{ipv4_network, ipv4_network_of};
+    ghost use Rattle.ipnet_base.specs.RangeOf.{ipv4_range};
     ghost use Rattle.ipnet.specs.SubnetsLeft.{ipv4_subnets_left};
 
     /// The network of the address and the length; the address keeps its host bits.
@@ -108,7 +109,7 @@ impl Ipv4Net {
     pub fn max_prefix_len(&self) -> u8
         ensures { result ≡ width (ipv4_network self.now).family }
     {
-        32
+        u32::BITS as u8
     }
 
     /// The netmask: as many ones as the prefix length says, followed by zeros (RFC 4632, section 3.1).
@@ -197,6 +198,24 @@ impl Ipv4Net {
             return false;
         }
         self.leading_number(len - 1) == other.leading_number(len - 1)
+    }
+
+    /// The addresses that hosts may have: those between the least and the greatest of the block, and at the lengths
+    /// 31 and 32 these two as well (RFC 3021).
+    ///
+    /// ```text
+    /// 10.0.0.0/30: 10.0.0.1, 10.0.0.2; 10.0.0.0/31: 10.0.0.0, 10.0.0.1; 10.0.0.7/32: 10.0.0.7
+    /// ```
+    pub fn hosts(&self) -> Ipv4AddrRange
+        ensures { IsHostRange (ipv4_network self.now) (ipv4_range result) }
+    {
+        let len = self.leading_bits();
+        if len >= 31 {
+            return Ipv4AddrRange::new(self.network(), self.broadcast());
+        }
+        let first = self.leading_number(len) + 1;
+        let last = self.last_number() - 1;
+        Ipv4AddrRange::new(address_of(first), address_of(last))
     }
 
     /// The walk over all networks of this length in the block, ascending; there are 2^(new - own length) of them.
@@ -349,7 +368,7 @@ impl Net for Ipv4Net {
     }
 
     fn joined(&self) -> Ipv4Net {
-        let len = self.leading_bits() - 1;
-        Ipv4Net::from_number(self.leading_number(len), len)
+        let shorter = self.leading_bits() - 1;
+        Ipv4Net::from_number(self.leading_number(shorter), shorter)
     }
 }

@@ -2,11 +2,11 @@ ghost use Rattle.std.specs.Prelude.{◌≡◌, ◌-◌, ◌*◌, ◌/◌, ◌^�
 ghost use Rattle.std.specs.Net.Addr.{ipv6_bits};
 ghost use Rattle.ipnet_base.specs.Address.{IPv6, width, ipv6_address};
 ghost use Rattle.ipnet_base.specs.Network.{Network, IsLeastOf, IsGreatestOf, IsSubnetOf, InBlock, IsSupernetOf, AreSiblings, IsTruncationOf};
-ghost use Rattle.ipnet.specs.NetworkParts.{address_at, network_at, own_address, netmask, hostmask, HasAddressAndNetmask, AreSubnetsOfLength};
+ghost use Rattle.ipnet.specs.NetworkParts.{address_at, network_at, own_address, netmask, hostmask, HasAddressAndNetmask, AreSubnetsOfLength, IsHostRange};
 
 use super::{Contains, Net};
 use crate::subnets::Ipv6Subnets;
-use ipnet_base::{Ipv6Addr, PrefixLenError, ipv6_mask_to_prefix};
+use ipnet_base::{Ipv6Addr, Ipv6AddrRange, PrefixLenError, ipv6_mask_to_prefix};
 
 /// An IPv6 network: an address, with its host bits, and a prefix length of at most 128.
 ///
@@ -50,6 +50,7 @@ fn address_of(number: u128) -> Ipv6Addr
 impl Ipv6Net {
     ghost use Rattle.ipnet_base.proofs.BlockLaws.{last_of};
     ghost use Rattle.ipnet.specs.NetworkOf.{ipv6_network, ipv6_network_of};
+    ghost use Rattle.ipnet_base.specs.RangeOf.{ipv6_range};
     ghost use Rattle.ipnet.specs.SubnetsLeft.{ipv6_subnets_left};
 
     /// The network of the address and the length; the address keeps its host bits.
@@ -110,7 +111,7 @@ impl Ipv6Net {
     pub fn max_prefix_len(&self) -> u8
         ensures { result ≡ width (ipv6_network self.now).family }
     {
-        128
+        u128::BITS as u8
     }
 
     /// The netmask: as many ones as the prefix length says, followed by zeros (RFC 4632, section 3.1).
@@ -199,6 +200,17 @@ impl Ipv6Net {
             return false;
         }
         self.leading_number(len - 1) == other.leading_number(len - 1)
+    }
+
+    /// The addresses that hosts may have: all of the block.
+    ///
+    /// ```text
+    /// fd00::/126: fd00::, fd00::1, fd00::2, fd00::3
+    /// ```
+    pub fn hosts(&self) -> Ipv6AddrRange
+        ensures { IsHostRange (ipv6_network self.now) (ipv6_range result) }
+    {
+        Ipv6AddrRange::new(self.network(), self.broadcast())
     }
 
     /// The walk over all networks of this length in the block, ascending; there are 2^(new - own length) of them.
@@ -355,7 +367,7 @@ impl Net for Ipv6Net {
     }
 
     fn joined(&self) -> Ipv6Net {
-        let len = self.leading_bits() - 1;
-        Ipv6Net::from_number(self.leading_number(len), len)
+        let shorter = self.leading_bits() - 1;
+        Ipv6Net::from_number(self.leading_number(shorter), shorter)
     }
 }

@@ -1,10 +1,9 @@
 //! Ranges of IPv4 addresses.
 ghost use Rattle.std.specs.Prelude.{◌≡◌, ◌+◌, ◌-◌, ◌^◌, ◌<◌, ◌≤◌, ◌↔◌, IsTrue, option_map, slice_get, drop, take, reverse};
 ghost use Rattle.std.specs.Option.{SomeIff};
-ghost use Rattle.std.specs.Ordering.{MatchOrdering};
 ghost use Rattle.std.specs.Net.Addr.{ipv4_bits};
 ghost use Rattle.ipnet_base.specs.Address.{ipv4_address};
-ghost use Rattle.ipnet_base.specs.Ranges.{address_at, address_count, with_ends, IsNth, IsNthBack, IsRangeBefore};
+ghost use Rattle.ipnet_base.specs.Ranges.{address_at, address_count, with_ends, IsNth, IsNthBack};
 
 use crate::addr::{Ipv4Addr, ipv4_from_number};
 use std::iter::FusedIterator;
@@ -88,7 +87,8 @@ impl Ipv4AddrRange {
         ensures left { ipv4_addresses self.new ≡ drop (n + 1) (ipv4_addresses self.old) }
         ensures ends { IsNth n (ipv4_range self.old) (option_map ipv4_address result) (ipv4_range self.new) }
     {
-        if self.start > self.end || n > (self.end - self.start) as usize {
+        let past_end = self.has_at_most(n);
+        if past_end {
             self.use_up();
             return None;
         }
@@ -111,7 +111,8 @@ impl Ipv4AddrRange {
             ≡ take (address_count (ipv4_range self.old) - (n + 1)) (ipv4_addresses self.old) }
         ensures ends { IsNthBack n (ipv4_range self.old) (option_map ipv4_address result) (ipv4_range self.new) }
     {
-        if self.start > self.end || n > (self.end - self.start) as usize {
+        let past_start = self.has_at_most(n);
+        if past_start {
             self.use_up();
             return None;
         }
@@ -122,6 +123,13 @@ impl Ipv4AddrRange {
             self.use_up();
         }
         Some(ipv4_from_number(item))
+    }
+
+    /// Whether no more than `n` addresses are left.
+    fn has_at_most(&self, n: usize) -> bool
+        ensures { IsTrue result ↔ (address_count (ipv4_range self.now) ≤ n) }
+    {
+        self.start > self.end || n > (self.end - self.start) as usize
     }
 
     /// Stores the ends of a range of which nothing is left.
@@ -153,15 +161,15 @@ impl Iterator for Ipv4AddrRange {
         ensures goes { MakesProgress (λ _. ⊤) (λ r. at_most (address_count (ipv4_range r))) self.old result self.new }
         ensures ends { IsNext (ipv4_range self.old) (option_map ipv4_address result) (ipv4_range self.new) }
     {
-        let item = self.start;
-        if item < self.end {
-            self.start = item + 1;
-        } else if item == self.end {
+        let first = self.start;
+        if first < self.end {
+            self.start = first + 1;
+        } else if first == self.end {
             self.use_up();
         } else {
             return None;
         }
-        Some(ipv4_from_number(item))
+        Some(ipv4_from_number(first))
     }
 
     /// The count of the addresses that are left, as both bounds: it always fits.
@@ -190,15 +198,15 @@ impl DoubleEndedIterator for Ipv4AddrRange {
         ensures goes { MakesProgress (λ _. ⊤) (λ r. at_most (address_count (ipv4_range r))) self.old result self.new }
         ensures ends { IsNextBack (ipv4_range self.old) (option_map ipv4_address result) (ipv4_range self.new) }
     {
-        let item = self.end;
-        if self.start < item {
-            self.end = item - 1;
-        } else if self.start == item {
+        let last = self.end;
+        if self.start < last {
+            self.end = last - 1;
+        } else if self.start == last {
             self.use_up();
         } else {
             return None;
         }
-        Some(ipv4_from_number(item))
+        Some(ipv4_from_number(last))
     }
 }
 

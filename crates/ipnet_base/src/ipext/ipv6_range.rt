@@ -1,10 +1,9 @@
 //! Ranges of IPv6 addresses.
 ghost use Rattle.std.specs.Prelude.{◌≡◌, ◌+◌, ◌-◌, ◌^◌, ◌<◌, ◌≤◌, ◌↔◌, IsTrue, option_map, slice_get, drop, take, reverse};
 ghost use Rattle.std.specs.Option.{SomeIff};
-ghost use Rattle.std.specs.Ordering.{MatchOrdering};
 ghost use Rattle.std.specs.Net.Addr.{ipv6_bits};
 ghost use Rattle.ipnet_base.specs.Address.{ipv6_address};
-ghost use Rattle.ipnet_base.specs.Ranges.{address_at, address_count, with_ends, IsNth, IsNthBack, IsRangeBefore};
+ghost use Rattle.ipnet_base.specs.Ranges.{address_at, address_count, with_ends, IsNth, IsNthBack};
 
 use crate::addr::{Ipv6Addr, ipv6_from_number};
 use std::iter::FusedIterator;
@@ -91,7 +90,8 @@ impl Ipv6AddrRange {
         ensures left { ipv6_addresses self.new ≡ drop (n + 1) (ipv6_addresses self.old) }
         ensures ends { IsNth n (ipv6_range self.old) (option_map ipv6_address result) (ipv6_range self.new) }
     {
-        if self.start > self.end || n as u128 > self.end - self.start {
+        let past_end = self.has_at_most(n);
+        if past_end {
             self.use_up();
             return None;
         }
@@ -114,7 +114,8 @@ impl Ipv6AddrRange {
             ≡ take (address_count (ipv6_range self.old) - (n + 1)) (ipv6_addresses self.old) }
         ensures ends { IsNthBack n (ipv6_range self.old) (option_map ipv6_address result) (ipv6_range self.new) }
     {
-        if self.start > self.end || n as u128 > self.end - self.start {
+        let past_start = self.has_at_most(n);
+        if past_start {
             self.use_up();
             return None;
         }
@@ -125,6 +126,13 @@ impl Ipv6AddrRange {
             self.use_up();
         }
         Some(ipv6_from_number(item))
+    }
+
+    /// Whether no more than `n` addresses are left.
+    fn has_at_most(&self, n: usize) -> bool
+        ensures { IsTrue result ↔ (address_count (ipv6_range self.now) ≤ n) }
+    {
+        self.start > self.end || n as u128 > self.end - self.start
     }
 
     /// Stores the ends of a range of which nothing is left.
@@ -156,15 +164,15 @@ impl Iterator for Ipv6AddrRange {
         ensures goes { MakesProgress (λ _. ⊤) (λ r. at_most (address_count (ipv6_range r))) self.old result self.new }
         ensures ends { IsNext (ipv6_range self.old) (option_map ipv6_address result) (ipv6_range self.new) }
     {
-        let item = self.start;
-        if item < self.end {
-            self.start = item + 1;
-        } else if item == self.end {
+        let first = self.start;
+        if first < self.end {
+            self.start = first + 1;
+        } else if first == self.end {
             self.use_up();
         } else {
             return None;
         }
-        Some(ipv6_from_number(item))
+        Some(ipv6_from_number(first))
     }
 
     /// The count of the addresses that are left, as both bounds, or `(usize::MAX, None)` where no `usize` holds
@@ -202,15 +210,15 @@ impl DoubleEndedIterator for Ipv6AddrRange {
         ensures goes { MakesProgress (λ _. ⊤) (λ r. at_most (address_count (ipv6_range r))) self.old result self.new }
         ensures ends { IsNextBack (ipv6_range self.old) (option_map ipv6_address result) (ipv6_range self.new) }
     {
-        let item = self.end;
-        if self.start < item {
-            self.end = item - 1;
-        } else if self.start == item {
+        let last = self.end;
+        if self.start < last {
+            self.end = last - 1;
+        } else if self.start == last {
             self.use_up();
         } else {
             return None;
         }
-        Some(ipv6_from_number(item))
+        Some(ipv6_from_number(last))
     }
 }
 

@@ -5,8 +5,8 @@ use Rattle.ipnet_base.specs.RangeOf.{ipv4_range}
 use Rattle.ipnet_base.proofs.RangeLaws.{IsNextBack-yields}
 use Rattle.ipnet_base.proofs.ipext.ipv4_range.Ipv4AddrRangeDoubleEndedIterator.next_back.Goals as goal
 
-pub returns-else-self-item-2-clause-steps : goal.returns-else-self-item-2-clause-steps
-returns-else-self-item-2-clause-steps c =
+pub returns-else-self-last-2-clause-steps : goal.returns-else-self-last-2-clause-steps
+returns-else-self-last-2-clause-steps c =
     let r = ipv4_range c.args.self.now in
     let ends : IsNextBack r None r = search rules in
     IsNextBack-yields r None r ends
@@ -15,5 +15,5 @@ pub returns-clause-steps : goal.returns-clause-steps
 returns-clause-steps c =
     let r = ipv4_range c.args.self.now in
     let item = ipv4_address c.ipv4_from_number.result in
-    let ends : IsNextBack r (Some item) (ipv4_range c.if-self-item.self) = search rules in
-    IsNextBack-yields r (Some item) (ipv4_range c.if-self-item.self) ends
+    let ends : IsNextBack r (Some item) (ipv4_range c.if-self-last.self) = search rules in
+    IsNextBack-yields r (Some item) (ipv4_range c.if-self-last.self) ends

@@ -5,15 +5,15 @@ use Rattle.ipnet_base.specs.RangeOf.{ipv6_range}
 use Rattle.ipnet_base.proofs.RangeLaws.{IsNth-item, IsNth-left}
 use Rattle.ipnet_base.proofs.ipext.ipv6_range.Ipv6AddrRange.nth.Goals as goal
 
-pub returns-then-self-clause-item : goal.returns-then-self-clause-item
-returns-then-self-clause-item c =
+pub returns-then-past_end-clause-item : goal.returns-then-past_end-clause-item
+returns-then-past_end-clause-item c =
     let r = ipv6_range c.args.self.now in
     let s = ipv6_range c.use_up.new.self in
     let ends : IsNth c.args.n r None s = search rules in
     IsNth-item c.args.n r None s ends
 
-pub returns-then-self-clause-left : goal.returns-then-self-clause-left
-returns-then-self-clause-left c =
+pub returns-then-past_end-clause-left : goal.returns-then-past_end-clause-left
+returns-then-past_end-clause-left c =
     let r = ipv6_range c.args.self.now in
     let s = ipv6_range c.use_up.new.self in
     let ends : IsNth c.args.n r None s = search rules in

@@ -1,0 +1,56 @@
+use Rattle.std.proofs.Common.{◌≡◌, ◌≢◌, ℕ, ◌+◌, ◌<◌, ◌∷◌, ◌++◌, [], length, sym, ap, subst, arith, rules, append-nil, inl, inr, eqb-true}
+use Rattle.ipnet.specs.Lines.{lines_of, AreNetworksOf, IsFirstBadLine}
+use Rattle.ipnet.specs.NetworkOf.{ip_network}
+use Rattle.ipnet.proofs.LineLaws.{empty_line, network_line, bad_line, good_line, no_lines}
+use Rattle.ipnet_tool.specs.Families.{grammar_of, networks_of}
+use Rattle.ipnet_tool.proofs.AnswerLaws.{cover_moves_on}
+use Rattle.ipnet_tool.proofs.LineCuts.{some_bytes, no_bytes, empty_text}
+use Rattle.ipnet_tool.proofs.tool.read_lines.Goals as goal
+
+-- counted one by one, or from here on
+append_one : (n m : ℕ) → n + 1 + m ≡ n + (1 + m)
+append_one n m = omega arith
+
+pub returns-in_default-clause-bad_line : goal.returns-in_default-clause-bad_line
+returns-in_default-clause-bad_line c = λ number e.
+    let cut = c.first_line.ensures.lines in
+    let first : IsFirstBadLine (grammar_of c.args.reading) (lines_of c.args.text.now) (c.lines.number + 1) =
+    c.lines.invariant.bad_line 1 (rw cut (bad_line (grammar_of c.args.reading) c.first_line.result.0.now (lines_of c.first_line.result.1.now) (some_bytes (length c.first_line.result.0.now) c.if-not-is_empty.ensures) c.in_default.ensures)) in
+    let same : c.lines.number + 1 ≡ number = cc in
+    subst (IsFirstBadLine (grammar_of c.args.reading) (lines_of c.args.text.now)) same first
+
+pub lines-preserved-in-Ok-push : goal.lines-preserved-in-Ok-push
+lines-preserved-in-Ok-push c =
+    let grammar = grammar_of c.args.reading in
+    let cut = c.first_line.ensures.lines in
+    let line = c.first_line.result.0.now in
+    let behind = lines_of c.first_line.result.1.now in
+    let n = ip_network c.in-Ok.network in
+    let some : 0 < length line = some_bytes (length line) c.if-not-is_empty.ensures in
+    record {
+      is_text = search rules;
+      count = omega (arith, c.first_line.ensures.shorter);
+      networks = λ more h.
+          let (whole, is, same) = c.lines.invariant.networks (n ∷ more) (rw cut (network_line grammar line behind n more some c.in-Ok.ensures h)) in
+          (whole, is, cover_moves_on whole (networks_of c.lines.families) (networks_of c.push.new.self) more n c.in-Ok-push.ensures same);
+      bad_line = λ later h. rw append_one (c.lines.invariant.bad_line (1 + later) (rw cut (good_line grammar line behind later (inr (n, c.in-Ok.ensures)) h)));
+    }
+
+pub lines-preserved : goal.lines-preserved
+lines-preserved c =
+    let grammar = grammar_of c.args.reading in
+    let cut = c.first_line.ensures.lines in
+    let line = c.first_line.result.0.now in
+    let behind = lines_of c.first_line.result.1.now in
+    let none : length line ≡ 0 = no_bytes (length line) c.if-not-is_empty.ensures in
+    record {
+      is_text = search rules;
+      count = omega (arith, c.first_line.ensures.shorter);
+      networks = λ more h. c.lines.invariant.networks more (rw cut (empty_line grammar line behind more none h));
+      bad_line = λ later h. rw append_one (c.lines.invariant.bad_line (1 + later) (rw cut (good_line grammar line behind later (inl (empty_text line none)) h)));
+    }
+
+pub returns-clause-networks : goal.returns-clause-networks
+returns-clause-networks c =
+    let none : length c.lines.rest.now ≡ 0 = no_bytes (length c.lines.rest.now) c.lines-test.ensures in
+    rw append-nil at (c.lines.invariant.networks [] (no_lines (grammar_of c.args.reading) c.lines.rest.now none))

@@ -1,0 +1,21 @@
+-- The answer of the tool to a text: its networks aggregated, one a line.
+use Rattle.std.specs.Prelude.{◌≡◌, ℕ, List, [], ◌∷◌, ◌++◌, codes}
+use Rattle.ipnet.specs.Network.{Network}
+use Rattle.ipnet.specs.Blocks.{IsAggregateOf}
+use Rattle.ipnet.specs.CanonicalTexts.{canonical_text}
+use Rattle.ipnet.specs.Grammar.{Grammar}
+use Rattle.ipnet.specs.Lines.{lines_of, AreNetworksOf}
+
+-- the canonical texts of the networks, in order, each followed by "\n" (10)
+abbrev pub text_of_lines : List Network → List ℕ
+text_of_lines [] = []
+text_of_lines (n ∷ networks) = canonical_text n ++ 10 ∷ [] ++ text_of_lines networks
+
+-- The lines of the text write networks in this grammar, and the answer is the canonical texts of the maximal
+-- blocks of what these cover.
+pub record IsAnswerTo (grammar : Grammar) (text answer : List ℕ) : Type 0 where
+  pub networks : List Network
+  pub written : AreNetworksOf grammar (lines_of text) networks
+  pub blocks : List Network
+  pub aggregate : IsAggregateOf blocks networks
+  pub spelled : answer ≡ text_of_lines blocks

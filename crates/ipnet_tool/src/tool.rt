@@ -1,0 +1,195 @@
+//! The text tool: a list of networks, one a line, into the shortest list of the same addresses.
+ghost use Rattle.std.specs.Prelude.{◌≡◌, ℕ, ◌<◌, [], ◌∷◌, List, ◌++◌, length, All, Err, IfOk, IsOkAnd, OnOk, string_bytes};
+ghost use Rattle.ipnet.specs.Network.{Network};
+ghost use Rattle.ipnet.specs.Blocks.{HaveSameCover, IsAggregateOf};
+ghost use Rattle.ipnet.specs.CanonicalTexts.{canonical_text};
+ghost use Rattle.ipnet.specs.Grammar.{Strict, Legacy};
+ghost use Rattle.ipnet.specs.Lines.{lines_of, AreNetworksOf, IsGoodLine, IsFirstBadLine};
+ghost use Rattle.ipnet.specs.NetworkOf.{ip_network};
+ghost use Rattle.ipnet.specs.NetworkTexts.{IsNetworkText, ReadsNetwork};
+ghost use Rattle.ipnet_tool.specs.Answers.{IsAnswerTo, text_of_lines};
+ghost use Rattle.ipnet_tool.specs.Families.{grammar_of, networks_of};
+
+use ipnet::parser::AddrParseError;
+use ipnet::{IpNet, Ipv4Net, Ipv6Net};
+use std::alloc::{AllocError, Global};
+use thiserror::Error;
+
+/// Why a text has no answer.
+#[derive(Clone, Debug, PartialEq, Eq, Drop, Error)]
+pub enum ToolError {
+    /// The line of this number, counted from 1 with the empty ones, is the first that is neither empty nor a
+    /// network.
+    #[error("line {0}: invalid IP address syntax")]
+    Line(usize),
+    /// A growth was refused.
+    #[error("out of memory")]
+    Memory,
+}
+
+/// The shortest list of networks that cover the addresses of the text's networks, in canonical text, one a
+/// line.
+///
+/// The text is cut at each "\n"; what stands behind the last is a line too, unless it is empty. Empty lines
+/// are skipped, and each other line is read as [`IpNet`] by the strict grammar. The answer has the maximal
+/// aligned blocks of the addresses, IPv4 first, ascending, each followed by "\n". The first bad line is
+/// refused with its number, and a growth that is refused before that line is reached is want of memory. An
+/// empty text has an empty answer, and takes no memory.
+///
+/// ```text
+/// aggregate_text(alloc, "10.0.1.0/24\n\n10.0.0.0/24")  is  Ok("10.0.0.0/23\n")
+/// aggregate_text(alloc, "10.0.0.0/24\n\nx\n")           is  Err(ToolError::Line(3))
+/// ```
+pub fn aggregate_text(alloc: Global, text: &str) -> Result<String, ToolError>
+    ensures empty { text.now ≡ [] → IsOkAnd result (λ answer. string_bytes answer ≡ []) }
+    ensures answer { IfOk result (λ answer. IsAnswerTo Strict text.now (string_bytes answer)) }
+    ensures no_bad_line { OnOk result (All (IsGoodLine Strict) (lines_of text.now)) }
+    ensures bad_line { (number : ℕ) → result ≡ Err (ToolError.Line number) → IsFirstBadLine Strict (lines_of text.now) number }
+{
+    answer_to(alloc, text, Reading::Strict)
+}
+
+/// The same for lines that are read by the legacy grammar, [`IpNet::parse_legacy`].
+///
+/// ```text
+/// aggregate_text_legacy(alloc, "10.0.0.0/24\n10.0.01.0/24\n")  is  Ok("10.0.0.0/23\n")
+/// ```
+pub fn aggregate_text_legacy(alloc: Global, text: &str) -> Result<String, ToolError>
+    ensures empty { text.now ≡ [] → IsOkAnd result (λ answer. string_bytes answer ≡ []) }
+    ensures answer { IfOk result (λ answer. IsAnswerTo Legacy text.now (string_bytes answer)) }
+    ensures no_bad_line { OnOk result (All (IsGoodLine Legacy) (lines_of text.now)) }
+    ensures bad_line { (number : ℕ) → result ≡ Err (ToolError.Line number) → IsFirstBadLine Legacy (lines_of text.now) number }
+{
+    answer_to(alloc, text, Reading::Legacy)
+}
+
+/// The grammar by which lines are read.
+#[derive(Clone, Copy)]
+pub(crate) enum Reading {
+    Strict,
+    Legacy,
+}
+
+/// Networks by family, so that each family is sorted without the room and the tests that the other needs.
+#[derive(Drop)]
+struct Families {
+    ipv4: Vec<Ipv4Net>,
+    ipv6: Vec<Ipv6Net>,
+}
+
+/// The answer, in the grammar that is asked for.
+pub(crate) fn answer_to(alloc: Global, text: &str, reading: Reading) -> Result<String, ToolError>
+    ensures empty { text.now ≡ [] → IsOkAnd result (λ answer. string_bytes answer ≡ []) }
+    ensures answer { IfOk result (λ answer. IsAnswerTo (grammar_of reading) text.now (string_bytes answer)) }
+    ensures no_bad_line { OnOk result (All (IsGoodLine (grammar_of reading)) (lines_of text.now)) }
+    ensures bad_line { (number : ℕ) → result ≡ Err (ToolError.Line number) → IsFirstBadLine (grammar_of reading) (lines_of text.now) number }
+{
+    if text.is_empty() {
+        return Ok(String::new(alloc));
+    }
+    let families = read_lines(alloc, text, reading)?;
+    let Ok(blocks) = aggregated(alloc, &families) else {
+        return Err(ToolError::Memory);
+    };
+    drop(families);
+    let Ok(answer) = printed(alloc, &blocks) else {
+        return Err(ToolError::Memory);
+    };
+    Ok(answer)
+}
+
+/// The first line of a text that is not empty, and what stands behind its end.
+fn first_line(text: &str) -> (&str, &str)
+    requires { 0 < length text.now }
+    ensures lines { lines_of text.now ≡ result.0.now ∷ lines_of result.1.now }
+    ensures shorter { length result.1.now < length text.now }
+{
+    match text.split_once('\n') {
+        Some(cut) => cut,
+        None => (text, ""),
+    }
+}
+
+/// The network that the line writes in this grammar.
+fn read_line(line: &str, reading: Reading) -> Result<IpNet, AddrParseError>
+    ensures { ReadsNetwork ip_network (IsNetworkText (grammar_of reading)) line.now result }
+{
+    match reading {
+        Reading::Strict => line.parse::<IpNet>(),
+        Reading::Legacy => IpNet::parse_legacy(line),
+    }
+}
+
+impl Families {
+    ghost use Rattle.ipnet_tool.specs.Families.{networks_of};
+
+    /// Puts one network more to those of its family.
+    fn push(&mut self, network: IpNet) -> Result<(), AllocError>
+        ensures { OnOk result (HaveSameCover (networks_of self.new) (networks_of self.old ++ ip_network network ∷ [])) }
+    {
+        match network {
+            IpNet::V4(network) => self.ipv4.push(network)?,
+            IpNet::V6(network) => self.ipv6.push(network)?,
+        }
+        Ok(())
+    }
+}
+
+/// The networks that the lines write, up to the end or to the first bad line.
+fn read_lines(alloc: Global, text: &str, reading: Reading) -> Result<Families, ToolError>
+    ensures networks { IfOk result (λ families. (networks : List Network) × AreNetworksOf (grammar_of reading) (lines_of text.now) networks
+        × HaveSameCover networks (networks_of families)) }
+    ensures bad_line { (number : ℕ) → result ≡ Err (ToolError.Line number) → IsFirstBadLine (grammar_of reading) (lines_of text.now) number }
+{
+    let mut families = Families {
+        ipv4: Vec::new(alloc),
+        ipv6: Vec::new(alloc),
+    };
+    let mut rest = text;
+    let mut number = 0;
+    'lines: while !rest.is_empty() {
+        let (line, behind) = first_line(rest);
+        rest = behind;
+        number += 1;
+        if !line.is_empty() {
+            let Ok(network) = read_line(line, reading) else {
+                return Err(ToolError::Line(number));
+            };
+            let Ok(()) = families.push(network) else {
+                return Err(ToolError::Memory);
+            };
+        }
+    }
+    Ok(families)
+}
+
+/// The aggregate of each family: together they are the aggregate of all.
+fn aggregated(alloc: Global, families: &Families) -> Result<Families, AllocError>
+    ensures { IfOk result (λ blocks. IsAggregateOf (networks_of blocks) (networks_of families.now)) }
+{
+    let ipv4 = Ipv4Net::aggregate(alloc, &families.ipv4)?;
+    let ipv6 = Ipv6Net::aggregate(alloc, &families.ipv6)?;
+    Ok(Families { ipv4, ipv6 })
+}
+
+/// The canonical texts of the networks, one a line, IPv4 first.
+fn printed(alloc: Global, families: &Families) -> Result<String, AllocError>
+    ensures { IfOk result (λ text. string_bytes text ≡ text_of_lines (networks_of families.now)) }
+{
+    let mut text = String::new(alloc);
+    for network in &families.ipv4 {
+        push_line(&mut text, IpNet::V4(*network))?;
+    }
+    for network in &families.ipv6 {
+        push_line(&mut text, IpNet::V6(*network))?;
+    }
+    Ok(text)
+}
+
+/// Puts the line of one network more behind the text.
+fn push_line(text: &mut String, network: IpNet) -> Result<(), AllocError>
+    ensures { OnOk result (string_bytes text.new ≡ (string_bytes text.old ++ canonical_text (ip_network network)) ++ 10 ∷ []) }
+{
+    text.push_str(network.to_text().as_str())?;
+    text.push_str("\n")
+}
