@@ -1,7 +1,7 @@
 //! What the tasks work on: texts and networks that are read, and what is made from them.
 
 use anyhow::{Context, Result};
-use ipnet::IpNet;
+use ipnet::{IpNet, Ipv4Net, Ipv6Net};
 use std::alloc::{AllocError, Global};
 use std::io::{BufRead, BufReader};
 
@@ -28,6 +28,28 @@ pub fn networks(alloc: Global, texts: &Vec<String>) -> Result<Vec<IpNet>> {
         )?;
     }
     Ok(networks)
+}
+
+/// The IPv4 networks among them.
+pub fn ipv4_networks(alloc: Global, networks: &[IpNet]) -> Result<Vec<Ipv4Net>, AllocError> {
+    let mut found = Vec::new(alloc);
+    for network in networks {
+        if let IpNet::V4(network) = network {
+            found.push(*network)?;
+        }
+    }
+    Ok(found)
+}
+
+/// The IPv6 networks among them.
+pub fn ipv6_networks(alloc: Global, networks: &[IpNet]) -> Result<Vec<Ipv6Net>, AllocError> {
+    let mut found = Vec::new(alloc);
+    for network in networks {
+        if let IpNet::V6(network) = network {
+            found.push(*network)?;
+        }
+    }
+    Ok(found)
 }
 
 /// The pseudorandom numbers of SplitMix64 (Steele, Lea, Flood, 2014).

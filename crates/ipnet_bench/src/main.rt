@@ -68,6 +68,14 @@ fn over_networks(rt: &(impl Print + Clock + Input), alloc: Global, task: &str) -
         "hold" => measure::report(rt, alloc, task, work::Hold { networks }),
         "sort" => measure::report(rt, alloc, task, work::Sort { networks }),
         "aggregate" => measure::report(rt, alloc, task, work::Aggregate { alloc, networks }),
+        "aggregate_ipv4" => {
+            let networks = input::ipv4_networks(alloc, networks.as_slice())?;
+            measure::report(rt, alloc, task, work::AggregateIpv4 { alloc, networks })
+        }
+        "aggregate_ipv6" => {
+            let networks = input::ipv6_networks(alloc, networks.as_slice())?;
+            measure::report(rt, alloc, task, work::AggregateIpv6 { alloc, networks })
+        }
         "contains" => {
             let inner = input::inner_networks(alloc, networks.as_slice())?;
             measure::report(

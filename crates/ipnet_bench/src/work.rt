@@ -1,7 +1,7 @@
 //! The works whose time is taken, each over public calls of this repository.
 
 use crate::measure::Work;
-use ipnet::{IpNet, Ipv4Subnets};
+use ipnet::{IpNet, Ipv4Net, Ipv4Subnets, Ipv6Net};
 use ipnet_base::{IpAddr, Ipv4Addr, Ipv4AddrRange};
 use std::alloc::{AllocError, Global};
 use std::fmt::Write;
@@ -69,7 +69,7 @@ impl Work for Walk {
     }
 }
 
-/// Nothing but to hold the list, to tell its memory from that of another work.
+/// Nothing but to hold the list, to tell its memory from that of another work. Its number is the list's bytes.
 #[derive(Drop)]
 pub struct Hold {
     pub networks: Vec<IpNet>,
@@ -81,7 +81,7 @@ impl Work for Hold {
     }
 
     fn run(&mut self) -> Result<u64, AllocError> {
-        Ok(0)
+        Ok((self.networks.len() as u64).saturating_mul(size_of::<IpNet>() as u64))
     }
 }
 
@@ -149,6 +149,40 @@ impl Work for Aggregate {
             check = mixed(check, u64::from(network.prefix_len()));
         }
         Ok(check)
+    }
+}
+
+/// The aggregate of a list of IPv4 networks: its number is how long it is.
+#[derive(Drop)]
+pub struct AggregateIpv4 {
+    pub alloc: Global,
+    pub networks: Vec<Ipv4Net>,
+}
+
+impl Work for AggregateIpv4 {
+    fn items(&self) -> usize {
+        self.networks.len()
+    }
+
+    fn run(&mut self) -> Result<u64, AllocError> {
+        Ok(Ipv4Net::aggregate(self.alloc, &self.networks)?.len() as u64)
+    }
+}
+
+/// The aggregate of a list of IPv6 networks: its number is how long it is.
+#[derive(Drop)]
+pub struct AggregateIpv6 {
+    pub alloc: Global,
+    pub networks: Vec<Ipv6Net>,
+}
+
+impl Work for AggregateIpv6 {
+    fn items(&self) -> usize {
+        self.networks.len()
+    }
+
+    fn run(&mut self) -> Result<u64, AllocError> {
+        Ok(Ipv6Net::aggregate(self.alloc, &self.networks)?.len() as u64)
     }
 }
 
