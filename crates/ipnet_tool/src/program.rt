@@ -1,5 +1,5 @@
 //! The program, over any reader and writers.
-ghost use Rattle.std.specs.Prelude.{◌≡◌, ◌⊎◌, ◌↔◌, IfOk, IfErr, IfSome, IfNone, OnOk};
+ghost use Rattle.std.specs.Prelude.{◌≡◌, ◌≤◌, ◌⊎◌, ◌↔◌, IfOk, IfErr, IfSome, IfNone, OnOk};
 ghost use Rattle.std.specs.Io.KnownBytes.{Consumes, IsAtEnd, Keeps};
 ghost use Rattle.ipnet.specs.Grammar.{Grammar};
 ghost use Rattle.ipnet_tool.specs.Families.{grammar_of};
@@ -60,7 +60,7 @@ impl Fault {
 /// | 3 | the input is not UTF-8 | `ipnet: input is not UTF-8` |
 /// | 3 | want of memory at any point, also while reading | `ipnet: out of memory` |
 /// | 1 | line N is the first that is neither empty nor a network | `line N: invalid IP address syntax` |
-/// | 3 | a write fails; a beginning of the answer may have gone out | `ipnet: output cannot be written` |
+/// | 3 | a write or the flush behind it fails; a beginning of the answer may have gone out | `ipnet: output cannot be written` |
 /// | 0 | otherwise | nothing |
 pub fn run<R: Read, W: Write, X: Write>(
     alloc: Global,
@@ -69,6 +69,7 @@ pub fn run<R: Read, W: Write, X: Write>(
     out: &mut W,
     faults: &mut X,
 ) -> u8
+    ensures status { result ≤ 3 }
     ensures refused { (result ≡ 2) ↔ ((grammar : Grammar) → ¬ (IsChosenBy args.now grammar)) }
     ensures unread { result ≡ 2 → Keeps (R.remaining input.old) (R.remaining input.new) }
     ensures silent { (result ≡ 1) ⊎ (result ≡ 2) → Keeps (W.contents out.old) (W.contents out.new) }

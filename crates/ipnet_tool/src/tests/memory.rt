@@ -1,6 +1,4 @@
 //! Want of memory: takes all that there is, and gives back a little more for each run of a call.
-ghost use Rattle.std.specs.Prelude.{◌≡◌};
-
 use std::alloc::{AllocError, Global};
 
 /// How a run of a call ended.
@@ -54,9 +52,9 @@ pub fn is_memory_left(alloc: Global) -> bool {
 /// Makes the call again and again, first with `STEP` bytes of memory, then with `STEP` bytes more each time, so that
 /// each request that it makes is in turn the first to be refused. Before that it is made once with ample memory, so
 /// that its stack is there. Nothing where the system refuses no request.
-pub fn outcomes<F: FnMut() -> Outcome>(
+pub fn outcomes<F: Fn() -> Outcome>(
     alloc: Global,
-    mut call: F,
+    call: F,
 ) -> Result<Option<[Outcome; RUNS]>, AllocError>
     requires { F.IsAlwaysCallable call }
 {

@@ -16,6 +16,15 @@ const UNWRITABLE: &str = "ipnet: output cannot be written\n";
 
 const LINE_2: &str = "line 2: invalid IP address syntax\n";
 
+/// The words as arguments.
+fn arguments(alloc: Global, words: &[&str]) -> Result<Vec<String>, Fail> {
+    let mut args = Vec::new(alloc);
+    for word in words {
+        args.push(String::from_str(alloc, word)?)?;
+    }
+    Ok(args)
+}
+
 #[test]
 fn runs(rt: HostRuntime) -> Result<(), Fail> {
     let alloc = rt.alloc();
@@ -71,10 +80,7 @@ fn runs(rt: HostRuntime) -> Result<(), Fail> {
         ),
     ];
     for (label, words, text, wanted, fault, status) in rows {
-        let mut args = Vec::new(alloc);
-        for word in words {
-            args.push(String::from_str(alloc, word)?)?;
-        }
+        let args = arguments(alloc, words)?;
         let mut input = ByteReader::whole(text.as_bytes());
         let mut out = ArrayWriter::whole();
         let mut faults = ArrayWriter::whole();
@@ -246,23 +252,22 @@ fn writers(rt: HostRuntime) -> Result<(), Fail> {
 #[test]
 fn faults_that_cannot_be_written(rt: HostRuntime) -> Result<(), Fail> {
     let alloc = rt.alloc();
-    let mut word = Vec::new(alloc);
-    word.push(String::from_str(alloc, "x")?)?;
     let none = [].as_slice();
     // label, arguments, input, failing read, failing write, status
-    let rows: [(&str, &[String], &[u8], usize, usize, u8); 5] = [
-        ("arguments", word.as_slice(), b"", NEVER, NEVER, 2),
+    let rows: [(&str, &[&str], &[u8], usize, usize, u8); 5] = [
+        ("arguments", ["x"].as_slice(), b"", NEVER, NEVER, 2),
         ("a read that fails", none, b"", 1, NEVER, 3),
         ("not UTF-8", none, b"\xff", NEVER, NEVER, 3),
         ("a bad line", none, b"10.0.0.0/24\nx\n", NEVER, NEVER, 1),
         ("a write that fails", none, b"10.0.0.0/24\n", NEVER, 1, 3),
     ];
-    for (label, args, bytes, read_fails, write_fails, status) in rows {
+    for (label, words, bytes, read_fails, write_fails, status) in rows {
+        let args = arguments(alloc, words)?;
         let mut input = ByteReader::new(bytes, WHOLE, read_fails, ErrorKind::Other);
         let mut out = ArrayWriter::new(WHOLE, write_fails);
         let mut faults = ArrayWriter::new(WHOLE, 1);
         assert_eq!(rt;
-            run(alloc, args, &mut input, &mut out, &mut faults),
+            run(alloc, args.as_slice(), &mut input, &mut out, &mut faults),
             status,
             "{label}"
         );
