@@ -299,9 +299,12 @@ fn answers_and_stored_ends(rt: HostRuntime) -> Result<(), Fail> {
         (false, 0),
         (false, u128::MAX - 4),
     ] {
-        for start in 0..5u128 {
-            for end in 0..5u128 {
-                let ends = (start.wrapping_add(first), end.wrapping_add(first));
+        for start in 0..5u8 {
+            for end in 0..5u8 {
+                let ends = (
+                    u128::from(start).wrapping_add(first),
+                    u128::from(end).wrapping_add(first),
+                );
                 for call in ["next", "next_back", "nth", "nth_back"] {
                     for n in 0..7 {
                         compare_call(&rt, rt.alloc(), is_ipv4, call, n, ends)?;
