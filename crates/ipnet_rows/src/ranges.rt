@@ -306,8 +306,8 @@ fn answers_and_stored_ends(rt: HostRuntime) -> Result<(), Fail> {
                     u128::from(end).wrapping_add(first),
                 );
                 for call in ["next", "next_back", "nth", "nth_back"] {
-                    for n in 0..7 {
-                        compare_call(&rt, rt.alloc(), is_ipv4, call, n, ends)?;
+                    for n in 0..7u8 {
+                        compare_call(&rt, rt.alloc(), is_ipv4, call, u128::from(n), ends)?;
                     }
                 }
             }
