@@ -13,10 +13,13 @@ pub mod Ipv4Texts
 pub mod Ipv6Texts
 pub mod WholeTexts
 pub mod StrictTexts
+pub mod ValidTexts
 pub mod PrintedTexts
 pub mod PrintedDigits
 pub mod ZeroRuns
 pub mod LineLaws
+pub mod CompactLaws
+pub mod JsonLaws
 pub mod ReaderTurns
 pub use Rattle.ipnet_base.proofs.FamilyLaws
 pub use Rattle.ipnet_base.proofs.AggregateLaws

@@ -65,17 +65,18 @@ number_of-bytes_high_first (suc len) n =
     let split = mod-mul n {m = 256} {c = 256 ^ len} (omega arith) above in
     rw (length-bytes_high_first len n, number_of-bytes_high_first len n, byte_at-div len n, pow-succ' 256 len, split) refl
 
--- the groups of a number write it
-pub octets_back : (n : ℕ) → n < 2 ^ 128 → from_be_bytes w128 (octets_of (segments_of (to_be_bytes w128 n))) ≡ n
-unfolding pairs number_of
-octets_back n fits =
-    ap (from_be_bytes w128) (octets_of-segments_of 8 n)
-    ∙ whole
-    ∙ number_of-bytes_high_first 16 n
-    ∙ mod-eq_of_lt fits
+-- the octets of a number write it
+pub number_back : (n : ℕ) → n < 2 ^ 128 → from_be_bytes w128 (to_be_bytes w128 n) ≡ n
+unfolding number_of
+number_back n fits = whole ∙ number_of-bytes_high_first 16 n ∙ mod-eq_of_lt fits
   where
     whole : from_be_bytes w128 (to_be_bytes w128 n) ≡ number_of (to_be_bytes w128 n)
     whole = omega arith
+
+-- the groups of a number write it
+pub octets_back : (n : ℕ) → n < 2 ^ 128 → from_be_bytes w128 (octets_of (segments_of (to_be_bytes w128 n))) ≡ n
+unfolding pairs
+octets_back n fits = ap (from_be_bytes w128) (octets_of-segments_of 8 n) ∙ number_back n fits
 
 -- ---- the number of octets, and the octets again
 
@@ -115,6 +116,28 @@ octets_again bytes sixteen fit whole =
     ap (λ n. number_of (to_be_bytes w128 n)) whole ∙ number_of-bytes_high_first 16 (number_of bytes) ∙ mod-eq_of_lt low in
     same_octets (to_be_bytes w128 (from_be_bytes w128 bytes)) bytes (sym sixteen) (octet_fits 16 (from_be_bytes w128 bytes)) fit e
 
+-- sixteen octets are those of the number that they write
+pub sixteen_again : (bytes : List ℕ) → length bytes ≡ 16 → ((k : ℕ) → get_or bytes k 0 < 2 ^ 8) → to_be_bytes w128 (from_be_bytes w128 bytes) ≡ bytes
+unfolding number_of AreOctets
+sixteen_again [] sixteen fit = absurd (omega arith)
+sixteen_again (a ∷ []) sixteen fit = absurd (omega arith)
+sixteen_again (a ∷ b ∷ []) sixteen fit = absurd (omega arith)
+sixteen_again (a ∷ b ∷ c ∷ []) sixteen fit = absurd (omega arith)
+sixteen_again (a ∷ b ∷ c ∷ d ∷ []) sixteen fit = absurd (omega arith)
+sixteen_again (a ∷ b ∷ c ∷ d ∷ e ∷ []) sixteen fit = absurd (omega arith)
+sixteen_again (a ∷ b ∷ c ∷ d ∷ e ∷ f ∷ []) sixteen fit = absurd (omega arith)
+sixteen_again (a ∷ b ∷ c ∷ d ∷ e ∷ f ∷ g ∷ []) sixteen fit = absurd (omega arith)
+sixteen_again (a ∷ b ∷ c ∷ d ∷ e ∷ f ∷ g ∷ h ∷ []) sixteen fit = absurd (omega arith)
+sixteen_again (a ∷ b ∷ c ∷ d ∷ e ∷ f ∷ g ∷ h ∷ i ∷ []) sixteen fit = absurd (omega arith)
+sixteen_again (a ∷ b ∷ c ∷ d ∷ e ∷ f ∷ g ∷ h ∷ i ∷ j ∷ []) sixteen fit = absurd (omega arith)
+sixteen_again (a ∷ b ∷ c ∷ d ∷ e ∷ f ∷ g ∷ h ∷ i ∷ j ∷ k ∷ []) sixteen fit = absurd (omega arith)
+sixteen_again (a ∷ b ∷ c ∷ d ∷ e ∷ f ∷ g ∷ h ∷ i ∷ j ∷ k ∷ l ∷ []) sixteen fit = absurd (omega arith)
+sixteen_again (a ∷ b ∷ c ∷ d ∷ e ∷ f ∷ g ∷ h ∷ i ∷ j ∷ k ∷ l ∷ m ∷ []) sixteen fit = absurd (omega arith)
+sixteen_again (a ∷ b ∷ c ∷ d ∷ e ∷ f ∷ g ∷ h ∷ i ∷ j ∷ k ∷ l ∷ m ∷ n ∷ []) sixteen fit = absurd (omega arith)
+sixteen_again (a ∷ b ∷ c ∷ d ∷ e ∷ f ∷ g ∷ h ∷ i ∷ j ∷ k ∷ l ∷ m ∷ n ∷ o ∷ []) sixteen fit = absurd (omega arith)
+sixteen_again (a ∷ b ∷ c ∷ d ∷ e ∷ f ∷ g ∷ h ∷ i ∷ j ∷ k ∷ l ∷ m ∷ n ∷ o ∷ p ∷ []) sixteen fit = octets_again (a ∷ b ∷ c ∷ d ∷ e ∷ f ∷ g ∷ h ∷ i ∷ j ∷ k ∷ l ∷ m ∷ n ∷ o ∷ p ∷ []) refl fit (omega arith)
+sixteen_again (a ∷ b ∷ c ∷ d ∷ e ∷ f ∷ g ∷ h ∷ i ∷ j ∷ k ∷ l ∷ m ∷ n ∷ o ∷ p ∷ q ∷ more) sixteen fit = absurd (omega arith)
+
 -- a group is its two octets
 halves : (g : ℕ) → g / 256 * 256 + g % 256 ≡ g
 halves g = omega arith
@@ -130,21 +153,36 @@ octets_of-octets (g ∷ groups) fit zero = let low = fit 0 in omega arith
 octets_of-octets (g ∷ groups) fit (suc zero) = mod_below g 256 (omega arith)
 octets_of-octets (g ∷ groups) fit (suc (suc k)) = octets_of-octets groups (λ j. fit (suc j)) k
 
--- eight groups are those of the number that they write
-pub groups_again : (groups : List ℕ) → length groups ≡ 8 → ((k : ℕ) → get_or groups k 0 < 2 ^ 16) → segments_of (to_be_bytes w128 (from_be_bytes w128 (octets_of groups))) ≡ groups
+length-octets_of : (groups : List ℕ) → length (octets_of groups) ≡ 2 * length groups
+length-octets_of [] = refl
+length-octets_of (g ∷ groups) = let later = length-octets_of groups in omega (arith, later)
+
+-- std's number of eight groups, by their octets
+eight_groups : (groups : List ℕ) → length groups ≡ 8 → from_be_bytes w128 (octets_of groups) ≡ number_of (octets_of groups)
 unfolding number_of
-groups_again [] eight fit = absurd (omega arith)
-groups_again (a ∷ []) eight fit = absurd (omega arith)
-groups_again (a ∷ b ∷ []) eight fit = absurd (omega arith)
-groups_again (a ∷ b ∷ c ∷ []) eight fit = absurd (omega arith)
-groups_again (a ∷ b ∷ c ∷ d ∷ []) eight fit = absurd (omega arith)
-groups_again (a ∷ b ∷ c ∷ d ∷ e ∷ []) eight fit = absurd (omega arith)
-groups_again (a ∷ b ∷ c ∷ d ∷ e ∷ f ∷ []) eight fit = absurd (omega arith)
-groups_again (a ∷ b ∷ c ∷ d ∷ e ∷ f ∷ g ∷ []) eight fit = absurd (omega arith)
-groups_again (a ∷ b ∷ c ∷ d ∷ e ∷ f ∷ g ∷ h ∷ []) eight fit =
-    let groups = a ∷ b ∷ c ∷ d ∷ e ∷ f ∷ g ∷ h ∷ [] in
-    ap segments_of (octets_again (octets_of groups) refl (octets_of-octets groups fit) (omega arith)) ∙ segments_of-octets_of groups
-groups_again (a ∷ b ∷ c ∷ d ∷ e ∷ f ∷ g ∷ h ∷ i ∷ more) eight fit = absurd (omega arith)
+eight_groups [] eight = absurd (omega arith)
+eight_groups (a ∷ []) eight = absurd (omega arith)
+eight_groups (a ∷ b ∷ []) eight = absurd (omega arith)
+eight_groups (a ∷ b ∷ c ∷ []) eight = absurd (omega arith)
+eight_groups (a ∷ b ∷ c ∷ d ∷ []) eight = absurd (omega arith)
+eight_groups (a ∷ b ∷ c ∷ d ∷ e ∷ []) eight = absurd (omega arith)
+eight_groups (a ∷ b ∷ c ∷ d ∷ e ∷ f ∷ []) eight = absurd (omega arith)
+eight_groups (a ∷ b ∷ c ∷ d ∷ e ∷ f ∷ g ∷ []) eight = absurd (omega arith)
+eight_groups (a ∷ b ∷ c ∷ d ∷ e ∷ f ∷ g ∷ h ∷ []) eight = omega arith
+eight_groups (a ∷ b ∷ c ∷ d ∷ e ∷ f ∷ g ∷ h ∷ i ∷ more) eight = absurd (omega arith)
+
+-- eight groups write a number of 128 bits
+pub eight_groups_below : (groups : List ℕ) → length groups ≡ 8 → ((k : ℕ) → get_or groups k 0 < 2 ^ 16) → from_be_bytes w128 (octets_of groups) < 2 ^ 128
+eight_groups_below groups eight fit =
+    let sixteen : length (octets_of groups) ≡ 16 = omega (arith, length-octets_of groups) in
+    let low : number_of (octets_of groups) < 256 ^ 16 = rw sixteen at (number_below (octets_of groups) (octets_of-octets groups fit)) in
+    rw (eight_groups groups eight) low
+
+-- and are the groups of that number
+pub groups_again : (groups : List ℕ) → length groups ≡ 8 → ((k : ℕ) → get_or groups k 0 < 2 ^ 16) → segments_of (to_be_bytes w128 (from_be_bytes w128 (octets_of groups))) ≡ groups
+groups_again groups eight fit =
+    let sixteen : length (octets_of groups) ≡ 16 = omega (arith, length-octets_of groups) in
+    ap segments_of (octets_again (octets_of groups) sixteen (octets_of-octets groups fit) (eight_groups groups eight)) ∙ segments_of-octets_of groups
 
 -- the octets and groups of std's addresses are those of their bits
 pub ipv4_octets_of_bits : (a : Ipv4Addr) → IsIpv4Addr a → to_be_bytes w32 (ipv4_bits a) ≡ ipv4_octets a

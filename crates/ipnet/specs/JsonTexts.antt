@@ -1,4 +1,4 @@
--- Networks as JSON values: the JSON string of a network's text.
+-- Networks as JSON values: the JSON string of a network's text, and the values that are none.
 use Rattle.std.specs.Prelude.{◌≡◌, ℕ, List}
 use Rattle.serde_json.specs.Data.{Data, string}
 use Rattle.ipnet_base.specs.Network.{Network}
@@ -15,3 +15,12 @@ IsJsonString value text = value ≡ string text
 -- the value is the JSON string of a text that writes this network
 abbrev pub IsNetworkJson : (List ℕ → Network → Type 0) → Data → Network → Type 0
 IsNetworkJson Writes value network = (text : List ℕ) × IsJsonString value text × Writes text network
+
+-- the value is no JSON string
+abbrev pub IsNoJsonString : Data → Type 0
+IsNoJsonString value = (text : List ℕ) → ¬ (IsJsonString value text)
+
+-- the value is the JSON string of a text that writes no network
+abbrev pub IsOtherJsonString : (List ℕ → Network → Type 0) → Data → Type 0
+IsOtherJsonString Writes value =
+    (text : List ℕ) × IsJsonString value text × ((network : Network) → ¬ (Writes text network))

@@ -8,6 +8,7 @@ pub mod AddressTexts
 pub mod NetworkTexts
 pub mod CanonicalTexts
 pub mod Lines
+pub mod Results
 pub mod Bytes
 pub mod JsonTexts
 pub mod Reading

@@ -47,7 +47,7 @@ pub record AreSubnetsOfLength (n : Network) (prefix_len : ℕ) (networks : List 
   pub blocks : AreMaximalBlocks (InBlock n) prefix_len networks
 
 -- The least and the greatest address of an IPv4 network below length 31 are no hosts: they stand for the network
--- and for all of its hosts (RFC 950; at length 31 both are hosts, RFC 3021).
+-- and for all of its hosts (RFC 1122, section 3.2.1.3). At length 31 both are hosts (RFC 3021).
 abbrev pub HasReservedEnds : Network → Type 0
 HasReservedEnds n = (n.family ≡ IPv4) × (n.prefix_len < 31)
 

@@ -1,22 +1,47 @@
 //! Aggregates: the shortest list of networks over the addresses of a list, and lists compared by what they cover.
-ghost use Rattle.std.specs.Prelude.{◌≡◌, ◌↔◌, ◌+◌, ◌<◌, ◌≤◌, List, [], map, take, drop, length, All, Contains, IfOk, IsOk, IsOkAnd, IsTrue};
+ghost use Rattle.std.specs.Prelude.{◌≡◌, ◌↔◌, ◌+◌, ◌<◌, ◌≤◌, List, [], map, take, drop, length, All, Contains, IfOk, OnOk, IsOk, IsOkAnd, IsTrue};
 ghost use Rattle.ipnet_base.specs.Network.{Network, IsNetwork, IsTruncated, truncation};
 ghost use Rattle.ipnet_base.specs.Blocks.{IsCoveredBy, HaveSameCover, IsAggregateOf, IsShortestCover, ArePairwiseDisjoint, AreAggregatedNeighbours};
 ghost use Rattle.ipnet_base.proofs.NeighbourLaws.{AreSettled, LiesBefore};
-ghost use Rattle.ipnet_base.proofs.StackLaws.{IsAtMost, IsInOrder, IsPushed, IsSwept};
+ghost use Rattle.ipnet_base.proofs.StackLaws.{IsAtMost, IsInOrder, IsGathered, IsPushed, IsSwept};
 ghost use Rattle.ipnet.specs.NetworkOf.{ipv4_network, ipv6_network, ip_network};
 
 use crate::net::{IpNet, Ipv4Net, Ipv6Net, Net};
 use std::alloc::{AllocError, Global};
 
-/// A list of the networks without their host bits, in the order that they came in.
-fn without_host_bits<N: Net>(alloc: Global, networks: &Vec<N>) -> Result<Vec<N>, AllocError>
+/// Puts one network more at the end of the list, in whatever order they come: a network that the last one covers is
+/// left out, and as long as the last one is its other half both are replaced by their supernet.
+fn gather<N: Net>(list: &mut Vec<N>, network: N) -> Result<(), AllocError>
+    requires list { All IsTruncated (map N.network list.old.items) }
+    requires network { IsTruncated (N.network network) }
+    ensures { OnOk result (IsGathered (map N.network list.old.items) (N.network network) (map N.network list.new.items)) }
+{
+    if let Some(last) = list.last()
+        && last.covers(&network)
+    {
+        return Ok(());
+    }
+    let mut next = network;
+    while let Some(last) = list.last()
+        && last.is_other_half(&next)
+    {
+        next = last.joined();
+        list.pop();
+    }
+    list.push(next)?;
+    Ok(())
+}
+
+/// A list over the same addresses, without host bits: the networks in the order that they came in, but for those that
+/// met the one before. Runs of neighbours come out short, so less is left to sort.
+fn gathered<N: Net>(alloc: Global, networks: &Vec<N>) -> Result<Vec<N>, AllocError>
     ensures empty { networks.now.items ≡ [] → IsOk result }
-    ensures truncated { IfOk result (λ list. map N.network list.items ≡ map truncation (map N.network networks.now.items)) }
+    ensures truncated { IfOk result (λ list. All IsTruncated (map N.network list.items)) }
+    ensures addresses { IfOk result (λ list. HaveSameCover (map N.network list.items) (map N.network networks.now.items)) }
 {
     let mut list = Vec::with_capacity(alloc, networks.len())?;
     for network in networks {
-        list.push(network.truncated())?;
+        gather(&mut list, network.truncated())?;
     }
     Ok(list)
 }
@@ -77,7 +102,7 @@ fn aggregated<N: Net>(alloc: Global, networks: &Vec<N>) -> Result<Vec<N>, AllocE
         → ((n : Network) → Contains (map truncation others) n ↔ Contains (map truncation (map N.network networks.now.items)) n) → IsAggregateOf (map N.network answer.items) others) }
     ensures again { IfOk result (λ answer. IsAggregateOf (map N.network answer.items) (map N.network answer.items)) }
 {
-    let mut list = without_host_bits(alloc, networks)?;
+    let mut list = gathered(alloc, networks)?;
     list.sort_unstable();
     let stacked = sweep(list.as_mut_slice());
     list.truncate(stacked);
@@ -85,7 +110,19 @@ fn aggregated<N: Net>(alloc: Global, networks: &Vec<N>) -> Result<Vec<N>, AllocE
 }
 
 impl Ipv4Net {
-    /// The aggregate of the networks.
+    /// The aggregate: the one shortest list of networks over exactly the addresses of these networks, truncated
+    /// and in order.
+    ///
+    /// It holds, once each, the truncated networks whose block lies in what the networks cover and in no larger such
+    /// block, by ascending first address. Order, repeats and host bits of the input do not matter, and
+    /// lists over the same addresses have the same aggregate.
+    ///
+    /// Makes one list, as long as the input, and no other. The error is want of memory; an empty list needs none.
+    ///
+    /// ```text
+    /// 10.0.1.0/24, 10.0.0.0/24, 10.0.0.7/25    become    10.0.0.0/23
+    /// 0.0.0.0/1, 128.0.0.0/1                   become    0.0.0.0/0
+    /// ```
     pub fn aggregate(alloc: Global, networks: &Vec<Ipv4Net>) -> Result<Vec<Ipv4Net>, AllocError>
         ensures empty { networks.now.items ≡ [] → IsOkAnd result (λ answer. answer.items ≡ []) }
         ensures aggregate { IfOk result (λ answer. IsAggregateOf (map ipv4_network answer.items) (map ipv4_network networks.now.items)) }
@@ -100,12 +137,24 @@ impl Ipv4Net {
             → ((n : Network) → Contains (map truncation others) n ↔ Contains (map truncation (map ipv4_network networks.now.items)) n) → IsAggregateOf (map ipv4_network answer.items) others) }
         ensures again { IfOk result (λ answer. IsAggregateOf (map ipv4_network answer.items) (map ipv4_network answer.items)) }
     {
-        aggregated(alloc, networks)
+        aggregated::<Ipv4Net>(alloc, networks)
     }
 }
 
 impl Ipv6Net {
-    /// The aggregate of the networks.
+    /// The aggregate: the one shortest list of networks over exactly the addresses of these networks, truncated
+    /// and in order.
+    ///
+    /// It holds, once each, the truncated networks whose block lies in what the networks cover and in no larger such
+    /// block, by ascending first address. Order, repeats and host bits of the input do not matter, and
+    /// lists over the same addresses have the same aggregate.
+    ///
+    /// Makes one list, as long as the input, and no other. The error is want of memory; an empty list needs none.
+    ///
+    /// ```text
+    /// fd00:1::/32, fd00::/32, fd00::7/64        become    fd00::/31
+    /// ::/1, 8000::/1                            become    ::/0
+    /// ```
     pub fn aggregate(alloc: Global, networks: &Vec<Ipv6Net>) -> Result<Vec<Ipv6Net>, AllocError>
         ensures empty { networks.now.items ≡ [] → IsOkAnd result (λ answer. answer.items ≡ []) }
         ensures aggregate { IfOk result (λ answer. IsAggregateOf (map ipv6_network answer.items) (map ipv6_network networks.now.items)) }
@@ -120,12 +169,24 @@ impl Ipv6Net {
             → ((n : Network) → Contains (map truncation others) n ↔ Contains (map truncation (map ipv6_network networks.now.items)) n) → IsAggregateOf (map ipv6_network answer.items) others) }
         ensures again { IfOk result (λ answer. IsAggregateOf (map ipv6_network answer.items) (map ipv6_network answer.items)) }
     {
-        aggregated(alloc, networks)
+        aggregated::<Ipv6Net>(alloc, networks)
     }
 }
 
 impl IpNet {
-    /// The aggregate of the networks.
+    /// The aggregate: the one shortest list of networks over exactly the addresses of these networks, truncated
+    /// and in order.
+    ///
+    /// It holds, once each, the truncated networks whose block lies in what the networks cover and in no larger such
+    /// block, IPv4 before IPv6 and by ascending first address. Order, repeats and host bits of the input do not matter, and
+    /// lists over the same addresses have the same aggregate.
+    ///
+    /// Makes one list, as long as the input, and no other. The error is want of memory; an empty list needs none.
+    ///
+    /// ```text
+    /// fd00::/32, 10.0.1.0/24, 10.0.0.7/24    become    10.0.0.0/23, fd00::/32
+    /// ::ffff:10.0.0.0/120, 10.0.0.0/24       become    10.0.0.0/24, ::ffff:10.0.0.0/120
+    /// ```
     pub fn aggregate(alloc: Global, networks: &Vec<IpNet>) -> Result<Vec<IpNet>, AllocError>
         ensures empty { networks.now.items ≡ [] → IsOkAnd result (λ answer. answer.items ≡ []) }
         ensures aggregate { IfOk result (λ answer. IsAggregateOf (map ip_network answer.items) (map ip_network networks.now.items)) }
@@ -140,7 +201,7 @@ impl IpNet {
             → ((n : Network) → Contains (map truncation others) n ↔ Contains (map truncation (map ip_network networks.now.items)) n) → IsAggregateOf (map ip_network answer.items) others) }
         ensures again { IfOk result (λ answer. IsAggregateOf (map ip_network answer.items) (map ip_network answer.items)) }
     {
-        aggregated(alloc, networks)
+        aggregated::<IpNet>(alloc, networks)
     }
 }
 

@@ -2,12 +2,25 @@
 #![tactic(auto)]
 
 pub mod aggregate;
+pub mod compact;
+pub mod json;
+#[cfg(test)]
+mod memory;
 pub mod net;
 pub mod parser;
 pub mod print;
 pub mod subnets;
 pub mod text_laws;
 
-pub use net::{IpNet, Ipv4Net, Ipv6Net};
+pub use aggregate::{is_aggregated, same_addresses};
+pub use compact::CompactError;
+pub use ipnet_base::{
+    IpAdd, IpAddr, IpAddrRange, IpBitAnd, IpBitOr, IpSub, Ipv4Addr, Ipv4AddrRange, Ipv6Addr,
+    Ipv6AddrRange, PrefixLenError, addr, ip_mask_to_prefix, ipext, ipv4_mask_to_prefix,
+    ipv6_mask_to_prefix, laws, mask,
+};
+pub use json::JsonError;
+pub use net::{Contains, IpNet, Ipv4Net, Ipv6Net};
+pub use parser::AddrParseError;
 pub use print::{ipv4_addr_text, ipv6_addr_text};
 pub use subnets::{IpSubnets, Ipv4Subnets, Ipv6Subnets};

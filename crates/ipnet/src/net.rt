@@ -62,7 +62,9 @@ pub(crate) trait Net: Copy + Ord {
 /// bits and all, and then by the length.
 #[derive(Clone, Copy, PartialEq, Eq, PartialOrd, Ord, Hash)]
 pub enum IpNet {
+    /// An IPv4 network.
     V4(Ipv4Net),
+    /// An IPv6 network.
     V6(Ipv6Net),
 }
 

@@ -8,10 +8,12 @@ ghost use Rattle.ipnet.specs.NetworkTexts.{IsNetworkText, IsIpv4NetworkText, IsI
 ghost use Rattle.ipnet.specs.CanonicalTexts.{canonical_text, IsShortened};
 ghost use Rattle.ipnet.specs.Lines.{AreNetworksOf, IsFirstBadLine};
 
-/// In either grammar a text writes one network at most.
+/// In either grammar a text writes one network at most, whose number and length are in the range of its family.
 pub fn one_network()
-    ensures { (grammar : Grammar) (text : List ℕ) (m n : Network)
+    ensures one { (grammar : Grammar) (text : List ℕ) (m n : Network)
         → IsNetworkText grammar text m → IsNetworkText grammar text n → m ≡ n }
+    ensures valid { (grammar : Grammar) (text : List ℕ) (n : Network)
+        → IsNetworkText grammar text n → IsNetwork n }
 {}
 
 /// No text writes networks of both families.

@@ -1,12 +1,14 @@
 -- The list that a range gives, and what the calls on a range do to it.
-use Rattle.std.proofs.Common.{◌≡◌, ℕ, ◌+◌, ◌-◌, ◌<◌, ◌≤◌, Option, Some, None, List, [], ◌∷◌, ◌++◌, length, map, take, drop, reverse, slice_get, slice_index_or, Contains, AllPairs, MatchOption, refl, sym, ap, ap₂, ◌∙◌, subst, arith, zero, suc, inl, inr}
+use Rattle.std.proofs.Common.{◌≡◌, ℕ, ◌+◌, ◌-◌, ◌<◌, ◌≤◌, Option, Some, None, List, [], ◌∷◌, ◌++◌, length, map, take, drop, reverse, slice_get, slice_index_or, option_map, Contains, AllPairs, MatchOption, refl, sym, ap, ap₂, ◌∙◌, subst, arith, zero, suc, inl, inr}
 use Rattle.std.specs.List.{range_with_len}
 use Rattle.std.proofs.lemmas.Bool.{cases_lt, cases_eq}
+use Rattle.std.proofs.lemmas.Iterator.{YieldsList}
+use Rattle.std.proofs.lemmas.Iterator.Consumers.{YieldsList-from_shown}
 use Rattle.std.proofs.lemmas.List.{length-reverse, get_or-reverse}
 use Rattle.std.proofs.lemmas.List.FromFn.{length-map-range_with_len, get_or-map-range_with_len, map-range_with_len_more, take-map-range_with_len}
 use Rattle.std.proofs.lemmas.Option.{slice_get-get_or, slice_get_past}
 use Rattle.ipnet_base.specs.Address.{Address, IsBetween}
-use Rattle.ipnet_base.specs.Ranges.{AddressRange, numbers_between, address_at, addresses_of, address_count, with_ends, IsNext, IsNextBack, IsNth, IsNthBack}
+use Rattle.ipnet_base.specs.Ranges.{AddressRange, numbers_between, address_at, addresses_of, address_count, with_ends, IsNext, IsNextBack, IsNth, IsNthBack, GivesFirst, GivesLast}
 
 -- ---- the list of a range
 
@@ -135,6 +137,17 @@ IsNextBack-yields r answer s h = elim (cases_lt r.end r.start) [
   ]
 ]
 
+-- so the ends tell all that `next` does
+pub gives_first : {R A : Type 0} {address_of : A → Address} {range_of : R → AddressRange} {old new : R} {answer : Option A}
+    → IsNext (range_of old) (option_map address_of answer) (range_of new) → GivesFirst address_of range_of old answer new
+gives_first {address_of = address_of} {range_of = range_of} {old = old} {new = new} {answer = None} h = record { list = IsNext-yields (range_of old) None (range_of new) h; ends = h }
+gives_first {address_of = address_of} {range_of = range_of} {old = old} {new = new} {answer = Some x} h = record { list = IsNext-yields (range_of old) (Some (address_of x)) (range_of new) h; ends = h }
+
+pub gives_last : {R A : Type 0} {address_of : A → Address} {range_of : R → AddressRange} {old new : R} {answer : Option A}
+    → IsNextBack (range_of old) (option_map address_of answer) (range_of new) → GivesLast address_of range_of old answer new
+gives_last {address_of = address_of} {range_of = range_of} {old = old} {new = new} {answer = None} h = record { list = IsNextBack-yields (range_of old) None (range_of new) h; ends = h }
+gives_last {address_of = address_of} {range_of = range_of} {old = old} {new = new} {answer = Some x} h = record { list = IsNextBack-yields (range_of old) (Some (address_of x)) (range_of new) h; ends = h }
+
 pub IsNth-item : (n : ℕ) (r : AddressRange) (answer : Option Address) (s : AddressRange) → IsNth n r answer s → answer ≡ slice_get (addresses_of r) n
 IsNth-item n r answer s h = elim (cases_lt n (address_count r)) [
   | inr past ↦ (h.past past).0 ∙ sym (addresses_past r n past)
@@ -175,3 +188,9 @@ IsNthBack-left n r answer s h = elim (cases_lt (n + 1) (address_count r)) [
         | inr ne ↦ ap addresses_of (h.past (omega arith)).1 ∙ used_up r ∙ sym none
       ]
 ]
+
+-- the items of a range that is walked from the front are its addresses
+pub YieldsList-gives_first : {R A : Type 0} (address_of : A → Address) (range_of : R → AddressRange) (r : R)
+    → YieldsList (GivesFirst address_of range_of) address_of r (addresses_of (range_of r))
+YieldsList-gives_first address_of range_of r =
+    YieldsList-from_shown (GivesFirst address_of range_of) address_of (λ s. addresses_of (range_of s)) (λ t u h. ap length h.list.0) (λ t x u h. h.list) r

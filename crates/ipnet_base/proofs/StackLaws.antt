@@ -140,6 +140,101 @@ supernet_before s t p e = inr (sym (p.contains (own t) (own_in t)).same_family, 
 abbrev pub LastLiesBefore : List Network → Network → Type 0
 LastLiesBefore xs n = (d : Network) → 0 < length xs → LiesBefore (get_or xs (length xs - 1) d) n
 
+-- two halves at the end of a list cover what their supernet covers
+pub joined_cover : (ys : List Network) (t next s : Network) → IsNetwork t → AreHalves t next → IsSupernetOf s t → (x : Address)
+    → (IsCoveredBy ys x ⊎ InBlock s x) ↔ (IsCoveredBy (ys ++ t ∷ []) x ⊎ InBlock next x)
+joined_cover ys t next s u halves p x = (down, up)
+  where
+    down : IsCoveredBy ys x ⊎ InBlock s x → IsCoveredBy (ys ++ t ∷ []) x ⊎ InBlock next x
+    down (inl c) = inl ((cover_append ys (t ∷ []) x).1 (inl c))
+    down (inr a) = elim (supernet_to_halves s t next u p halves x a) [
+      | inl b ↦ inl ((cover_append ys (t ∷ []) x).1 (inr ((cover_one t x).1 b)))
+      | inr b ↦ inr b
+    ]
+
+    up : IsCoveredBy (ys ++ t ∷ []) x ⊎ InBlock next x → IsCoveredBy ys x ⊎ InBlock s x
+    up (inr b) = inr (halves_to_supernet s t next u p halves x (inr b))
+    up (inl c) = elim ((cover_append ys (t ∷ []) x).0 c) [
+      | inl d ↦ inl d
+      | inr d ↦ inr (halves_to_supernet s t next u p halves x (inl ((cover_one t x).0 d)))
+    ]
+
+-- what a list with one more at its end covers
+pub pushed_cover : (xs : List Network) (n : Network) (x : Address) → IsCoveredBy (xs ++ n ∷ []) x ↔ (IsCoveredBy xs x ⊎ InBlock n x)
+pushed_cover xs n x = (
+  λ c. elim ((cover_append xs (n ∷ []) x).0 c) [ inl a ↦ inl a | inr b ↦ inr ((cover_one n x).0 b) ],
+  λ c. (cover_append xs (n ∷ []) x).1 (elim c [ inl a ↦ inl a | inr b ↦ inr ((cover_one n x).1 b) ]),
+)
+
+-- Between two joins of networks in whatever order: none has a host bit, and the list and the next network cover what
+-- the old list and the network that came do.
+pub record IsGathering (old : List Network) (came : Network) (xs : List Network) (next : Network) : Type 0 where
+  pub truncated : All IsTruncated xs
+  pub next_truncated : IsTruncated next
+  pub cover : (x : Address) → (IsCoveredBy xs x ⊎ InBlock next x) ↔ (IsCoveredBy old x ⊎ InBlock came x)
+
+-- the list with the network in it
+pub record IsGathered (old : List Network) (came : Network) (new : List Network) : Type 0 where
+  pub truncated : All IsTruncated new
+  pub cover : (x : Address) → IsCoveredBy new x ↔ (IsCoveredBy old x ⊎ InBlock came x)
+
+pub gathering_start : (old : List Network) (came : Network) → All IsTruncated old → IsTruncated came → IsGathering old came old came
+gathering_start old came good t = record { truncated = good; next_truncated = t; cover = λ x. (λ h. h, λ h. h) }
+
+pub gathering_step : (old : List Network) (came : Network) (ys : List Network) (t next s : Network) → IsNetwork t
+    → IsGathering old came (ys ++ t ∷ []) next → AreHalves t next → IsSupernetOf s t → IsGathering old came ys s
+gathering_step old came ys t next s u h halves p = record {
+  truncated = λ k d l. subst IsTruncated (get_or_append_left ys (t ∷ []) d k l) (h.truncated k d (omega (arith, l, length_push ys t)));
+  next_truncated = p.truncated;
+  cover = λ x. let joined = joined_cover ys t next s u halves p x in (λ c. (h.cover x).0 (joined.0 c), λ c. joined.1 ((h.cover x).1 c));
+}
+
+pub gathering_end : (old : List Network) (came : Network) (xs : List Network) (next : Network) → IsGathering old came xs next → IsGathered old came (xs ++ next ∷ [])
+gathering_end old came xs next h = record {
+  truncated = All-push IsTruncated xs next h.truncated h.next_truncated;
+  cover = λ x. let pushed = pushed_cover xs next x in (λ c. (h.cover x).0 (pushed.0 c), λ c. pushed.1 ((h.cover x).1 c));
+}
+
+-- where the last one covers it, nothing changes
+pub gathered_covered : (old : List Network) (came : Network) (last : Network) → All IsTruncated old → Contains old last → IsSubnetOf came last → IsGathered old came old
+gathered_covered old came last good c sub = record {
+  truncated = good;
+  cover = λ x. (λ h. inl h, λ h. elim h [ inl a ↦ a | inr a ↦ any_from_contains (λ m. InBlock m x) old last c (sub x a) ]);
+}
+
+-- the first i networks are in the list, but for host bits
+pub record IsGatheredFrom (given : List Network) (i : ℕ) (list : List Network) : Type 0 where
+  pub truncated : All IsTruncated list
+  pub cover : (x : Address) → IsCoveredBy list x ↔ IsCoveredBy (take i given) x
+
+pub gathered_none : (given : List Network) → IsGatheredFrom given 0 []
+gathered_none given = record { truncated = λ k d l. absurd (omega (arith, l)); cover = λ x. (λ h. h, λ h. h) }
+
+pub gathered_more : (given : List Network) (i : ℕ) (came : Network) (list new : List Network) → i < length given → get_or given i came ≡ came
+    → IsGatheredFrom given i list → IsGathered list (truncation came) new → IsGatheredFrom given (i + 1) new
+gathered_more given i came list new l e h p = record {
+  truncated = p.truncated;
+  cover = λ x. (to x, from x);
+}
+  where
+    more : take (i + 1) given ≡ take i given ++ came ∷ []
+    more = take_more given i came l ∙ ap (λ z. take i given ++ z ∷ []) e
+
+    to : (x : Address) → IsCoveredBy new x → IsCoveredBy (take (i + 1) given) x
+    to x a = subst (λ z. IsCoveredBy z x) (sym more) ((pushed_cover (take i given) came x).1
+        (elim ((p.cover x).0 a) [ inl b ↦ inl ((h.cover x).0 b) | inr b ↦ inr (truncation_in came x b) ]))
+
+    from : (x : Address) → IsCoveredBy (take (i + 1) given) x → IsCoveredBy new x
+    from x a = (p.cover x).1 (elim ((pushed_cover (take i given) came x).0 (subst (λ z. IsCoveredBy z x) more a)) [
+      | inl b ↦ inl ((h.cover x).1 b)
+      | inr b ↦ inr (in_truncation came x b)
+    ])
+
+pub gathered_whole : (given : List Network) (i : ℕ) (list : List Network) → length given ≤ i → IsGatheredFrom given i list → HaveSameCover list given
+gathered_whole given i list le h x =
+    let all : take i given ≡ given = take_all i given le in
+    (λ a. subst (λ z. IsCoveredBy z x) all ((h.cover x).0 a), λ a. (h.cover x).1 (subst (λ z. IsCoveredBy z x) (sym all) a))
+
 -- Between two joins: the stack shows the conditions and ends before the next network, nothing stands behind
 -- the network that came, and the cover is that of the old stack and that network.
 pub record IsJoining (old : List Network) (came : Network) (xs : List Network) (next : Network) : Type 0 where
@@ -175,7 +270,7 @@ joining_step old came ys t next s u h halves p = record {
       (subst₂ LiesBefore (get_or_append_left ys (t ∷ []) d (length ys - 1) (omega arith)) (get_or_push ys t d (length ys - 1 + 1) (sym inner)) pair);
   order = λ k d l. subst (λ m. IsAtMost m came) (get_or_append_left ys (t ∷ []) d k l) (h.order k d (omega (arith, l, length_push ys t)));
   next_order = IsAtMost-transitive s t came (inr (supernet_before s t p start)) t_order;
-  cover = λ x. (λ c. (h.cover x).0 (down x c), λ c. up x ((h.cover x).1 c));
+  cover = λ x. let joined = joined_cover ys t next s u halves p x in (λ c. (h.cover x).0 (joined.0 c), λ c. joined.1 ((h.cover x).1 c));
 }
   where
     last_is : (d : Network) → get_or (ys ++ t ∷ []) (length (ys ++ t ∷ []) - 1) d ≡ t
@@ -193,20 +288,6 @@ joining_step old came ys t next s u h halves p = record {
     start : s.number ≡ t.number
     start = supernet_start s t next u p halves t_truncated h.truncated t_ends
 
-    down : (x : Address) → IsCoveredBy ys x ⊎ InBlock s x → IsCoveredBy (ys ++ t ∷ []) x ⊎ InBlock next x
-    down x (inl c) = inl ((cover_append ys (t ∷ []) x).1 (inl c))
-    down x (inr a) = elim (supernet_to_halves s t next u p halves x a) [
-      | inl b ↦ inl ((cover_append ys (t ∷ []) x).1 (inr ((cover_one t x).1 b)))
-      | inr b ↦ inr b
-    ]
-
-    up : (x : Address) → IsCoveredBy (ys ++ t ∷ []) x ⊎ InBlock next x → IsCoveredBy ys x ⊎ InBlock s x
-    up x (inr b) = inr (halves_to_supernet s t next u p halves x (inr b))
-    up x (inl c) = elim ((cover_append ys (t ∷ []) x).0 c) [
-      | inl d ↦ inl d
-      | inr d ↦ inr (halves_to_supernet s t next u p halves x (inl ((cover_one t x).0 d)))
-    ]
-
 -- the stack with the network on it
 pub record IsPushed (old : List Network) (came : Network) (new : List Network) : Type 0 where
   pub good : AreSettled new
@@ -218,10 +299,7 @@ pub joining_end : (old : List Network) (came : Network) (xs : List Network) (nex
 joining_end old came xs next h no_half = record {
   good = neighbours_push xs next h.good h.truncated h.ends no_half;
   order = All-push (λ m. IsAtMost m came) xs next h.order h.next_order;
-  cover = λ x. (
-    λ c. (h.cover x).0 (elim ((cover_append xs (next ∷ []) x).0 c) [ inl a ↦ inl a | inr b ↦ inr ((cover_one next x).0 b) ]),
-    λ c. (cover_append xs (next ∷ []) x).1 (elim ((h.cover x).1 c) [ inl a ↦ inl a | inr b ↦ inr ((cover_one next x).1 b) ]),
-  );
+  cover = λ x. let pushed = pushed_cover xs next x in (λ c. (h.cover x).0 (pushed.0 c), λ c. pushed.1 ((h.cover x).1 c));
 }
 
 -- where the last one covers it, nothing changes
@@ -322,16 +400,6 @@ cover_truncation (n ∷ ns) x = cons_cover (cover_truncation ns x)
           | inr b ↦ (cover_append (truncation n ∷ []) (map truncation ns) x).1 (inr (rest.1 b))
         ]
 
--- the whole: the stack of a list that is the truncated networks in order
-pub swept_all : (given networks sorted stack : List Network) → networks ≡ map truncation given → IsPermutation networks sorted → IsSwept sorted (length sorted) stack
-    → HaveSameCover stack given
-swept_all given networks sorted stack e p h x =
-    let all : take (length sorted) sorted ≡ sorted = take_all (length sorted) sorted (omega arith) in
-    let a : IsCoveredBy stack x ↔ IsCoveredBy sorted x = (λ c. subst (λ z. IsCoveredBy z x) all ((h.cover x).0 c), λ c. (h.cover x).1 (subst (λ z. IsCoveredBy z x) (sym all) c)) in
-    let b : IsCoveredBy sorted x ↔ IsCoveredBy networks x = cover_permutation networks sorted p x in
-    let c : IsCoveredBy (map truncation given) x ↔ IsCoveredBy given x = cover_truncation given x in
-    (λ z. c.0 (subst (λ w. IsCoveredBy w x) e (b.0 (a.0 z))), λ z. a.1 (b.1 (subst (λ w. IsCoveredBy w x) (sym e) (c.1 z))))
-
 pub in_order_from_adjacent : (xs : List Network) → ((k : ℕ) (d : Network) → k + 1 < length xs → IsAtMost (get_or xs k d) (get_or xs (k + 1) d)) → IsInOrder xs
 in_order_from_adjacent xs h i zero d le l = inl (ap (λ k. get_or xs k d) (omega arith))
 in_order_from_adjacent xs h i (suc j) d le l =
@@ -363,26 +431,12 @@ in_order_from_sort {X} net cmp law (x ∷ xs) sorted = in_order_from_adjacent (m
         subst₂ IsAtMost (sym (get_or-map net (x ∷ xs) k x d (omega (arith, inside)))) (sym (get_or-map net (x ∷ xs) (k + 1) x d inside))
         (not_before (get_or (x ∷ xs) k x) (get_or (x ∷ xs) (k + 1) x) (sorted k x (omega arith) inside))
 
--- the truncated networks of a list, read by net, in another order
-pub all_truncated : {X : Type 0} (net : X → Network) (made sorted given : List X) → map net made ≡ map truncation (map net given) → IsPermutation made sorted → All IsTruncated (map net sorted)
-all_truncated net made sorted given e p =
-    All-permutation IsTruncated (map net made) (map net sorted) (IsPermutation-map net made sorted p)
-    (subst (All IsTruncated) (sym e) (All-map IsTruncated truncation (map net given) (λ k d l. IsTruncated-truncation (get_or (map net given) k d))))
-
-pub swept_whole : {X : Type 0} (net : X → Network) (made sorted given answer : List X) (n : ℕ) → map net made ≡ map truncation (map net given) → IsPermutation made sorted
-    → length sorted ≤ n → IsSwept (map net sorted) n (map net answer) → HaveSameCover (map net answer) (map net given)
-swept_whole net made sorted given answer n e p le h =
-    swept_all (map net given) (map net made) (map net sorted) (map net answer) e (IsPermutation-map net made sorted p) whole
-  where
-    size : length (map net sorted) ≡ length sorted
-    size = length-map sorted net
-
-    whole : IsSwept (map net sorted) (length (map net sorted)) (map net answer)
-    whole = record {
-      good = h.good;
-      order = λ j d m l. absurd (omega (arith, m, l));
-      cover = λ x. (
-        λ a. subst (λ z. IsCoveredBy z x) (take_all n (map net sorted) (omega (arith, size, le)) ∙ sym (take_all (length (map net sorted)) (map net sorted) (omega arith))) ((h.cover x).0 a),
-        λ a. (h.cover x).1 (subst (λ z. IsCoveredBy z x) (take_all (length (map net sorted)) (map net sorted) (omega arith) ∙ sym (take_all n (map net sorted) (omega (arith, size, le)))) a),
-      );
-    }
+-- the sorted list is swept whole: its stack covers what the list covers that was sorted
+pub swept_whole : {X : Type 0} (net : X → Network) (made sorted answer : List X) → IsPermutation made sorted → IsSwept (map net sorted) (length sorted) (map net answer)
+    → HaveSameCover (map net answer) (map net made)
+swept_whole net made sorted answer p h x =
+    let all : take (length sorted) (map net sorted) ≡ map net sorted = take_all (length sorted) (map net sorted) (omega (arith, length-map sorted net)) in
+    let same : IsCoveredBy (map net sorted) x ↔ IsCoveredBy (map net made) x = cover_permutation (map net made) (map net sorted) (IsPermutation-map net made sorted p) x in (
+      λ a. same.0 (subst (λ z. IsCoveredBy z x) all ((h.cover x).0 a)),
+      λ a. (h.cover x).1 (subst (λ z. IsCoveredBy z x) (sym all) (same.1 a)),
+    )

@@ -2,9 +2,9 @@
 //! lists of them are, with the laws of these.
 #![tactic(auto)]
 
-pub mod laws;
 pub mod addr;
 pub mod ipext;
+pub mod laws;
 pub mod mask;
 
 pub use addr::{IpAddr, Ipv4Addr, Ipv6Addr};

@@ -95,16 +95,3 @@ pub fn ip_mask_to_prefix(mask: IpAddr) -> Result<u8, PrefixLenError>
         IpAddr::V6(mask) => ipv6_mask_to_prefix(mask),
     }
 }
-
-#[cfg(test)]
-mod tests {
-    use super::*;
-    use std::test::Fail;
-
-    #[test]
-    fn the_error_has_its_text(rt: HostRuntime) -> Result<(), Fail> {
-        let text = format!(in rt.alloc(); "{}", PrefixLenError)?;
-        assert_eq!(rt; text.as_str(), "invalid IP prefix length");
-        Ok(())
-    }
-}

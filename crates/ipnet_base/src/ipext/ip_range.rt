@@ -13,6 +13,14 @@ use std::iter::FusedIterator;
 ///
 /// Two ranges are equal, and ordered, by their stored ends, and not by the addresses that they still give; an
 /// IPv4 range stands before every IPv6 range.
+///
+/// ```text
+/// from 10.0.0.0 to 10.0.0.3:
+///     next()        10.0.0.0, leaves 10.0.0.1 to 10.0.0.3
+///     next_back()   10.0.0.3, leaves 10.0.0.1 to 10.0.0.2
+///     nth(1)        10.0.0.2, and nothing is left
+///     next()        None, then and ever after
+/// ```
 #[derive(Clone, Copy, PartialEq, Eq, PartialOrd, Ord, Hash, Debug)]
 pub enum IpAddrRange {
     /// A range of IPv4 addresses.
@@ -97,7 +105,7 @@ impl IpAddrRange {
     /// Passes over `n` addresses from the front and gives the next. Where there are no more than `n`, it answers
     /// `None`, and nothing is left.
     ///
-    /// The stored ends of a range of which nothing is left are 1 and 0.
+    /// Where nothing is left the stored ends are 1 and 0, also of a range that had other ends and no address.
     pub fn nth(&mut self, n: usize) -> Option<IpAddr>
         ensures item { option_map ip_address result ≡ slice_get (ip_addresses self.old) n }
         ensures left { ip_addresses self.new ≡ drop (n + 1) (ip_addresses self.old) }
@@ -112,7 +120,7 @@ impl IpAddrRange {
     /// Passes over `n` addresses from the back and gives the next. Where there are no more than `n`, it answers
     /// `None`, and nothing is left.
     ///
-    /// The stored ends of a range of which nothing is left are 1 and 0.
+    /// Where nothing is left the stored ends are 1 and 0, also of a range that had other ends and no address.
     pub fn nth_back(&mut self, n: usize) -> Option<IpAddr>
         ensures item { option_map ip_address result ≡ slice_get (reverse (ip_addresses self.old)) n }
         ensures left { ip_addresses self.new
@@ -129,23 +137,21 @@ impl IpAddrRange {
 impl Iterator for IpAddrRange {
     type Item = IpAddr;
 
-    ghost use Rattle.std.specs.Prelude.{⊤, IfSome, option_map};
-    ghost use Rattle.std.specs.Iterator.{YieldsFirstBy, MakesProgress, UpTo, at_most};
+    ghost use Rattle.std.specs.Prelude.{◌+◌, ◌-◌, IfSome};
+    ghost use Rattle.std.specs.Iterator.{UpTo, at_most};
     ghost use Rattle.std.specs.Iterator.SizeHint.{IsWithinCount, IsExactHint};
     ghost use Rattle.ipnet_base.specs.Address.{ip_address};
-    ghost use Rattle.ipnet_base.specs.Ranges.{address_count, IsNext};
-    ghost use Rattle.ipnet_base.specs.RangeOf.{ip_range, ip_addresses};
+    ghost use Rattle.ipnet_base.specs.Ranges.{address_count, GivesFirst};
+    ghost use Rattle.ipnet_base.specs.RangeOf.{ip_range};
 
-    ghost next_gives = { YieldsFirstBy ip_address ip_addresses };
+    ghost next_gives = { GivesFirst ip_address ip_range };
 
     ghost remaining = { λ r. at_most (address_count (ip_range r)) };
 
     /// The first address that is left, or `None`, then and ever after, if none is.
-    fn next(&mut self) -> Option<IpAddr>
-        ensures steps { YieldsFirstBy ip_address ip_addresses self.old result self.new }
-        ensures goes { MakesProgress (λ _. ⊤) (λ r. at_most (address_count (ip_range r))) self.old result self.new }
-        ensures ends { IsNext (ip_range self.old) (option_map ip_address result) (ip_range self.new) }
-    {
+    ///
+    /// Behind its only address a range stores the ends 1 and 0; a range with no address keeps its ends.
+    fn next(&mut self) -> Option<IpAddr> {
         match self {
             IpAddrRange::V4(range) => range.next().map(IpAddr::V4),
             IpAddrRange::V6(range) => range.next().map(IpAddr::V6),
@@ -167,20 +173,16 @@ impl Iterator for IpAddrRange {
 }
 
 impl DoubleEndedIterator for IpAddrRange {
-    ghost use Rattle.std.specs.Prelude.{⊤, option_map};
-    ghost use Rattle.std.specs.Iterator.{YieldsLastBy, MakesProgress, at_most};
     ghost use Rattle.ipnet_base.specs.Address.{ip_address};
-    ghost use Rattle.ipnet_base.specs.Ranges.{address_count, IsNextBack};
-    ghost use Rattle.ipnet_base.specs.RangeOf.{ip_range, ip_addresses};
+    ghost use Rattle.ipnet_base.specs.Ranges.{GivesLast};
+    ghost use Rattle.ipnet_base.specs.RangeOf.{ip_range};
 
-    ghost next_back_gives = { YieldsLastBy ip_address ip_addresses };
+    ghost next_back_gives = { GivesLast ip_address ip_range };
 
     /// The last address that is left, or `None`, then and ever after, if none is.
-    fn next_back(&mut self) -> Option<IpAddr>
-        ensures steps { YieldsLastBy ip_address ip_addresses self.old result self.new }
-        ensures goes { MakesProgress (λ _. ⊤) (λ r. at_most (address_count (ip_range r))) self.old result self.new }
-        ensures ends { IsNextBack (ip_range self.old) (option_map ip_address result) (ip_range self.new) }
-    {
+    ///
+    /// Behind its only address a range stores the ends 1 and 0; a range with no address keeps its ends.
+    fn next_back(&mut self) -> Option<IpAddr> {
         match self {
             IpAddrRange::V4(range) => range.next_back().map(IpAddr::V4),
             IpAddrRange::V6(range) => range.next_back().map(IpAddr::V6),

@@ -12,6 +12,14 @@ use std::iter::FusedIterator;
 /// order from the back.
 ///
 /// Two ranges are equal, and ordered, by their stored ends, and not by the addresses that they still give.
+///
+/// ```text
+/// from 10.0.0.0 to 10.0.0.3:
+///     next()        10.0.0.0, leaves 10.0.0.1 to 10.0.0.3
+///     next_back()   10.0.0.3, leaves 10.0.0.1 to 10.0.0.2
+///     nth(1)        10.0.0.2, and nothing is left
+///     next()        None, then and ever after
+/// ```
 #[derive(Clone, Copy, PartialEq, Eq, PartialOrd, Ord, Hash, Debug)]
 pub struct Ipv4AddrRange {
     start: u32,
@@ -81,7 +89,7 @@ impl Ipv4AddrRange {
     /// Passes over `n` addresses from the front and gives the next. Where there are no more than `n`, it answers
     /// `None`, and nothing is left.
     ///
-    /// The stored ends of a range of which nothing is left are 1 and 0.
+    /// Where nothing is left the stored ends are 1 and 0, also of a range that had other ends and no address.
     pub fn nth(&mut self, n: usize) -> Option<Ipv4Addr>
         ensures item { option_map ipv4_address result ≡ slice_get (ipv4_addresses self.old) n }
         ensures left { ipv4_addresses self.new ≡ drop (n + 1) (ipv4_addresses self.old) }
@@ -104,7 +112,7 @@ impl Ipv4AddrRange {
     /// Passes over `n` addresses from the back and gives the next. Where there are no more than `n`, it answers
     /// `None`, and nothing is left.
     ///
-    /// The stored ends of a range of which nothing is left are 1 and 0.
+    /// Where nothing is left the stored ends are 1 and 0, also of a range that had other ends and no address.
     pub fn nth_back(&mut self, n: usize) -> Option<Ipv4Addr>
         ensures item { option_map ipv4_address result ≡ slice_get (reverse (ipv4_addresses self.old)) n }
         ensures left { ipv4_addresses self.new
@@ -132,7 +140,7 @@ impl Ipv4AddrRange {
         self.start > self.end || n > (self.end - self.start) as usize
     }
 
-    /// Stores the ends of a range of which nothing is left.
+    /// Stores the ends of a range that was walked to its end.
     fn use_up(&mut self)
         ensures { ipv4_range self.new ≡ with_ends (ipv4_range self.old) 1 0 }
     {
@@ -144,23 +152,21 @@ impl Ipv4AddrRange {
 impl Iterator for Ipv4AddrRange {
     type Item = Ipv4Addr;
 
-    ghost use Rattle.std.specs.Prelude.{⊤, IfSome, option_map};
-    ghost use Rattle.std.specs.Iterator.{YieldsFirstBy, MakesProgress, UpTo, at_most};
+    ghost use Rattle.std.specs.Prelude.{◌+◌, ◌-◌, IfSome};
+    ghost use Rattle.std.specs.Iterator.{UpTo, at_most};
     ghost use Rattle.std.specs.Iterator.SizeHint.{IsWithinCount, IsExactHint};
     ghost use Rattle.ipnet_base.specs.Address.{ipv4_address};
-    ghost use Rattle.ipnet_base.specs.Ranges.{address_count, IsNext};
-    ghost use Rattle.ipnet_base.specs.RangeOf.{ipv4_range, ipv4_addresses};
+    ghost use Rattle.ipnet_base.specs.Ranges.{address_count, GivesFirst};
+    ghost use Rattle.ipnet_base.specs.RangeOf.{ipv4_range};
 
-    ghost next_gives = { YieldsFirstBy ipv4_address ipv4_addresses };
+    ghost next_gives = { GivesFirst ipv4_address ipv4_range };
 
     ghost remaining = { λ r. at_most (address_count (ipv4_range r)) };
 
     /// The first address that is left, or `None`, then and ever after, if none is.
-    fn next(&mut self) -> Option<Ipv4Addr>
-        ensures steps { YieldsFirstBy ipv4_address ipv4_addresses self.old result self.new }
-        ensures goes { MakesProgress (λ _. ⊤) (λ r. at_most (address_count (ipv4_range r))) self.old result self.new }
-        ensures ends { IsNext (ipv4_range self.old) (option_map ipv4_address result) (ipv4_range self.new) }
-    {
+    ///
+    /// Behind its only address a range stores the ends 1 and 0; a range with no address keeps its ends.
+    fn next(&mut self) -> Option<Ipv4Addr> {
         let first = self.start;
         if first < self.end {
             self.start = first + 1;
@@ -184,20 +190,16 @@ impl Iterator for Ipv4AddrRange {
 }
 
 impl DoubleEndedIterator for Ipv4AddrRange {
-    ghost use Rattle.std.specs.Prelude.{⊤, option_map};
-    ghost use Rattle.std.specs.Iterator.{YieldsLastBy, MakesProgress, at_most};
     ghost use Rattle.ipnet_base.specs.Address.{ipv4_address};
-    ghost use Rattle.ipnet_base.specs.Ranges.{address_count, IsNextBack};
-    ghost use Rattle.ipnet_base.specs.RangeOf.{ipv4_range, ipv4_addresses};
+    ghost use Rattle.ipnet_base.specs.Ranges.{GivesLast};
+    ghost use Rattle.ipnet_base.specs.RangeOf.{ipv4_range};
 
-    ghost next_back_gives = { YieldsLastBy ipv4_address ipv4_addresses };
+    ghost next_back_gives = { GivesLast ipv4_address ipv4_range };
 
     /// The last address that is left, or `None`, then and ever after, if none is.
-    fn next_back(&mut self) -> Option<Ipv4Addr>
-        ensures steps { YieldsLastBy ipv4_address ipv4_addresses self.old result self.new }
-        ensures goes { MakesProgress (λ _. ⊤) (λ r. at_most (address_count (ipv4_range r))) self.old result self.new }
-        ensures ends { IsNextBack (ipv4_range self.old) (option_map ipv4_address result) (ipv4_range self.new) }
-    {
+    ///
+    /// Behind its only address a range stores the ends 1 and 0; a range with no address keeps its ends.
+    fn next_back(&mut self) -> Option<Ipv4Addr> {
         let last = self.end;
         if self.start < last {
             self.end = last - 1;

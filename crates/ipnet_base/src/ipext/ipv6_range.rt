@@ -12,6 +12,14 @@ use std::iter::FusedIterator;
 /// order from the back.
 ///
 /// Two ranges are equal, and ordered, by their stored ends, and not by the addresses that they still give.
+///
+/// ```text
+/// from fd00:: to fd00::3:
+///     next()        fd00::, leaves fd00::1 to fd00::3
+///     next_back()   fd00::3, leaves fd00::1 to fd00::2
+///     nth(1)        fd00::2, and nothing is left
+///     next()        None, then and ever after
+/// ```
 #[derive(Clone, Copy, PartialEq, Eq, PartialOrd, Ord, Hash, Debug)]
 pub struct Ipv6AddrRange {
     start: u128,
@@ -84,7 +92,7 @@ impl Ipv6AddrRange {
     /// Passes over `n` addresses from the front and gives the next. Where there are no more than `n`, it answers
     /// `None`, and nothing is left.
     ///
-    /// The stored ends of a range of which nothing is left are 1 and 0.
+    /// Where nothing is left the stored ends are 1 and 0, also of a range that had other ends and no address.
     pub fn nth(&mut self, n: usize) -> Option<Ipv6Addr>
         ensures item { option_map ipv6_address result ≡ slice_get (ipv6_addresses self.old) n }
         ensures left { ipv6_addresses self.new ≡ drop (n + 1) (ipv6_addresses self.old) }
@@ -107,7 +115,7 @@ impl Ipv6AddrRange {
     /// Passes over `n` addresses from the back and gives the next. Where there are no more than `n`, it answers
     /// `None`, and nothing is left.
     ///
-    /// The stored ends of a range of which nothing is left are 1 and 0.
+    /// Where nothing is left the stored ends are 1 and 0, also of a range that had other ends and no address.
     pub fn nth_back(&mut self, n: usize) -> Option<Ipv6Addr>
         ensures item { option_map ipv6_address result ≡ slice_get (reverse (ipv6_addresses self.old)) n }
         ensures left { ipv6_addresses self.new
@@ -135,7 +143,7 @@ impl Ipv6AddrRange {
         self.start > self.end || n as u128 > self.end - self.start
     }
 
-    /// Stores the ends of a range of which nothing is left.
+    /// Stores the ends of a range that was walked to its end.
     fn use_up(&mut self)
         ensures { ipv6_range self.new ≡ with_ends (ipv6_range self.old) 1 0 }
     {
@@ -147,23 +155,21 @@ impl Ipv6AddrRange {
 impl Iterator for Ipv6AddrRange {
     type Item = Ipv6Addr;
 
-    ghost use Rattle.std.specs.Prelude.{⊤, IfSome, option_map};
-    ghost use Rattle.std.specs.Iterator.{YieldsFirstBy, MakesProgress, UpTo, at_most};
+    ghost use Rattle.std.specs.Prelude.{◌+◌, ◌-◌, IfSome};
+    ghost use Rattle.std.specs.Iterator.{UpTo, at_most};
     ghost use Rattle.std.specs.Iterator.SizeHint.{IsWithinCount, IsExactHint};
     ghost use Rattle.ipnet_base.specs.Address.{ipv6_address};
-    ghost use Rattle.ipnet_base.specs.Ranges.{address_count, IsNext};
-    ghost use Rattle.ipnet_base.specs.RangeOf.{ipv6_range, ipv6_addresses};
+    ghost use Rattle.ipnet_base.specs.Ranges.{address_count, GivesFirst};
+    ghost use Rattle.ipnet_base.specs.RangeOf.{ipv6_range};
 
-    ghost next_gives = { YieldsFirstBy ipv6_address ipv6_addresses };
+    ghost next_gives = { GivesFirst ipv6_address ipv6_range };
 
     ghost remaining = { λ r. at_most (address_count (ipv6_range r)) };
 
     /// The first address that is left, or `None`, then and ever after, if none is.
-    fn next(&mut self) -> Option<Ipv6Addr>
-        ensures steps { YieldsFirstBy ipv6_address ipv6_addresses self.old result self.new }
-        ensures goes { MakesProgress (λ _. ⊤) (λ r. at_most (address_count (ipv6_range r))) self.old result self.new }
-        ensures ends { IsNext (ipv6_range self.old) (option_map ipv6_address result) (ipv6_range self.new) }
-    {
+    ///
+    /// Behind its only address a range stores the ends 1 and 0; a range with no address keeps its ends.
+    fn next(&mut self) -> Option<Ipv6Addr> {
         let first = self.start;
         if first < self.end {
             self.start = first + 1;
@@ -196,20 +202,16 @@ impl Iterator for Ipv6AddrRange {
 }
 
 impl DoubleEndedIterator for Ipv6AddrRange {
-    ghost use Rattle.std.specs.Prelude.{⊤, option_map};
-    ghost use Rattle.std.specs.Iterator.{YieldsLastBy, MakesProgress, at_most};
     ghost use Rattle.ipnet_base.specs.Address.{ipv6_address};
-    ghost use Rattle.ipnet_base.specs.Ranges.{address_count, IsNextBack};
-    ghost use Rattle.ipnet_base.specs.RangeOf.{ipv6_range, ipv6_addresses};
+    ghost use Rattle.ipnet_base.specs.Ranges.{GivesLast};
+    ghost use Rattle.ipnet_base.specs.RangeOf.{ipv6_range};
 
-    ghost next_back_gives = { YieldsLastBy ipv6_address ipv6_addresses };
+    ghost next_back_gives = { GivesLast ipv6_address ipv6_range };
 
     /// The last address that is left, or `None`, then and ever after, if none is.
-    fn next_back(&mut self) -> Option<Ipv6Addr>
-        ensures steps { YieldsLastBy ipv6_address ipv6_addresses self.old result self.new }
-        ensures goes { MakesProgress (λ _. ⊤) (λ r. at_most (address_count (ipv6_range r))) self.old result self.new }
-        ensures ends { IsNextBack (ipv6_range self.old) (option_map ipv6_address result) (ipv6_range self.new) }
-    {
+    ///
+    /// Behind its only address a range stores the ends 1 and 0; a range with no address keeps its ends.
+    fn next_back(&mut self) -> Option<Ipv6Addr> {
         let last = self.end;
         if self.start < last {
             self.end = last - 1;

@@ -1,10 +1,11 @@
-use Rattle.std.proofs.Common.{◌≡◌, List, All, map, take, drop, length, IsPermutation, sym, subst, arith}
-use Rattle.std.proofs.lemmas.List.{length-map}
+use Rattle.std.proofs.Common.{◌≡◌, List, All, map, take, drop, length, sym, ap, subst, arith}
+use Rattle.std.proofs.lemmas.List.{length-map, nil_from_length}
+use Rattle.std.proofs.lemmas.List.Sorted.{All-permutation, IsPermutation-map}
 use Rattle.ipnet_base.specs.Network.{Network, IsNetwork, IsTruncated}
 use Rattle.ipnet_base.proofs.NeighbourLaws.{AreSettled}
 use Rattle.ipnet_base.proofs.SupernetLaws.{same_blocks_iff_same_cover}
-use Rattle.ipnet_base.proofs.AggregateLaws.{IsShortestCover-of_aggregate, aggregate_apart, aggregate_no_longer, aggregate_of_aggregate, aggregate_of_same_truncations, IsAggregateOf-unique}
-use Rattle.ipnet_base.proofs.StackLaws.{IsInOrder, IsSwept, swept_whole, all_truncated, in_order_from_sort}
+use Rattle.ipnet_base.proofs.AggregateLaws.{IsShortestCover-of_aggregate, aggregate_apart, aggregate_no_longer, aggregate_of_aggregate, aggregate_of_same_truncations, IsAggregateOf-unique, HaveSameCover-trans}
+use Rattle.ipnet_base.proofs.StackLaws.{IsInOrder, IsSwept, swept_whole, in_order_from_sort}
 use Rattle.ipnet.proofs.FrontLaws.{front_kept}
 use Rattle.ipnet.proofs.AnswerLaws.{All-read, aggregate_from_stack}
 use Rattle.ipnet.proofs.aggregate.aggregated.Goals as goal
@@ -12,8 +13,10 @@ use Rattle.ipnet.proofs.aggregate.aggregated.Goals as goal
 pub sweep-stacked-requires-clause-truncated : goal.sweep-stacked-requires-clause-truncated
 sweep-stacked-requires-clause-truncated g c =
     let net = g.N.Net.network in
+    let list = c.in_ok-list.list.items in
+    let sorted = c.sort_unstable.new.self.items in
     subst (λ z. All IsTruncated (map net z)) (sym c.as_mut_slice.ensures.value)
-    (all_truncated net c.in_ok-list.list.items c.sort_unstable.new.self.items c.args.networks.now.items c.in_ok-list.ensures.truncated c.sort_unstable.ensures.permutation)
+    (All-permutation IsTruncated (map net list) (map net sorted) (IsPermutation-map net list sorted c.sort_unstable.ensures.permutation) c.in_ok-list.ensures.truncated)
 
 pub sweep-stacked-requires-clause-order : goal.sweep-stacked-requires-clause-order
 sweep-stacked-requires-clause-order g c =
@@ -31,8 +34,10 @@ returns-clause-addresses g c =
     let sorted = c.sort_unstable.new.self.items in
     let kept : answer ≡ take n stack = front_kept answer stack (drop (length stack) sorted) n c.sort_unstable.new.self.len c.truncate.ensures.items (omega arith) (omega arith) in
     let on_sorted = subst (λ z. IsSwept (map net z) (length z) (map net (take n stack))) c.as_mut_slice.ensures.value c.sweep-stacked.ensures.swept in
-    swept_whole net c.in_ok-list.list.items sorted c.args.networks.now.items answer (length sorted) c.in_ok-list.ensures.truncated c.sort_unstable.ensures.permutation
-    (omega arith) (subst (λ z. IsSwept (map net sorted) (length sorted) (map net z)) (sym kept) on_sorted)
+    let list = c.in_ok-list.list.items in
+    HaveSameCover-trans (map net answer) (map net list) (map net c.args.networks.now.items)
+    (swept_whole net list sorted answer c.sort_unstable.ensures.permutation (subst (λ z. IsSwept (map net sorted) (length sorted) (map net z)) (sym kept) on_sorted))
+    c.in_ok-list.ensures.addresses
 
 pub returns-clause-aggregate : goal.returns-clause-aggregate
 returns-clause-aggregate g c =
@@ -86,3 +91,6 @@ returns-clause-again g c =
     let net = g.N.Net.network in
     let given = c.args.networks.now.items in
     aggregate_of_aggregate (map net given) (map net c.truncate.new.self.items) (All-read IsNetwork net g.met.N.Net.valid given) (returns-clause-aggregate g c)
+
+pub returns-clause-empty : goal.returns-clause-empty
+returns-clause-empty g c e = nil_from_length c.truncate.new.self.items (omega (arith, returns-clause-no_longer g c, ap length e))

@@ -1,9 +1,12 @@
 use Rattle.std.proofs.Common.{rules}
-use Rattle.ipnet_base.proofs.AddressLaws.{ipv4_order, ipv4_equality, ipv4_one_to_one}
+use Rattle.ipnet_base.proofs.AddressLaws.{ipv4_order, ipv4_partial_order, ipv4_equality, ipv4_one_to_one}
 use Rattle.ipnet_base.proofs.addr.ipv4_addresses_follow_numbers.Goals as goal
 
 pub returns-clause-order : goal.returns-clause-order
 returns-clause-order c = ipv4_order c.args.a c.args.b (search rules) (search rules)
+
+pub returns-clause-partial_order : goal.returns-clause-partial_order
+returns-clause-partial_order c = ipv4_partial_order c.args.a c.args.b (search rules) (search rules)
 
 pub returns-clause-equality : goal.returns-clause-equality
 returns-clause-equality c = ipv4_equality c.args.a c.args.b (search rules) (search rules)

@@ -5,32 +5,19 @@ use Rattle.ipnet_base.specs.RangeOf.{ipv4_range}
 use Rattle.ipnet_base.proofs.RangeLaws.{IsNth-item, IsNth-left}
 use Rattle.ipnet_base.proofs.ipext.ipv4_range.Ipv4AddrRange.nth.Goals as goal
 
-pub returns-then-past_end-clause-item : goal.returns-then-past_end-clause-item
-returns-then-past_end-clause-item c =
+pub returns-then-past_end : goal.returns-then-past_end
+returns-then-past_end c =
+    let n = c.args.n in
     let r = ipv4_range c.args.self.now in
     let s = ipv4_range c.use_up.new.self in
-    let ends : IsNth c.args.n r None s = search rules in
-    IsNth-item c.args.n r None s ends
+    let ends : IsNth n r None s = search rules in
+    record { item = IsNth-item n r None s ends; left = IsNth-left n r None s ends; ends = ends }
 
-pub returns-then-past_end-clause-left : goal.returns-then-past_end-clause-left
-returns-then-past_end-clause-left c =
-    let r = ipv4_range c.args.self.now in
-    let s = ipv4_range c.use_up.new.self in
-    let ends : IsNth c.args.n r None s = search rules in
-    IsNth-left c.args.n r None s ends
-
-pub returns-clause-item : goal.returns-clause-item
-returns-clause-item c =
+pub returns : goal.returns
+returns c =
+    let n = c.args.n in
     let r = ipv4_range c.args.self.now in
     let s = ipv4_range c.if-item-self.self in
     let item = ipv4_address c.ipv4_from_number.result in
-    let ends : IsNth c.args.n r (Some item) s = search rules in
-    IsNth-item c.args.n r (Some item) s ends
-
-pub returns-clause-left : goal.returns-clause-left
-returns-clause-left c =
-    let r = ipv4_range c.args.self.now in
-    let s = ipv4_range c.if-item-self.self in
-    let item = ipv4_address c.ipv4_from_number.result in
-    let ends : IsNth c.args.n r (Some item) s = search rules in
-    IsNth-left c.args.n r (Some item) s ends
+    let ends : IsNth n r (Some item) s = search rules in
+    record { item = IsNth-item n r (Some item) s ends; left = IsNth-left n r (Some item) s ends; ends = ends }

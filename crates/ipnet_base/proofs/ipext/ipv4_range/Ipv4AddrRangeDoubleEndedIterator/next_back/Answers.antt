@@ -1,19 +1,9 @@
-use Rattle.std.proofs.Common.{Some, None, rules}
-use Rattle.ipnet_base.specs.Address.{ipv4_address}
-use Rattle.ipnet_base.specs.Ranges.{IsNextBack}
-use Rattle.ipnet_base.specs.RangeOf.{ipv4_range}
-use Rattle.ipnet_base.proofs.RangeLaws.{IsNextBack-yields}
+use Rattle.std.proofs.Common.{rules}
+use Rattle.ipnet_base.proofs.RangeLaws.{gives_last}
 use Rattle.ipnet_base.proofs.ipext.ipv4_range.Ipv4AddrRangeDoubleEndedIterator.next_back.Goals as goal
 
 pub returns-else-self-last-2-clause-steps : goal.returns-else-self-last-2-clause-steps
-returns-else-self-last-2-clause-steps c =
-    let r = ipv4_range c.args.self.now in
-    let ends : IsNextBack r None r = search rules in
-    IsNextBack-yields r None r ends
+returns-else-self-last-2-clause-steps c = gives_last (search rules)
 
 pub returns-clause-steps : goal.returns-clause-steps
-returns-clause-steps c =
-    let r = ipv4_range c.args.self.now in
-    let item = ipv4_address c.ipv4_from_number.result in
-    let ends : IsNextBack r (Some item) (ipv4_range c.if-self-last.self) = search rules in
-    IsNextBack-yields r (Some item) (ipv4_range c.if-self-last.self) ends
+returns-clause-steps c = gives_last (search rules)

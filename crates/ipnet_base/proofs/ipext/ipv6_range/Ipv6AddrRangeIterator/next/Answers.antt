@@ -1,19 +1,9 @@
-use Rattle.std.proofs.Common.{Some, None, rules}
-use Rattle.ipnet_base.specs.Address.{ipv6_address}
-use Rattle.ipnet_base.specs.Ranges.{IsNext}
-use Rattle.ipnet_base.specs.RangeOf.{ipv6_range}
-use Rattle.ipnet_base.proofs.RangeLaws.{IsNext-yields}
+use Rattle.std.proofs.Common.{rules}
+use Rattle.ipnet_base.proofs.RangeLaws.{gives_first}
 use Rattle.ipnet_base.proofs.ipext.ipv6_range.Ipv6AddrRangeIterator.next.Goals as goal
 
 pub returns-else-first-self-2-clause-steps : goal.returns-else-first-self-2-clause-steps
-returns-else-first-self-2-clause-steps c =
-    let r = ipv6_range c.args.self.now in
-    let ends : IsNext r None r = search rules in
-    IsNext-yields r None r ends
+returns-else-first-self-2-clause-steps c = gives_first (search rules)
 
 pub returns-clause-steps : goal.returns-clause-steps
-returns-clause-steps c =
-    let r = ipv6_range c.args.self.now in
-    let item = ipv6_address c.ipv6_from_number.result in
-    let ends : IsNext r (Some item) (ipv6_range c.if-first-self.self) = search rules in
-    IsNext-yields r (Some item) (ipv6_range c.if-first-self.self) ends
+returns-clause-steps c = gives_first (search rules)

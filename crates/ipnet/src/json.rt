@@ -1,0 +1,179 @@
+//! Networks as JSON values: the JSON string of the canonical text.
+ghost use Rattle.std.specs.Prelude.{◌≡◌, ◌↔◌, IfOk, option_map};
+ghost use Rattle.serde_json.specs.Data.{string};
+ghost use Rattle.serde_json.specs.View.{view};
+ghost use Rattle.ipnet.specs.NetworkOf.{ipv4_network, ipv6_network, ip_network};
+ghost use Rattle.ipnet.specs.Grammar.{Strict};
+ghost use Rattle.ipnet.specs.NetworkTexts.{IsNetworkText, IsIpv4NetworkText, IsIpv6NetworkText};
+ghost use Rattle.ipnet.specs.Results.{IsOkExactlyAt};
+ghost use Rattle.ipnet.specs.JsonTexts.{network_json, IsNetworkJson, IsNoJsonString, IsOtherJsonString};
+
+use crate::net::{IpNet, Ipv4Net, Ipv6Net};
+use serde_json::Value;
+use std::alloc::{AllocError, Global};
+use thiserror::Error;
+
+/// Why a JSON value is not that of a network.
+#[derive(Clone, Debug, PartialEq, Eq, Drop, Error)]
+pub enum JsonError {
+    /// The value is null, a truth value, a number, an array or an object.
+    #[error("not a JSON string")]
+    NotString,
+    /// The string writes no network of the type that was asked for.
+    #[error("invalid IP address syntax")]
+    Syntax,
+}
+
+/// The JSON string of the text.
+fn json_string(alloc: Global, text: &str) -> Result<Value, AllocError>
+    ensures { IfOk result (λ value. view value ≡ string text.now) }
+{
+    Ok(Value::String(String::from_str(alloc, text)?))
+}
+
+impl Ipv4Net {
+    /// The JSON string of the canonical text, the one that `to_text` gives.
+    ///
+    /// An error where there is no memory for the string.
+    ///
+    /// ```text
+    /// 10.1.1.0/24 is "10.1.1.0/24"
+    /// ```
+    pub fn to_json(&self, alloc: Global) -> Result<Value, AllocError>
+        ensures { IfOk result (λ value. view value ≡ network_json (ipv4_network self.now)) }
+    {
+        json_string(alloc, self.to_text().as_str())
+    }
+
+    /// The IPv4 network that the JSON string writes in the strict grammar, as `from_str` reads it.
+    ///
+    /// `NotString` where the value is no string, and else `Syntax` where the string writes no IPv4 network.
+    ///
+    /// ```text
+    /// "10.1.1.0/24" is 10.1.1.0/24; 7 gives NotString, and "x" and "fd00::/32" Syntax
+    /// ```
+    pub fn from_json(value: &Value) -> Result<Ipv4Net, JsonError>
+        ensures ok { IsOkExactlyAt result
+            (λ n. IsNetworkJson (IsIpv4NetworkText Strict) (view value.now) (ipv4_network n)) }
+        ensures not_string { (result ≡ Err JsonError.NotString) ↔ IsNoJsonString (view value.now) }
+        ensures syntax { (result ≡ Err JsonError.Syntax)
+            ↔ IsOtherJsonString (IsIpv4NetworkText Strict) (view value.now) }
+    {
+        let text = value.as_str().ok_or(JsonError::NotString)?;
+        text.parse::<Ipv4Net>().map_err(|_| JsonError::Syntax)
+    }
+}
+
+impl Ipv6Net {
+    /// The JSON string of the canonical text, the one that `to_text` gives.
+    ///
+    /// An error where there is no memory for the string.
+    ///
+    /// ```text
+    /// fd00::/32 is "fd00::/32"
+    /// ```
+    pub fn to_json(&self, alloc: Global) -> Result<Value, AllocError>
+        ensures { IfOk result (λ value. view value ≡ network_json (ipv6_network self.now)) }
+    {
+        json_string(alloc, self.to_text().as_str())
+    }
+
+    /// The IPv6 network that the JSON string writes in the strict grammar, as `from_str` reads it.
+    ///
+    /// `NotString` where the value is no string, and else `Syntax` where the string writes no IPv6 network.
+    ///
+    /// ```text
+    /// "fd00::/32" is fd00::/32; null gives NotString, and "" and "10.1.1.0/24" Syntax
+    /// ```
+    pub fn from_json(value: &Value) -> Result<Ipv6Net, JsonError>
+        ensures ok { IsOkExactlyAt result
+            (λ n. IsNetworkJson (IsIpv6NetworkText Strict) (view value.now) (ipv6_network n)) }
+        ensures not_string { (result ≡ Err JsonError.NotString) ↔ IsNoJsonString (view value.now) }
+        ensures syntax { (result ≡ Err JsonError.Syntax)
+            ↔ IsOtherJsonString (IsIpv6NetworkText Strict) (view value.now) }
+    {
+        let text = value.as_str().ok_or(JsonError::NotString)?;
+        text.parse::<Ipv6Net>().map_err(|_| JsonError::Syntax)
+    }
+}
+
+impl IpNet {
+    /// The JSON string of the canonical text, the one that `to_text` gives.
+    ///
+    /// An error where there is no memory for the string.
+    ///
+    /// ```text
+    /// 10.1.1.0/24 is "10.1.1.0/24"
+    /// ```
+    pub fn to_json(&self, alloc: Global) -> Result<Value, AllocError>
+        ensures { IfOk result (λ value. view value ≡ network_json (ip_network self.now)) }
+    {
+        json_string(alloc, self.to_text().as_str())
+    }
+
+    /// The network that the JSON string writes in the strict grammar, as `from_str` reads it.
+    ///
+    /// `NotString` where the value is no string, and else `Syntax` where the string writes no network.
+    ///
+    /// ```text
+    /// "10.1.1.0/24" is 10.1.1.0/24; 7 gives NotString, and "x" Syntax
+    /// ```
+    pub fn from_json(value: &Value) -> Result<IpNet, JsonError>
+        ensures ok { IsOkExactlyAt result
+            (λ n. IsNetworkJson (IsNetworkText Strict) (view value.now) (ip_network n)) }
+        ensures not_string { (result ≡ Err JsonError.NotString) ↔ IsNoJsonString (view value.now) }
+        ensures syntax { (result ≡ Err JsonError.Syntax)
+            ↔ IsOtherJsonString (IsNetworkText Strict) (view value.now) }
+    {
+        let text = value.as_str().ok_or(JsonError::NotString)?;
+        text.parse::<IpNet>().map_err(|_| JsonError::Syntax)
+    }
+}
+
+#[cfg(test)]
+mod tests {
+    use super::*;
+    use crate::memory::{RUNS, outcomes};
+    use std::test::Fail;
+
+    #[test]
+    fn error_texts(rt: HostRuntime) -> Result<(), Fail> {
+        let rows = [
+            (JsonError::NotString, "not a JSON string"),
+            (JsonError::Syntax, "invalid IP address syntax"),
+        ];
+        for (error, text) in &rows {
+            assert_eq!(rt; error.to_string(rt.alloc())?.as_str(), *text);
+        }
+        Ok(())
+    }
+
+    #[test]
+    fn written_where_there_is_memory(rt: HostRuntime) -> Result<(), Fail> {
+        let alloc = rt.alloc();
+        let v4 = "10.1.1.0/24".parse::<Ipv4Net>()?.to_json(alloc)?;
+        assert_eq!(rt; v4.as_str(), Some("10.1.1.0/24"));
+        let v6 = "fd00::/32".parse::<Ipv6Net>()?.to_json(alloc)?;
+        assert_eq!(rt; v6.as_str(), Some("fd00::/32"));
+        let net = "10.1.1.0/24".parse::<IpNet>()?.to_json(alloc)?;
+        assert_eq!(rt; net.as_str(), Some("10.1.1.0/24"));
+        Ok(())
+    }
+
+    // The string's memory is the only request: it is refused until there is room, and then never again.
+    #[test]
+    fn refused_until_there_is_memory(rt: HostRuntime) -> Result<(), Fail> {
+        let alloc = rt.alloc();
+        let texts = ["10.1.1.0/24", "ffff:ffff:ffff:ffff:ffff:ffff:ffff:ffff/128"];
+        for text in texts {
+            let net: IpNet = text.parse()?;
+            let Some(answers) = outcomes(alloc, || net.to_json(alloc).is_ok())? else {
+                return Ok(());
+            };
+            let refused = answers.iter().take_while(|given| !**given).count();
+            assert!(rt; 0 < refused && refused < RUNS, "{text}: {refused}");
+            assert!(rt; answers[refused..].iter().all(|given| *given), "{text}");
+        }
+        Ok(())
+    }
+}

@@ -1,0 +1,99 @@
+//! What the tasks work on: texts and networks that are read, and what is made from them.
+
+use anyhow::{Context, Result};
+use ipnet::{IpNet, Ipv4Net, Ipv6Net};
+use std::alloc::{AllocError, Global};
+use std::io::{BufRead, BufReader};
+
+/// The lines that are read, the empty ones left out.
+pub fn lines(rt: &impl Input, alloc: Global) -> Result<Vec<String>> {
+    let mut texts = Vec::new(alloc);
+    for line in BufReader::new(alloc, rt.reader())?.lines(alloc) {
+        let line = line?;
+        if !line.is_empty() {
+            texts.push(line)?;
+        }
+    }
+    Ok(texts)
+}
+
+/// The networks that the texts tell.
+pub fn networks(alloc: Global, texts: &Vec<String>) -> Result<Vec<IpNet>> {
+    let mut networks = Vec::with_capacity(alloc, texts.len())?;
+    for text in texts {
+        networks.push(
+            text.as_str()
+                .parse::<IpNet>()
+                .context("a line is no network")?,
+        )?;
+    }
+    Ok(networks)
+}
+
+/// The IPv4 networks among them.
+pub fn ipv4_networks(alloc: Global, networks: &[IpNet]) -> Result<Vec<Ipv4Net>, AllocError> {
+    let mut found = Vec::new(alloc);
+    for network in networks {
+        if let IpNet::V4(network) = network {
+            found.push(*network)?;
+        }
+    }
+    Ok(found)
+}
+
+/// The IPv6 networks among them.
+pub fn ipv6_networks(alloc: Global, networks: &[IpNet]) -> Result<Vec<Ipv6Net>, AllocError> {
+    let mut found = Vec::new(alloc);
+    for network in networks {
+        if let IpNet::V6(network) = network {
+            found.push(*network)?;
+        }
+    }
+    Ok(found)
+}
+
+/// The pseudorandom numbers of SplitMix64 (Steele, Lea, Flood, 2014).
+#[derive(Drop)]
+struct SplitMix(u64);
+
+impl SplitMix {
+    fn next(&mut self) -> u64 {
+        self.0 = self.0.wrapping_add(0x9e37_79b9_7f4a_7c15);
+        let mixed = (self.0 ^ (self.0 >> 30)).wrapping_mul(0xbf58_476d_1ce4_e5b9);
+        let mixed = (mixed ^ (mixed >> 27)).wrapping_mul(0x94d0_49bb_1331_11eb);
+        mixed ^ (mixed >> 31)
+    }
+}
+
+/// For each network one beside it to ask `contains` of: about half of them are any network of the list, and the
+/// others lie in the network itself.
+pub fn inner_networks(alloc: Global, networks: &[IpNet]) -> Result<Vec<IpNet>, AllocError> {
+    let count = networks.len() as u64;
+    let mut numbers = SplitMix(7);
+    let mut inner = Vec::with_capacity(alloc, networks.len())?;
+    for network in networks {
+        if numbers.next() % 2 == 0 {
+            let index = numbers.next() % count;
+            inner.push(networks[index as usize])?;
+        } else {
+            let open = u64::from(network.max_prefix_len() - network.prefix_len());
+            let longer = (numbers.next() % (open + 1)) as u8;
+            let prefix_len = network.prefix_len() + longer;
+            inner.push(IpNet::new_assert(network.broadcast(), prefix_len))?;
+        }
+    }
+    Ok(inner)
+}
+
+/// Ten texts that repeat a piece this many times: more than one, so that no call stands for another.
+pub fn long_texts(alloc: Global, piece: &str, length: u32) -> Result<Vec<String>, AllocError> {
+    let mut texts = Vec::new(alloc);
+    for _ in 0..10 {
+        let mut text = String::new(alloc);
+        for _ in 0..length {
+            text.push_str(piece)?;
+        }
+        texts.push(text)?;
+    }
+    Ok(texts)
+}

@@ -1,0 +1,277 @@
+//! The works whose time is taken, each over public calls of this repository.
+
+use crate::measure::Work;
+use ipnet::{IpNet, Ipv4Net, Ipv4Subnets, Ipv6Net};
+use ipnet_base::{IpAddr, Ipv4Addr, Ipv4AddrRange};
+use std::alloc::{AllocError, Global};
+use std::fmt::Write;
+
+/// A number made from an address of either family.
+fn folded(addr: IpAddr) -> u64 {
+    match addr {
+        IpAddr::V4(addr) => u64::from(addr.to_bits()),
+        IpAddr::V6(addr) => {
+            let bits = addr.to_bits();
+            ((bits ^ (bits >> 64)) & 0xffff_ffff_ffff_ffff) as u64
+        }
+    }
+}
+
+/// The number of what went before and of one thing more (FNV-1a, of 64 bits at a time).
+fn mixed(before: u64, number: u64) -> u64 {
+    (before ^ number).wrapping_mul(0x0000_0100_0000_01b3)
+}
+
+/// Every address of a range, from its start.
+#[derive(Drop)]
+pub struct RangeNext {
+    pub start: Ipv4Addr,
+    pub end: Ipv4Addr,
+}
+
+impl Work for RangeNext {
+    fn items(&self) -> usize {
+        Ipv4AddrRange::new(self.start, self.end).size_hint().0
+    }
+
+    fn run(&mut self) -> Result<u64, AllocError> {
+        let mut check: u64 = 0;
+        for addr in Ipv4AddrRange::new(self.start, self.end) {
+            check = check.wrapping_add(u64::from(addr.to_bits())) ^ 1;
+        }
+        Ok(check)
+    }
+}
+
+/// A walk of a range by networks of length 24 at least.
+#[derive(Drop)]
+pub struct Walk {
+    pub start: Ipv4Addr,
+    pub end: Ipv4Addr,
+}
+
+impl Work for Walk {
+    fn items(&self) -> usize {
+        let mut items: usize = 0;
+        for _ in Ipv4Subnets::new(self.start, self.end, 24) {
+            items = items.saturating_add(1);
+        }
+        items
+    }
+
+    fn run(&mut self) -> Result<u64, AllocError> {
+        let mut check: u64 = 0;
+        for network in Ipv4Subnets::new(self.start, self.end, 24) {
+            let bits = u64::from(network.addr().to_bits());
+            check = check.wrapping_add(bits ^ u64::from(network.prefix_len()));
+        }
+        Ok(check)
+    }
+}
+
+/// Nothing but to hold the list, to tell its memory from that of another work. Its number is the list's bytes.
+#[derive(Drop)]
+pub struct Hold {
+    pub networks: Vec<IpNet>,
+}
+
+impl Work for Hold {
+    fn items(&self) -> usize {
+        self.networks.len()
+    }
+
+    fn run(&mut self) -> Result<u64, AllocError> {
+        Ok((self.networks.len() as u64).saturating_mul(size_of::<IpNet>() as u64))
+    }
+}
+
+/// A copy of the list, sorted.
+#[derive(Drop)]
+pub struct Sort {
+    pub networks: Vec<IpNet>,
+}
+
+impl Work for Sort {
+    fn items(&self) -> usize {
+        self.networks.len()
+    }
+
+    fn run(&mut self) -> Result<u64, AllocError> {
+        let mut sorted = self.networks.clone()?;
+        sorted.sort_unstable();
+        Ok(
+            sorted
+                .get(sorted.len() / 2)
+                .map_or(0, |middle| folded(middle.addr())),
+        )
+    }
+}
+
+/// Whether each network contains the one beside it.
+#[derive(Drop)]
+pub struct Contains {
+    pub outer: Vec<IpNet>,
+    pub inner: Vec<IpNet>,
+}
+
+impl Work for Contains {
+    fn items(&self) -> usize {
+        self.outer.len()
+    }
+
+    fn run(&mut self) -> Result<u64, AllocError> {
+        let mut check: u64 = 0;
+        for (outer, inner) in self.outer.iter().zip(self.inner.iter()) {
+            if outer.contains(inner) {
+                check = check.wrapping_add(1);
+            }
+        }
+        Ok(check)
+    }
+}
+
+/// The aggregate of the list.
+#[derive(Drop)]
+pub struct Aggregate {
+    pub alloc: Global,
+    pub networks: Vec<IpNet>,
+}
+
+impl Work for Aggregate {
+    fn items(&self) -> usize {
+        self.networks.len()
+    }
+
+    fn run(&mut self) -> Result<u64, AllocError> {
+        let mut check: u64 = 0;
+        for network in &IpNet::aggregate(self.alloc, &self.networks)? {
+            check = mixed(check, folded(network.addr()));
+            check = mixed(check, u64::from(network.prefix_len()));
+        }
+        Ok(check)
+    }
+}
+
+/// The aggregate of a list of IPv4 networks: its number is how long it is.
+#[derive(Drop)]
+pub struct AggregateIpv4 {
+    pub alloc: Global,
+    pub networks: Vec<Ipv4Net>,
+}
+
+impl Work for AggregateIpv4 {
+    fn items(&self) -> usize {
+        self.networks.len()
+    }
+
+    fn run(&mut self) -> Result<u64, AllocError> {
+        Ok(Ipv4Net::aggregate(self.alloc, &self.networks)?.len() as u64)
+    }
+}
+
+/// The aggregate of a list of IPv6 networks: its number is how long it is.
+#[derive(Drop)]
+pub struct AggregateIpv6 {
+    pub alloc: Global,
+    pub networks: Vec<Ipv6Net>,
+}
+
+impl Work for AggregateIpv6 {
+    fn items(&self) -> usize {
+        self.networks.len()
+    }
+
+    fn run(&mut self) -> Result<u64, AllocError> {
+        Ok(Ipv6Net::aggregate(self.alloc, &self.networks)?.len() as u64)
+    }
+}
+
+/// Every network printed by `Display`, into one buffer.
+#[derive(Drop)]
+pub struct Print {
+    pub networks: Vec<IpNet>,
+    pub text: String,
+}
+
+impl Work for Print {
+    fn items(&self) -> usize {
+        self.networks.len()
+    }
+
+    fn run(&mut self) -> Result<u64, AllocError> {
+        self.text.clear();
+        for network in &self.networks {
+            write!(self.text, "{network}")?;
+        }
+        Ok(self.text.len() as u64)
+    }
+}
+
+/// Every network printed by `to_text`, into one buffer.
+#[derive(Drop)]
+pub struct ToText {
+    pub networks: Vec<IpNet>,
+    pub text: String,
+}
+
+impl Work for ToText {
+    fn items(&self) -> usize {
+        self.networks.len()
+    }
+
+    fn run(&mut self) -> Result<u64, AllocError> {
+        self.text.clear();
+        for network in &self.networks {
+            self.text.push_str(network.to_text().as_str())?;
+        }
+        Ok(self.text.len() as u64)
+    }
+}
+
+/// Every text read.
+#[derive(Drop)]
+pub struct Read {
+    pub texts: Vec<String>,
+}
+
+impl Work for Read {
+    fn items(&self) -> usize {
+        self.texts.len()
+    }
+
+    fn run(&mut self) -> Result<u64, AllocError> {
+        let mut check: u64 = 0;
+        for text in &self.texts {
+            let number = match text.as_str().parse::<IpNet>() {
+                Ok(network) => u64::from(network.prefix_len()) ^ folded(network.addr()),
+                Err(_) => u64::MAX,
+            };
+            check = mixed(check, number);
+        }
+        Ok(check)
+    }
+}
+
+/// 100,000 calls of the reader on texts that it refuses.
+#[derive(Drop)]
+pub struct Refuse {
+    pub texts: Vec<String>,
+}
+
+impl Work for Refuse {
+    fn items(&self) -> usize {
+        100_000
+    }
+
+    fn run(&mut self) -> Result<u64, AllocError> {
+        let mut check: u64 = 0;
+        for _ in 0..10_000 {
+            for text in &self.texts {
+                if text.as_str().parse::<IpNet>().is_err() {
+                    check = check.wrapping_add(1);
+                }
+            }
+        }
+        Ok(check)
+    }
+}
