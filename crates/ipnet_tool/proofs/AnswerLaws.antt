@@ -1,8 +1,8 @@
 -- The networks of a text by family, their aggregates, and the text of these.
-use Rattle.std.proofs.Common.{◌≡◌, ℕ, arith, ◌+◌, ◌<◌, ◌↔◌, ◌⊎◌, inl, inr, subst, take, List, [], ◌∷◌, ◌++◌, All, map, length, get_or, refl, sym, ap, ◌∙◌, append_assoc, append-nil}
+use Rattle.std.proofs.Common.{◌≡◌, ℕ, arith, ◌+◌, ◌<◌, ◌↔◌, inl, inr, subst, take, List, [], ◌∷◌, ◌++◌, map, length, get_or, refl, sym, ap, ◌∙◌, append_assoc, append-nil}
 use Rattle.std.proofs.lemmas.List.Elements.{All-map}
 use Rattle.std.proofs.lemmas.List.{map_push, take_more}
-use Rattle.ipnet.specs.Address.{Address, IPv4, IPv6}
+use Rattle.ipnet.specs.Address.{IPv4, IPv6}
 use Rattle.ipnet.specs.Network.{Network}
 use Rattle.ipnet.specs.Blocks.{IsCoveredBy, HaveSameCover, IsAggregateOf}
 use Rattle.ipnet.specs.CanonicalTexts.{canonical_text}

@@ -1,5 +1,5 @@
 -- The first line of a text, as `split_once` cuts it.
-use Rattle.std.proofs.Common.{◌≡◌, ℕ, zero, suc, refl, ◌+◌, ◌<◌, Bool, true, false, List, [], ◌∷◌, length, get_or, take, drop, ◌==◌, sym, ap, ◌∙◌, subst, arith, add-one, eq-eqb, eqb-true}
+use Rattle.std.proofs.Common.{◌≡◌, ℕ, zero, suc, refl, ◌<◌, Bool, true, false, List, [], ◌∷◌, length, get_or, take, drop, ◌==◌, sym, ap, ◌∙◌, arith, add-one, eq-eqb, eqb-true}
 use Rattle.std.specs.List.{position_or_len, before_first, after_first}
 use Rattle.std.proofs.lemmas.List.Sums.{fails_before_first, passes_at_first}
 use Rattle.ipnet.specs.Lines.{lines_of}

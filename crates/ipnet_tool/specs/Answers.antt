@@ -1,5 +1,5 @@
 -- The answer of the tool to a text: its networks aggregated, one a line.
-use Rattle.std.specs.Prelude.{◌≡◌, ℕ, List, [], ◌∷◌, ◌++◌, codes}
+use Rattle.std.specs.Prelude.{◌≡◌, ℕ, List, [], ◌∷◌, ◌++◌}
 use Rattle.ipnet.specs.Network.{Network}
 use Rattle.ipnet.specs.Blocks.{IsAggregateOf}
 use Rattle.ipnet.specs.CanonicalTexts.{canonical_text}

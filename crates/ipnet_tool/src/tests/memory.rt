@@ -18,8 +18,8 @@ pub const RUNS: usize = 180;
 /// How many bytes more each run may take: the allocator hands out no less.
 const STEP: usize = 16;
 
-/// The block that the runs share: larger than all of them may take, and than the blocks that the allocator keeps for
-/// a request of the same size.
+/// The block that the runs share: what a run may not take of it is held while it goes on. That is more than a block
+/// which the allocator would keep for a request of the same size.
 const SHARED: usize = 4096;
 
 /// More blocks than all memory has.
@@ -49,9 +49,11 @@ pub fn is_memory_left(alloc: Global) -> bool {
     Vec::<u8>::with_capacity(alloc, STEP).is_ok()
 }
 
-/// Makes the call again and again, first with `STEP` bytes of memory, then with `STEP` bytes more each time, so that
-/// each request that it makes is in turn the first to be refused. Before that it is made once with ample memory, so
-/// that its stack is there. Nothing where the system refuses no request.
+/// Makes the call again and again, first with no memory, then with `STEP` bytes more each time, so that each request
+/// that it makes is in turn the first to be refused. Before that it is made once with ample memory, so that its stack
+/// is there. Nothing where the system refuses no request.
+///
+/// What a run gave back may serve a later one, so that a run may answer before one that still wants memory.
 pub fn outcomes<F: Fn() -> Outcome>(
     alloc: Global,
     call: F,

@@ -1,22 +1,19 @@
 //! Rows on want of memory: every request for memory refused in turn, and the first of all.
 use crate::program::run;
 use crate::tests::devices::{ArrayWriter, ByteReader};
-use crate::tests::memory::{Outcome, RUNS, exhaust, is_memory_left, outcomes};
+use crate::tests::memory::{Outcome, exhaust, is_memory_left, outcomes};
 use crate::tool::{ToolError, aggregate_text, aggregate_text_legacy};
+use std::alloc::Global;
 use std::process::Abort;
 use std::test::Fail;
 
-/// Asserts that a call told want of memory in the first run, gave its answer in the last, and that no run which had
-/// more memory than one with an answer had none.
+/// Asserts that each run told want of memory or gave the answer: the first run the former, the last the latter.
 fn compare(rt: &impl Abort, label: &str, outcomes: &[Outcome]) {
-    let mut answered = false;
     for outcome in outcomes {
         assert_ne!(rt; *outcome, Outcome::Wrong, "{label}");
-        assert!(rt; !answered || *outcome == Outcome::Answered, "{label}");
-        answered = *outcome == Outcome::Answered;
     }
-    assert!(rt; answered, "{label}");
     assert_eq!(rt; outcomes.first(), Some(&Outcome::Refused), "{label}");
+    assert_eq!(rt; outcomes.last(), Some(&Outcome::Answered), "{label}");
 }
 
 #[test]
@@ -56,21 +53,23 @@ fn text_tool(rt: HostRuntime) -> Result<(), Fail> {
     Ok(())
 }
 
+/// Runs the program on two networks that join.
+fn run_once(alloc: Global) -> Outcome {
+    let mut input = ByteReader::whole(b"10.0.1.0/24\n10.0.0.0/24\n");
+    let mut out = ArrayWriter::whole();
+    let mut faults = ArrayWriter::whole();
+    let status = run(alloc, &[], &mut input, &mut out, &mut faults);
+    match (status, out.held(), faults.held()) {
+        (0, b"10.0.0.0/23\n", b"") => Outcome::Answered,
+        (3, b"", b"ipnet: out of memory\n") => Outcome::Refused,
+        _ => Outcome::Wrong,
+    }
+}
+
 #[test]
 fn program(rt: HostRuntime) -> Result<(), Fail> {
     let alloc = rt.alloc();
-    let call = || {
-        let mut input = ByteReader::whole(b"10.0.1.0/24\n10.0.0.0/24\n");
-        let mut out = ArrayWriter::whole();
-        let mut faults = ArrayWriter::whole();
-        let status = run(alloc, &[], &mut input, &mut out, &mut faults);
-        match (status, out.held(), faults.held()) {
-            (0, b"10.0.0.0/23\n", b"") => Outcome::Answered,
-            (3, b"", b"ipnet: out of memory\n") => Outcome::Refused,
-            _ => Outcome::Wrong,
-        }
-    };
-    if let Some(outcomes) = outcomes(alloc, call)? {
+    if let Some(outcomes) = outcomes(alloc, || run_once(alloc))? {
         compare(&rt, "program", &outcomes);
     }
     Ok(())

@@ -1,4 +1,4 @@
-use Rattle.std.proofs.Common.{◌≡◌, ◌++◌, ◌∙◌, take, sym, subst, ap, append-nil, arith}
+use Rattle.std.proofs.Common.{◌≡◌, ◌++◌, ◌∙◌, take, sym, subst, ap, append-nil}
 use Rattle.std.specs.Io.KnownBytes.{Consumes}
 use Rattle.std.proofs.KnownBytes.{Consumes-nil, Consumes-trans, Consumes-kept}
 use Rattle.ipnet_tool.proofs.program.read_all.Goals as goal

@@ -1,4 +1,4 @@
-use Rattle.std.proofs.Common.{◌≡◌, [], ◌++◌, map, string_bytes, take, sym, ap, ◌∙◌, arith, append-nil}
+use Rattle.std.proofs.Common.{[], ◌++◌, map, string_bytes, sym, ap, ◌∙◌, append-nil}
 use Rattle.std.proofs.lemmas.List.{take_all}
 use Rattle.ipnet.specs.NetworkOf.{ipv4_network, ipv6_network}
 use Rattle.ipnet_tool.specs.Answers.{text_of_lines}

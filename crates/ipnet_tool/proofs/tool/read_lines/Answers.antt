@@ -1,5 +1,5 @@
-use Rattle.std.proofs.Common.{◌≡◌, ◌≢◌, ℕ, ◌+◌, ◌<◌, ◌∷◌, ◌++◌, [], length, sym, ap, subst, arith, rules, append-nil, inl, inr, eqb-true}
-use Rattle.ipnet.specs.Lines.{lines_of, AreNetworksOf, IsFirstBadLine}
+use Rattle.std.proofs.Common.{◌≡◌, ℕ, ◌+◌, ◌<◌, ◌∷◌, [], length, subst, arith, rules, append-nil, inl, inr}
+use Rattle.ipnet.specs.Lines.{lines_of, IsFirstBadLine}
 use Rattle.ipnet.specs.NetworkOf.{ip_network}
 use Rattle.ipnet.proofs.LineLaws.{empty_line, network_line, bad_line, good_line, no_lines}
 use Rattle.ipnet_tool.specs.Families.{grammar_of, networks_of}

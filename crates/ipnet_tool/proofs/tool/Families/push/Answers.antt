@@ -1,4 +1,4 @@
-use Rattle.std.proofs.Common.{◌++◌, ◌∷◌, [], sym, subst, ap}
+use Rattle.std.proofs.Common.{◌++◌, ◌∷◌, [], sym, subst}
 use Rattle.ipnet.specs.Blocks.{HaveSameCover}
 use Rattle.ipnet.specs.NetworkOf.{ip_network}
 use Rattle.ipnet_tool.specs.Families.{networks_of}
