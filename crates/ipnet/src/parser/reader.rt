@@ -1,5 +1,5 @@
 //! Reading a text in one forward pass.
-ghost use Rattle.std.specs.Prelude.{◌≡◌, ℕ, [], ◌∷◌, ◌+◌, ◌<◌, ◌≤◌, length, take, drop, slice_index, IfSome, IfNone, option_map, MatchOption, true};
+ghost use Rattle.std.specs.Prelude.{◌≡◌, ℕ, min, [], ◌∷◌, ◌+◌, ◌<◌, ◌≤◌, length, take, drop, slice_index, IfSome, IfNone, option_map, MatchOption, true};
 ghost use Rattle.std.specs.Bool.{OnTrue, OnFalse};
 ghost use Rattle.std.specs.Char.{digit_value};
 ghost use Rattle.std.specs.Str.Parse.{digits_value};
@@ -32,17 +32,40 @@ struct Digits {
     is_decimal: bool,
 }
 
+// What each byte writes as a hexadecimal digit, and 16 where it writes none. By a table, since a branch on the kind of
+// a digit is one that a processor can't foretell.
+static HEX_DIGITS: [u8; 256] = [
+    16, 16, 16, 16, 16, 16, 16, 16, 16, 16, 16, 16, 16, 16, 16, 16, 16, 16, 16, 16, 16, 16, 16, 16,
+    16, 16, 16, 16, 16, 16, 16, 16, 16, 16, 16, 16, 16, 16, 16, 16, 16, 16, 16, 16, 16, 16, 16, 16,
+    0, 1, 2, 3, 4, 5, 6, 7, 8, 9, 16, 16, 16, 16, 16, 16, 16, 10, 11, 12, 13, 14, 15, 16, 16, 16,
+    16, 16, 16, 16, 16, 16, 16, 16, 16, 16, 16, 16, 16, 16, 16, 16, 16, 16, 16, 16, 16, 16, 16, 10,
+    11, 12, 13, 14, 15, 16, 16, 16, 16, 16, 16, 16, 16, 16, 16, 16, 16, 16, 16, 16, 16, 16, 16, 16,
+    16, 16, 16, 16, 16, 16, 16, 16, 16, 16, 16, 16, 16, 16, 16, 16, 16, 16, 16, 16, 16, 16, 16, 16,
+    16, 16, 16, 16, 16, 16, 16, 16, 16, 16, 16, 16, 16, 16, 16, 16, 16, 16, 16, 16, 16, 16, 16, 16,
+    16, 16, 16, 16, 16, 16, 16, 16, 16, 16, 16, 16, 16, 16, 16, 16, 16, 16, 16, 16, 16, 16, 16, 16,
+    16, 16, 16, 16, 16, 16, 16, 16, 16, 16, 16, 16, 16, 16, 16, 16, 16, 16, 16, 16, 16, 16, 16, 16,
+    16, 16, 16, 16, 16, 16, 16, 16, 16, 16, 16, 16, 16, 16, 16, 16, 16, 16, 16, 16, 16, 16, 16, 16,
+    16, 16, 16, 16, 16, 16, 16, 16, 16, 16, 16, 16, 16, 16,
+];
+
+/// The hexadecimal digit that the byte writes, and 16 where it writes none.
+fn hex_value(byte: u8) -> u8
+    ensures { result ≡ min 16 (digit_value byte) }
+{
+    HEX_DIGITS[byte as usize]
+}
+
 fn hex_digit(text: &[u8], index: usize) -> Option<u16>
     ensures none { IfNone result (16 ≤ digit_value (slice_index text.now index)) }
     ensures value { IfSome result (λ d. d ≡ digit_value (slice_index text.now index)) }
     ensures digit { IfSome result (λ d. d < 16) }
     ensures within { IfSome result (λ _. index < length text.now) }
 {
-    match *text.get(index)? {
-        b @ b'0'..=b'9' => Some(u16::from(b - b'0')),
-        b @ b'a'..=b'f' => Some(u16::from(b - b'a' + 10)),
-        b @ b'A'..=b'F' => Some(u16::from(b - b'A' + 10)),
-        _ => None,
+    let digit = hex_value(*text.get(index)?);
+    if digit < 16 {
+        Some(u16::from(digit))
+    } else {
+        None
     }
 }
 
