@@ -1,5 +1,5 @@
 -- What the derived `==` of two lists of networks tells.
-use Rattle.std.proofs.Common.{◌≡◌, ℕ, ◌*◌, ◌+◌, ◌^◌, ◌<◌, ◌&&◌, ◌↔◌, Bool, true, false, IsTrue, eqb, List, [], ◌∷◌, map, All, refl, sym, ap, ap₂, ◌∙◌, subst, arith, eq-eqb}
+use Rattle.std.proofs.Common.{◌≡◌, ℕ, ◌*◌, ◌+◌, ◌/◌, ◌%◌, ◌^◌, ◌<◌, ◌&&◌, ◌↔◌, Bool, true, false, IsTrue, eqb, List, [], ◌∷◌, map, All, refl, sym, ap, ap₂, ◌∙◌, subst, arith, eq-eqb}
 use Rattle.std.proofs.lemmas.Bool.{eqb-true}
 use Rattle.std.proofs.lemmas.Bool.Decides.{nat_tests}
 use Rattle.ipnet_base.specs.Network.{Network, IsNetwork}
@@ -8,13 +8,10 @@ use Rattle.ipnet_base.proofs.AggregateLaws.{same_aggregate_iff_same_cover}
 use Rattle.ipnet.specs.declared.net.IpNet.{IpNet}
 use Rattle.ipnet.specs.declared.net.IpNet.TheVariants.{V4, V6}
 use Rattle.ipnet.specs.contracts.net.IpNetPartialEq.TheImpl.{eq-value}
-use Rattle.ipnet.specs.NetworkOf.{ipv4_network, ipv6_network, ip_network}
+use Rattle.ipnet.specs.NetworkOf.{ipv4_network_of, ipv6_network, ip_network}
 use Rattle.ipnet.specs.NetLaws.{ip_valid, ip_one_to_one}
 use Rattle.ipnet.proofs.AnswerLaws.{All-read}
 use lib.Pointwise.{pointwise}
-
-two_equal : (a b p q : ℕ) → (eqb a b && eqb p q ≡ true) ↔ ((a ≡ b) × (p ≡ q))
-two_equal a b p q = (λ h. (grind (arith, nat_tests), grind (arith, nat_tests)), λ e. grind (arith, nat_tests))
 
 three_equal : (a b c d p q : ℕ) → (eqb a b && (eqb c d && eqb p q) ≡ true) ↔ ((a ≡ b) × ((c ≡ d) × (p ≡ q)))
 three_equal a b c d p q = (λ h. (grind (arith, nat_tests), (grind (arith, nat_tests), grind (arith, nat_tests))), λ e. grind (arith, nat_tests))
@@ -22,9 +19,9 @@ three_equal a b c d p q = (λ h. (grind (arith, nat_tests), (grind (arith, nat_t
 -- two networks are equal exactly where `==` says so
 pub ip_equal : (x y : IpNet) → (eq-value.it x y ≡ true) ↔ (x ≡ y)
 ip_equal (V4 x) (V4 y) = (
-  λ h. let e = (two_equal x.number y.number x.prefix_len y.prefix_len).0 h in
-      ip_one_to_one (V4 x) (V4 y) (λ i. record (ipv4_network x) { number = e.0 i; prefix_len = e.1 i }),
-  λ e. (two_equal x.number y.number x.prefix_len y.prefix_len).1 (ap (λ n. (ip_network n).number) e, ap (λ n. (ip_network n).prefix_len) e),
+  λ h. let same : x.word ≡ y.word = eqb-true x.word y.word h in
+      ip_one_to_one (V4 x) (V4 y) (ap (λ w. ipv4_network_of (w / 2 ^ 32) (w % 2 ^ 32)) same),
+  λ e. let both : x ≡ y = cc in eq-eqb x.word y.word (ap (λ n. n.word) both),
 )
 ip_equal (V4 x) (V6 y) = (λ h. cc, λ e. cc)
 ip_equal (V6 x) (V4 y) = (λ h. cc, λ e. cc)

@@ -1,7 +1,7 @@
 -- What the functions on numbers behind the network types compute, at the width of either family.
-use Rattle.std.proofs.Common.{◌≡◌, ℕ, ◌+◌, ◌-◌, ◌*◌, ◌/◌, ◌%◌, ◌^◌, ◌<◌, ◌≤◌, ◌↔◌, refl, sym, ap, ◌∙◌, subst, arith, Option, Some, None, inl, inr, IsTrue, true, false, not, eqb, eqb-true, eq-eqb, ne_eqb, bit_and, pow_pos, List, Contains}
+use Rattle.std.proofs.Common.{◌≡◌, ◌≢◌, ℕ, ◌+◌, ◌-◌, ◌*◌, ◌/◌, ◌%◌, ◌^◌, ◌<◌, ◌≤◌, ◌↔◌, refl, sym, ap, ◌∙◌, subst, arith, Option, Some, None, inl, inr, IsTrue, true, false, not, eqb, eqb-true, eq-eqb, ne_eqb, bit_and, pow_pos, shr-shr, List, Contains}
 use Rattle.std.specs.Option.{unwrap_or, SomeIff}
-use Rattle.std.proofs.Math.Nat.{eq_of_mul-eq-mul_right}
+use Rattle.std.proofs.Math.Nat.{div-eq_of_lt}
 use Rattle.std.proofs.lemmas.Nat.{pow_below}
 use Rattle.std.proofs.lemmas.Nat.Bits.{ones_shl}
 use Rattle.std.proofs.lemmas.Bool.{cases_eq}
@@ -26,30 +26,25 @@ mask_from_shift w p None le h =
     ]
 mask_from_shift w p (Some x) le h = h.1 ∙ ones_shl w (w - p) (omega arith)
 
--- What the comparison of a masked number with a network's leading bits answers: whether the block has that number.
-pub in_block_test : (n : Network) (number len mask leading : ℕ) → IsNetwork n → number < 2 ^ width n.family → len ≡ n.prefix_len
-    → mask ≡ 2 ^ width n.family - 2 ^ (width n.family - len) → leading ≡ n.number / 2 ^ (width n.family - len) * 2 ^ (width n.family - len)
-    → IsTrue (eqb (bit_and number mask) leading) ↔ InBlock n (address_at n.family number)
-in_block_test n number len mask leading u fits same mask_is leading_is = (to, from)
+-- What the comparison of a number's leading bits with a network's answers: whether the block has that number.
+pub in_block_test : (n : Network) (number len a b : ℕ) → len ≡ n.prefix_len → a ≡ number / 2 ^ (width n.family - len) → b ≡ n.number / 2 ^ (width n.family - len)
+    → IsTrue (eqb a b) ↔ InBlock n (address_at n.family number)
+in_block_test n number len a b same a_is b_is = (to, from)
   where
     bits : width n.family - len ≡ host_bits n
     bits = ap (λ p. width n.family - p) same
 
-    masked : bit_and number mask ≡ number / 2 ^ host_bits n * 2 ^ host_bits n
-    masked = ap (bit_and number) (mask_is ∙ ap (λ b. 2 ^ width n.family - 2 ^ b) bits) ∙ and_mask_is (width n.family) (host_bits n) number (omega arith) fits
+    first : a ≡ number / 2 ^ host_bits n
+    first = a_is ∙ ap (λ c. number / 2 ^ c) bits
 
-    kept : leading ≡ n.number / 2 ^ host_bits n * 2 ^ host_bits n
-    kept = leading_is ∙ ap (λ b. n.number / 2 ^ b * 2 ^ b) bits
+    second : b ≡ n.number / 2 ^ host_bits n
+    second = b_is ∙ ap (λ c. n.number / 2 ^ c) bits
 
-    to : IsTrue (eqb (bit_and number mask) leading) → InBlock n (address_at n.family number)
-    to t = record {
-      same_family = refl;
-      same_prefix = eq_of_mul-eq-mul_right (2 ^ host_bits n) (pow_pos (host_bits n)) (number / 2 ^ host_bits n) (n.number / 2 ^ host_bits n)
-          (sym masked ∙ eqb-true (bit_and number mask) leading t ∙ kept);
-    }
+    to : IsTrue (eqb a b) → InBlock n (address_at n.family number)
+    to t = record { same_family = refl; same_prefix = sym first ∙ eqb-true a b t ∙ second }
 
-    from : InBlock n (address_at n.family number) → IsTrue (eqb (bit_and number mask) leading)
-    from h = eq-eqb (bit_and number mask) leading (masked ∙ ap (λ q. q * 2 ^ host_bits n) h.same_prefix ∙ sym kept)
+    from : InBlock n (address_at n.family number) → IsTrue (eqb a b)
+    from h = eq-eqb a b (first ∙ h.same_prefix ∙ sym second)
 
 -- A block lies in another exactly where its prefix is no shorter and its own address is in the other.
 pub longer_from_subnet : (n k : Network) → IsNetwork n → IsNetwork k → IsSubnetOf n k → k.prefix_len ≤ n.prefix_len
@@ -58,30 +53,47 @@ longer_from_subnet n k u v s = omega (arith, bits_from_subnet n k s, ap width (s
 pub subnet_from_own : (n k : Network) → k.prefix_len ≤ n.prefix_len → InBlock k (own n) → IsSubnetOf n k
 subnet_from_own n k le h = nested n k (own n) (own_in n) h (omega (arith, le, ap width h.same_family))
 
--- Siblings are different halves exactly where their leading bits differ.
-pub halves_test : (n k : Network) (len a b : ℕ) → AreSiblings n k → len ≡ n.prefix_len
-    → a ≡ n.number / 2 ^ (width n.family - len) * 2 ^ (width n.family - len) → b ≡ k.number / 2 ^ (width n.family - len) * 2 ^ (width n.family - len)
-    → IsTrue (not (eqb a b)) ↔ AreHalves n k
-halves_test n k len a b s same a_is b_is = (to, from)
+-- Networks of one length are different halves exactly where their leading bits differ in the last alone.
+pub halves_from_prefixes : (n k : Network) (len a b : ℕ) → IsNetwork n → IsNetwork k → n.family ≡ k.family → len ≡ n.prefix_len → len ≡ k.prefix_len
+    → a ≡ n.number / 2 ^ (width n.family - len) → b ≡ k.number / 2 ^ (width n.family - len)
+    → ((a ≢ b) × (a / 2 ≡ b / 2)) ↔ AreHalves n k
+halves_from_prefixes n k len a b u v f same same' a_is b_is = (to, from)
   where
     bits : width n.family - len ≡ host_bits n
     bits = ap (λ p. width n.family - p) same
 
-    first : a ≡ n.number / 2 ^ host_bits n * 2 ^ host_bits n
-    first = a_is ∙ ap (λ c. n.number / 2 ^ c * 2 ^ c) bits
+    first : a ≡ n.number / 2 ^ host_bits n
+    first = a_is ∙ ap (λ c. n.number / 2 ^ c) bits
 
-    second : b ≡ k.number / 2 ^ host_bits n * 2 ^ host_bits n
-    second = b_is ∙ ap (λ c. k.number / 2 ^ c * 2 ^ c) bits
+    second : b ≡ k.number / 2 ^ host_bits n
+    second = b_is ∙ ap (λ c. k.number / 2 ^ c) bits
 
-    to : IsTrue (not (eqb a b)) → AreHalves n k
-    to t = record {
-      siblings = s;
-      differ = λ e. let equal = eq-eqb a b (first ∙ ap (λ q. q * 2 ^ host_bits n) e ∙ sym second) in let both = ap not equal in cc;
+    halved : (x : ℕ) → x / 2 ^ host_bits n / 2 ≡ x / 2 ^ (host_bits n + 1)
+    halved x = shr-shr x (host_bits n) 1
+
+    -- of length 0 there is one prefix alone
+    one_at_zero : n.prefix_len ≡ 0 → a ≡ b
+    one_at_zero none =
+        let all : host_bits n ≡ width n.family = omega (arith, none) in
+        let small : k.number < 2 ^ width n.family = subst (λ g. k.number < 2 ^ width g) (sym f) v.address_fits in
+        first ∙ ap (λ c. n.number / 2 ^ c) all ∙ div-eq_of_lt u.address_fits ∙ sym (second ∙ ap (λ c. k.number / 2 ^ c) all ∙ div-eq_of_lt small)
+
+    to : (a ≢ b) × (a / 2 ≡ b / 2) → AreHalves n k
+    to h = record {
+      siblings = record {
+        same_family = f;
+        same_len = sym same ∙ same';
+        has_supernet = elim (cases_eq n.prefix_len 0) [ inl none ↦ absurd (h.0 (one_at_zero none)) | inr some ↦ omega (arith, some) ];
+        same_supernet = sym (halved n.number) ∙ ap (λ q. q / 2) (sym first) ∙ h.1 ∙ ap (λ q. q / 2) second ∙ halved k.number;
+      };
+      differ = λ e. h.0 (first ∙ e ∙ sym second);
     }
 
-    from : AreHalves n k → IsTrue (not (eqb a b))
-    from h = ap not (ne_eqb a b (λ e. h.differ
-        (eq_of_mul-eq-mul_right (2 ^ host_bits n) (pow_pos (host_bits n)) (n.number / 2 ^ host_bits n) (k.number / 2 ^ host_bits n) (sym first ∙ e ∙ second))))
+    from : AreHalves n k → (a ≢ b) × (a / 2 ≡ b / 2)
+    from h = (
+      λ e. h.differ (sym first ∙ e ∙ second),
+      ap (λ q. q / 2) first ∙ halved n.number ∙ h.siblings.same_supernet ∙ sym (ap (λ q. q / 2) second ∙ halved k.number),
+    )
 
 -- The leading bits but the last, and the length less one, make the supernet.
 pub supernet_from_numbers : (s n : Network) (len number : ℕ) → IsNetwork n → len + 1 ≡ n.prefix_len

@@ -1,10 +1,11 @@
 -- The network types are ordered as networks, and feed a hasher all that tells two networks apart.
-use Rattle.std.proofs.Common.{◌≡◌, ℕ, ◌+◌, ◌*◌, ◌^◌, ◌<◌, ◌⊎◌, ◌↔◌, List, [], ◌∷◌, inl, inr, refl, ap, sym, ◌∙◌, arith, Ordering, Less, Equal, Greater, nat_cmp}
+use Rattle.std.proofs.Common.{◌≡◌, ℕ, ◌+◌, ◌*◌, ◌/◌, ◌%◌, ◌^◌, ◌<◌, ◌⊎◌, ◌↔◌, List, [], ◌∷◌, inl, inr, refl, ap, sym, ◌∙◌, arith, Ordering, Less, Equal, Greater, nat_cmp}
 use Rattle.std.specs.Cmp.{ranks}
+use Rattle.std.proofs.lemmas.Bool.{cases_order}
 use Rattle.std.specs.Ordering.{MatchOrdering, ordering_then}
 use Rattle.std.specs.Hash.{le_bytes}
-use Rattle.std.specs.Int.{w32, w64, from_le_bytes}
-use Rattle.std.proofs.lemmas.Nat.{from_le_bytes-to_le_bytes_4, from_le_bytes-to_le_bytes_8}
+use Rattle.std.specs.Int.{w64, from_le_bytes}
+use Rattle.std.proofs.lemmas.Nat.{from_le_bytes-to_le_bytes_8}
 use Rattle.ipnet_base.specs.Network.{Network, IsBefore}
 use Rattle.ipnet_base.proofs.BlockLaws.{same_network}
 use Rattle.ipnet.specs.declared.net.IpNet.{IpNet}
@@ -33,20 +34,22 @@ ranks_along Greater P Q R P' Q' R' f g h k = h k
 before : (n k : Network) → n.family ≡ k.family → (n.number < k.number) ⊎ ((n.number ≡ k.number) × (n.prefix_len < k.prefix_len)) → IsBefore n k
 before n k same h = inr (same, h)
 
-pub ipv4_ranks : (x y : Ipv4Net) → MatchOrdering (ordering_then (nat_cmp x.number y.number) (nat_cmp x.prefix_len y.prefix_len))
+-- words are compared as the numbers in their upper halves, and where these are equal as the lengths in the lower ones
+halves_of_less : (v w : ℕ) → v < w → (v / 2 ^ 32 < w / 2 ^ 32) ⊎ ((v / 2 ^ 32 ≡ w / 2 ^ 32) × (v % 2 ^ 32 < w % 2 ^ 32))
+halves_of_less v w lt = elim (cases_order (v / 2 ^ 32) (w / 2 ^ 32)) [
+  | inl same ↦ inr (same, omega (arith, same, lt))
+  | inr (inl less) ↦ inl less
+  | inr (inr more) ↦ absurd (omega (arith, more, lt))
+]
+
+pub ipv4_ranks : (x y : Ipv4Net) → MatchOrdering (nat_cmp x.word y.word)
     (IsBefore (ipv4_network x) (ipv4_network y)) (ipv4_network x ≡ ipv4_network y) (IsBefore (ipv4_network y) (ipv4_network x))
-ipv4_ranks x y = ranks_along (ordering_then (nat_cmp x.number y.number) (nat_cmp x.prefix_len y.prefix_len))
-    ((x.number < y.number) ⊎ ((x.number ≡ y.number) × (x.prefix_len < y.prefix_len)))
-    ((x.number ≡ y.number) × (x.prefix_len ≡ y.prefix_len))
-    ((y.number < x.number) ⊎ ((x.number ≡ y.number) × (y.prefix_len < x.prefix_len)))
+ipv4_ranks x y = ranks_along (nat_cmp x.word y.word) (x.word < y.word) (x.word ≡ y.word) (y.word < x.word)
     (IsBefore (ipv4_network x) (ipv4_network y)) (ipv4_network x ≡ ipv4_network y) (IsBefore (ipv4_network y) (ipv4_network x))
-    (λ h. before (ipv4_network x) (ipv4_network y) refl h)
-    (λ h. same_network (ipv4_network x) (ipv4_network y) refl h.0 h.1)
-    (λ h. before (ipv4_network y) (ipv4_network x) refl (elim h [ inl lt ↦ inl lt | inr k ↦ inr (sym k.0, k.1) ]))
-    (then_ranks (nat_cmp x.number y.number) (nat_cmp x.prefix_len y.prefix_len)
-    (x.number < y.number) (x.number ≡ y.number) (y.number < x.number)
-    (x.prefix_len < y.prefix_len) (x.prefix_len ≡ y.prefix_len) (y.prefix_len < x.prefix_len)
-    (ranks x.number y.number) (ranks x.prefix_len y.prefix_len))
+    (λ h. before (ipv4_network x) (ipv4_network y) refl (halves_of_less x.word y.word h))
+    (λ e. same_network (ipv4_network x) (ipv4_network y) refl (ap (λ w. w / 2 ^ 32) e) (ap (λ w. w % 2 ^ 32) e))
+    (λ h. before (ipv4_network y) (ipv4_network x) refl (halves_of_less y.word x.word h))
+    (ranks x.word y.word)
 
 -- numbers in two halves are compared by the high halves and then by the low ones
 halves_below : (a b c d p q : ℕ) → b < 2 ^ 64 → d < 2 ^ 64 → (a < c) ⊎ ((a ≡ c) × ((b < d) ⊎ ((b ≡ d) × (p < q))))
@@ -85,26 +88,21 @@ ipv6_ranks x y =
     (ranks x.high y.high) low)
 
 -- numbers are told by the bytes that a hasher is fed
-pub four_bytes : (x y : ℕ) → x < 2 ^ 32 → y < 2 ^ 32 → le_bytes 4 x ≡ le_bytes 4 y → x ≡ y
-unfolding le_bytes
-four_bytes x y h k e = sym (from_le_bytes-to_le_bytes_4 x h) ∙ ap (from_le_bytes w32) e ∙ from_le_bytes-to_le_bytes_4 y k
-
 pub eight_bytes : (x y : ℕ) → x < 2 ^ 64 → y < 2 ^ 64 → le_bytes 8 x ≡ le_bytes 8 y → x ≡ y
 unfolding le_bytes
 eight_bytes x y h k e = sym (from_le_bytes-to_le_bytes_8 x h) ∙ ap (from_le_bytes w64) e ∙ from_le_bytes-to_le_bytes_8 y k
 
 abbrev pub ipv4_fed : Ipv4Net → List (List ℕ)
-ipv4_fed n = le_bytes 4 n.number ∷ le_bytes 4 n.prefix_len ∷ []
+ipv4_fed n = le_bytes 8 n.word ∷ []
 
 pub ipv4_hash : (x y : Ipv4Net) → (ipv4_fed x ≡ ipv4_fed y) ↔ (ipv4_network x ≡ ipv4_network y)
 ipv4_hash x y = (to, λ e. ap ipv4_fed (ipv4_one_to_one x y e))
   where
     to : ipv4_fed x ≡ ipv4_fed y → ipv4_network x ≡ ipv4_network y
     to e =
-        let number : le_bytes 4 x.number ≡ le_bytes 4 y.number = cc in
-        let len : le_bytes 4 x.prefix_len ≡ le_bytes 4 y.prefix_len = cc in
-        same_network (ipv4_network x) (ipv4_network y) refl (four_bytes x.number y.number x.number_fits y.number_fits number)
-        (four_bytes x.prefix_len y.prefix_len (omega (arith, x.prefix_fits)) (omega (arith, y.prefix_fits)) len)
+        let word : le_bytes 8 x.word ≡ le_bytes 8 y.word = cc in
+        let same : x.word ≡ y.word = eight_bytes x.word y.word x.word_fits y.word_fits word in
+        same_network (ipv4_network x) (ipv4_network y) refl (ap (λ w. w / 2 ^ 32) same) (ap (λ w. w % 2 ^ 32) same)
 
 abbrev pub ipv6_fed : Ipv6Net → List (List ℕ)
 ipv6_fed n = le_bytes 8 n.high ∷ le_bytes 8 n.low ∷ le_bytes 8 n.prefix_len ∷ []

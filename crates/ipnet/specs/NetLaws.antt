@@ -1,8 +1,9 @@
 -- What the private trait `Net` asks of each type: its values stand for networks, one value for each network, and
 -- their order is the order of networks.
-use Rattle.std.proofs.Common.{◌≡◌, ℕ, ◌+◌, ◌*◌, ◌^◌, ◌<◌, ◌≤◌, ◌⊎◌, inl, inr, refl, ap, subst, arith, Less, nat_cmp, lt-ltb}
+use Rattle.std.proofs.Common.{◌≡◌, ℕ, ◌+◌, ◌*◌, ◌/◌, ◌%◌, ◌^◌, ◌<◌, ◌≤◌, ◌⊎◌, inl, inr, refl, sym, ap, ap₂, ◌∙◌, subst, arith, Less, nat_cmp, lt-ltb}
 use Rattle.std.specs.Coded.{le_prop}
 use Rattle.std.specs.Ordering.{ordering_then}
+use Rattle.std.proofs.Math.Nat.{div-add-mod}
 use Rattle.std.proofs.lemmas.Bool.{cases_order}
 use Rattle.std.proofs.lemmas.Bool.Decides.{nat_tests}
 use Rattle.ipnet_base.specs.Network.{IsNetwork, IsBefore}
@@ -13,7 +14,7 @@ use Rattle.ipnet.specs.declared.net.ipv6_net.Ipv6Net.{Ipv6Net}
 use Rattle.ipnet.specs.NetworkOf.{ipv4_network, ipv6_network, ip_network}
 
 pub ipv4_valid : (n : Ipv4Net) → IsNetwork (ipv4_network n)
-ipv4_valid n = record { address_fits = n.number_fits; prefix_fits = n.prefix_fits }
+ipv4_valid n = record { address_fits = omega (arith, n.word_fits); prefix_fits = n.prefix_fits }
 
 pub ipv6_valid : (n : Ipv6Net) → IsNetwork (ipv6_network n)
 ipv6_valid n = record { address_fits = omega (arith, n.high_fits, n.low_fits); prefix_fits = n.prefix_fits }
@@ -23,18 +24,21 @@ ip_valid (Ip.V4 n) = ipv4_valid n
 ip_valid (Ip.V6 n) = ipv6_valid n
 
 -- values with equal fields are equal: a bound has one proof at most
-abbrev ipv4_of : (a p : ℕ) → a < 2 ^ 32 → p ≤ 32 → Ipv4Net
-ipv4_of a p h k = record { number = a; prefix_len = p; number_fits = h; prefix_fits = k }
+abbrev ipv4_of : (w : ℕ) → w < 2 ^ 64 → w % 2 ^ 32 ≤ 32 → Ipv4Net
+ipv4_of w h k = record { word = w; word_fits = h; prefix_fits = k }
 
-ipv4_same : (a b p q : ℕ) → a ≡ b → p ≡ q → (h : a < 2 ^ 32) (k : p ≤ 32) (h' : b < 2 ^ 32) (k' : q ≤ 32) → ipv4_of a p h k ≡ ipv4_of b q h' k'
-ipv4_same a b p q e f h k =
-    let at : (h' : a < 2 ^ 32) (k' : p ≤ 32) → ipv4_of a p h k ≡ ipv4_of a p h' k' = λ h' k' i. ipv4_of a p (le_prop h h' i) (le_prop k k' i) in
-    let at_b : (h' : b < 2 ^ 32) (k' : p ≤ 32) → ipv4_of a p h k ≡ ipv4_of b p h' k' = subst (λ m. (h' : m < 2 ^ 32) (k' : p ≤ 32) → ipv4_of a p h k ≡ ipv4_of m p h' k') e at in
-    subst (λ m. (h' : b < 2 ^ 32) (k' : m ≤ 32) → ipv4_of a p h k ≡ ipv4_of b m h' k') f at_b
+ipv4_same : (v w : ℕ) → v ≡ w → (h : v < 2 ^ 64) (k : v % 2 ^ 32 ≤ 32) (h' : w < 2 ^ 64) (k' : w % 2 ^ 32 ≤ 32) → ipv4_of v h k ≡ ipv4_of w h' k'
+ipv4_same v w e h k =
+    let at : (h' : v < 2 ^ 64) (k' : v % 2 ^ 32 ≤ 32) → ipv4_of v h k ≡ ipv4_of v h' k' = λ h' k' i. ipv4_of v (le_prop h h' i) (le_prop k k' i) in
+    subst (λ m. (h' : m < 2 ^ 64) (k' : m % 2 ^ 32 ≤ 32) → ipv4_of v h k ≡ ipv4_of m h' k') e at
+
+-- a word is told by its two halves
+same_word : (v w : ℕ) → v / 2 ^ 32 ≡ w / 2 ^ 32 → v % 2 ^ 32 ≡ w % 2 ^ 32 → v ≡ w
+same_word v w e f = sym (div-add-mod v (2 ^ 32)) ∙ ap₂ (λ a b. 2 ^ 32 * a + b) e f ∙ div-add-mod w (2 ^ 32)
 
 pub ipv4_one_to_one : (x y : Ipv4Net) → ipv4_network x ≡ ipv4_network y → x ≡ y
 ipv4_one_to_one x y e =
-    ipv4_same x.number y.number x.prefix_len y.prefix_len (ap (λ n. n.number) e) (ap (λ n. n.prefix_len) e) x.number_fits x.prefix_fits y.number_fits y.prefix_fits
+    ipv4_same x.word y.word (same_word x.word y.word (ap (λ n. n.number) e) (ap (λ n. n.prefix_len) e)) x.word_fits x.prefix_fits y.word_fits y.prefix_fits
 
 abbrev ipv6_of : (a b p : ℕ) → a < 2 ^ 64 → b < 2 ^ 64 → p ≤ 128 → Ipv6Net
 ipv6_of a b p h l k = record { high = a; low = b; prefix_len = p; high_fits = h; low_fits = l; prefix_fits = k }
@@ -76,9 +80,14 @@ halves_less a b c d p q l m h = elim (cases_order a c) [
   | inr (inr gt) ↦ absurd (elim h [ inl lt ↦ omega arith | inr k ↦ omega (arith, k.0) ])
 ]
 
-pub ipv4_in_order : (x y : Ipv4Net) → IsBefore (ipv4_network x) (ipv4_network y) → ordering_then (nat_cmp x.number y.number) (nat_cmp x.prefix_len y.prefix_len) ≡ Less
+-- the upper halves are compared first, and the lower ones where these are equal
+word_less : (v w : ℕ) → (v / 2 ^ 32 < w / 2 ^ 32) ⊎ ((v / 2 ^ 32 ≡ w / 2 ^ 32) × (v % 2 ^ 32 < w % 2 ^ 32)) → v < w
+word_less v w (inl h) = omega (arith, h)
+word_less v w (inr h) = omega (arith, h.0, h.1)
+
+pub ipv4_in_order : (x y : Ipv4Net) → IsBefore (ipv4_network x) (ipv4_network y) → nat_cmp x.word y.word ≡ Less
 ipv4_in_order x y (inl h) = absurd (omega (arith, h))
-ipv4_in_order x y (inr h) = cmp_less x.number y.number x.prefix_len y.prefix_len h.1
+ipv4_in_order x y (inr h) = rw (lt-ltb x.word y.word (word_less x.word y.word h.1)) refl
 
 pub ipv6_in_order : (x y : Ipv6Net) → IsBefore (ipv6_network x) (ipv6_network y)
     → ordering_then (nat_cmp x.high y.high) (ordering_then (nat_cmp x.low y.low) (nat_cmp x.prefix_len y.prefix_len)) ≡ Less

@@ -1,5 +1,5 @@
 -- The network that a value of each of the three types stands for: all that contracts see of it.
-use Rattle.std.specs.Prelude.{ℕ, ◌+◌, ◌*◌, ◌^◌}
+use Rattle.std.specs.Prelude.{ℕ, ◌+◌, ◌*◌, ◌/◌, ◌%◌, ◌^◌}
 use Rattle.ipnet_base.specs.Address.{IPv4, IPv6}
 use Rattle.ipnet_base.specs.Network.{Network}
 use Rattle.ipnet.specs.declared.net.IpNet.{IpNet}
@@ -15,9 +15,9 @@ ipv4_network_of number prefix_len = record { family = IPv4; number = number; pre
 abbrev pub ipv6_network_of : ℕ → ℕ → Network
 ipv6_network_of number prefix_len = record { family = IPv6; number = number; prefix_len = prefix_len }
 
--- the network that the value stands for
+-- the network that the value stands for: the upper half of the word is the number, the lower half the length
 abbrev pub ipv4_network : Ipv4Net → Network
-ipv4_network n = ipv4_network_of n.number n.prefix_len
+ipv4_network n = ipv4_network_of (n.word / 2 ^ 32) (n.word % 2 ^ 32)
 
 -- the number is kept as its high and its low half
 abbrev pub ipv6_network : Ipv6Net → Network

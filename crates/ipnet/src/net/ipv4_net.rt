@@ -1,4 +1,4 @@
-ghost use Rattle.std.specs.Prelude.{◌≡◌, ◌-◌, ◌*◌, ◌/◌, ◌^◌, ◌<◌, ◌≤◌, ◌⊎◌, ◌↔◌, IsTrue, IsErr, IfOk, IsNone, IfSome};
+ghost use Rattle.std.specs.Prelude.{◌≡◌, ◌-◌, ◌*◌, ◌/◌, ◌%◌, ◌^◌, ◌<◌, ◌≤◌, ◌⊎◌, ◌↔◌, IsTrue, IsErr, IfOk, IsNone, IfSome};
 ghost use Rattle.std.specs.Net.Addr.{ipv4_bits};
 ghost use Rattle.ipnet_base.specs.Address.{IPv4, width, ipv4_address};
 ghost use Rattle.ipnet_base.specs.Network.{Network, IsLeastOf, IsGreatestOf, IsSubnetOf, InBlock, IsSupernetOf, AreSiblings, IsTruncationOf};
@@ -12,14 +12,13 @@ use ipnet_base::{Ipv4Addr, Ipv4AddrRange, PrefixLenError, ipv4_mask_to_prefix};
 ///
 /// Networks are ordered by the address, host bits and all, and then by the length.
 //
-// The length is kept in a word as wide as the number, since sorting copies networks of two words faster
-// than those of a word and a byte.
+// Number and length share one word, the number in the upper half and the length in the lower, so that the order of
+// words is the order of networks: sorting, most of the time of `aggregate`, moves and compares single words.
 #[derive(Clone, Copy, PartialEq, Eq, PartialOrd, Ord, Hash)]
 pub struct Ipv4Net {
-    number: u32,
-    prefix_len: u32,
-    ghost number_fits: { number < 2 ^ 32 },
-    ghost prefix_fits: { prefix_len ≤ 32 },
+    word: u64,
+    ghost word_fits: { word < 2 ^ 64 },
+    ghost prefix_fits: { word % 2 ^ 32 ≤ 32 },
 }
 
 /// The number of the netmask of this length.
@@ -36,6 +35,16 @@ fn hostmask_number(prefix_len: u32) -> u32
     ensures { result ≡ 2 ^ (32 - prefix_len) - 1 }
 {
     u32::MAX.checked_shr(prefix_len).unwrap_or(0)
+}
+
+/// The leading bits of the number, as many as a prefix of this length has.
+//
+// A word wider than the number, since at length 0 all of its bits are shifted out.
+fn prefix_of(number: u32, prefix_len: u32) -> u64
+    requires { prefix_len ≤ 32 }
+    ensures { result ≡ number / 2 ^ (32 - prefix_len) }
+{
+    u64::from(number) >> (32 - prefix_len)
 }
 
 /// The address of this number.
@@ -253,21 +262,23 @@ impl Ipv4Net {
         requires { prefix_len ≤ 32 }
         ensures { ipv4_network result ≡ ipv4_network_of number prefix_len }
     {
-        Ipv4Net { number, prefix_len }
+        Ipv4Net {
+            word: (u64::from(number) << 32) + u64::from(prefix_len),
+        }
     }
 
     /// The number of the address, host bits and all.
     pub(crate) fn number(&self) -> u32
         ensures { result ≡ (ipv4_network self.now).number }
     {
-        self.number
+        (self.word >> 32) as u32
     }
 
     /// The prefix length, as shifts take it.
     pub(crate) fn leading_bits(&self) -> u32
         ensures { result ≡ (ipv4_network self.now).prefix_len }
     {
-        self.prefix_len
+        (self.word & 0xffff_ffff) as u32
     }
 
     /// The number of the address without the bits behind a prefix of this length.
@@ -290,7 +301,7 @@ impl Ipv4Net {
         ensures { IsTrue result ↔ InBlock (ipv4_network self.now) (address_at IPv4 number) }
     {
         let len = self.leading_bits();
-        number & netmask_number(len) == self.leading_number(len)
+        prefix_of(number, len) == prefix_of(self.number(), len)
     }
 }
 
@@ -360,11 +371,13 @@ impl Net for Ipv4Net {
     }
 
     fn is_other_half(&self, other: &Ipv4Net) -> bool {
-        if !self.is_sibling(other) {
+        let len = self.leading_bits();
+        if len != other.leading_bits() {
             return false;
         }
-        let len = self.leading_bits();
-        self.leading_number(len) != other.leading_number(len)
+        let first = prefix_of(self.number(), len);
+        let second = prefix_of(other.number(), len);
+        first != second && first / 2 == second / 2
     }
 
     fn joined(&self) -> Ipv4Net {

@@ -40,6 +40,14 @@ fn hostmask_number(prefix_len: u32) -> u128
     u128::MAX.checked_shr(prefix_len).unwrap_or(0)
 }
 
+/// The leading bits of the number, as many as a prefix of this length has.
+fn prefix_of(number: u128, prefix_len: u32) -> u128
+    requires { prefix_len ≤ 128 }
+    ensures { result ≡ number / 2 ^ (128 - prefix_len) }
+{
+    number.checked_shr(128 - prefix_len).unwrap_or(0)
+}
+
 /// The address of this number.
 fn address_of(number: u128) -> Ipv6Addr
     ensures { ipv6_address result ≡ address_at IPv6 number }
@@ -289,7 +297,7 @@ impl Ipv6Net {
         ensures { IsTrue result ↔ InBlock (ipv6_network self.now) (address_at IPv6 number) }
     {
         let len = self.leading_bits();
-        number & netmask_number(len) == self.leading_number(len)
+        prefix_of(number, len) == prefix_of(self.number(), len)
     }
 }
 
@@ -359,11 +367,13 @@ impl Net for Ipv6Net {
     }
 
     fn is_other_half(&self, other: &Ipv6Net) -> bool {
-        if !self.is_sibling(other) {
+        let len = self.leading_bits();
+        if len != other.leading_bits() {
             return false;
         }
-        let len = self.leading_bits();
-        self.leading_number(len) != other.leading_number(len)
+        let first = prefix_of(self.number(), len);
+        let second = prefix_of(other.number(), len);
+        first != second && first / 2 == second / 2
     }
 
     fn joined(&self) -> Ipv6Net {

@@ -9,10 +9,10 @@ use Rattle.ipnet.specs.NetLaws.{ipv4_valid}
 use Rattle.ipnet.proofs.NetLaws.{IsHostRange-whole, IsHostRange-inner, reserved_ends_are_apart}
 use Rattle.ipnet.proofs.net.ipv4_net.Ipv4Net.hosts.Goals as goal
 
-first_is : (n : Ipv4Net) (len first : ℕ) → len ≡ n.prefix_len → first ≡ n.number / 2 ^ (32 - len) * 2 ^ (32 - len) → first ≡ first_of (ipv4_network n)
-first_is n len first same e = e ∙ ap (λ p. n.number / 2 ^ (32 - p) * 2 ^ (32 - p)) same
+first_is : (n : Ipv4Net) (len first : ℕ) → len ≡ (ipv4_network n).prefix_len → first ≡ (ipv4_network n).number / 2 ^ (32 - len) * 2 ^ (32 - len) → first ≡ first_of (ipv4_network n)
+first_is n len first same e = e ∙ ap (λ p. (ipv4_network n).number / 2 ^ (32 - p) * 2 ^ (32 - p)) same
 
-ends_apart : (n : Ipv4Net) (len : ℕ) → len ≡ n.prefix_len → len < 31 → (first_of (ipv4_network n) + 2 ≤ last_of (ipv4_network n)) × (last_of (ipv4_network n) < 2 ^ 32)
+ends_apart : (n : Ipv4Net) (len : ℕ) → len ≡ (ipv4_network n).prefix_len → len < 31 → (first_of (ipv4_network n) + 2 ≤ last_of (ipv4_network n)) × (last_of (ipv4_network n) < 2 ^ 32)
 ends_apart n len same short = reserved_ends_are_apart (ipv4_network n) (ipv4_valid n) (refl, omega arith)
 
 pub returns-then-len-ge31 : goal.returns-then-len-ge31

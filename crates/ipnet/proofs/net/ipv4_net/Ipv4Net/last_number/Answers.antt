@@ -7,4 +7,4 @@ pub returns : goal.returns
 returns c =
     let n = c.args.self.now in
     ap₂ bit_or c.number.ensures (c.hostmask_number.ensures ∙ ap (λ p. 2 ^ (32 - p) - 1) c.leading_bits.ensures)
-    ∙ or_host_is (32 - n.prefix_len) (ipv4_network n).number
+    ∙ or_host_is (32 - (ipv4_network n).prefix_len) (ipv4_network n).number
