@@ -1,8 +1,8 @@
 -- What the derived `==` of two lists of networks tells.
-use Rattle.std.proofs.Common.{◌≡◌, ℕ, ◌*◌, ◌+◌, ◌/◌, ◌%◌, ◌^◌, ◌<◌, ◌&&◌, ◌↔◌, Bool, true, false, IsTrue, eqb, List, [], ◌∷◌, map, All, refl, sym, ap, ap₂, ◌∙◌, subst, arith, eq-eqb}
+use Rattle.std.proofs.Common.{◌≡◌, ℕ, ◌*◌, ◌+◌, ◌/◌, ◌%◌, ◌^◌, ◌&&◌, ◌↔◌, Bool, true, false, IsTrue, eqb, List, [], ◌∷◌, map, refl, sym, ap, ap₂, ◌∙◌, arith, eq-eqb}
 use Rattle.std.proofs.lemmas.Bool.{eqb-true}
 use Rattle.std.proofs.lemmas.Bool.Decides.{nat_tests}
-use Rattle.ipnet_base.specs.Network.{Network, IsNetwork}
+use Rattle.ipnet_base.specs.Network.{IsNetwork}
 use Rattle.ipnet_base.specs.Blocks.{HaveSameCover, IsAggregateOf}
 use Rattle.ipnet_base.proofs.AggregateLaws.{same_aggregate_iff_same_cover}
 use Rattle.ipnet.specs.declared.net.IpNet.{IpNet}

@@ -1,5 +1,5 @@
 -- What a JSON value is read to, by what its text is read to.
-use Rattle.std.proofs.Common.{◌≡◌, ◌↔◌, ℕ, List, Some, Result, Ok, Err, MatchResult, refl, sym, ap, ◌∙◌, subst}
+use Rattle.std.proofs.Common.{◌≡◌, ◌↔◌, ℕ, List, Some, Result, Ok, Err, MatchResult, sym, ap, ◌∙◌, subst}
 use Rattle.serde_json.specs.Data.{Data, null, boolean, number, string, array, object}
 use Rattle.serde_json.specs.Find.{as_str}
 use Rattle.ipnet_base.specs.Network.{Network}

@@ -1,15 +1,14 @@
 -- What the functions on numbers behind the network types compute, at the width of either family.
-use Rattle.std.proofs.Common.{◌≡◌, ◌≢◌, ℕ, ◌+◌, ◌-◌, ◌*◌, ◌/◌, ◌%◌, ◌^◌, ◌<◌, ◌≤◌, ◌↔◌, refl, sym, ap, ◌∙◌, subst, arith, Option, Some, None, inl, inr, IsTrue, true, false, not, eqb, eqb-true, eq-eqb, ne_eqb, bit_and, pow_pos, shr-shr, List, Contains}
+use Rattle.std.proofs.Common.{◌≡◌, ◌≢◌, ℕ, ◌+◌, ◌-◌, ◌*◌, ◌/◌, ◌%◌, ◌^◌, ◌<◌, ◌≤◌, ◌↔◌, refl, sym, ap, ◌∙◌, subst, arith, Option, Some, None, inl, inr, IsTrue, true, false, eqb, eqb-true, eq-eqb, shr-shr, List, Contains}
 use Rattle.std.specs.Option.{unwrap_or, SomeIff}
 use Rattle.std.proofs.Math.Nat.{div-eq_of_lt}
 use Rattle.std.proofs.lemmas.Nat.{pow_below}
 use Rattle.std.proofs.lemmas.Nat.Bits.{ones_shl}
 use Rattle.std.proofs.lemmas.Bool.{cases_eq}
 use Rattle.ipnet_base.specs.Address.{Address, width, IsBetween}
-use Rattle.ipnet_base.specs.Network.{Network, IsNetwork, host_bits, InBlock, IsSubnetOf, AreSiblings, AreHalves, IsLeastOf, IsGreatestOf, IsTruncationOf, IsSupernetOf, truncation}
+use Rattle.ipnet_base.specs.Network.{Network, IsNetwork, host_bits, InBlock, IsSubnetOf, AreHalves, IsLeastOf, IsGreatestOf, IsTruncationOf, IsSupernetOf, truncation}
 use Rattle.ipnet_base.specs.Blocks.{IsMaximal, AreMaximalBlocks}
 use Rattle.ipnet_base.specs.Ranges.{AddressRange}
-use Rattle.ipnet_base.proofs.MaskLaws.{and_mask_is}
 use Rattle.ipnet_base.proofs.BlockLaws.{own, own_in, first_of, last_of, last_fits, first_from_least, last_from_greatest, nested, bits_from_subnet, same_network, same_from_block}
 use Rattle.ipnet_base.proofs.ListLaws.{all_at}
 use Rattle.ipnet_base.proofs.NetworkLaws.{IsTruncationOf-truncation}

@@ -1,15 +1,15 @@
 -- What a text writes is a network: its number and its length are in the range of its family.
-use Rattle.std.proofs.Common.{◌≡◌, ℕ, zero, suc, ◌+◌, ◌*◌, ◌-◌, ◌^◌, ◌<◌, ◌≤◌, ◌⊎◌, Bool, true, false, List, [], ◌∷◌, ◌++◌, length, get_or, replicate, refl, sym, ap, ◌∙◌, subst, arith, inl, inr, lit<, length-append}
+use Rattle.std.proofs.Common.{◌≡◌, ℕ, zero, suc, ◌+◌, ◌*◌, ◌-◌, ◌^◌, ◌<◌, ◌≤◌, ◌⊎◌, Bool, true, false, List, [], ◌∷◌, ◌++◌, length, get_or, replicate, sym, ap, ◌∙◌, subst, arith, inl, inr, lit<, length-append}
 use Rattle.std.proofs.Math.Nat.{pow-le-pow_right}
 use Rattle.std.proofs.lemmas.List.{length-replicate}
 use Rattle.std.proofs.lemmas.Int.Digits.{digits_value-lt}
-use Rattle.std.specs.Int.{w32, w128, from_be_bytes}
-use Rattle.std.specs.Net.Addr.{segments_of, octets_of}
+use Rattle.std.specs.Int.{w32, from_be_bytes}
+use Rattle.std.specs.Net.Addr.{segments_of}
 use Rattle.ipnet_base.specs.Address.{width}
 use Rattle.ipnet_base.specs.Network.{Network, IsNetwork}
 use Rattle.ipnet.specs.Grammar.{Grammar, Strict, Legacy, grammar_of}
 use Rattle.ipnet.specs.Numerals.{IsGroup}
-use Rattle.ipnet.specs.AddressTexts.{IsIpv4AddressText, IsGroups, EndsInIpv4, IsIpv6AddressText, IsCompressed, most_written_groups, expanded}
+use Rattle.ipnet.specs.AddressTexts.{IsGroups, EndsInIpv4, IsIpv6AddressText, IsCompressed, most_written_groups, expanded}
 use Rattle.ipnet.specs.NetworkTexts.{IsIpv4NetworkText, IsIpv6NetworkText, IsNetworkText}
 use Rattle.ipnet.proofs.Ipv4Texts.{Dots, Dots-from}
 use Rattle.ipnet.proofs.NumberOctets.{eight_groups_below}

@@ -1,10 +1,10 @@
 -- The run of zero groups that "::" stands for.
-use Rattle.std.proofs.Common.{◌≡◌, ◌≢◌, ℕ, zero, suc, ◌+◌, ◌-◌, ◌<◌, ◌≤◌, ◌⊎◌, Bool, true, false, List, [], ◌∷◌, ◌++◌, length, take, drop, get_or, replicate, codes, bytes_eq, refl, sym, ap, ◌∙◌, subst, arith, inl, inr, lt-ltb, le-ltb, length-drop, get_or-drop}
+use Rattle.std.proofs.Common.{◌≡◌, ℕ, zero, suc, ◌<◌, ◌≤◌, Bool, true, false, List, [], ◌∷◌, ◌++◌, length, take, drop, get_or, replicate, codes, bytes_eq, refl, sym, ap, ◌∙◌, arith, inl, inr, lt-ltb, le-ltb, length-drop, get_or-drop}
 use Rattle.std.proofs.lemmas.Bool.{cases_lt}
 use Rattle.std.proofs.lemmas.List.{get_or-take, get_or-replicate}
 use Rattle.std.proofs.lemmas.Slice.Eq.{bytes_eq-Decides}
 use Rattle.std.specs.Net.Addr.{IsIpv4Mapped, octets_of}
-use Rattle.std.specs.Net.Text.{ipv4_text, ipv6_text, groups_text, longest_zero_run, hex_groups_text}
+use Rattle.std.specs.Net.Text.{ipv4_text, ipv6_text, longest_zero_run, hex_groups_text}
 use Rattle.std.proofs.NetLemmas.Texts.{IsZeroRun as StdZeroRun, IsZeroRun-longest_zero_run, longest_zero_run_first}
 use Rattle.ipnet.specs.CanonicalTexts.{IsZeroRun, IsShortenedRun, IsShortened}
 

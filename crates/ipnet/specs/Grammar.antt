@@ -1,5 +1,5 @@
 -- The two grammars of network texts.
-use Rattle.std.specs.Prelude.{ℕ, Bool, true, false}
+use Rattle.std.specs.Prelude.{Bool, true, false}
 
 -- They differ in two points alone: a strict decimal text begins with "0" only where it is "0", and a strict
 -- "::" stands for one group at least. Legacy texts may have leading zeros, and a "::" for no group.

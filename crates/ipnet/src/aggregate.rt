@@ -9,18 +9,13 @@ ghost use Rattle.ipnet.specs.NetworkOf.{ipv4_network, ipv6_network, ip_network};
 use crate::net::{IpNet, Ipv4Net, Ipv6Net, Net};
 use std::alloc::{AllocError, Global};
 
-/// Puts one network more at the end of the list, in whatever order they come: a network that the last one covers is
-/// left out, and as long as the last one is its other half both are replaced by their supernet.
+/// Puts one network more at the end of the list, in whatever order they come: as long as the last one is its other
+/// half both are replaced by their supernet.
 fn gather<N: Net>(list: &mut Vec<N>, network: N) -> Result<(), AllocError>
     requires list { All IsTruncated (map N.network list.old.items) }
     requires network { IsTruncated (N.network network) }
     ensures { OnOk result (IsGathered (map N.network list.old.items) (N.network network) (map N.network list.new.items)) }
 {
-    if let Some(last) = list.last()
-        && last.covers(&network)
-    {
-        return Ok(());
-    }
     let mut next = network;
     while let Some(last) = list.last()
         && last.is_other_half(&next)
@@ -33,7 +28,7 @@ fn gather<N: Net>(list: &mut Vec<N>, network: N) -> Result<(), AllocError>
 }
 
 /// A list over the same addresses, without host bits: the networks in the order that they came in, but for those that
-/// met the one before. Runs of neighbours come out short, so less is left to sort.
+/// joined the one before. Runs of neighbours come out short, so less is left to sort.
 fn gathered<N: Net>(alloc: Global, networks: &Vec<N>) -> Result<Vec<N>, AllocError>
     ensures empty { networks.now.items ≡ [] → IsOk result }
     ensures truncated { IfOk result (λ list. All IsTruncated (map N.network list.items)) }

@@ -195,13 +195,6 @@ gathering_end old came xs next h = record {
   cover = λ x. let pushed = pushed_cover xs next x in (λ c. (h.cover x).0 (pushed.0 c), λ c. pushed.1 ((h.cover x).1 c));
 }
 
--- where the last one covers it, nothing changes
-pub gathered_covered : (old : List Network) (came : Network) (last : Network) → All IsTruncated old → Contains old last → IsSubnetOf came last → IsGathered old came old
-gathered_covered old came last good c sub = record {
-  truncated = good;
-  cover = λ x. (λ h. inl h, λ h. elim h [ inl a ↦ a | inr a ↦ any_from_contains (λ m. InBlock m x) old last c (sub x a) ]);
-}
-
 -- the first i networks are in the list, but for host bits
 pub record IsGatheredFrom (given : List Network) (i : ℕ) (list : List Network) : Type 0 where
   pub truncated : All IsTruncated list

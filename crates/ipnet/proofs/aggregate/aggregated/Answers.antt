@@ -1,7 +1,7 @@
-use Rattle.std.proofs.Common.{◌≡◌, List, All, map, take, drop, length, sym, ap, subst, arith}
+use Rattle.std.proofs.Common.{◌≡◌, All, map, take, drop, length, sym, ap, subst, arith}
 use Rattle.std.proofs.lemmas.List.{length-map, nil_from_length}
 use Rattle.std.proofs.lemmas.List.Sorted.{All-permutation, IsPermutation-map}
-use Rattle.ipnet_base.specs.Network.{Network, IsNetwork, IsTruncated}
+use Rattle.ipnet_base.specs.Network.{IsNetwork, IsTruncated}
 use Rattle.ipnet_base.proofs.NeighbourLaws.{AreSettled}
 use Rattle.ipnet_base.proofs.SupernetLaws.{same_blocks_iff_same_cover}
 use Rattle.ipnet_base.proofs.AggregateLaws.{IsShortestCover-of_aggregate, aggregate_apart, aggregate_no_longer, aggregate_of_aggregate, aggregate_of_same_truncations, IsAggregateOf-unique, HaveSameCover-trans}

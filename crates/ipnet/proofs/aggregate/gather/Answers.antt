@@ -1,8 +1,8 @@
-use Rattle.std.proofs.Common.{◌≡◌, ◌-◌, ◌∷◌, ◌++◌, [], List, Option, Some, None, Contains, map, length, get_or, ◌∙◌, sym, ap, subst, arith, slice_get, option_copied, option_to_list, Bor}
+use Rattle.std.proofs.Common.{◌≡◌, ◌-◌, ◌∷◌, ◌++◌, [], List, Option, Some, map, length, get_or, ◌∙◌, sym, ap, subst, arith, slice_get, option_copied, option_to_list, Bor}
 use Rattle.std.proofs.lemmas.List.{map_push}
-use Rattle.ipnet_base.specs.Network.{Network, IsSubnetOf, AreHalves}
-use Rattle.ipnet_base.proofs.ListLaws.{true_gives, last_some, last_map}
-use Rattle.ipnet_base.proofs.StackLaws.{IsGathering, IsGathered, gathering_start, gathering_step, gathering_end, gathered_covered}
+use Rattle.ipnet_base.specs.Network.{AreHalves}
+use Rattle.ipnet_base.proofs.ListLaws.{true_gives, last_some}
+use Rattle.ipnet_base.proofs.StackLaws.{IsGathering, IsGathered, gathering_start, gathering_step, gathering_end}
 use Rattle.ipnet.proofs.aggregate.gather.Goals as goal
 
 -- the last element, as `last` gave it
@@ -11,16 +11,6 @@ last_is items slice r o e h s = subst (λ z. slice_get z (length z - 1) ≡ o) e
 
 popped_last : {X : Type 0} (items new : List X) (r : Option X) (t : X) → items ≡ new ++ option_to_list r → r ≡ Some t → items ≡ new ++ t ∷ []
 popped_last items new r t e s = e ∙ ap (λ z. new ++ option_to_list z) s
-
-pub returns : goal.returns
-returns g c =
-    let net = g.N.Net.network in
-    let items = c.args.list.now.items in
-    let t = c.in-Some.last.now in
-    let last = last_map net items t (last_is items c.deref.result.now c.last.result (Some t) c.deref.ensures.value c.last.ensures.value (ap option_copied c.in-Some.is)) in
-    let in_list : Contains (map net items) (net t) = (length (map net items) - 1, omega (arith, last.0), last.1 (net t)) in
-    let sub : IsSubnetOf (net c.args.network) (net t) = true_gives c.covers.result c.covers.ensures c.if-covers.true in
-    gathered_covered (map net items) (net c.args.network) (net t) c.requires.list in_list sub
 
 pub loop-last-init : goal.loop-last-init
 loop-last-init g c =
@@ -31,11 +21,11 @@ pub loop-last-preserved : goal.loop-last-preserved
 loop-last-preserved g c =
     let net = g.N.Net.network in
     let items = c.loop-last.list.items in
-    let t = c.in-Some-last.last.now in
-    let top = last_is items c.deref-in-loop-last.result.now c.last-in-loop-last.result (Some t) c.deref-in-loop-last.ensures.value c.last-in-loop-last.ensures.value (ap option_copied c.in-Some-last.is) in
+    let t = c.in-Some.last.now in
+    let top = last_is items c.deref.result.now c.last.result (Some t) c.deref.ensures.value c.last.ensures.value (ap option_copied c.in-Some.is) in
     let popped : items ≡ c.pop.new.self.items ++ t ∷ [] = popped_last items c.pop.new.self.items c.pop.result t c.pop.ensures.items
-    (c.pop.ensures.value t (omega (arith, (last_some items t top).0, c.deref-in-loop-last.ensures.len, ap length c.deref-in-loop-last.ensures.value))
-    ∙ ap Some (ap (λ n. get_or items (n - 1) t) (sym c.deref-in-loop-last.ensures.len ∙ ap length c.deref-in-loop-last.ensures.value) ∙ (last_some items t top).1)) in
+    (c.pop.ensures.value t (omega (arith, (last_some items t top).0, c.deref.ensures.len, ap length c.deref.ensures.value))
+    ∙ ap Some (ap (λ n. get_or items (n - 1) t) (sym c.deref.ensures.len ∙ ap length c.deref.ensures.value) ∙ (last_some items t top).1)) in
     let mapped : map net items ≡ map net c.pop.new.self.items ++ net t ∷ [] = ap (map net) popped ∙ map_push net c.pop.new.self.items t in
     let halves : AreHalves (net t) (net c.loop-last.next) = true_gives c.is_other_half.result c.is_other_half.ensures c.if-is_other_half.true in
     gathering_step (map net c.args.list.now.items) (net c.args.network) (map net c.pop.new.self.items) (net t) (net c.loop-last.next) (net c.joined-next.result)
@@ -43,8 +33,8 @@ loop-last-preserved g c =
     (subst (λ z. IsGathering (map net c.args.list.now.items) (net c.args.network) z (net c.loop-last.next)) mapped c.loop-last.invariant)
     halves c.joined-next.ensures
 
-pub returns-2 : goal.returns-2
-returns-2 g c =
+pub returns : goal.returns
+returns g c =
     let net = g.N.Net.network in
     let items = c.loop-last.list.items in
     let old = map net c.args.list.now.items in

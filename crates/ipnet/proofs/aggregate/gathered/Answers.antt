@@ -1,9 +1,9 @@
-use Rattle.std.proofs.Common.{◌≡◌, List, map, take, length, ◌∙◌, sym, ap, subst, arith}
-use Rattle.std.proofs.lemmas.List.{length-map, take_all, get_or-map}
-use Rattle.ipnet_base.specs.Network.{Network, IsTruncated, truncation}
+use Rattle.std.proofs.Common.{map, ◌∙◌, sym, ap, subst, arith}
+use Rattle.std.proofs.lemmas.List.{length-map, get_or-map}
+use Rattle.ipnet_base.specs.Network.{IsTruncated}
 use Rattle.ipnet_base.specs.Blocks.{HaveSameCover}
 use Rattle.ipnet_base.proofs.BlockLaws.{IsTruncated-truncation}
-use Rattle.ipnet_base.proofs.StackLaws.{IsGathered, IsGatheredFrom, gathered_none, gathered_more, gathered_whole}
+use Rattle.ipnet_base.proofs.StackLaws.{IsGathered, gathered_more, gathered_whole}
 use Rattle.ipnet.proofs.aggregate.gathered.Goals as goal
 
 pub gather-requires-clause-network : goal.gather-requires-clause-network

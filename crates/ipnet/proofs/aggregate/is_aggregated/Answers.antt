@@ -1,4 +1,4 @@
-use Rattle.std.proofs.Common.{◌≡◌, ◌<◌, List, All, map, take, length, get_or, sym, ap, subst, arith}
+use Rattle.std.proofs.Common.{map, subst, arith}
 use Rattle.std.proofs.lemmas.List.{take_all}
 use Rattle.ipnet_base.specs.Network.{IsNetwork}
 use Rattle.ipnet_base.proofs.ListLaws.{true_gives, false_gives}

@@ -1,4 +1,4 @@
-use Rattle.std.proofs.Common.{◌≡◌, ◌-◌, ◌<◌, ◌≤◌, ◌∷◌, ◌++◌, [], List, Contains, map, take, length, get_or, ◌∙◌, sym, ap, subst, arith}
+use Rattle.std.proofs.Common.{◌≡◌, ◌-◌, ◌<◌, ◌≤◌, List, Contains, map, take, length, get_or, ◌∙◌, sym, ap, subst, arith}
 use Rattle.std.proofs.lemmas.List.Elements.{All-map}
 use Rattle.ipnet_base.specs.Network.{Network, IsNetwork, IsSubnetOf, AreHalves, IsSupernetOf}
 use Rattle.ipnet_base.proofs.ListLaws.{at_place, true_gives, false_gives}

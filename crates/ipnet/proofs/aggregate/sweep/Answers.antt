@@ -1,7 +1,7 @@
-use Rattle.std.proofs.Common.{◌≡◌, ◌+◌, ◌<◌, List, All, map, take, length, get_or, ◌∙◌, ap, subst, arith}
+use Rattle.std.proofs.Common.{◌+◌, ◌<◌, All, map, take, length, ◌∙◌, subst, arith}
 use Rattle.std.proofs.lemmas.List.{length-map}
-use Rattle.ipnet_base.specs.Network.{Network, IsTruncated}
-use Rattle.ipnet_base.proofs.StackLaws.{IsAtMost, swept_start, swept_step}
+use Rattle.ipnet_base.specs.Network.{IsTruncated}
+use Rattle.ipnet_base.proofs.StackLaws.{IsAtMost, swept_step}
 use Rattle.ipnet.proofs.FrontLaws.{rest_later, rest_read}
 use Rattle.ipnet.proofs.aggregate.sweep.Goals as goal
 

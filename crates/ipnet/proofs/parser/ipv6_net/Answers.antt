@@ -1,5 +1,5 @@
-use Rattle.std.proofs.Common.{◌≡◌, ◌∙◌, sym, ap, inl, inr}
-use Rattle.ipnet_base.specs.Address.{Family, IPv4, IPv6}
+use Rattle.std.proofs.Common.{◌≡◌, ◌∙◌, sym, ap, inr}
+use Rattle.ipnet_base.specs.Address.{IPv4, IPv6}
 use Rattle.ipnet.specs.Grammar.{grammar_of}
 use Rattle.ipnet.specs.NetworkOf.{ipv4_network}
 use Rattle.ipnet.proofs.WholeTexts.{one_network}

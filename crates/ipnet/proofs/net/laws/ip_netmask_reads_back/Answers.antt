@@ -1,7 +1,6 @@
-use Rattle.std.proofs.Common.{ap, sym, subst}
+use Rattle.std.proofs.Common.{sym, subst}
 use Rattle.ipnet_base.specs.Masks.{IsNetmaskOf}
 use Rattle.ipnet.specs.NetworkOf.{ip_network}
-use Rattle.ipnet.specs.NetworkParts.{netmask}
 use Rattle.ipnet.specs.NetLaws.{ip_valid}
 use Rattle.ipnet.proofs.net.laws.ip_netmask_reads_back.Goals as goal
 use Rattle.std.proofs.Common.{refl}

@@ -4,7 +4,6 @@ use Rattle.ipnet_base.specs.RangeOf.{ipv4_range}
 use Rattle.ipnet_base.proofs.BlockLaws.{first_of, last_of}
 use Rattle.ipnet.specs.declared.net.ipv4_net.Ipv4Net.{Ipv4Net}
 use Rattle.ipnet.specs.NetworkOf.{ipv4_network}
-use Rattle.ipnet.specs.NetworkParts.{HasReservedEnds}
 use Rattle.ipnet.specs.NetLaws.{ipv4_valid}
 use Rattle.ipnet.proofs.NetLaws.{IsHostRange-whole, IsHostRange-inner, reserved_ends_are_apart}
 use Rattle.ipnet.proofs.net.ipv4_net.Ipv4Net.hosts.Goals as goal

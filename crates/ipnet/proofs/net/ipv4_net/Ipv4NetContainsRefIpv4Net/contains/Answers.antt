@@ -1,4 +1,4 @@
-use Rattle.std.proofs.Common.{◌≡◌, ◌∙◌, sym, ap, subst, arith, IsTrue, ◌↔◌}
+use Rattle.std.proofs.Common.{subst, arith, IsTrue, ◌↔◌}
 use Rattle.ipnet_base.specs.Address.{IPv4}
 use Rattle.ipnet_base.specs.Network.{InBlock, IsSubnetOf}
 use Rattle.ipnet_base.proofs.BlockLaws.{own, own_in}
