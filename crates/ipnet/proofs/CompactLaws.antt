@@ -8,7 +8,8 @@ use Rattle.ipnet_base.specs.Network.{Network, IsNetwork}
 use Rattle.ipnet.specs.CanonicalTexts.{address_octets}
 use Rattle.ipnet.specs.Results.{IsOkExactlyAt}
 use Rattle.ipnet.specs.Bytes.{network_bytes, octet_count, HasOtherTag}
-use Rattle.ipnet.proofs.NumberOctets.{number_back, sixteen_again}
+use Rattle.ipnet_base.proofs.DigitLaws.{number_back}
+use Rattle.ipnet.proofs.NumberOctets.{sixteen_again}
 
 -- the number that the octets write
 abbrev pub octets_number : Family → List ℕ → ℕ

@@ -1,27 +1,18 @@
 -- The octets of a number, its groups, and the number again.
 use Rattle.std.proofs.Common.{◌≡◌, ℕ, zero, suc, ◌+◌, ◌*◌, ◌/◌, ◌%◌, ◌^◌, ◌<◌, List, [], ◌∷◌, length, get_or, refl, sym, ap, ◌∙◌, arith, lit<}
-use Rattle.std.proofs.Math.Arith.{mod-mul}
-use Rattle.std.proofs.Math.Nat.{div-one, mod-eq_of_lt, mul_comm, one-le-pow, pow-zero, pow-succ'}
+use Rattle.std.proofs.Math.Nat.{mod-eq_of_lt, mul_comm, pow-zero, pow-succ'}
 use Rattle.std.proofs.lemmas.Nat.{div-mul-add, mod-mul-add, mul-add-lt, mod_below, be_bytes_4}
-use Rattle.std.specs.Int.{w32, w128, to_be_bytes, from_be_bytes, byte_at, bytes_high_first}
+use Rattle.std.specs.Int.{w32, w128, to_be_bytes, from_be_bytes, bytes_high_first}
 use Rattle.std.specs.declared.net.ipv4_addr.Ipv4Addr.{Ipv4Addr}
 use Rattle.std.specs.declared.net.ipv6_addr.Ipv6Addr.{Ipv6Addr}
 use Rattle.std.specs.Net.Addr.{segments_of, octets_of, ipv4_octets, ipv6_segments, ipv4_bits, ipv6_bits, IsIpv4Addr, IsIpv6Addr}
-
-byte_at_below : (k n : ℕ) → byte_at k n < 256
-byte_at_below zero n = mod_below n 256 (omega arith)
-byte_at_below (suc k) n = mod_below (n / 256 ^ suc k) 256 (omega arith)
+use Rattle.ipnet_base.proofs.DigitLaws.{value, byte_at_below, pairs, halves, value-bytes_high_first}
 
 -- the octets of a number are bytes
 pub octet_fits : (len n : ℕ) → (k : ℕ) → get_or (bytes_high_first len n) k 0 < 2 ^ 8
 octet_fits zero n k = lit< tt
 octet_fits (suc len) n zero = byte_at_below len n
 octet_fits (suc len) n (suc k) = octet_fits len n k
-
--- pairs of octets
-pairs : ℕ → ℕ
-pairs zero = 0
-pairs (suc k) = suc (suc (pairs k))
 
 pairs_are_groups : (len n k : ℕ) → get_or (segments_of (bytes_high_first (pairs len) n)) k 0 < 2 ^ 16
 unfolding pairs
@@ -34,91 +25,47 @@ pub group_fits : (n k : ℕ) → get_or (segments_of (to_be_bytes w128 n)) k 0 <
 unfolding pairs
 group_fits n k = pairs_are_groups 8 n k
 
-octets_of-segments_of : (len n : ℕ) → octets_of (segments_of (bytes_high_first (pairs len) n)) ≡ bytes_high_first (pairs len) n
-unfolding pairs
-octets_of-segments_of zero n = refl
-octets_of-segments_of (suc len) n =
-    let a = byte_at (suc (pairs len)) n in
-    let b = byte_at (pairs len) n in
-    let small = byte_at_below (pairs len) n in
-    rw (div-mul-add a 256 b small, mod-mul-add a 256 b small, octets_of-segments_of len n) refl
-
--- the number that the octets write, the highest first
-number_of : List ℕ → ℕ
-number_of [] = 0
-number_of (b ∷ bytes) = b * 256 ^ length bytes + number_of bytes
-
-length-bytes_high_first : (len n : ℕ) → length (bytes_high_first len n) ≡ len
-length-bytes_high_first zero n = refl
-length-bytes_high_first (suc len) n = let later = length-bytes_high_first len n in omega (arith, later)
-
-byte_at-div : (k n : ℕ) → byte_at k n ≡ n / 256 ^ k % 256
-byte_at-div zero n = ap (λ (m : ℕ). m % 256) (sym (div-one n))
-byte_at-div (suc k) n = refl
-
--- the lowest octets write the number's remainder
-number_of-bytes_high_first : (len n : ℕ) → number_of (bytes_high_first len n) ≡ n % 256 ^ len
-unfolding number_of
-number_of-bytes_high_first zero n = omega arith
-number_of-bytes_high_first (suc len) n =
-    let above : 0 < 256 ^ len = one-le-pow len 256 (omega arith) in
-    let split = mod-mul n {m = 256} {c = 256 ^ len} (omega arith) above in
-    rw (length-bytes_high_first len n, number_of-bytes_high_first len n, byte_at-div len n, pow-succ' 256 len, split) refl
-
--- the octets of a number write it
-pub number_back : (n : ℕ) → n < 2 ^ 128 → from_be_bytes w128 (to_be_bytes w128 n) ≡ n
-unfolding number_of
-number_back n fits = whole ∙ number_of-bytes_high_first 16 n ∙ mod-eq_of_lt fits
-  where
-    whole : from_be_bytes w128 (to_be_bytes w128 n) ≡ number_of (to_be_bytes w128 n)
-    whole = omega arith
-
--- the groups of a number write it
-pub octets_back : (n : ℕ) → n < 2 ^ 128 → from_be_bytes w128 (octets_of (segments_of (to_be_bytes w128 n))) ≡ n
-unfolding pairs
-octets_back n fits = ap (from_be_bytes w128) (octets_of-segments_of 8 n) ∙ number_back n fits
-
 -- ---- the number of octets, and the octets again
 
 AreOctets : List ℕ → Type 0
 AreOctets bytes = (k : ℕ) → get_or bytes k 0 < 256
 
-number_below : (bytes : List ℕ) → AreOctets bytes → number_of bytes < 256 ^ length bytes
-unfolding number_of AreOctets
+number_below : (bytes : List ℕ) → AreOctets bytes → value 256 bytes < 256 ^ length bytes
+unfolding AreOctets
 number_below [] fit = rw (pow-zero 256) (omega arith)
 number_below (b ∷ bytes) fit =
-    let below = mul-add-lt b (256 ^ length bytes) (number_of bytes) 256 (fit 0) (number_below bytes (λ k. fit (suc k))) in
+    let below = mul-add-lt b (256 ^ length bytes) (value 256 bytes) 256 (fit 0) (number_below bytes (λ k. fit (suc k))) in
     let p : 256 ^ suc (length bytes) ≡ 256 * 256 ^ length bytes = pow-succ' 256 (length bytes) in
     let turned = mul_comm 256 (256 ^ length bytes) in
     omega (arith, below, p, turned)
 
 -- octets that write one number are the same
-same_octets : (xs ys : List ℕ) → length xs ≡ length ys → AreOctets xs → AreOctets ys → number_of xs ≡ number_of ys → xs ≡ ys
-unfolding number_of AreOctets
+same_octets : (xs ys : List ℕ) → length xs ≡ length ys → AreOctets xs → AreOctets ys → value 256 xs ≡ value 256 ys → xs ≡ ys
+unfolding AreOctets
 same_octets [] [] len fit fit' e = refl
 same_octets [] (y ∷ ys) len fit fit' e = absurd (omega arith)
 same_octets (x ∷ xs) [] len fit fit' e = absurd (omega arith)
 same_octets (x ∷ xs) (y ∷ ys) len fit fit' e =
     let same : length xs ≡ length ys = omega arith in
     let low = number_below xs (λ k. fit (suc k)) in
-    let low' : number_of ys < 256 ^ length xs = rw (sym same) at (number_below ys (λ k. fit' (suc k))) in
-    let one : x * 256 ^ length xs + number_of xs ≡ y * 256 ^ length xs + number_of ys = e ∙ ap (λ (n : ℕ). y * 256 ^ n + number_of ys) (sym same) in
-    let first : x ≡ y = sym (div-mul-add x (256 ^ length xs) (number_of xs) low) ∙ ap (λ (n : ℕ). n / 256 ^ length xs) one ∙ div-mul-add y (256 ^ length xs) (number_of ys) low' in
-    let rest : number_of xs ≡ number_of ys = sym (mod-mul-add x (256 ^ length xs) (number_of xs) low) ∙ ap (λ (n : ℕ). n % 256 ^ length xs) one ∙ mod-mul-add y (256 ^ length xs) (number_of ys) low' in
+    let low' : value 256 ys < 256 ^ length xs = rw (sym same) at (number_below ys (λ k. fit' (suc k))) in
+    let one : x * 256 ^ length xs + value 256 xs ≡ y * 256 ^ length xs + value 256 ys = e ∙ ap (λ (n : ℕ). y * 256 ^ n + value 256 ys) (sym same) in
+    let first : x ≡ y = sym (div-mul-add x (256 ^ length xs) (value 256 xs) low) ∙ ap (λ (n : ℕ). n / 256 ^ length xs) one ∙ div-mul-add y (256 ^ length xs) (value 256 ys) low' in
+    let rest : value 256 xs ≡ value 256 ys = sym (mod-mul-add x (256 ^ length xs) (value 256 xs) low) ∙ ap (λ (n : ℕ). n % 256 ^ length xs) one ∙ mod-mul-add y (256 ^ length xs) (value 256 ys) low' in
     let later = same_octets xs ys same (λ k. fit (suc k)) (λ k. fit' (suc k)) rest in
     cc
 
-octets_again : (bytes : List ℕ) → length bytes ≡ 16 → AreOctets bytes → from_be_bytes w128 bytes ≡ number_of bytes → to_be_bytes w128 (from_be_bytes w128 bytes) ≡ bytes
-unfolding number_of AreOctets
+octets_again : (bytes : List ℕ) → length bytes ≡ 16 → AreOctets bytes → from_be_bytes w128 bytes ≡ value 256 bytes → to_be_bytes w128 (from_be_bytes w128 bytes) ≡ bytes
+unfolding AreOctets
 octets_again bytes sixteen fit whole =
-    let low : number_of bytes < 256 ^ 16 = rw sixteen at (number_below bytes fit) in
-    let e : number_of (to_be_bytes w128 (from_be_bytes w128 bytes)) ≡ number_of bytes =
-    ap (λ n. number_of (to_be_bytes w128 n)) whole ∙ number_of-bytes_high_first 16 (number_of bytes) ∙ mod-eq_of_lt low in
+    let low : value 256 bytes < 256 ^ 16 = rw sixteen at (number_below bytes fit) in
+    let e : value 256 (to_be_bytes w128 (from_be_bytes w128 bytes)) ≡ value 256 bytes =
+    ap (λ n. value 256 (to_be_bytes w128 n)) whole ∙ value-bytes_high_first 16 (value 256 bytes) ∙ mod-eq_of_lt low in
     same_octets (to_be_bytes w128 (from_be_bytes w128 bytes)) bytes (sym sixteen) (octet_fits 16 (from_be_bytes w128 bytes)) fit e
 
 -- sixteen octets are those of the number that they write
 pub sixteen_again : (bytes : List ℕ) → length bytes ≡ 16 → ((k : ℕ) → get_or bytes k 0 < 2 ^ 8) → to_be_bytes w128 (from_be_bytes w128 bytes) ≡ bytes
-unfolding number_of AreOctets
+unfolding AreOctets
 sixteen_again [] sixteen fit = absurd (omega arith)
 sixteen_again (a ∷ []) sixteen fit = absurd (omega arith)
 sixteen_again (a ∷ b ∷ []) sixteen fit = absurd (omega arith)
@@ -138,10 +85,6 @@ sixteen_again (a ∷ b ∷ c ∷ d ∷ e ∷ f ∷ g ∷ h ∷ i ∷ j ∷ k ∷
 sixteen_again (a ∷ b ∷ c ∷ d ∷ e ∷ f ∷ g ∷ h ∷ i ∷ j ∷ k ∷ l ∷ m ∷ n ∷ o ∷ p ∷ []) sixteen fit = octets_again (a ∷ b ∷ c ∷ d ∷ e ∷ f ∷ g ∷ h ∷ i ∷ j ∷ k ∷ l ∷ m ∷ n ∷ o ∷ p ∷ []) refl fit (omega arith)
 sixteen_again (a ∷ b ∷ c ∷ d ∷ e ∷ f ∷ g ∷ h ∷ i ∷ j ∷ k ∷ l ∷ m ∷ n ∷ o ∷ p ∷ q ∷ more) sixteen fit = absurd (omega arith)
 
--- a group is its two octets
-halves : (g : ℕ) → g / 256 * 256 + g % 256 ≡ g
-halves g = omega arith
-
 segments_of-octets_of : (groups : List ℕ) → segments_of (octets_of groups) ≡ groups
 segments_of-octets_of [] = refl
 segments_of-octets_of (g ∷ groups) = rw (halves g, segments_of-octets_of groups) refl
@@ -158,8 +101,7 @@ length-octets_of [] = refl
 length-octets_of (g ∷ groups) = let later = length-octets_of groups in omega (arith, later)
 
 -- std's number of eight groups, by their octets
-eight_groups : (groups : List ℕ) → length groups ≡ 8 → from_be_bytes w128 (octets_of groups) ≡ number_of (octets_of groups)
-unfolding number_of
+eight_groups : (groups : List ℕ) → length groups ≡ 8 → from_be_bytes w128 (octets_of groups) ≡ value 256 (octets_of groups)
 eight_groups [] eight = absurd (omega arith)
 eight_groups (a ∷ []) eight = absurd (omega arith)
 eight_groups (a ∷ b ∷ []) eight = absurd (omega arith)
@@ -175,7 +117,7 @@ eight_groups (a ∷ b ∷ c ∷ d ∷ e ∷ f ∷ g ∷ h ∷ i ∷ more) eight 
 pub eight_groups_below : (groups : List ℕ) → length groups ≡ 8 → ((k : ℕ) → get_or groups k 0 < 2 ^ 16) → from_be_bytes w128 (octets_of groups) < 2 ^ 128
 eight_groups_below groups eight fit =
     let sixteen : length (octets_of groups) ≡ 16 = omega (arith, length-octets_of groups) in
-    let low : number_of (octets_of groups) < 256 ^ 16 = rw sixteen at (number_below (octets_of groups) (octets_of-octets groups fit)) in
+    let low : value 256 (octets_of groups) < 256 ^ 16 = rw sixteen at (number_below (octets_of groups) (octets_of-octets groups fit)) in
     rw (eight_groups groups eight) low
 
 -- and are the groups of that number

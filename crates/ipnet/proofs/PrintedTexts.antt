@@ -16,7 +16,8 @@ use Rattle.ipnet.specs.Numerals.{IsDecimal, IsOctet, IsGroup}
 use Rattle.ipnet.specs.AddressTexts.{IsJoined, IsIpv4AddressText, IsGroups, EndsInIpv4, IsCompressed, IsIpv6AddressText}
 use Rattle.ipnet.specs.NetworkTexts.{IsIpv4NetworkText, IsIpv6NetworkText, IsNetworkText}
 use Rattle.ipnet.specs.CanonicalTexts.{canonical_text}
-use Rattle.ipnet.proofs.NumberOctets.{octet_fits, group_fits, octets_back}
+use Rattle.ipnet_base.proofs.DigitLaws.{octets_back}
+use Rattle.ipnet.proofs.NumberOctets.{octet_fits, group_fits}
 use Rattle.ipnet.proofs.StrictTexts.{strict_is_legacy}
 use Rattle.ipnet.proofs.WholeTexts.{one_network}
 

@@ -7,8 +7,9 @@ use Rattle.std.specs.Cmp.Lexicographic.{slice_cmp}
 use Rattle.std.specs.Ordering.{nat_cmp, ordering_then}
 use Rattle.std.proofs.lemmas.Bool.{cases_lt}
 use Rattle.std.proofs.lemmas.Bool.Decides.{nat_tests}
-use Rattle.std.proofs.lemmas.Nat.{mul-add-lt, div-mul-add, mod-mul-add, mod_below, div-add-mod', pow_pos}
-use Rattle.std.proofs.Math.Nat.{mul_comm, mul_assoc, add-mul, add_assoc, pow-zero, pow-suc, pow-succ', div-one, mod-eq_of_lt, mul-add-mod_self_right, mul-le-mul_right, mod-lt}
+use Rattle.std.proofs.lemmas.Nat.{mul-add-lt, div-mul-add, mod-mul-add, mod_below}
+use Rattle.std.proofs.Math.Arith.{mod-mul}
+use Rattle.std.proofs.Math.Nat.{mul_comm, pow-zero, pow-succ', div-one, mod-eq_of_lt, one-le-pow}
 
 -- the number that the digits write to the base r
 abbrev pub value : ℕ → List ℕ → ℕ
@@ -20,7 +21,7 @@ abbrev pub Below : ℕ → List ℕ → Type 0
 Below r [] = ⊤
 Below r (x ∷ xs) = (x < r) × Below r xs
 
-value_below : (r : ℕ) (xs : List ℕ) → Below r xs → value r xs < r ^ length xs
+pub value_below : (r : ℕ) (xs : List ℕ) → Below r xs → value r xs < r ^ length xs
 value_below r [] h = rw (pow-zero r) (omega arith)
 value_below r (x ∷ xs) h =
     let lower = mul-add-lt x (r ^ length xs) (value r xs) r h.0 (value_below r xs h.1) in
@@ -60,7 +61,7 @@ cmp_value r (x ∷ xs) (y ∷ ys) e h k =
     ∙ cmp_first x y (r ^ length xs) (value r xs) (value r ys) (value_below r xs h.1) by
     ∙ ap (λ (l : ℕ). nat_cmp (x * r ^ length xs + value r xs) (y * r ^ l + value r ys)) same
 
-below_all : (r : ℕ) (xs : List ℕ) → ((k : ℕ) → slice_index xs k < r) → Below r xs
+pub below_all : (r : ℕ) (xs : List ℕ) → ((k : ℕ) → slice_index xs k < r) → Below r xs
 below_all r [] h = tt
 below_all r (x ∷ xs) h = (h 0, below_all r xs (λ k. h (suc k)))
 
@@ -85,7 +86,7 @@ cmp_octets xs ys ex ey hx hy =
 -- ---- eight segments of two octets
 
 -- a segment is its two octets
-halves : (s : ℕ) → s / 256 * 256 + s % 256 ≡ s
+pub halves : (s : ℕ) → s / 256 * 256 + s % 256 ≡ s
 halves s = omega arith
 
 value_8 : (xs : List ℕ) → length xs ≡ 8 → from_be_bytes w128 (octets_of xs) ≡ value 65536 xs
@@ -111,12 +112,12 @@ cmp_segments xs ys ex ey hx hy =
 
 -- ---- the octets of a number write that number
 
-byte_at_below : (k n : ℕ) → byte_at k n < 256
+pub byte_at_below : (k n : ℕ) → byte_at k n < 256
 byte_at_below zero n = mod_below n 256 (omega arith)
 byte_at_below (suc k) n = mod_below (n / 256 ^ suc k) 256 (omega arith)
 
 -- twice a number, by a recursion that a list of pairs follows
-pairs : ℕ → ℕ
+unfoldable pub pairs : ℕ → ℕ
 pairs zero = 0
 pairs (suc k) = suc (suc (pairs k))
 
@@ -137,36 +138,22 @@ byte_at-pow : (k n : ℕ) → byte_at k n ≡ n / 256 ^ k % 256
 byte_at-pow zero n = ap (λ (y : ℕ). y % 256) (sym (div-one n))
 byte_at-pow (suc k) n = refl
 
--- the two low digits of n, to the bases c and then m
-mod-split : (n m c : ℕ) → 0 < m → 0 < c → n % (m * c) ≡ n / c % m * c + n % c
-mod-split n m c hm hc =
-    let a = mod-lt (n / c) hm in
-    let b = mod-lt n hc in
-    let top : (n / c % m + 1) * c ≤ m * c = mul-le-mul_right c (omega arith) in
-    let expand : (n / c % m + 1) * c ≡ n / c % m * c + 1 * c = add-mul (n / c % m) 1 c in
-    let split : n ≡ n / c / m * (m * c) + (n / c % m * c + n % c) =
-    sym (div-add-mod' n c)
-    ∙ ap (λ (x : ℕ). x * c + n % c) (sym (div-add-mod' (n / c) m))
-    ∙ ap (λ (x : ℕ). x + n % c) (add-mul (n / c / m * m) (n / c % m) c ∙ ap (λ (x : ℕ). x + n / c % m * c) (mul_assoc (n / c / m) m c))
-    ∙ add_assoc (n / c / m * (m * c)) (n / c % m * c) (n % c) in
-    ap (λ (x : ℕ). x % (m * c)) split ∙ mul-add-mod_self_right (n / c / m) (m * c) (n / c % m * c + n % c) ∙ mod-eq_of_lt (omega arith)
-
-value-bytes_high_first : (k n : ℕ) → value 256 (bytes_high_first k n) ≡ n % 256 ^ k
+-- the lowest octets write the number's remainder
+pub value-bytes_high_first : (k n : ℕ) → value 256 (bytes_high_first k n) ≡ n % 256 ^ k
 value-bytes_high_first zero n = omega arith
 value-bytes_high_first (suc k) n =
-    rw (length-bytes_high_first k n, value-bytes_high_first k n, byte_at-pow k n, pow-succ' 256 k, mod-split n 256 (256 ^ k) (omega arith) (positive k)) refl
+    let above : 0 < 256 ^ k = one-le-pow k 256 (omega arith) in
+    let split = mod-mul n {m = 256} {c = 256 ^ k} (omega arith) above in
+    rw (length-bytes_high_first k n, value-bytes_high_first k n, byte_at-pow k n, pow-succ' 256 k, split) refl
+
+-- the octets of a number write it
+pub number_back : (n : ℕ) → n < 2 ^ 128 → from_be_bytes w128 (to_be_bytes w128 n) ≡ n
+number_back n fits = whole ∙ value-bytes_high_first 16 n ∙ mod-eq_of_lt fits
   where
-    positive : (j : ℕ) → 0 < 256 ^ j
-    positive zero = omega (arith, pow-zero 256)
-    positive (suc j) = omega (arith, pow-suc 256 j, positive j)
+    whole : from_be_bytes w128 (to_be_bytes w128 n) ≡ value 256 (to_be_bytes w128 n)
+    whole = omega arith
 
-whole : (n : ℕ) → from_be_bytes w128 (to_be_bytes w128 n) ≡ value 256 (to_be_bytes w128 n)
-whole n = omega arith
-
-pub octets_of_number : (n : ℕ) → n < 2 ^ 128 → from_be_bytes w128 (octets_of (segments_of (to_be_bytes w128 n))) ≡ n
+-- so do those of its groups
+pub octets_back : (n : ℕ) → n < 2 ^ 128 → from_be_bytes w128 (octets_of (segments_of (to_be_bytes w128 n))) ≡ n
 unfolding pairs
-octets_of_number n fits =
-    ap (from_be_bytes w128) (octets_of-segments_of 8 n)
-    ∙ whole n
-    ∙ value-bytes_high_first 16 n
-    ∙ mod-eq_of_lt fits
+octets_back n fits = ap (from_be_bytes w128) (octets_of-segments_of 8 n) ∙ number_back n fits
