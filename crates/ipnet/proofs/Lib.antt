@@ -4,7 +4,7 @@ pub mod AnswerLaws
 pub mod EqualLaws
 pub mod SubnetsLaws
 pub mod SubnetCountLaws
-pub mod NetLaws
+pub mod NumberLaws
 pub mod NetOrderLaws
 pub use Rattle.ipnet_base.proofs.BlockLaws
 pub mod NumberOctets

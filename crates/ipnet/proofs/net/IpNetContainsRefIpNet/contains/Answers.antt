@@ -1,7 +1,7 @@
 use Rattle.ipnet_base.specs.Network.{IsSubnetOf}
 use Rattle.ipnet.specs.NetworkOf.{ip_network}
 use Rattle.ipnet.specs.declared.net.IpNet.TheVariants.{V4, V6}
-use Rattle.ipnet.proofs.NetLaws.{families_apart, never}
+use Rattle.ipnet.proofs.NumberLaws.{families_apart, never}
 use Rattle.ipnet.proofs.net.IpNetContainsRefIpNet.contains.Goals as goal
 
 pub returns-in-V4-V4 : goal.returns-in-V4-V4

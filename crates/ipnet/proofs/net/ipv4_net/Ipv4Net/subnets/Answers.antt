@@ -3,7 +3,7 @@ use Rattle.ipnet_base.specs.Address.{ipv4_address}
 use Rattle.ipnet.specs.NetworkOf.{ipv4_network}
 use Rattle.ipnet.specs.NetLaws.{ipv4_valid}
 use Rattle.ipnet.specs.SubnetsLeft.{ipv4_subnets_left}
-use Rattle.ipnet.proofs.NetLaws.{AreSubnetsOfLength-from_walk}
+use Rattle.ipnet.proofs.NumberLaws.{AreSubnetsOfLength-from_walk}
 use Rattle.ipnet.proofs.net.ipv4_net.Ipv4Net.subnets.Goals as goal
 
 pub returns-clause-walk : goal.returns-clause-walk

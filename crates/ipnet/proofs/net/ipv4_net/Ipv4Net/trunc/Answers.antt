@@ -1,6 +1,6 @@
 use Rattle.ipnet.specs.NetworkOf.{ipv4_network}
 use Rattle.ipnet.specs.NetLaws.{ipv4_valid}
-use Rattle.ipnet.proofs.NetLaws.{truncation_from_numbers}
+use Rattle.ipnet.proofs.NumberLaws.{truncation_from_numbers}
 use Rattle.ipnet.proofs.net.ipv4_net.Ipv4Net.trunc.Goals as goal
 
 pub returns : goal.returns

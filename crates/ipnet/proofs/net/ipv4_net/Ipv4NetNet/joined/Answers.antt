@@ -1,7 +1,7 @@
 use Rattle.std.proofs.Common.{◌-◌, arith}
 use Rattle.ipnet.specs.NetworkOf.{ipv4_network}
 use Rattle.ipnet.specs.NetLaws.{ipv4_valid}
-use Rattle.ipnet.proofs.NetLaws.{supernet_from_numbers}
+use Rattle.ipnet.proofs.NumberLaws.{supernet_from_numbers}
 use Rattle.ipnet.proofs.net.ipv4_net.Ipv4NetNet.joined.Goals as goal
 
 pub returns : goal.returns

@@ -1,6 +1,6 @@
 use Rattle.std.proofs.Common.{◌-◌, ◌/◌, ◌^◌, ◌∙◌, ap}
 use Rattle.ipnet.specs.NetworkOf.{ipv6_network}
-use Rattle.ipnet.proofs.NetLaws.{in_block_test}
+use Rattle.ipnet.proofs.NumberLaws.{in_block_test}
 use Rattle.ipnet.proofs.net.ipv6_net.Ipv6Net.has_number.Goals as goal
 
 pub returns : goal.returns

@@ -3,7 +3,7 @@ use Rattle.ipnet_base.specs.Address.{ipv6_address}
 use Rattle.ipnet.specs.NetworkOf.{ipv6_network}
 use Rattle.ipnet.specs.NetLaws.{ipv6_valid}
 use Rattle.ipnet.specs.SubnetsLeft.{ipv6_subnets_left}
-use Rattle.ipnet.proofs.NetLaws.{AreSubnetsOfLength-from_walk}
+use Rattle.ipnet.proofs.NumberLaws.{AreSubnetsOfLength-from_walk}
 use Rattle.ipnet.proofs.net.ipv6_net.Ipv6Net.subnets.Goals as goal
 
 pub returns-clause-walk : goal.returns-clause-walk

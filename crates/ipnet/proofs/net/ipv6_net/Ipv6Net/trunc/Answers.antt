@@ -1,6 +1,6 @@
 use Rattle.ipnet.specs.NetworkOf.{ipv6_network}
 use Rattle.ipnet.specs.NetLaws.{ipv6_valid}
-use Rattle.ipnet.proofs.NetLaws.{truncation_from_numbers}
+use Rattle.ipnet.proofs.NumberLaws.{truncation_from_numbers}
 use Rattle.ipnet.proofs.net.ipv6_net.Ipv6Net.trunc.Goals as goal
 
 pub returns : goal.returns

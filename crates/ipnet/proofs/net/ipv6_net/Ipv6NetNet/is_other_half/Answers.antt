@@ -1,7 +1,7 @@
 use Rattle.std.proofs.Common.{◌-◌, ◌/◌, ◌^◌, ◌∙◌, refl, ap, arith, eqb-true, eq-eqb}
 use Rattle.ipnet.specs.NetworkOf.{ipv6_network}
 use Rattle.ipnet.specs.NetLaws.{ipv6_valid}
-use Rattle.ipnet.proofs.NetLaws.{halves_from_prefixes}
+use Rattle.ipnet.proofs.NumberLaws.{halves_from_prefixes}
 use Rattle.ipnet.proofs.net.ipv6_net.Ipv6NetNet.is_other_half.Goals as goal
 
 pub returns-then-first-second : goal.returns-then-first-second

@@ -1,7 +1,7 @@
 use Rattle.std.proofs.Common.{◌-◌, arith}
 use Rattle.ipnet.specs.NetworkOf.{ipv6_network}
 use Rattle.ipnet.specs.NetLaws.{ipv6_valid}
-use Rattle.ipnet.proofs.NetLaws.{supernet_from_numbers}
+use Rattle.ipnet.proofs.NumberLaws.{supernet_from_numbers}
 use Rattle.ipnet.proofs.net.ipv6_net.Ipv6NetNet.joined.Goals as goal
 
 pub returns : goal.returns
