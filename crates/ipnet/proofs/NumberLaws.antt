@@ -1,9 +1,8 @@
 -- What the functions on numbers behind the network types compute, at the width of either family.
-use Rattle.std.proofs.Common.{◌≡◌, ◌≢◌, ℕ, ◌+◌, ◌-◌, ◌*◌, ◌/◌, ◌%◌, ◌^◌, ◌<◌, ◌≤◌, ◌↔◌, refl, sym, ap, ◌∙◌, subst, arith, Option, Some, None, inl, inr, IsTrue, true, false, eqb, eqb-true, eq-eqb, shr-shr, List, Contains}
-use Rattle.std.specs.Option.{unwrap_or, SomeIff}
+use Rattle.std.proofs.Common.{◌≡◌, ◌≢◌, ℕ, ◌+◌, ◌-◌, ◌*◌, ◌/◌, ◌^◌, ◌<◌, ◌≤◌, ◌↔◌, refl, sym, ap, ◌∙◌, subst, arith, inl, inr, IsTrue, true, false, eqb, eqb-true, eq-eqb, bit_xor, shr-shr, List, Contains}
 use Rattle.std.proofs.Math.Nat.{div-eq_of_lt}
-use Rattle.std.proofs.lemmas.Nat.{pow_below}
-use Rattle.std.proofs.lemmas.Nat.Bits.{ones_shl}
+use Rattle.std.proofs.lemmas.Nat.{pow_below, xor_shr}
+use Rattle.std.specs.Int.Bits.{xor_self, xor_zero_l, xor_zero_r, xor_assoc}
 use Rattle.std.proofs.lemmas.Bool.{cases_eq}
 use Rattle.ipnet_base.specs.Address.{Address, width, IsBetween}
 use Rattle.ipnet_base.specs.Network.{Network, IsNetwork, host_bits, InBlock, IsSubnetOf, AreHalves, IsLeastOf, IsGreatestOf, IsTruncationOf, IsSupernetOf, truncation}
@@ -16,34 +15,35 @@ use Rattle.ipnet_base.proofs.SupernetLaws.{supernet, IsSupernetOf-supernet}
 use Rattle.ipnet.specs.NetworkParts.{address_at, IsSubnetOfLength, AreSubnetsOfLength, HasReservedEnds, IsHostRange}
 use Rattle.ipnet.proofs.SubnetCountLaws.{AreOfLength, subnets_of_length}
 
--- what `MAX.checked_shl(w - p).unwrap_or(0)` gives at w bits
-pub mask_from_shift : (w p : ℕ) (o : Option ℕ) → p ≤ w → SomeIff o (w - p < w) ((2 ^ w - 1) * 2 ^ (w - p) % 2 ^ w) → unwrap_or o 0 ≡ 2 ^ w - 2 ^ (w - p)
-mask_from_shift w p None le h =
-    elim (cases_eq p 0) [
-      | inl none ↦ let all : w - p ≡ w = omega arith in omega (arith, ap (λ k. 2 ^ k) all)
-      | inr some ↦ absurd (h (omega arith))
-    ]
-mask_from_shift w p (Some x) le h = h.1 ∙ ones_shl w (w - p) (omega arith)
+-- Numbers are equal where no bit tells them apart.
+xor_none : (a b : ℕ) → (bit_xor a b ≡ 0) ↔ (a ≡ b)
+xor_none a b = (
+  λ e. sym (xor_zero_r a) ∙ ap (bit_xor a) (sym (xor_self b)) ∙ sym (xor_assoc a b b) ∙ ap (λ x. bit_xor x b) e ∙ xor_zero_l b,
+  λ e. ap (bit_xor a) (sym e) ∙ xor_self a,
+)
 
--- What the comparison of a number's leading bits with a network's answers: whether the block has that number.
-pub in_block_test : (n : Network) (number len a b : ℕ) → len ≡ n.prefix_len → a ≡ number / 2 ^ (width n.family - len) → b ≡ n.number / 2 ^ (width n.family - len)
-    → IsTrue (eqb a b) ↔ InBlock n (address_at n.family number)
-in_block_test n number len a b same a_is b_is = (to, from)
+-- Where the last bit alone does, the other bits are the same.
+xor_last : (a b : ℕ) → (bit_xor a b ≡ 1) ↔ ((a ≢ b) × (a / 2 ≡ b / 2))
+xor_last a b = (
+  λ e. (
+    λ same. let none = (xor_none a b).1 same in omega (arith, e, none),
+    (xor_none (a / 2) (b / 2)).0 (sym (xor_shr a b 1) ∙ ap (λ x. x / 2) e),
+  ),
+  λ h.
+      let upper : bit_xor a b / 2 ≡ 0 = xor_shr a b 1 ∙ (xor_none (a / 2) (b / 2)).1 h.1 in
+      elim (cases_eq (bit_xor a b) 0) [ inl none ↦ absurd (h.0 ((xor_none a b).0 none)) | inr some ↦ omega (arith, upper, some) ],
+)
+
+-- What is asked of the leading bits that tell a number from a network's: whether the block has that number.
+pub in_block_test : (n : Network) (number len a : ℕ) → len ≡ n.prefix_len → a ≡ bit_xor number n.number / 2 ^ (width n.family - len)
+    → IsTrue (eqb a 0) ↔ InBlock n (address_at n.family number)
+in_block_test n number len a same a_is = (
+  λ t. record { same_family = refl; same_prefix = (xor_none (number / 2 ^ host_bits n) (n.number / 2 ^ host_bits n)).0 (sym leading ∙ eqb-true a 0 t) },
+  λ h. eq-eqb a 0 (leading ∙ (xor_none (number / 2 ^ host_bits n) (n.number / 2 ^ host_bits n)).1 h.same_prefix),
+)
   where
-    bits : width n.family - len ≡ host_bits n
-    bits = ap (λ p. width n.family - p) same
-
-    first : a ≡ number / 2 ^ host_bits n
-    first = a_is ∙ ap (λ c. number / 2 ^ c) bits
-
-    second : b ≡ n.number / 2 ^ host_bits n
-    second = b_is ∙ ap (λ c. n.number / 2 ^ c) bits
-
-    to : IsTrue (eqb a b) → InBlock n (address_at n.family number)
-    to t = record { same_family = refl; same_prefix = sym first ∙ eqb-true a b t ∙ second }
-
-    from : InBlock n (address_at n.family number) → IsTrue (eqb a b)
-    from h = eq-eqb a b (first ∙ h.same_prefix ∙ sym second)
+    leading : a ≡ bit_xor (number / 2 ^ host_bits n) (n.number / 2 ^ host_bits n)
+    leading = a_is ∙ ap (λ p. bit_xor number n.number / 2 ^ (width n.family - p)) same ∙ xor_shr number n.number (host_bits n)
 
 -- A block lies in another exactly where its prefix is no shorter and its own address is in the other.
 pub longer_from_subnet : (n k : Network) → IsNetwork n → IsNetwork k → IsSubnetOf n k → k.prefix_len ≤ n.prefix_len
@@ -53,46 +53,39 @@ pub subnet_from_own : (n k : Network) → k.prefix_len ≤ n.prefix_len → InBl
 subnet_from_own n k le h = nested n k (own n) (own_in n) h (omega (arith, le, ap width h.same_family))
 
 -- Networks of one length are different halves exactly where their leading bits differ in the last alone.
-pub halves_from_prefixes : (n k : Network) (len a b : ℕ) → IsNetwork n → IsNetwork k → n.family ≡ k.family → len ≡ n.prefix_len → len ≡ k.prefix_len
-    → a ≡ n.number / 2 ^ (width n.family - len) → b ≡ k.number / 2 ^ (width n.family - len)
-    → ((a ≢ b) × (a / 2 ≡ b / 2)) ↔ AreHalves n k
-halves_from_prefixes n k len a b u v f same same' a_is b_is = (to, from)
+pub halves_test : (n k : Network) (len a : ℕ) → IsNetwork n → IsNetwork k → n.family ≡ k.family → len ≡ n.prefix_len → len ≡ k.prefix_len
+    → a ≡ bit_xor n.number k.number / 2 ^ (width n.family - len) → IsTrue (eqb a 1) ↔ AreHalves n k
+halves_test n k len a u v f same same' a_is = (to, from)
   where
-    bits : width n.family - len ≡ host_bits n
-    bits = ap (λ p. width n.family - p) same
-
-    first : a ≡ n.number / 2 ^ host_bits n
-    first = a_is ∙ ap (λ c. n.number / 2 ^ c) bits
-
-    second : b ≡ k.number / 2 ^ host_bits n
-    second = b_is ∙ ap (λ c. k.number / 2 ^ c) bits
+    leading : a ≡ bit_xor (n.number / 2 ^ host_bits n) (k.number / 2 ^ host_bits n)
+    leading = a_is ∙ ap (λ p. bit_xor n.number k.number / 2 ^ (width n.family - p)) same ∙ xor_shr n.number k.number (host_bits n)
 
     halved : (x : ℕ) → x / 2 ^ host_bits n / 2 ≡ x / 2 ^ (host_bits n + 1)
     halved x = shr-shr x (host_bits n) 1
 
-    -- of length 0 there is one prefix alone
-    one_at_zero : n.prefix_len ≡ 0 → a ≡ b
+    -- at length 0 there are no leading bits to differ
+    one_at_zero : n.prefix_len ≡ 0 → n.number / 2 ^ host_bits n ≡ k.number / 2 ^ host_bits n
     one_at_zero none =
         let all : host_bits n ≡ width n.family = omega (arith, none) in
         let small : k.number < 2 ^ width n.family = subst (λ g. k.number < 2 ^ width g) (sym f) v.address_fits in
-        first ∙ ap (λ c. n.number / 2 ^ c) all ∙ div-eq_of_lt u.address_fits ∙ sym (second ∙ ap (λ c. k.number / 2 ^ c) all ∙ div-eq_of_lt small)
+        ap (λ c. n.number / 2 ^ c) all ∙ div-eq_of_lt u.address_fits ∙ sym (ap (λ c. k.number / 2 ^ c) all ∙ div-eq_of_lt small)
 
-    to : (a ≢ b) × (a / 2 ≡ b / 2) → AreHalves n k
-    to h = record {
-      siblings = record {
-        same_family = f;
-        same_len = sym same ∙ same';
-        has_supernet = elim (cases_eq n.prefix_len 0) [ inl none ↦ absurd (h.0 (one_at_zero none)) | inr some ↦ omega (arith, some) ];
-        same_supernet = sym (halved n.number) ∙ ap (λ q. q / 2) (sym first) ∙ h.1 ∙ ap (λ q. q / 2) second ∙ halved k.number;
-      };
-      differ = λ e. h.0 (first ∙ e ∙ sym second);
-    }
+    to : IsTrue (eqb a 1) → AreHalves n k
+    to t =
+        let differ = (xor_last (n.number / 2 ^ host_bits n) (k.number / 2 ^ host_bits n)).0 (sym leading ∙ eqb-true a 1 t) in
+        record {
+          siblings = record {
+            same_family = f;
+            same_len = sym same ∙ same';
+            has_supernet = elim (cases_eq n.prefix_len 0) [ inl none ↦ absurd (differ.0 (one_at_zero none)) | inr some ↦ omega (arith, some) ];
+            same_supernet = sym (halved n.number) ∙ differ.1 ∙ halved k.number;
+          };
+          differ = differ.0;
+        }
 
-    from : AreHalves n k → (a ≢ b) × (a / 2 ≡ b / 2)
-    from h = (
-      λ e. h.differ (sym first ∙ e ∙ second),
-      ap (λ q. q / 2) first ∙ halved n.number ∙ h.siblings.same_supernet ∙ sym (ap (λ q. q / 2) second ∙ halved k.number),
-    )
+    from : AreHalves n k → IsTrue (eqb a 1)
+    from h = eq-eqb a 1 (leading ∙ (xor_last (n.number / 2 ^ host_bits n) (k.number / 2 ^ host_bits n)).1
+        (h.differ, halved n.number ∙ h.siblings.same_supernet ∙ sym (halved k.number)))
 
 -- The leading bits but the last, and the length less one, make the supernet.
 pub supernet_from_numbers : (s n : Network) (len number : ℕ) → IsNetwork n → len + 1 ≡ n.prefix_len

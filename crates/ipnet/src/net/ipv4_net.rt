@@ -300,8 +300,7 @@ impl Ipv4Net {
     fn has_number(&self, number: u32) -> bool
         ensures { IsTrue result ↔ InBlock (ipv4_network self.now) (address_at IPv4 number) }
     {
-        let len = self.leading_bits();
-        prefix_of(number, len) == prefix_of(self.number(), len)
+        prefix_of(number ^ self.number(), self.leading_bits()) == 0
     }
 }
 
@@ -375,9 +374,8 @@ impl Net for Ipv4Net {
         if len != other.leading_bits() {
             return false;
         }
-        let first = prefix_of(self.number(), len);
-        let second = prefix_of(other.number(), len);
-        first != second && first / 2 == second / 2
+        // Their leading bits differ in the last alone.
+        prefix_of(self.number() ^ other.number(), len) == 1
     }
 
     fn joined(&self) -> Ipv4Net {

@@ -296,8 +296,7 @@ impl Ipv6Net {
     fn has_number(&self, number: u128) -> bool
         ensures { IsTrue result ↔ InBlock (ipv6_network self.now) (address_at IPv6 number) }
     {
-        let len = self.leading_bits();
-        prefix_of(number, len) == prefix_of(self.number(), len)
+        prefix_of(number ^ self.number(), self.leading_bits()) == 0
     }
 }
 
@@ -371,9 +370,8 @@ impl Net for Ipv6Net {
         if len != other.leading_bits() {
             return false;
         }
-        let first = prefix_of(self.number(), len);
-        let second = prefix_of(other.number(), len);
-        first != second && first / 2 == second / 2
+        // Their leading bits differ in the last alone.
+        prefix_of(self.number() ^ other.number(), len) == 1
     }
 
     fn joined(&self) -> Ipv6Net {

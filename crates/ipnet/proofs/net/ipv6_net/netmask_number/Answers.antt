@@ -1,5 +1,5 @@
 use Rattle.std.proofs.Common.{◌∙◌}
-use Rattle.ipnet.proofs.NumberLaws.{mask_from_shift}
+use Rattle.ipnet_base.proofs.MaskLaws.{mask_from_shift}
 use Rattle.ipnet.proofs.net.ipv6_net.netmask_number.Goals as goal
 
 pub returns : goal.returns
