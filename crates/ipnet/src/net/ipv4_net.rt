@@ -26,7 +26,7 @@ fn netmask_number(prefix_len: u32) -> u32
     requires { prefix_len ≤ 32 }
     ensures { result ≡ 2 ^ 32 - 2 ^ (32 - prefix_len) }
 {
-    u32::MAX.checked_shl(32 - prefix_len).unwrap_or(0)
+    !hostmask_number(prefix_len)
 }
 
 /// The number of the host mask of this length.
@@ -34,7 +34,7 @@ fn hostmask_number(prefix_len: u32) -> u32
     requires { prefix_len ≤ 32 }
     ensures { result ≡ 2 ^ (32 - prefix_len) - 1 }
 {
-    u32::MAX.checked_shr(prefix_len).unwrap_or(0)
+    (u64::from(u32::MAX) >> prefix_len) as u32
 }
 
 /// The leading bits of the number, as many as a prefix of this length has.

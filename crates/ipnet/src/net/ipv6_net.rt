@@ -29,7 +29,7 @@ fn netmask_number(prefix_len: u32) -> u128
     requires { prefix_len ≤ 128 }
     ensures { result ≡ 2 ^ 128 - 2 ^ (128 - prefix_len) }
 {
-    u128::MAX.checked_shl(128 - prefix_len).unwrap_or(0)
+    !hostmask_number(prefix_len)
 }
 
 /// The number of the host mask of this length.
