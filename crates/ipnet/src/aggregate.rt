@@ -279,3 +279,6 @@ pub fn same_addresses(
     let second = aggregated(alloc, others)?;
     Ok(first == second)
 }
+
+#[cfg(test)]
+mod tests;
