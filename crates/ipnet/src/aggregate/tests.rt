@@ -84,13 +84,9 @@ fn refused_runs(rt: &impl Abort, answers: &[bool; RUNS], label: &str) -> usize {
     refused
 }
 
-/// Which runs are granted a list of so many networks.
-fn with_room<N: Listed>(alloc: Global, len: usize) -> Result<Option<[bool; RUNS]>, AllocError> {
-    outcomes(alloc, || Vec::<N>::with_capacity(alloc, len).is_ok())
-}
-
-/// Which runs are granted two lists of so many networks, both held.
-fn with_room_for_two<N: Listed>(
+/// Which runs are granted two lists of so many networks, the second while the first is held. A list of none needs no
+/// memory.
+fn with_room<N: Listed>(
     alloc: Global,
     len: usize,
     other: usize,
@@ -101,14 +97,16 @@ fn with_room_for_two<N: Listed>(
     })
 }
 
-/// Which runs are granted a list of so many networks and, beside it, one byte more.
+/// Which runs are granted these two lists and, while they are held, one byte more.
 fn with_room_for_more<N: Listed>(
     alloc: Global,
     len: usize,
+    other: usize,
 ) -> Result<Option<[bool; RUNS]>, AllocError> {
     outcomes(alloc, || {
         let list = Vec::<N>::with_capacity(alloc, len);
-        list.is_ok() && Vec::<u8>::with_capacity(alloc, 1).is_ok()
+        let second = Vec::<N>::with_capacity(alloc, other);
+        list.is_ok() && second.is_ok() && Vec::<u8>::with_capacity(alloc, 1).is_ok()
     })
 }
 
@@ -195,8 +193,8 @@ fn check_one_growth<N: Listed>(
     let lent = repeated::<N>(rt, alloc, input, times)?;
     let wanted = networks::<N>(rt, alloc, answer)?;
     let answers = aggregated_runs(rt, alloc, label, &lent, &wanted)?;
-    let room = with_room::<N>(alloc, lent.len())?;
-    let more = with_room_for_more::<N>(alloc, lent.len())?;
+    let room = with_room::<N>(alloc, lent.len(), 0)?;
+    let more = with_room_for_more::<N>(alloc, lent.len(), 0)?;
     if let (Some(answers), Some(room), Some(more)) = (answers, room, more) {
         let refused = refused_runs(rt, &room, label);
         assert_eq!(rt; more.get(refused), Some(&false), "{label}");
@@ -278,12 +276,14 @@ fn same_addresses_makes_two_growths(rt: HostRuntime) -> Result<(), Fail> {
     let first = repeated::<IpNet>(&rt, alloc, "10.0.0.0/23", 33)?;
     let second = repeated::<IpNet>(&rt, alloc, "10.0.1.7/24 10.0.0.0/24", 17)?;
     let answers = same_addresses_runs(&rt, alloc, label, [&first, &second], true)?;
-    let one = with_room::<IpNet>(alloc, first.len())?;
-    let two = with_room_for_two::<IpNet>(alloc, first.len(), second.len())?;
-    if let (Some(answers), Some(one), Some(two)) = (answers, one, two) {
+    let one = with_room::<IpNet>(alloc, first.len(), 0)?;
+    let two = with_room::<IpNet>(alloc, first.len(), second.len())?;
+    let more = with_room_for_more::<IpNet>(alloc, first.len(), second.len())?;
+    if let (Some(answers), Some(one), Some(two), Some(more)) = (answers, one, two, more) {
         let second_refused = refused_runs(&rt, &one, label);
         assert_eq!(rt; answers.get(second_refused), Some(&false), "{label}");
-        refused_runs(&rt, &two, label);
+        let third_refused = refused_runs(&rt, &two, label);
+        assert_eq!(rt; more.get(third_refused), Some(&false), "{label}");
         assert!(rt; answers == two, "{label}");
     }
     Ok(())
