@@ -63,3 +63,6 @@ pub fn outcomes<F: FnMut() -> bool>(
     drop(held);
     Ok(Some(answers))
 }
+
+#[cfg(test)]
+mod tests;
