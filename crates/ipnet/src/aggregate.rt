@@ -274,3 +274,6 @@ pub fn same_addresses(
     let second = aggregated(alloc, others)?;
     Ok(first == second)
 }
+
+#[cfg(test)]
+mod tests;

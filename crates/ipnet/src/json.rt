@@ -164,15 +164,25 @@ mod tests {
     #[test]
     fn refused_until_there_is_memory(rt: HostRuntime) -> Result<(), Fail> {
         let alloc = rt.alloc();
-        let texts = ["10.1.1.0/24", "ffff:ffff:ffff:ffff:ffff:ffff:ffff:ffff/128"];
-        for text in texts {
+        let rows = [
+            ("memory: JSON of a short text", "10.1.1.0/24"),
+            (
+                "memory: JSON of the longest text",
+                "ffff:ffff:ffff:ffff:ffff:ffff:ffff:ffff/128",
+            ),
+        ];
+        for (label, text) in rows {
             let net: IpNet = text.parse()?;
-            let Some(answers) = outcomes(alloc, || net.to_json(alloc).is_ok())? else {
+            let is_written = || match net.to_json(alloc) {
+                Ok(value) => value.as_str() == Some(text),
+                Err(_) => false,
+            };
+            let Some(answers) = outcomes(alloc, is_written)? else {
                 return Ok(());
             };
             let refused = answers.iter().take_while(|given| !**given).count();
-            assert!(rt; 0 < refused && refused < RUNS, "{text}: {refused}");
-            assert!(rt; answers[refused..].iter().all(|given| *given), "{text}");
+            assert!(rt; 0 < refused && refused < RUNS, "{label}: {refused}");
+            assert!(rt; answers[refused..].iter().all(|given| *given), "{label}");
         }
         Ok(())
     }

@@ -10,8 +10,8 @@ const SPARE: usize = 4096;
 /// The bytes by which each run of `outcomes` finds more memory than the one before it.
 const STEP: usize = 16;
 
-/// How many runs `outcomes` makes.
-pub const RUNS: usize = 128;
+/// How many runs `outcomes` makes: not so many that what it holds back of the spare block would stand in these lists.
+pub const RUNS: usize = 180;
 
 /// More blocks than `take_all` comes to hold.
 const MOST_BLOCKS: usize = 100_000;
@@ -63,3 +63,6 @@ pub fn outcomes<F: FnMut() -> bool>(
     drop(held);
     Ok(Some(answers))
 }
+
+#[cfg(test)]
+mod tests;

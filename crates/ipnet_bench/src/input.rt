@@ -1,15 +1,16 @@
 //! What the tasks work on: texts and networks that are read, and what is made from them.
 
-use anyhow::{Context, Result};
+use crate::error::BenchError;
 use ipnet::{IpNet, Ipv4Net, Ipv6Net};
 use std::alloc::{AllocError, Global};
 use std::io::{BufRead, BufReader};
 
 /// The lines that are read, the empty ones left out.
-pub fn lines(rt: &impl Input, alloc: Global) -> Result<Vec<String>> {
+pub fn lines(rt: &impl Input, alloc: Global) -> Result<Vec<String>, BenchError> {
     let mut texts = Vec::new(alloc);
-    for line in BufReader::new(alloc, rt.reader())?.lines(alloc) {
-        let line = line?;
+    let reader = BufReader::new(alloc, rt.reader()).map_err(BenchError::Input)?;
+    for line in reader.lines(alloc) {
+        let line = line.map_err(BenchError::Input)?;
         if !line.is_empty() {
             texts.push(line)?;
         }
@@ -18,14 +19,10 @@ pub fn lines(rt: &impl Input, alloc: Global) -> Result<Vec<String>> {
 }
 
 /// The networks that the texts tell.
-pub fn networks(alloc: Global, texts: &Vec<String>) -> Result<Vec<IpNet>> {
+pub fn networks(alloc: Global, texts: &Vec<String>) -> Result<Vec<IpNet>, BenchError> {
     let mut networks = Vec::with_capacity(alloc, texts.len())?;
     for text in texts {
-        networks.push(
-            text.as_str()
-                .parse::<IpNet>()
-                .context("a line is no network")?,
-        )?;
+        networks.push(text.as_str().parse::<IpNet>()?)?;
     }
     Ok(networks)
 }

@@ -5,22 +5,25 @@
 //! `bench/README.md` tells the tasks, and `bench/run` puts their figures beside those of the original.
 #![tactic(auto)]
 
+mod error;
 mod input;
 mod measure;
 mod work;
 
-use anyhow::{Context, Result, bail};
+use crate::error::BenchError;
 use ipnet_base::Ipv4Addr;
 use std::alloc::Global;
 use std::env;
+use std::process::ExitCode;
 use std::rt::Clock;
 
 const USAGE: &str = "usage: ipnet_bench TASK [ARGUMENT..] < NETWORKS";
 
 /// The argument at this place, as a value of its type.
-fn address(arguments: &[String], index: usize) -> Result<Ipv4Addr> {
-    let text = arguments.get(index).context("an address is missing")?;
-    text.as_str().parse::<Ipv4Addr>().context("no IPv4 address")
+fn address(arguments: &[String], index: usize) -> Result<Ipv4Addr, BenchError> {
+    let text = arguments.get(index).ok_or(BenchError::Addresses)?;
+    let address = text.as_str().parse::<Ipv4Addr>();
+    address.map_err(|_| BenchError::Addresses)
 }
 
 /// The tasks over the arguments alone.
@@ -29,7 +32,7 @@ fn without_input(
     alloc: Global,
     task: &str,
     arguments: &[String],
-) -> Result<bool> {
+) -> Result<bool, BenchError> {
     match task {
         "range_next" => {
             let work = work::RangeNext {
@@ -46,9 +49,10 @@ fn without_input(
             measure::report(rt, alloc, task, work)?;
         }
         "refuse" => {
-            let piece = arguments.first().context("a piece of text is missing")?;
-            let length = arguments.get(1).context("a length is missing")?;
-            let length = length.as_str().parse::<u32>().context("no length")?;
+            let piece = arguments.first().ok_or(BenchError::Piece)?;
+            let length = arguments.get(1).ok_or(BenchError::Piece)?;
+            let length = length.as_str().parse::<u32>();
+            let length = length.map_err(|_| BenchError::Piece)?;
             let texts = input::long_texts(alloc, piece.as_str(), length)?;
             measure::report(rt, alloc, task, work::Refuse { texts })?;
         }
@@ -58,7 +62,11 @@ fn without_input(
 }
 
 /// The tasks over the networks that are read.
-fn over_networks(rt: &(impl Print + Clock + Input), alloc: Global, task: &str) -> Result<()> {
+fn over_networks(
+    rt: &(impl Print + Clock + Input),
+    alloc: Global,
+    task: &str,
+) -> Result<(), BenchError> {
     let texts = input::lines(rt, alloc)?;
     if task == "read" {
         return measure::report(rt, alloc, task, work::Read { texts });
@@ -96,18 +104,30 @@ fn over_networks(rt: &(impl Print + Clock + Input), alloc: Global, task: &str) -
             let text = String::new(alloc);
             measure::report(rt, alloc, task, work::ToText { networks, text })
         }
-        _ => bail!("no task {task}"),
+        _ => Err(BenchError::Task),
     }
 }
 
-fn main(rt: HostRuntime) -> Result<()> {
-    let arguments = env::args(&rt)?.skip(1).collect::<Vec<String>>(rt.alloc())?;
+/// Does the task that the arguments name, or prints the usage where there are none.
+fn run(rt: &HostRuntime) -> Result<(), BenchError> {
+    let arguments = env::args(rt).map_err(BenchError::Arguments)?;
+    let arguments = arguments.skip(1).collect::<Vec<String>>(rt.alloc())?;
     let Some((task, rest)) = arguments.as_slice().split_first() else {
-        println!(rt; "{USAGE}")?;
-        return Ok(());
+        return println!(rt; "{USAGE}").map_err(BenchError::Output);
     };
-    if without_input(&rt, rt.alloc(), task.as_str(), rest)? {
+    if without_input(rt, rt.alloc(), task.as_str(), rest)? {
         return Ok(());
     }
-    over_networks(&rt, rt.alloc(), task.as_str())
+    over_networks(rt, rt.alloc(), task.as_str())
+}
+
+fn main(rt: HostRuntime) -> ExitCode {
+    match run(&rt) {
+        Ok(()) => ExitCode::SUCCESS,
+        Err(error) => {
+            // Where standard error cannot be written either, the status alone tells.
+            let _ = eprintln!(rt; "ipnet_bench: {error}");
+            ExitCode::FAILURE
+        }
+    }
 }

@@ -1,6 +1,6 @@
 //! How the time of a work is taken and printed.
 
-use anyhow::Result;
+use crate::error::BenchError;
 use std::alloc::{AllocError, Global};
 use std::rt::Clock;
 use std::time::Instant;
@@ -18,10 +18,10 @@ pub trait Work: Drop {
 }
 
 /// Nanoseconds of one run, and the number that it answered.
-fn timed<W: Work>(rt: &impl Clock, work: &mut W) -> Result<(u64, u64)> {
-    let start = Instant::now(rt)?;
+fn timed<W: Work>(rt: &impl Clock, work: &mut W) -> Result<(u64, u64), BenchError> {
+    let start = Instant::now(rt).map_err(BenchError::Clock)?;
     let check = work.run()?;
-    let elapsed = start.elapsed(rt)?.as_nanos();
+    let elapsed = start.elapsed(rt).map_err(BenchError::Clock)?.as_nanos();
     Ok((u64::try_from(elapsed).unwrap_or(u64::MAX), check))
 }
 
@@ -31,7 +31,7 @@ pub fn report<W: Work>(
     alloc: Global,
     task: &str,
     mut work: W,
-) -> Result<()> {
+) -> Result<(), BenchError> {
     let (_, check) = timed(rt, &mut work)?;
     let mut times: Vec<u64> = Vec::new(alloc);
     for _ in 0..RUNS {
@@ -44,6 +44,5 @@ pub fn report<W: Work>(
     let middle = times.get(RUNS / 2).copied().unwrap_or(0);
     println!(rt;
         "{{\"task\":\"{task}\",\"items\":{items},\"min_ns\":{least},\"median_ns\":{middle},\"check\":{check}}}"
-    )?;
-    Ok(())
+    ).map_err(BenchError::Output)
 }

@@ -13,7 +13,13 @@ mod bytes;
 #[cfg(test)]
 mod errors;
 #[cfg(test)]
+mod grammar;
+#[cfg(test)]
+mod implementations;
+#[cfg(test)]
 mod json;
+#[cfg(test)]
+mod limits;
 #[cfg(test)]
 mod lists;
 #[cfg(test)]

@@ -75,7 +75,9 @@ fn wanted(rt: &impl Abort, cell: &str) -> Option<IpNet> {
     }
 }
 
-/// Checks what the strict and the legacy reader give for the text, as each of the three types.
+/// Checks what the strict and the legacy reader give for the text, as each of the three types: an IPv4 network is read
+/// by `Ipv4Net` and `IpNet` alone, an IPv6 network by `Ipv6Net` and `IpNet` alone (`texts: read as an IPv4 network`,
+/// `texts: read as an IPv6 network`, `texts: read as either`).
 pub fn check(
     rt: &impl Abort,
     text: &str,

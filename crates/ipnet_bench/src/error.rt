@@ -1,0 +1,38 @@
+//! Why a task has no figures.
+
+use ipnet::AddrParseError;
+use std::alloc::AllocError;
+use std::io;
+use thiserror::Error;
+
+/// Why a task has no figures.
+#[derive(Debug, Drop, Error)]
+pub enum BenchError {
+    /// The arguments cannot be read, or one of them is no text.
+    #[error("the arguments cannot be read: {0}")]
+    Arguments(io::Error),
+    /// The first argument names no task.
+    #[error("no such task")]
+    Task,
+    /// An argument of a task over a range is missing, or no IPv4 address.
+    #[error("this task takes two IPv4 addresses")]
+    Addresses,
+    /// An argument of the task over refused texts is missing, or the second no number.
+    #[error("this task takes a piece of text and how often it is repeated")]
+    Piece,
+    /// Standard input cannot be read, or is no text.
+    #[error("the input cannot be read: {0}")]
+    Input(io::Error),
+    /// A line that is not empty is no network.
+    #[error("a line of the input is no network")]
+    Network(#[from] AddrParseError),
+    /// The clock cannot be read.
+    #[error("the clock cannot be read: {0}")]
+    Clock(io::Error),
+    /// Standard output cannot be written.
+    #[error("the figures cannot be written: {0}")]
+    Output(io::Error),
+    /// A growth was refused.
+    #[error("out of memory")]
+    Memory(#[from(alloc)] AllocError),
+}
