@@ -7,7 +7,7 @@ ghost use Rattle.ipnet.specs.Grammar.{Strict, Legacy};
 ghost use Rattle.ipnet.specs.Lines.{lines_of, AreNetworksOf, IsGoodLine, IsFirstBadLine};
 ghost use Rattle.ipnet.specs.NetworkOf.{ip_network};
 ghost use Rattle.ipnet.specs.NetworkTexts.{IsNetworkText, ReadsNetwork};
-ghost use Rattle.ipnet_tool.specs.Answers.{IsAnswerTo, text_of_lines};
+ghost use Rattle.ipnet_tool.specs.Answers.{IsAnswerTo, IsBadAtOnce, text_of_lines};
 ghost use Rattle.ipnet_tool.specs.Families.{grammar_of, networks_of};
 
 use ipnet::parser::AddrParseError;
@@ -33,8 +33,8 @@ pub enum ToolError {
 /// The text is cut at each "\n"; what stands behind the last is a line too, unless it is empty. Empty lines
 /// are skipped, and each other line is read as [`IpNet`] by the strict grammar. The answer has the maximal
 /// aligned blocks of the addresses, IPv4 first, ascending, each followed by "\n". The first bad line is
-/// refused with its number, and a growth that is refused before that line is reached is want of memory. An
-/// empty text has an empty answer, and takes no memory.
+/// refused with its number, and a growth that is refused before that line is reached is want of memory; where
+/// only empty lines stand before it, there is no growth. An empty text has an empty answer, and takes no memory.
 ///
 /// ```text
 /// aggregate_text(alloc, "10.0.1.0/24\n\n10.0.0.0/24")  is  Ok("10.0.0.0/23\n")
@@ -45,6 +45,7 @@ pub fn aggregate_text(alloc: Global, text: &str) -> Result<String, ToolError>
     ensures answer { IfOk result (λ answer. IsAnswerTo Strict text.now (string_bytes answer)) }
     ensures no_bad_line { OnOk result (All (IsGoodLine Strict) (lines_of text.now)) }
     ensures bad_line { (number : ℕ) → result ≡ Err (ToolError.Line number) → IsFirstBadLine Strict (lines_of text.now) number }
+    ensures bad_at_once { (number : ℕ) → IsBadAtOnce Strict (lines_of text.now) number → result ≡ Err (ToolError.Line number) }
 {
     answer_to(alloc, text, Reading::Strict)
 }
@@ -59,6 +60,7 @@ pub fn aggregate_text_legacy(alloc: Global, text: &str) -> Result<String, ToolEr
     ensures answer { IfOk result (λ answer. IsAnswerTo Legacy text.now (string_bytes answer)) }
     ensures no_bad_line { OnOk result (All (IsGoodLine Legacy) (lines_of text.now)) }
     ensures bad_line { (number : ℕ) → result ≡ Err (ToolError.Line number) → IsFirstBadLine Legacy (lines_of text.now) number }
+    ensures bad_at_once { (number : ℕ) → IsBadAtOnce Legacy (lines_of text.now) number → result ≡ Err (ToolError.Line number) }
 {
     answer_to(alloc, text, Reading::Legacy)
 }
@@ -83,6 +85,7 @@ pub(crate) fn answer_to(alloc: Global, text: &str, reading: Reading) -> Result<S
     ensures answer { IfOk result (λ answer. IsAnswerTo (grammar_of reading) text.now (string_bytes answer)) }
     ensures no_bad_line { OnOk result (All (IsGoodLine (grammar_of reading)) (lines_of text.now)) }
     ensures bad_line { (number : ℕ) → result ≡ Err (ToolError.Line number) → IsFirstBadLine (grammar_of reading) (lines_of text.now) number }
+    ensures bad_at_once { (number : ℕ) → IsBadAtOnce (grammar_of reading) (lines_of text.now) number → result ≡ Err (ToolError.Line number) }
 {
     if text.is_empty() {
         return Ok(String::new(alloc));
@@ -140,6 +143,7 @@ fn read_lines(alloc: Global, text: &str, reading: Reading) -> Result<Families, T
     ensures networks { IfOk result (λ families. (networks : List Network) × AreNetworksOf (grammar_of reading) (lines_of text.now) networks
         × HaveSameCover networks (networks_of families)) }
     ensures bad_line { (number : ℕ) → result ≡ Err (ToolError.Line number) → IsFirstBadLine (grammar_of reading) (lines_of text.now) number }
+    ensures bad_at_once { (number : ℕ) → IsBadAtOnce (grammar_of reading) (lines_of text.now) number → result ≡ Err (ToolError.Line number) }
 {
     let mut families = Families {
         ipv4: Vec::new(alloc),

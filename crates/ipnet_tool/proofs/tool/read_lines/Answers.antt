@@ -2,8 +2,10 @@ use Rattle.std.proofs.Common.{◌≡◌, ℕ, ◌+◌, ◌<◌, ◌∷◌, [], l
 use Rattle.ipnet.specs.Lines.{lines_of, IsFirstBadLine}
 use Rattle.ipnet.specs.NetworkOf.{ip_network}
 use Rattle.ipnet.proofs.LineLaws.{empty_line, network_line, bad_line, good_line, no_lines}
+use Rattle.ipnet_tool.specs.Answers.{IsBadAtOnce}
 use Rattle.ipnet_tool.specs.Families.{grammar_of, networks_of}
 use Rattle.ipnet_tool.proofs.AnswerLaws.{cover_moves_on}
+use Rattle.ipnet_tool.proofs.EarlyLines.{behind_empty, bad_here, none_bad}
 use Rattle.ipnet_tool.proofs.LineCuts.{some_bytes, no_bytes, empty_text}
 use Rattle.ipnet_tool.proofs.tool.read_lines.Goals as goal
 
@@ -34,6 +36,10 @@ lines-preserved-in-Ok-push c =
           let (whole, is, same) = c.lines.invariant.networks (n ∷ more) (rw cut (network_line grammar line behind n more some c.in-Ok.ensures h)) in
           (whole, is, cover_moves_on whole (networks_of c.lines.families) (networks_of c.push.new.self) more n c.in-Ok-push.ensures same);
       bad_line = λ later h. rw append_one (c.lines.invariant.bad_line (1 + later) (rw cut (good_line grammar line behind later (inr (n, c.in-Ok.ensures)) h)));
+      at_once = λ number h.
+          let (later, is, at) = c.lines.invariant.at_once number h in
+          let (bad, one) = bad_here grammar line behind later some (subst (λ z. IsBadAtOnce grammar z later) cut at) in
+          absurd (bad.1 n c.in-Ok.ensures);
     }
 
 pub lines-preserved : goal.lines-preserved
@@ -48,9 +54,29 @@ lines-preserved c =
       count = omega (arith, c.first_line.ensures.shorter);
       networks = λ more h. c.lines.invariant.networks more (rw cut (empty_line grammar line behind more none h));
       bad_line = λ later h. rw append_one (c.lines.invariant.bad_line (1 + later) (rw cut (good_line grammar line behind later (inl (empty_text line none)) h)));
+      at_once = λ number h.
+          let (later, is, at) = c.lines.invariant.at_once number h in
+          let (less, more, still) = behind_empty grammar line behind later none (subst (λ z. IsBadAtOnce grammar z later) cut at) in
+          (less, omega (arith, is, more), still);
     }
 
 pub returns-clause-networks : goal.returns-clause-networks
 returns-clause-networks c =
     let none : length c.lines.rest.now ≡ 0 = no_bytes (length c.lines.rest.now) c.lines-test.ensures in
     rw append-nil at (c.lines.invariant.networks [] (no_lines (grammar_of c.args.reading) c.lines.rest.now none))
+
+pub returns-clause-bad_at_once : goal.returns-clause-bad_at_once
+returns-clause-bad_at_once c = λ number h.
+    let none : length c.lines.rest.now ≡ 0 = no_bytes (length c.lines.rest.now) c.lines-test.ensures in
+    let (later, is, at) = c.lines.invariant.at_once number h in
+    absurd (none_bad (grammar_of c.args.reading) c.lines.rest.now later none at)
+
+pub returns-in_default-clause-bad_at_once : goal.returns-in_default-clause-bad_at_once
+returns-in_default-clause-bad_at_once c = λ number h.
+    let grammar = grammar_of c.args.reading in
+    let line = c.first_line.result.0.now in
+    let behind = lines_of c.first_line.result.1.now in
+    let (later, is, at) = c.lines.invariant.at_once number h in
+    let (bad, one) = bad_here grammar line behind later (some_bytes (length line) c.if-not-is_empty.ensures) (subst (λ z. IsBadAtOnce grammar z later) c.first_line.ensures.lines at) in
+    let same : c.lines.number + 1 ≡ number = omega (arith, is, one) in
+    cc
