@@ -53,14 +53,16 @@ fn text_tool(rt: HostRuntime) -> Result<(), Fail> {
     Ok(())
 }
 
-/// Runs the program on two networks that join.
-fn run_once(alloc: Global) -> Outcome {
-    let mut input = ByteReader::whole(b"10.0.1.0/24\n10.0.0.0/24\n");
+/// Runs the program on the bytes: whether it gave the wanted status, standard output and standard error.
+fn run_once(alloc: Global, bytes: &[u8], status: u8, wanted: &[u8], fault: &[u8]) -> Outcome {
+    let mut input = ByteReader::whole(bytes);
     let mut out = ArrayWriter::whole();
     let mut faults = ArrayWriter::whole();
-    let status = run(alloc, &[], &mut input, &mut out, &mut faults);
-    match (status, out.held(), faults.held()) {
-        (0, b"10.0.0.0/23\n", b"") => Outcome::Answered,
+    let told = run(alloc, &[], &mut input, &mut out, &mut faults);
+    if told == status && out.held() == wanted && faults.held() == fault {
+        return Outcome::Answered;
+    }
+    match (told, out.held(), faults.held()) {
         (3, b"", b"ipnet: out of memory\n") => Outcome::Refused,
         _ => Outcome::Wrong,
     }
@@ -69,8 +71,35 @@ fn run_once(alloc: Global) -> Outcome {
 #[test]
 fn program(rt: HostRuntime) -> Result<(), Fail> {
     let alloc = rt.alloc();
-    if let Some(outcomes) = outcomes(alloc, || run_once(alloc))? {
-        compare(&rt, "program", &outcomes);
+    // label, input, status, standard output, standard error
+    let rows: [(&str, &[u8], u8, &[u8], &[u8]); 3] = [
+        (
+            "memory: program",
+            b"10.0.1.0/24\n10.0.0.0/24\n",
+            0,
+            b"10.0.0.0/23\n",
+            b"",
+        ),
+        (
+            "program: want of memory, a bad line",
+            b"x\n",
+            1,
+            b"",
+            b"line 1: invalid IP address syntax\n",
+        ),
+        (
+            "program: want of memory, not UTF-8",
+            b"x\n\xff",
+            3,
+            b"",
+            b"ipnet: input is not UTF-8\n",
+        ),
+    ];
+    for (label, bytes, status, wanted, fault) in rows {
+        let call = || run_once(alloc, bytes, status, wanted, fault);
+        if let Some(outcomes) = outcomes(alloc, call)? {
+            compare(&rt, label, &outcomes);
+        }
     }
     Ok(())
 }
@@ -85,9 +114,19 @@ fn first_request_refused(rt: HostRuntime) -> Result<(), Fail> {
     let first_line_bad = aggregate_text(alloc, "10.0.0.0/24\r\n");
     let short = aggregate_text(alloc, "10.0.0.0/24\n");
     drop(held);
-    assert_eq!(rt; empty.is_ok_and(|text| text.is_empty()), true);
-    assert_eq!(rt; older_empty.is_ok_and(|text| text.is_empty()), true);
-    assert_eq!(rt; first_line_bad.err(), Some(ToolError::Line(1)));
+    assert!(rt;
+        empty.is_ok_and(|text| text.is_empty()),
+        "memory: tool on nothing"
+    );
+    assert!(rt;
+        older_empty.is_ok_and(|text| text.is_empty()),
+        "memory: older tool on nothing"
+    );
+    assert_eq!(rt;
+        first_line_bad.err(),
+        Some(ToolError::Line(1)),
+        "memory: tool, the first line bad"
+    );
     assert!(rt; left || short.err() == Some(ToolError::Memory));
     Ok(())
 }

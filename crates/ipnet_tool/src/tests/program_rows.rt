@@ -249,6 +249,42 @@ fn writers(rt: HostRuntime) -> Result<(), Fail> {
     Ok(())
 }
 
+// Each status with whatever a later one would come from beside it: the first that holds is the answer.
+#[test]
+fn statuses(rt: HostRuntime) -> Result<(), Fail> {
+    let alloc = rt.alloc();
+    let none = [].as_slice();
+    // label, arguments, input, failing read, standard error, status; the first write fails
+    let rows: [(&str, &[&str], &[u8], usize, &str, u8); 5] = [
+        ("arguments", ["x"].as_slice(), b"\xff", 1, REFUSED, 2),
+        ("reading fails", none, b"x\n\xff", 2, UNREADABLE, 3),
+        ("not UTF-8", none, b"x\n\xff", NEVER, NOT_UTF8, 3),
+        ("a bad line", none, b"::/0\nx\ny", NEVER, LINE_2, 1),
+        ("writing fails", none, b"::/0\n", NEVER, UNWRITABLE, 3),
+    ];
+    for (label, words, bytes, fails_at, fault, status) in rows {
+        let args = arguments(alloc, words)?;
+        let mut input = ByteReader::new(bytes, WHOLE, fails_at, ErrorKind::Other);
+        let mut out = ArrayWriter::new(WHOLE, 1);
+        let mut faults = ArrayWriter::whole();
+        assert_eq!(rt;
+            run(alloc, args.as_slice(), &mut input, &mut out, &mut faults),
+            status,
+            "program: {label}"
+        );
+        assert_eq!(rt; out.held().len(), 0, "program: {label}");
+        assert_eq!(rt; str::from_utf8(faults.held())?, fault, "program: {label}");
+    }
+    let mut input = ByteReader::whole(b"::/0\n");
+    let mut out = ArrayWriter::whole();
+    let mut faults = ArrayWriter::whole();
+    let status = run(alloc, &[], &mut input, &mut out, &mut faults);
+    assert_eq!(rt; status, 0, "program: done");
+    assert_eq!(rt; str::from_utf8(out.held())?, "::/0\n", "program: done");
+    assert_eq!(rt; faults.held().len(), 0, "program: done");
+    Ok(())
+}
+
 #[test]
 fn faults_that_cannot_be_written(rt: HostRuntime) -> Result<(), Fail> {
     let alloc = rt.alloc();
@@ -258,7 +294,14 @@ fn faults_that_cannot_be_written(rt: HostRuntime) -> Result<(), Fail> {
         ("arguments", ["x"].as_slice(), b"", NEVER, NEVER, 2),
         ("a read that fails", none, b"", 1, NEVER, 3),
         ("not UTF-8", none, b"\xff", NEVER, NEVER, 3),
-        ("a bad line", none, b"10.0.0.0/24\nx\n", NEVER, NEVER, 1),
+        (
+            "standard error cannot be written",
+            none,
+            b"10.0.0.0/24\nx\n",
+            NEVER,
+            NEVER,
+            1,
+        ),
         ("a write that fails", none, b"10.0.0.0/24\n", NEVER, 1, 3),
     ];
     for (label, words, bytes, read_fails, write_fails, status) in rows {

@@ -71,7 +71,10 @@ fn texts(rt: HostRuntime) -> Result<(), Fail> {
                 for line in lines.lines() {
                     networks.push(line.parse::<IpNet>()?)?;
                 }
-                assert!(rt; is_aggregated(networks.as_slice()), "{label}");
+                assert!(rt;
+                    is_aggregated(networks.as_slice()),
+                    "lists: the lines of every answer of the tool: {label}"
+                );
             }
         }
     }
