@@ -1,5 +1,5 @@
 //! Networks as JSON values: the JSON string of the canonical text.
-ghost use Rattle.std.specs.Prelude.{◌≡◌, ◌↔◌, IfOk, option_map};
+ghost use Rattle.std.specs.Prelude.{◌≡◌, ◌↔◌, IfOk};
 ghost use Rattle.serde_json.specs.Data.{string};
 ghost use Rattle.serde_json.specs.View.{view};
 ghost use Rattle.ipnet.specs.NetworkOf.{ipv4_network, ipv6_network, ip_network};

@@ -1,6 +1,4 @@
 //! Memory that runs out, for the tests of calls that take some.
-ghost use Rattle.std.specs.Prelude.{◌≡◌};
-
 use std::alloc::{AllocError, Global};
 
 /// The bytes that `outcomes` gives back piece by piece: so many that the block stands outside the allocator's lists

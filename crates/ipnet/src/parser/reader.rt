@@ -1,5 +1,5 @@
 //! Reading a text in one forward pass.
-ghost use Rattle.std.specs.Prelude.{◌≡◌, ℕ, min, [], ◌∷◌, ◌+◌, ◌<◌, ◌≤◌, length, take, drop, slice_index, IfSome, IfNone, option_map, MatchOption, true};
+ghost use Rattle.std.specs.Prelude.{◌≡◌, min, [], ◌∷◌, ◌+◌, ◌<◌, ◌≤◌, length, take, drop, slice_index, IfSome, IfNone, option_map, MatchOption, true};
 ghost use Rattle.std.specs.Bool.{OnTrue, OnFalse};
 ghost use Rattle.std.specs.Char.{digit_value};
 ghost use Rattle.std.specs.Str.Parse.{digits_value};
