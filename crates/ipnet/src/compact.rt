@@ -9,7 +9,12 @@ use crate::net::{IpNet, Ipv4Net, Ipv6Net};
 use arrayvec::ArrayVec;
 use thiserror::Error;
 
-/// Why bytes are not those of a network.
+/// Why bytes are not those of a network. The texts are `invalid length`, `invalid variant` and `invalid IP prefix
+/// length`.
+///
+/// ```text
+/// IpNet::from_bytes of 0 gives Length, of 2 Variant, and of 0, 10, 1, 1, 0, 33 Prefix
+/// ```
 #[derive(Clone, Debug, PartialEq, Eq, Drop, Error)]
 pub enum CompactError {
     /// There are too few bytes or too many, or none at all.

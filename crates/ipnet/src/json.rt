@@ -13,7 +13,11 @@ use serde_json::Value;
 use std::alloc::{AllocError, Global};
 use thiserror::Error;
 
-/// Why a JSON value is not that of a network.
+/// Why a JSON value is not that of a network. The texts are `not a JSON string` and `invalid IP address syntax`.
+///
+/// ```text
+/// IpNet::from_json of 7 or of null gives NotString, and of "x" or of "" Syntax
+/// ```
 #[derive(Clone, Debug, PartialEq, Eq, Drop, Error)]
 pub enum JsonError {
     /// The value is null, a truth value, a number, an array or an object.

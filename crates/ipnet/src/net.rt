@@ -14,7 +14,13 @@ use ipnet_base::{IpAddr, IpAddrRange, PrefixLenError, ip_mask_to_prefix};
 pub use ipv4_net::Ipv4Net;
 pub use ipv6_net::Ipv6Net;
 
-/// What a network can be asked to contain: an address of its family, or a network.
+/// What a network can be asked to contain: an address, or a network. An [`IpNet`] takes those of either family, and
+/// contains none of the other one; an [`Ipv4Net`] or an [`Ipv6Net`] takes those of its own.
+///
+/// ```text
+/// 192.168.0.0/24 contains 192.168.0.1 and 192.168.0.0/25, and neither 192.168.1.0 nor 192.168.0.0/23
+/// 192.168.0.0/24, as an IpNet, does not contain fd00::/16
+/// ```
 pub trait Contains<T> {
     /// The relation between the network and the other, which `contains` answers.
     ghost holds: { Self → T → Type 0 };
@@ -60,6 +66,11 @@ pub(crate) trait Net: Copy + Ord {
 ///
 /// An IPv4 network stands before every IPv6 one; within a family networks are ordered by the address, host
 /// bits and all, and then by the length.
+///
+/// ```text
+/// 10.0.0.1/24 is the address 10.0.0.1 with the length 24, and another network than 10.0.0.0/24 of the same block
+/// 255.255.255.255/32 stands before ::/0, and 10.0.0.0/8 before 10.0.0.0/24
+/// ```
 #[derive(Clone, Copy, PartialEq, Eq, PartialOrd, Ord, Hash)]
 pub enum IpNet {
     /// An IPv4 network.
@@ -92,6 +103,10 @@ impl IpNet {
 
     /// The network of the address and a length that the caller knows to be at most its width, 32 or 128;
     /// `new` is the test.
+    ///
+    /// ```text
+    /// IpNet::new_assert(10.1.1.7, 32) is 10.1.1.7/32, and IpNet::new_assert(fd00::7, 33) is fd00::7/33
+    /// ```
     pub fn new_assert(ip: IpAddr, prefix_len: u8) -> IpNet
         requires { prefix_len ≤ width (ip_address ip).family }
         ensures { ip_network result ≡ network_at (ip_address ip) prefix_len }
@@ -121,6 +136,10 @@ impl IpNet {
     }
 
     /// The address, with its host bits.
+    ///
+    /// ```text
+    /// that of 10.0.0.1/24 is 10.0.0.1
+    /// ```
     pub fn addr(&self) -> IpAddr
         ensures { ip_address result ≡ own_address (ip_network self.now) }
     {
@@ -131,6 +150,10 @@ impl IpNet {
     }
 
     /// The prefix length, from 0 to 32 or 128.
+    ///
+    /// ```text
+    /// that of 10.0.0.1/24 is 24
+    /// ```
     pub fn prefix_len(&self) -> u8
         ensures { result ≡ (ip_network self.now).prefix_len }
     {
@@ -141,6 +164,10 @@ impl IpNet {
     }
 
     /// The greatest prefix length of a network of this one's family: 32 or 128.
+    ///
+    /// ```text
+    /// that of 10.0.0.1/24 is 32, that of fd00::/24 is 128
+    /// ```
     pub fn max_prefix_len(&self) -> u8
         ensures { result ≡ width (ip_network self.now).family }
     {
@@ -253,7 +280,8 @@ impl IpNet {
     }
 
     /// The addresses that hosts may have: all of the block, but in an IPv4 network of a length below 31 neither its
-    /// least nor its greatest address (RFC 3021).
+    /// least address nor its greatest, which stand for the network and for all of its hosts (RFC 1122, section
+    /// 3.2.1.3). At length 31 both are hosts (RFC 3021), and at length 32 the one address is.
     ///
     /// ```text
     /// 10.0.0.0/30: 10.0.0.1, 10.0.0.2; 10.0.0.0/31: 10.0.0.0, 10.0.0.1; fd00::/127: fd00::, fd00::1

@@ -1,4 +1,32 @@
 //! Networks from text: the strict grammar by `FromStr`, the legacy one by `parse_legacy`.
+//!
+//! Both read a whole text: an address, "/" and a prefix length (RFC 4632, section 3.1; RFC 4291, section 2.3). An
+//! IPv4 address is four octets joined by "."; an IPv6 address is eight groups joined by ":", where one "::" may stand
+//! for groups of zeros and, at the end alone, an IPv4 address for the last two (RFC 4291, section 2.2). The address
+//! keeps its host bits.
+//!
+//! The legacy grammar reads each text of the strict one as the same network, and is wider in two places. Octets
+//! and lengths, which are always decimal, may have leading zeros, where the strict grammar takes no leading zero but
+//! 0 itself; and a "::" may stand for no group, with eight groups written beside it and at most seven of them before
+//! it, where the strict grammar, as RFC 4291 does, has it stand for one at least. The limits are the same in both, and
+//! leading zeros count as digits: an octet has 1 to 3 digits and is at most 255; a length has 1 or 2 digits in an IPv4
+//! text and is at most 32, and 1 to 3 digits in an IPv6 text and is at most 128; a group has 1 to 4 hexadecimal digits
+//! of either case, in both grammars with leading zeros or without. Every other text is refused by both, as one with
+//! a blank, a sign, a zone or no length.
+//!
+//! ```text
+//!                            from_str             parse_legacy
+//! 10.1.1.0/24                10.1.1.0/24          10.1.1.0/24
+//! 0.0.0.0/0                  0.0.0.0/0            0.0.0.0/0
+//! 010.0.0.1/08               an error             10.0.0.1/8
+//! 0001.0.0.0/8               an error             an error
+//! 10.0.0.0/032               an error             an error
+//! ::010.0.0.1/96             an error             ::a00:1/96
+//! ::/000                     an error             ::/0
+//! 1:2:3:4:5:6:7::/128        1:2:3:4:5:6:7:0/128  1:2:3:4:5:6:7:0/128
+//! 1:2:3:4:5:6:7::8/64        an error             1:2:3:4:5:6:7:8/64
+//! 1:2:3:4:5:6:7:8::/64       an error             an error
+//! ```
 ghost use Rattle.ipnet.specs.Grammar.{Strict, Legacy, grammar_of};
 ghost use Rattle.ipnet.specs.NetworkOf.{ip_network, ipv4_network, ipv6_network};
 ghost use Rattle.ipnet.specs.NetworkTexts.{IsNetworkText, IsIpv4NetworkText, IsIpv6NetworkText, ReadsNetwork};
@@ -9,7 +37,15 @@ use thiserror::Error;
 
 mod reader;
 
-/// The text writes no network of the type that was asked for.
+/// The refusal of a text that writes no network of the type that was asked for.
+///
+/// Its text is `invalid IP address syntax`.
+///
+/// ```text
+/// 10.0.0.0/33 read as an Ipv4Net or IpNet    Err(AddrParseError)
+/// fd00::9/32 read as an Ipv4Net              Err(AddrParseError)
+/// fd00::9/32 read as an Ipv6Net or IpNet     Ok(fd00::9/32)
+/// ```
 #[derive(Clone, Debug, PartialEq, Eq, Drop, Error)]
 #[error("invalid IP address syntax")]
 pub struct AddrParseError(());
@@ -53,14 +89,34 @@ impl FromStr for Ipv4Net {
     ghost from_str_gives = { ReadsNetwork ipv4_network (IsIpv4NetworkText Strict) };
 
     /// Reads a text of the strict grammar: a dotted address, "/" and a length (RFC 4632, section 3.1), no number
-    /// with a leading zero. Every other text is refused.
+    /// with a leading zero but 0 itself. Every other text is refused.
+    ///
+    /// ```text
+    /// 10.1.1.9/24    Ok(10.1.1.9/24)
+    /// 0.0.0.0/0      Ok(0.0.0.0/0)
+    /// 010.0.0.1/08   Err(AddrParseError)
+    /// fd00::9/32     Err(AddrParseError)
+    /// ```
     fn from_str(text: &str) -> Result<Ipv4Net, AddrParseError> {
         ipv4_net(text, true)
     }
 }
 
 impl Ipv4Net {
-    /// Reads a text of the legacy grammar, which takes leading zeros: `010.0.0.1/08` is 10.0.0.1/8.
+    /// Reads a text of the legacy grammar, which the module `parser` tells of: a dotted address, "/" and a length
+    /// (RFC 4632, section 3.1), whose numbers may have leading zeros. What `from_str` reads is read alike.
+    ///
+    /// An error for every other text: where there are not four octets, or one has more than 3 digits or is above
+    /// 255; where the length is missing, has more than 2 digits or is above 32; and for the text of an IPv6 network.
+    ///
+    /// ```text
+    /// 10.1.1.9/24    Ok(10.1.1.9/24)
+    /// 010.0.0.1/08   Ok(10.0.0.1/8)
+    /// 10.0.0.0/00    Ok(10.0.0.0/0)
+    /// 0001.0.0.0/8   Err(AddrParseError)
+    /// 10.0.0.0/032   Err(AddrParseError)
+    /// fd00::9/32     Err(AddrParseError)
+    /// ```
     pub fn parse_legacy(text: &str) -> Result<Ipv4Net, AddrParseError>
         ensures { ReadsNetwork ipv4_network (IsIpv4NetworkText Legacy) text.now result }
     {
@@ -74,15 +130,38 @@ impl FromStr for Ipv6Net {
     ghost from_str_gives = { ReadsNetwork ipv6_network (IsIpv6NetworkText Strict) };
 
     /// Reads a text of the strict grammar: an address (RFC 4291, section 2.2), "/" and a length (section 2.3). A "::"
-    /// stands for one group at least, and no decimal number has a leading zero. Every other text is refused.
+    /// stands for one group at least, and no decimal number but 0 itself has a leading zero. Every other text is
+    /// refused.
+    ///
+    /// ```text
+    /// fd00::9/32            Ok(fd00::9/32)
+    /// ::/0                  Ok(::/0)
+    /// 1:2:3:4:5:6:7::8/64   Err(AddrParseError)
+    /// 10.1.1.9/24           Err(AddrParseError)
+    /// ```
     fn from_str(text: &str) -> Result<Ipv6Net, AddrParseError> {
         ipv6_net(text, true)
     }
 }
 
 impl Ipv6Net {
-    /// Reads a text of the legacy grammar, which takes leading zeros, and a "::" that stands for no group:
-    /// `1:2:3:4:5:6:7::8/64` is 1:2:3:4:5:6:7:8/64.
+    /// Reads a text of the legacy grammar, which the module `parser` tells of: an address (RFC 4291, section 2.2), "/"
+    /// and a length (section 2.3), where all numbers may have leading zeros and a "::" may stand for no group. What
+    /// `from_str` reads is read alike.
+    ///
+    /// An error for every other text: where the groups, with those of "::" and the two of an IPv4 address at the end,
+    /// are not eight; where a group has more than 4 digits; where an octet has more than 3 digits or is above 255;
+    /// where the length is missing, has more than 3 digits or is above 128; and for the text of an IPv4 network.
+    ///
+    /// ```text
+    /// fd00::9/32             Ok(fd00::9/32)
+    /// 1:2:3:4:5:6:7::8/64    Ok(1:2:3:4:5:6:7:8/64)
+    /// ::010.0.0.1/96         Ok(::a00:1/96)
+    /// ::/000                 Ok(::/0)
+    /// 1:2:3:4:5:6:7:8::/64   Err(AddrParseError)
+    /// 12345::/16             Err(AddrParseError)
+    /// 10.1.1.9/24            Err(AddrParseError)
+    /// ```
     pub fn parse_legacy(text: &str) -> Result<Ipv6Net, AddrParseError>
         ensures { ReadsNetwork ipv6_network (IsIpv6NetworkText Legacy) text.now result }
     {
@@ -96,13 +175,27 @@ impl FromStr for IpNet {
     ghost from_str_gives = { ReadsNetwork ip_network (IsNetworkText Strict) };
 
     /// Reads a text of either family by the strict grammar of [`Ipv4Net`] or [`Ipv6Net`]. No text is one of both.
+    ///
+    /// ```text
+    /// 10.1.1.9/24    Ok(10.1.1.9/24)
+    /// fd00::9/32     Ok(fd00::9/32)
+    /// 010.0.0.1/08   Err(AddrParseError)
+    /// ```
     fn from_str(text: &str) -> Result<IpNet, AddrParseError> {
         ip_net(text, true)
     }
 }
 
 impl IpNet {
-    /// Reads a text of either family by the legacy grammar.
+    /// Reads a text of either family by the legacy grammar, as `parse_legacy` of [`Ipv4Net`] or [`Ipv6Net`] does; the
+    /// module `parser` tells of it. No text is one of both families. An error for a text of neither.
+    ///
+    /// ```text
+    /// 010.0.0.1/08          Ok(10.0.0.1/8)
+    /// 1:2:3:4:5:6:7::8/64   Ok(1:2:3:4:5:6:7:8/64)
+    /// 10.0.0.0/032          Err(AddrParseError)
+    /// 10.0.0.1              Err(AddrParseError)
+    /// ```
     pub fn parse_legacy(text: &str) -> Result<IpNet, AddrParseError>
         ensures { ReadsNetwork ip_network (IsNetworkText Legacy) text.now result }
     {

@@ -18,11 +18,21 @@ pub mod laws;
 pub use ipv4_subnets::Ipv4Subnets;
 pub use ipv6_subnets::Ipv6Subnets;
 
-/// A walk over a range of addresses of either family, made from a walk of that family by `From`: it gives the
-/// same networks. An IPv4 one stands before every IPv6 one.
+/// A walk over a range of addresses of either family: it gives the networks of the walk of one family that it
+/// holds. It is made from such a walk by `From`, and by `IpNet::subnets`.
+///
+/// Walks of one family compare as [`Ipv4Subnets`] or [`Ipv6Subnets`] do, by what they store; an IPv4 one stands
+/// before every IPv6 one.
+///
+/// ```text
+/// 10.0.0.0 to 10.0.0.239, least length 0: 10.0.0.0/25, 10.0.0.128/26, 10.0.0.192/27, 10.0.0.224/28
+/// subnets of fd00::/16 at 18:             fd00::/18, fd00:4000::/18, fd00:8000::/18, fd00:c000::/18
+/// ```
 #[derive(Clone, Copy, PartialEq, Eq, PartialOrd, Ord, Hash, Debug)]
 pub enum IpSubnets {
+    /// A walk over a range of IPv4 addresses.
     V4(Ipv4Subnets),
+    /// A walk over a range of IPv6 addresses.
     V6(Ipv6Subnets),
 }
 

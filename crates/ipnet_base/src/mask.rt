@@ -8,9 +8,16 @@ ghost use Rattle.ipnet_base.specs.Masks.{netmask_number, IsNetmaskOf};
 use crate::addr::{IpAddr, Ipv4Addr, Ipv6Addr};
 use thiserror::Error;
 
-/// The refusal of a prefix length longer than an address of the family, or of an address that is no netmask.
+/// The refusal of a prefix length longer than an address of the family, of one below the network's own where the
+/// subnets of a network are asked for, or of an address that is no netmask.
 ///
 /// Its text is `invalid IP prefix length`.
+///
+/// ```text
+/// ipv4_mask_to_prefix(255.0.255.0)   Err(PrefixLenError)
+/// Ipv4Net::new(10.1.1.0, 33)         Err(PrefixLenError)
+/// 10.0.0.0/24 at subnets(23)         Err(PrefixLenError)
+/// ```
 #[derive(Clone, Debug, PartialEq, Eq, Drop, Error)]
 #[error("invalid IP prefix length")]
 pub struct PrefixLenError;

@@ -62,6 +62,11 @@ impl Fault {
 /// | 1 | line N is the first that is neither empty nor a network | `line N: invalid IP address syntax` |
 /// | 3 | a write or the flush behind it fails; a beginning of the answer may have gone out | `ipnet: output cannot be written` |
 /// | 0 | otherwise | nothing |
+///
+/// ```text
+/// arguments none, input "fd00::/32\n10.0.0.0/24\n": status 0, and out gets "10.0.0.0/24\nfd00::/32\n"
+/// arguments none, input "10.0.0.0/24\nx\n":        status 1, and faults gets "line 2: invalid IP address syntax\n"
+/// ```
 pub fn run<R: Read, W: Write, X: Write>(
     alloc: Global,
     args: &[String],

@@ -15,7 +15,11 @@ use ipnet::{IpNet, Ipv4Net, Ipv6Net};
 use std::alloc::{AllocError, Global};
 use thiserror::Error;
 
-/// Why a text has no answer.
+/// Why a text has no answer. The text of a bad line has its number in decimal; that of `Memory` is `out of memory`.
+///
+/// ```text
+/// "10.0.0.0/24\n\nx\n" gives Line(3), whose text is  line 3: invalid IP address syntax
+/// ```
 #[derive(Clone, Debug, PartialEq, Eq, Drop, Error)]
 pub enum ToolError {
     /// The line of this number, counted from 1 with the empty ones, is the first that is neither empty nor a

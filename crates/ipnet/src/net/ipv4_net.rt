@@ -10,6 +10,11 @@ use ipnet_base::{Ipv4Addr, Ipv4AddrRange, PrefixLenError, ipv4_mask_to_prefix};
 /// An IPv4 network: an address, with its host bits, and a prefix length of at most 32.
 ///
 /// Networks are ordered by the address, host bits and all, and then by the length.
+///
+/// ```text
+/// 10.0.0.1/24 is the address 10.0.0.1 with the length 24, and another network than 10.0.0.0/24 of the same block
+/// 10.0.0.0/8 stands before 10.0.0.0/24, and 10.0.0.0/32 before 10.0.0.1/8
+/// ```
 //
 // Number and length share one word, the number in the upper half and the length in the lower, so that the order of
 // words is the order of networks: sorting, most of the time of `aggregate`, moves and compares single words.
@@ -77,6 +82,10 @@ impl Ipv4Net {
     }
 
     /// The network of the address and a length that the caller knows to be at most 32; `new` is the test.
+    ///
+    /// ```text
+    /// Ipv4Net::new_assert(10.1.1.7, 24) is 10.1.1.7/24
+    /// ```
     pub fn new_assert(ip: Ipv4Addr, prefix_len: u8) -> Ipv4Net
         requires { prefix_len ≤ 32 }
         ensures { ipv4_network result ≡ network_at (ipv4_address ip) prefix_len }
@@ -100,6 +109,10 @@ impl Ipv4Net {
     }
 
     /// The address, with its host bits.
+    ///
+    /// ```text
+    /// that of 10.0.0.1/24 is 10.0.0.1
+    /// ```
     pub fn addr(&self) -> Ipv4Addr
         ensures { ipv4_address result ≡ own_address (ipv4_network self.now) }
     {
@@ -107,6 +120,10 @@ impl Ipv4Net {
     }
 
     /// The prefix length, from 0 to 32.
+    ///
+    /// ```text
+    /// that of 10.0.0.1/24 is 24
+    /// ```
     pub fn prefix_len(&self) -> u8
         ensures { result ≡ (ipv4_network self.now).prefix_len }
     {
@@ -114,6 +131,10 @@ impl Ipv4Net {
     }
 
     /// The greatest prefix length of an IPv4 network: 32.
+    ///
+    /// ```text
+    /// that of 10.0.0.1/24 is 32
+    /// ```
     pub fn max_prefix_len(&self) -> u8
         ensures { result ≡ width (ipv4_network self.now).family }
     {
@@ -208,8 +229,9 @@ impl Ipv4Net {
         self.leading_number(len - 1) == other.leading_number(len - 1)
     }
 
-    /// The addresses that hosts may have: those between the least and the greatest of the block, and at the lengths
-    /// 31 and 32 these two as well (RFC 3021).
+    /// The addresses that hosts may have: all of the block, but at a length below 31 neither its least address nor
+    /// its greatest, which stand for the network and for all of its hosts (RFC 1122, section 3.2.1.3). At length 31
+    /// both are hosts (RFC 3021), and at length 32 the one address is.
     ///
     /// ```text
     /// 10.0.0.0/30: 10.0.0.1, 10.0.0.2; 10.0.0.0/31: 10.0.0.0, 10.0.0.1; 10.0.0.7/32: 10.0.0.7

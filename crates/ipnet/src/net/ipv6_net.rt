@@ -10,6 +10,11 @@ use ipnet_base::{Ipv6Addr, Ipv6AddrRange, PrefixLenError, ipv6_mask_to_prefix};
 /// An IPv6 network: an address, with its host bits, and a prefix length of at most 128.
 ///
 /// Networks are ordered by the address, host bits and all, and then by the length.
+///
+/// ```text
+/// fd00::1/64 is the address fd00::1 with the length 64, and another network than fd00::/64 of the same block
+/// fd00::/64 stands before fd00::/128, and fd00::/128 before fd00::1/64
+/// ```
 //
 // The number is kept as its two halves and the length in a word as wide as these: a network of three equal
 // words is sorted faster than one of 128 aligned bits and a byte.
@@ -78,6 +83,10 @@ impl Ipv6Net {
     }
 
     /// The network of the address and a length that the caller knows to be at most 128; `new` is the test.
+    ///
+    /// ```text
+    /// Ipv6Net::new_assert(fd00::7, 24) is fd00::7/24
+    /// ```
     pub fn new_assert(ip: Ipv6Addr, prefix_len: u8) -> Ipv6Net
         requires { prefix_len ≤ 128 }
         ensures { ipv6_network result ≡ network_at (ipv6_address ip) prefix_len }
@@ -101,6 +110,10 @@ impl Ipv6Net {
     }
 
     /// The address, with its host bits.
+    ///
+    /// ```text
+    /// that of fd00::7/24 is fd00::7
+    /// ```
     pub fn addr(&self) -> Ipv6Addr
         ensures { ipv6_address result ≡ own_address (ipv6_network self.now) }
     {
@@ -108,6 +121,10 @@ impl Ipv6Net {
     }
 
     /// The prefix length, from 0 to 128.
+    ///
+    /// ```text
+    /// that of fd00::7/24 is 24
+    /// ```
     pub fn prefix_len(&self) -> u8
         ensures { result ≡ (ipv6_network self.now).prefix_len }
     {
@@ -115,6 +132,10 @@ impl Ipv6Net {
     }
 
     /// The greatest prefix length of an IPv6 network: 128.
+    ///
+    /// ```text
+    /// that of fd00::7/24 is 128
+    /// ```
     pub fn max_prefix_len(&self) -> u8
         ensures { result ≡ width (ipv6_network self.now).family }
     {

@@ -64,6 +64,11 @@ impl Ipv4Subnets {
     /// 0 a walk gives at most 62 networks.
     ///
     /// The caller sees to it that the least length is at most 32, as by `min_prefix_len <= 32`.
+    ///
+    /// ```text
+    /// from 0.0.0.0 to 0.0.0.10, least length 30: 0.0.0.0/30, 0.0.0.4/30, 0.0.0.8/31, 0.0.0.10/32
+    /// from 0.0.0.1 to 0.0.0.0, least length 0:   nothing
+    /// ```
     pub fn new(start: Ipv4Addr, end: Ipv4Addr, min_prefix_len: u8) -> Ipv4Subnets
         requires { min_prefix_len ≤ 32 }
         ensures range { ipv4_subnet_range result ≡ ipv4_range_of (ipv4_bits start) (ipv4_bits end) min_prefix_len }

@@ -64,6 +64,11 @@ impl Ipv6Subnets {
     /// 0 a walk gives at most 254 networks.
     ///
     /// The caller sees to it that the least length is at most 128, as by `min_prefix_len <= 128`.
+    ///
+    /// ```text
+    /// from :: to ::a, least length 126: ::/126, ::4/126, ::8/127, ::a/128
+    /// from ::1 to ::, least length 0:   nothing
+    /// ```
     pub fn new(start: Ipv6Addr, end: Ipv6Addr, min_prefix_len: u8) -> Ipv6Subnets
         requires { min_prefix_len ≤ 128 }
         ensures range { ipv6_subnet_range result ≡ ipv6_range_of (ipv6_bits start) (ipv6_bits end) min_prefix_len }

@@ -59,6 +59,10 @@ impl IpAddrRange {
     /// How many addresses are left, where a `usize` holds that number: an IPv6 range may have 2^128 of them.
     ///
     /// `size_hint` is the test: it has an upper bound exactly where the number fits.
+    ///
+    /// ```text
+    /// from 10.0.0.0 to 10.0.0.3: 4; from fd00:: to fd00::3: 4; from 0.0.0.5 to 0.0.0.3: 0
+    /// ```
     pub fn count(self) -> usize
         requires { address_count (ip_range self) < 2 ^ 64 }
         ensures { result ≡ address_count (ip_range self) }
@@ -70,6 +74,10 @@ impl IpAddrRange {
     }
 
     /// The least address that is left, or `None` if none is.
+    ///
+    /// ```text
+    /// from 10.0.0.0 to 10.0.0.3: Some(10.0.0.0); from fd00:: to fd00::3: Some(fd00::); from 0.0.0.5 to 0.0.0.3: None
+    /// ```
     pub fn min(self) -> Option<IpAddr>
         ensures { let r = ip_range self in
             SomeIff (option_map ip_address result) (r.start ≤ r.end) (address_at r r.start) }
@@ -81,6 +89,10 @@ impl IpAddrRange {
     }
 
     /// The greatest address that is left, or `None` if none is.
+    ///
+    /// ```text
+    /// from 10.0.0.0 to 10.0.0.3: Some(10.0.0.3); from fd00:: to fd00::3: Some(fd00::3); from 0.0.0.5 to 0.0.0.3: None
+    /// ```
     pub fn max(self) -> Option<IpAddr>
         ensures { let r = ip_range self in
             SomeIff (option_map ip_address result) (r.start ≤ r.end) (address_at r r.end) }
@@ -92,6 +104,10 @@ impl IpAddrRange {
     }
 
     /// The last address from the front, which is the greatest, or `None` if none is left.
+    ///
+    /// ```text
+    /// from 10.0.0.0 to 10.0.0.3: Some(10.0.0.3); from fd00:: to fd00::3: Some(fd00::3); from 0.0.0.5 to 0.0.0.3: None
+    /// ```
     pub fn last(self) -> Option<IpAddr>
         ensures { let r = ip_range self in
             SomeIff (option_map ip_address result) (r.start ≤ r.end) (address_at r r.end) }
@@ -106,6 +122,13 @@ impl IpAddrRange {
     /// `None`, and nothing is left.
     ///
     /// Where nothing is left the stored ends are 1 and 0, also of a range that had other ends and no address.
+    ///
+    /// ```text
+    /// from 10.0.0.0 to 10.0.0.3:
+    ///     nth(1)   10.0.0.1, leaves 10.0.0.2 to 10.0.0.3
+    ///     nth(1)   10.0.0.3, and nothing is left
+    ///     nth(0)   None
+    /// ```
     pub fn nth(&mut self, n: usize) -> Option<IpAddr>
         ensures item { option_map ip_address result ≡ slice_get (ip_addresses self.old) n }
         ensures left { ip_addresses self.new ≡ drop (n + 1) (ip_addresses self.old) }
@@ -121,6 +144,13 @@ impl IpAddrRange {
     /// `None`, and nothing is left.
     ///
     /// Where nothing is left the stored ends are 1 and 0, also of a range that had other ends and no address.
+    ///
+    /// ```text
+    /// from 10.0.0.0 to 10.0.0.3:
+    ///     nth_back(1)   10.0.0.2, leaves 10.0.0.0 to 10.0.0.1
+    ///     nth_back(1)   10.0.0.0, and nothing is left
+    ///     nth_back(0)   None
+    /// ```
     pub fn nth_back(&mut self, n: usize) -> Option<IpAddr>
         ensures item { option_map ip_address result ≡ slice_get (reverse (ip_addresses self.old)) n }
         ensures left { ip_addresses self.new

@@ -33,6 +33,10 @@ impl Ipv4AddrRange {
 
     /// The range from `start` to `end`, both of them in it. It has no address where `start` is above `end`; it
     /// keeps both ends then too.
+    ///
+    /// ```text
+    /// from 10.0.0.0 to 10.0.0.3: the addresses 10.0.0.0, 10.0.0.1, 10.0.0.2, 10.0.0.3; from 0.0.0.5 to 0.0.0.3: none
+    /// ```
     pub fn new(start: Ipv4Addr, end: Ipv4Addr) -> Ipv4AddrRange
         ensures start { (ipv4_range result).start ≡ ipv4_bits start }
         ensures end { (ipv4_range result).end ≡ ipv4_bits end }
@@ -44,6 +48,10 @@ impl Ipv4AddrRange {
     }
 
     /// How many addresses are left: 0 to 2^32.
+    ///
+    /// ```text
+    /// from 10.0.0.0 to 10.0.0.3: 4; from 0.0.0.5 to 0.0.0.3: 0; from 0.0.0.0 to 255.255.255.255: 4294967296
+    /// ```
     pub fn count(self) -> usize
         ensures { result ≡ address_count (ipv4_range self) }
     {
@@ -55,6 +63,10 @@ impl Ipv4AddrRange {
     }
 
     /// The least address that is left, or `None` if none is.
+    ///
+    /// ```text
+    /// from 10.0.0.0 to 10.0.0.3: Some(10.0.0.0); from 0.0.0.5 to 0.0.0.3: None
+    /// ```
     pub fn min(self) -> Option<Ipv4Addr>
         ensures { let r = ipv4_range self in
             SomeIff (option_map ipv4_address result) (r.start ≤ r.end) (address_at r r.start) }
@@ -67,6 +79,10 @@ impl Ipv4AddrRange {
     }
 
     /// The greatest address that is left, or `None` if none is.
+    ///
+    /// ```text
+    /// from 10.0.0.0 to 10.0.0.3: Some(10.0.0.3); from 0.0.0.5 to 0.0.0.3: None
+    /// ```
     pub fn max(self) -> Option<Ipv4Addr>
         ensures { let r = ipv4_range self in
             SomeIff (option_map ipv4_address result) (r.start ≤ r.end) (address_at r r.end) }
@@ -79,6 +95,10 @@ impl Ipv4AddrRange {
     }
 
     /// The last address from the front, which is the greatest, or `None` if none is left.
+    ///
+    /// ```text
+    /// from 10.0.0.0 to 10.0.0.3: Some(10.0.0.3); from 0.0.0.5 to 0.0.0.3: None
+    /// ```
     pub fn last(self) -> Option<Ipv4Addr>
         ensures { let r = ipv4_range self in
             SomeIff (option_map ipv4_address result) (r.start ≤ r.end) (address_at r r.end) }
@@ -90,6 +110,13 @@ impl Ipv4AddrRange {
     /// `None`, and nothing is left.
     ///
     /// Where nothing is left the stored ends are 1 and 0, also of a range that had other ends and no address.
+    ///
+    /// ```text
+    /// from 10.0.0.0 to 10.0.0.3:
+    ///     nth(1)   10.0.0.1, leaves 10.0.0.2 to 10.0.0.3
+    ///     nth(1)   10.0.0.3, and nothing is left
+    ///     nth(0)   None
+    /// ```
     pub fn nth(&mut self, n: usize) -> Option<Ipv4Addr>
         ensures item { option_map ipv4_address result ≡ slice_get (ipv4_addresses self.old) n }
         ensures left { ipv4_addresses self.new ≡ drop (n + 1) (ipv4_addresses self.old) }
@@ -113,6 +140,13 @@ impl Ipv4AddrRange {
     /// `None`, and nothing is left.
     ///
     /// Where nothing is left the stored ends are 1 and 0, also of a range that had other ends and no address.
+    ///
+    /// ```text
+    /// from 10.0.0.0 to 10.0.0.3:
+    ///     nth_back(1)   10.0.0.2, leaves 10.0.0.0 to 10.0.0.1
+    ///     nth_back(1)   10.0.0.0, and nothing is left
+    ///     nth_back(0)   None
+    /// ```
     pub fn nth_back(&mut self, n: usize) -> Option<Ipv4Addr>
         ensures item { option_map ipv4_address result ≡ slice_get (reverse (ipv4_addresses self.old)) n }
         ensures left { ipv4_addresses self.new

@@ -33,6 +33,10 @@ impl Ipv6AddrRange {
 
     /// The range from `start` to `end`, both of them in it. It has no address where `start` is above `end`; it
     /// keeps both ends then too.
+    ///
+    /// ```text
+    /// from fd00:: to fd00::3: the addresses fd00::, fd00::1, fd00::2, fd00::3; from ::1 to ::: none
+    /// ```
     pub fn new(start: Ipv6Addr, end: Ipv6Addr) -> Ipv6AddrRange
         ensures start { (ipv6_range result).start ≡ ipv6_bits start }
         ensures end { (ipv6_range result).end ≡ ipv6_bits end }
@@ -46,6 +50,10 @@ impl Ipv6AddrRange {
     /// How many addresses are left, where a `usize` holds that number: a range may have 2^128 of them.
     ///
     /// `size_hint` is the test: it has an upper bound exactly where the number fits.
+    ///
+    /// ```text
+    /// from fd00:: to fd00::3: 4; from ::1 to ::: 0; from :: to ::ffff:ffff:ffff:fffe: 18446744073709551615
+    /// ```
     pub fn count(self) -> usize
         requires { address_count (ipv6_range self) < 2 ^ 64 }
         ensures { result ≡ address_count (ipv6_range self) }
@@ -58,6 +66,10 @@ impl Ipv6AddrRange {
     }
 
     /// The least address that is left, or `None` if none is.
+    ///
+    /// ```text
+    /// from fd00:: to fd00::3: Some(fd00::); from ::1 to ::: None
+    /// ```
     pub fn min(self) -> Option<Ipv6Addr>
         ensures { let r = ipv6_range self in
             SomeIff (option_map ipv6_address result) (r.start ≤ r.end) (address_at r r.start) }
@@ -70,6 +82,10 @@ impl Ipv6AddrRange {
     }
 
     /// The greatest address that is left, or `None` if none is.
+    ///
+    /// ```text
+    /// from fd00:: to fd00::3: Some(fd00::3); from ::1 to ::: None
+    /// ```
     pub fn max(self) -> Option<Ipv6Addr>
         ensures { let r = ipv6_range self in
             SomeIff (option_map ipv6_address result) (r.start ≤ r.end) (address_at r r.end) }
@@ -82,6 +98,10 @@ impl Ipv6AddrRange {
     }
 
     /// The last address from the front, which is the greatest, or `None` if none is left.
+    ///
+    /// ```text
+    /// from fd00:: to fd00::3: Some(fd00::3); from ::1 to ::: None
+    /// ```
     pub fn last(self) -> Option<Ipv6Addr>
         ensures { let r = ipv6_range self in
             SomeIff (option_map ipv6_address result) (r.start ≤ r.end) (address_at r r.end) }
@@ -93,6 +113,13 @@ impl Ipv6AddrRange {
     /// `None`, and nothing is left.
     ///
     /// Where nothing is left the stored ends are 1 and 0, also of a range that had other ends and no address.
+    ///
+    /// ```text
+    /// from fd00:: to fd00::3:
+    ///     nth(1)   fd00::1, leaves fd00::2 to fd00::3
+    ///     nth(1)   fd00::3, and nothing is left
+    ///     nth(0)   None
+    /// ```
     pub fn nth(&mut self, n: usize) -> Option<Ipv6Addr>
         ensures item { option_map ipv6_address result ≡ slice_get (ipv6_addresses self.old) n }
         ensures left { ipv6_addresses self.new ≡ drop (n + 1) (ipv6_addresses self.old) }
@@ -116,6 +143,13 @@ impl Ipv6AddrRange {
     /// `None`, and nothing is left.
     ///
     /// Where nothing is left the stored ends are 1 and 0, also of a range that had other ends and no address.
+    ///
+    /// ```text
+    /// from fd00:: to fd00::3:
+    ///     nth_back(1)   fd00::2, leaves fd00:: to fd00::1
+    ///     nth_back(1)   fd00::, and nothing is left
+    ///     nth_back(0)   None
+    /// ```
     pub fn nth_back(&mut self, n: usize) -> Option<Ipv6Addr>
         ensures item { option_map ipv6_address result ≡ slice_get (reverse (ipv6_addresses self.old)) n }
         ensures left { ipv6_addresses self.new
