@@ -15,7 +15,7 @@ pub use ipv4_net::Ipv4Net;
 pub use ipv6_net::Ipv6Net;
 
 /// What a network can be asked to contain: an address, or a network. An [`IpNet`] takes those of either family, and
-/// contains none of the other one; an [`Ipv4Net`] or an [`Ipv6Net`] takes those of its own.
+/// contains none of the other family; an [`Ipv4Net`] or an [`Ipv6Net`] takes those of its own.
 ///
 /// ```text
 /// 192.168.0.0/24 contains 192.168.0.1 and 192.168.0.0/25, and neither 192.168.1.0 nor 192.168.0.0/23

@@ -11,8 +11,8 @@
 //! it, where the strict grammar, as RFC 4291 does, has it stand for one at least. The limits are the same in both, and
 //! leading zeros count as digits: an octet has 1 to 3 digits and is at most 255; a length has 1 or 2 digits in an IPv4
 //! text and is at most 32, and 1 to 3 digits in an IPv6 text and is at most 128; a group has 1 to 4 hexadecimal digits
-//! of either case, in both grammars with leading zeros or without. Every other text is refused by both, as one with
-//! a blank, a sign, a zone or no length.
+//! of either case, in both grammars with leading zeros or without. Every other text is refused, such as one with a blank,
+//! a sign, a zone or no length.
 //!
 //! ```text
 //!                            from_str             parse_legacy
@@ -103,7 +103,7 @@ impl FromStr for Ipv4Net {
 }
 
 impl Ipv4Net {
-    /// Reads a text of the legacy grammar, which the module `parser` tells of: a dotted address, "/" and a length
+    /// Reads a text of the legacy grammar, described in the module `parser`: a dotted address, "/" and a length
     /// (RFC 4632, section 3.1), whose numbers may have leading zeros. What `from_str` reads is read alike.
     ///
     /// An error for every other text: where there are not four octets, or one has more than 3 digits or is above
@@ -145,7 +145,7 @@ impl FromStr for Ipv6Net {
 }
 
 impl Ipv6Net {
-    /// Reads a text of the legacy grammar, which the module `parser` tells of: an address (RFC 4291, section 2.2), "/"
+    /// Reads a text of the legacy grammar, described in the module `parser`: an address (RFC 4291, section 2.2), "/"
     /// and a length (section 2.3), where all numbers may have leading zeros and a "::" may stand for no group. What
     /// `from_str` reads is read alike.
     ///
@@ -187,8 +187,8 @@ impl FromStr for IpNet {
 }
 
 impl IpNet {
-    /// Reads a text of either family by the legacy grammar, as `parse_legacy` of [`Ipv4Net`] or [`Ipv6Net`] does; the
-    /// module `parser` tells of it. No text is one of both families. An error for a text of neither.
+    /// Reads a text of either family by the legacy grammar, described in the module `parser`, as `parse_legacy` of
+    /// [`Ipv4Net`] or [`Ipv6Net`] does. No text is one of both. An error for a text of neither.
     ///
     /// ```text
     /// 010.0.0.1/08          Ok(10.0.0.1/8)

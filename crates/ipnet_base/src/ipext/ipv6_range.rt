@@ -35,7 +35,7 @@ impl Ipv6AddrRange {
     /// keeps both ends then too.
     ///
     /// ```text
-    /// from fd00:: to fd00::3: the addresses fd00::, fd00::1, fd00::2, fd00::3; from ::1 to ::: none
+    /// from fd00:: to fd00::3: the addresses fd00::, fd00::1, fd00::2, fd00::3; from ::2 to ::1: none
     /// ```
     pub fn new(start: Ipv6Addr, end: Ipv6Addr) -> Ipv6AddrRange
         ensures start { (ipv6_range result).start ≡ ipv6_bits start }
@@ -52,7 +52,7 @@ impl Ipv6AddrRange {
     /// `size_hint` is the test: it has an upper bound exactly where the number fits.
     ///
     /// ```text
-    /// from fd00:: to fd00::3: 4; from ::1 to ::: 0; from :: to ::ffff:ffff:ffff:fffe: 18446744073709551615
+    /// from fd00:: to fd00::3: 4; from ::2 to ::1: 0; from :: to ::ffff:ffff:ffff:fffe: 18446744073709551615
     /// ```
     pub fn count(self) -> usize
         requires { address_count (ipv6_range self) < 2 ^ 64 }
@@ -68,7 +68,7 @@ impl Ipv6AddrRange {
     /// The least address that is left, or `None` if none is.
     ///
     /// ```text
-    /// from fd00:: to fd00::3: Some(fd00::); from ::1 to ::: None
+    /// from fd00:: to fd00::3: Some(fd00::); from ::2 to ::1: None
     /// ```
     pub fn min(self) -> Option<Ipv6Addr>
         ensures { let r = ipv6_range self in
@@ -84,7 +84,7 @@ impl Ipv6AddrRange {
     /// The greatest address that is left, or `None` if none is.
     ///
     /// ```text
-    /// from fd00:: to fd00::3: Some(fd00::3); from ::1 to ::: None
+    /// from fd00:: to fd00::3: Some(fd00::3); from ::2 to ::1: None
     /// ```
     pub fn max(self) -> Option<Ipv6Addr>
         ensures { let r = ipv6_range self in
@@ -100,7 +100,7 @@ impl Ipv6AddrRange {
     /// The last address from the front, which is the greatest, or `None` if none is left.
     ///
     /// ```text
-    /// from fd00:: to fd00::3: Some(fd00::3); from ::1 to ::: None
+    /// from fd00:: to fd00::3: Some(fd00::3); from ::2 to ::1: None
     /// ```
     pub fn last(self) -> Option<Ipv6Addr>
         ensures { let r = ipv6_range self in
