@@ -11,8 +11,8 @@
 //! it, where the strict grammar, as RFC 4291 does, has it stand for one at least. The limits are the same in both, and
 //! leading zeros count as digits: an octet has 1 to 3 digits and is at most 255; a length has 1 or 2 digits in an IPv4
 //! text and is at most 32, and 1 to 3 digits in an IPv6 text and is at most 128; a group has 1 to 4 hexadecimal digits
-//! of either case, in both grammars with leading zeros or without. Every other text is refused, such as one with a blank,
-//! a sign, a zone or no length.
+//! of either case, in both grammars with leading zeros or without. Every other text is refused, such as one with a
+//! blank, a sign, a zone or no length.
 //!
 //! ```text
 //!                            from_str             parse_legacy

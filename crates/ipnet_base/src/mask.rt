@@ -16,7 +16,7 @@ use thiserror::Error;
 /// ```text
 /// ipv4_mask_to_prefix(255.0.255.0)   Err(PrefixLenError)
 /// Ipv4Net::new(10.1.1.0, 33)         Err(PrefixLenError)
-/// 10.0.0.0/24 at subnets(23)         Err(PrefixLenError)
+/// subnets(23) of 10.0.0.0/24         Err(PrefixLenError)
 /// ```
 #[derive(Clone, Debug, PartialEq, Eq, Drop, Error)]
 #[error("invalid IP prefix length")]
