@@ -7,12 +7,13 @@ use Rattle.std.proofs.lemmas.Bool.{cases_eq}
 use Rattle.ipnet_base.specs.Address.{Address, width, IsBetween}
 use Rattle.ipnet_base.specs.Network.{Network, IsNetwork, host_bits, InBlock, IsSubnetOf, AreHalves, IsLeastOf, IsGreatestOf, IsTruncationOf, IsSupernetOf, truncation}
 use Rattle.ipnet_base.specs.Blocks.{IsMaximal, AreMaximalBlocks}
+use Rattle.ipnet_base.specs.Subnets.{SubnetRange}
 use Rattle.ipnet_base.specs.Ranges.{AddressRange}
 use Rattle.ipnet_base.proofs.BlockLaws.{own, own_in, first_of, last_of, last_fits, first_from_least, last_from_greatest, nested, bits_from_subnet, same_network, same_from_block}
 use Rattle.ipnet_base.proofs.ListLaws.{all_at}
 use Rattle.ipnet_base.proofs.NetworkLaws.{IsTruncationOf-truncation}
 use Rattle.ipnet_base.proofs.SupernetLaws.{supernet, IsSupernetOf-supernet}
-use Rattle.ipnet.specs.NetworkParts.{address_at, IsSubnetOfLength, AreSubnetsOfLength, HasReservedEnds, IsHostRange}
+use Rattle.ipnet.specs.NetworkParts.{address_at, IsSubnetOfLength, AreSubnetsOfLength, IsBlockRange, HasReservedEnds, IsHostRange}
 use Rattle.ipnet.proofs.SubnetCountLaws.{AreOfLength, subnets_of_length}
 
 -- Numbers are equal where no bit tells them apart.
@@ -141,6 +142,13 @@ AreSubnetsOfLength-from_walk n q networks low high u longer fits least greatest 
           let bits : host_bits m ≤ host_bits k = omega (arith, i.long_enough, h.of_length, ap width shared.same_family) in
           same_from_block m k i.network h.network i.truncated h.truncated (nested m k (own k) shared (own_in k) bits, s);
     })
+
+pub IsBlockRange-from_ends : (n : Network) (q : ℕ) (range : SubnetRange) (low high : Address) → IsLeastOf n low → IsGreatestOf n high
+    → range ≡ record { family = n.family; start = low.number; end = high.number; min_prefix_len = q } → IsBlockRange n q range
+IsBlockRange-from_ends n q range low high l g e x y p r =
+    let start : low.number ≡ x.number = first_from_least n low l ∙ sym (first_from_least n x p) in
+    let end : high.number ≡ y.number = last_from_greatest n high g ∙ sym (last_from_greatest n y r) in
+    e ∙ (λ i. record { family = n.family; start = start i; end = end i; min_prefix_len = q })
 
 -- The hosts of a network: from its least to its greatest address, or between these two.
 pub IsHostRange-whole : (n : Network) (hosts : AddressRange) (low high : Address) → hosts.family ≡ n.family → ¬ (HasReservedEnds n)

@@ -3,6 +3,7 @@ use Rattle.std.specs.Prelude.{◌≡◌, ℕ, ◌+◌, ◌-◌, ◌^◌, ◌<◌
 use Rattle.ipnet_base.specs.Address.{Family, IPv4, Address}
 use Rattle.ipnet_base.specs.Network.{Network, IsNetwork, InBlock, IsSubnetOf, IsTruncated, IsLeastOf, IsGreatestOf}
 use Rattle.ipnet_base.specs.Blocks.{IsAscending, AreMaximalBlocks}
+use Rattle.ipnet_base.specs.Subnets.{SubnetRange}
 use Rattle.ipnet_base.specs.Ranges.{AddressRange}
 use Rattle.ipnet_base.specs.Masks as masks
 
@@ -45,6 +46,11 @@ pub record AreSubnetsOfLength (n : Network) (prefix_len : ℕ) (networks : List 
   pub members : (k : Network) → Contains networks k ↔ IsSubnetOfLength n prefix_len k
   pub count : length networks ≡ 2 ^ (prefix_len - n.prefix_len)
   pub blocks : AreMaximalBlocks (InBlock n) prefix_len networks
+
+-- the range of the network's block, from its least address to its greatest, under this least length
+abbrev pub IsBlockRange : Network → ℕ → SubnetRange → Type 0
+IsBlockRange n prefix_len range = (low high : Address) → IsLeastOf n low → IsGreatestOf n high
+    → range ≡ record { family = n.family; start = low.number; end = high.number; min_prefix_len = prefix_len }
 
 -- The least and the greatest address of an IPv4 network below length 31 are no hosts: they stand for the network
 -- and for all of its hosts (RFC 1122, section 3.2.1.3). At length 31 both are hosts (RFC 3021).

@@ -3,7 +3,7 @@ ghost use Rattle.std.specs.Prelude.{◌≡◌, ◌<◌, ◌≤◌, ◌⊎◌, �
 ghost use Rattle.std.specs.declared.cmp.Ordering.TheVariants.{Less};
 ghost use Rattle.ipnet_base.specs.Address.{width, ip_address};
 ghost use Rattle.ipnet_base.specs.Network.{Network, IsNetwork, InBlock, IsSubnetOf, IsLeastOf, IsGreatestOf, AreSiblings, AreHalves, IsBefore, IsTruncationOf, IsSupernetOf, truncation};
-ghost use Rattle.ipnet.specs.NetworkParts.{network_at, own_address, netmask, hostmask, HasAddressAndNetmask, AreSubnetsOfLength, IsHostRange};
+ghost use Rattle.ipnet.specs.NetworkParts.{network_at, own_address, netmask, hostmask, HasAddressAndNetmask, AreSubnetsOfLength, IsBlockRange, IsHostRange};
 
 mod ipv4_net;
 mod ipv6_net;
@@ -82,7 +82,7 @@ pub enum IpNet {
 impl IpNet {
     ghost use Rattle.ipnet.specs.NetworkOf.{ip_network};
     ghost use Rattle.ipnet_base.specs.RangeOf.{ip_range};
-    ghost use Rattle.ipnet.specs.SubnetsLeft.{ip_subnets_left};
+    ghost use Rattle.ipnet.specs.SubnetsLeft.{ip_subnet_range, ip_subnets_left};
 
     /// The network of the address and the length; the address keeps its host bits.
     ///
@@ -303,6 +303,7 @@ impl IpNet {
     /// 10.0.0.0/24 at 26: 10.0.0.0/26, 10.0.0.64/26, 10.0.0.128/26, 10.0.0.192/26; at 23 an error
     /// ```
     pub fn subnets(&self, new_prefix_len: u8) -> Result<IpSubnets, PrefixLenError>
+        ensures range { IfOk result (λ s. IsBlockRange (ip_network self.now) new_prefix_len (ip_subnet_range s)) }
         ensures walk { IfOk result (λ s. AreSubnetsOfLength (ip_network self.now) new_prefix_len (ip_subnets_left s)) }
         ensures refused { IsErr result ↔ ((new_prefix_len < (ip_network self.now).prefix_len) ⊎ (width (ip_network self.now).family < new_prefix_len)) }
     {

@@ -292,6 +292,8 @@ impl IpNet {
 impl fmt::Display for Ipv4Net {
     ghost output = { λ n. Some (canonical_text (ipv4_network n)) };
 
+    ghost styled_output = { λ n _. Some (canonical_text (ipv4_network n)) };
+
     fn fmt<W: fmt::Write>(&self, f: &mut fmt::Formatter<W>) -> fmt::Result {
         f.write_str(ipv4_network_text(self).as_str())
     }
@@ -301,6 +303,8 @@ impl fmt::Display for Ipv4Net {
 impl fmt::Display for Ipv6Net {
     ghost output = { λ n. Some (canonical_text (ipv6_network n)) };
 
+    ghost styled_output = { λ n _. Some (canonical_text (ipv6_network n)) };
+
     fn fmt<W: fmt::Write>(&self, f: &mut fmt::Formatter<W>) -> fmt::Result {
         f.write_str(self.to_text().as_str())
     }
@@ -309,6 +313,8 @@ impl fmt::Display for Ipv6Net {
 /// Writes the canonical text. The formatter's width, fill and other flags are ignored.
 impl fmt::Display for IpNet {
     ghost output = { λ n. Some (canonical_text (ip_network n)) };
+
+    ghost styled_output = { λ n _. Some (canonical_text (ip_network n)) };
 
     fn fmt<W: fmt::Write>(&self, f: &mut fmt::Formatter<W>) -> fmt::Result {
         match self {

@@ -1,5 +1,5 @@
 -- What a run of the program reads and writes.
-use Rattle.std.specs.Prelude.{◌≡◌, ℕ, List, [], ◌∷◌, codes, Option, String, string_bytes}
+use Rattle.std.specs.Prelude.{◌≡◌, ℕ, List, [], ◌∷◌, codes, IsUtf8, Option, String, string_bytes}
 use Rattle.std.specs.declared.alloc.Global.{Global}
 use Rattle.std.specs.Io.KnownBytes.{Consumes, Appends, IsAtEnd}
 use Rattle.ipnet.specs.Grammar.{Grammar, Strict, Legacy}
@@ -28,11 +28,12 @@ pub record IsAnswered (args : List (String Global)) (left left_after held held_a
   pub right : IsAnswerTo grammar text answer
   pub written : Appends held held_after answer
 
--- the input was a text with a bad line in the chosen grammar
+-- the input was a text, in UTF-8 (RFC 3629), with a bad line in the chosen grammar
 pub record HasBadLine (args : List (String Global)) (left left_after : Option (List ℕ)) : Type 0 where
   pub grammar : Grammar
   pub chosen : IsChosenBy args grammar
   pub text : List ℕ
+  pub is_text : IsUtf8 text
   pub read : GaveWhole left left_after text
   pub number : ℕ
   pub bad : IsFirstBadLine grammar (lines_of text) number

@@ -1,7 +1,7 @@
 ghost use Rattle.std.specs.Prelude.{◌≡◌, ◌-◌, ◌*◌, ◌/◌, ◌%◌, ◌^◌, ◌<◌, ◌≤◌, ◌⊎◌, ◌↔◌, IsTrue, IsErr, IfOk, IsNone, IfSome};
 ghost use Rattle.ipnet_base.specs.Address.{IPv4, width, ipv4_address};
 ghost use Rattle.ipnet_base.specs.Network.{Network, IsLeastOf, IsGreatestOf, IsSubnetOf, InBlock, IsSupernetOf, AreSiblings, IsTruncationOf};
-ghost use Rattle.ipnet.specs.NetworkParts.{address_at, network_at, own_address, netmask, hostmask, HasAddressAndNetmask, AreSubnetsOfLength, IsHostRange};
+ghost use Rattle.ipnet.specs.NetworkParts.{address_at, network_at, own_address, netmask, hostmask, HasAddressAndNetmask, AreSubnetsOfLength, IsBlockRange, IsHostRange};
 
 use super::{Contains, Net};
 use crate::subnets::Ipv4Subnets;
@@ -62,7 +62,7 @@ impl Ipv4Net {
     ghost use Rattle.ipnet_base.proofs.BlockLaws.{last_of};
     ghost use Rattle.ipnet.specs.NetworkOf.{ipv4_network, ipv4_network_of};
     ghost use Rattle.ipnet_base.specs.RangeOf.{ipv4_range};
-    ghost use Rattle.ipnet.specs.SubnetsLeft.{ipv4_subnets_left};
+    ghost use Rattle.ipnet.specs.SubnetsLeft.{ipv4_subnet_range, ipv4_subnets_left};
 
     /// The network of the address and the length; the address keeps its host bits.
     ///
@@ -256,6 +256,7 @@ impl Ipv4Net {
     /// 10.0.0.0/24 at 26: 10.0.0.0/26, 10.0.0.64/26, 10.0.0.128/26, 10.0.0.192/26; at 23 an error
     /// ```
     pub fn subnets(&self, new_prefix_len: u8) -> Result<Ipv4Subnets, PrefixLenError>
+        ensures range { IfOk result (λ s. IsBlockRange (ipv4_network self.now) new_prefix_len (ipv4_subnet_range s)) }
         ensures walk { IfOk result (λ s. AreSubnetsOfLength (ipv4_network self.now) new_prefix_len (ipv4_subnets_left s)) }
         ensures refused { IsErr result ↔ ((new_prefix_len < (ipv4_network self.now).prefix_len) ⊎ (32 < new_prefix_len)) }
     {

@@ -1,7 +1,7 @@
 ghost use Rattle.std.specs.Prelude.{◌≡◌, ◌-◌, ◌*◌, ◌/◌, ◌^◌, ◌<◌, ◌≤◌, ◌⊎◌, ◌↔◌, IsTrue, IsErr, IfOk, IsNone, IfSome};
 ghost use Rattle.ipnet_base.specs.Address.{IPv6, width, ipv6_address};
 ghost use Rattle.ipnet_base.specs.Network.{Network, IsLeastOf, IsGreatestOf, IsSubnetOf, InBlock, IsSupernetOf, AreSiblings, IsTruncationOf};
-ghost use Rattle.ipnet.specs.NetworkParts.{address_at, network_at, own_address, netmask, hostmask, HasAddressAndNetmask, AreSubnetsOfLength, IsHostRange};
+ghost use Rattle.ipnet.specs.NetworkParts.{address_at, network_at, own_address, netmask, hostmask, HasAddressAndNetmask, AreSubnetsOfLength, IsBlockRange, IsHostRange};
 
 use super::{Contains, Net};
 use crate::subnets::Ipv6Subnets;
@@ -63,7 +63,7 @@ impl Ipv6Net {
     ghost use Rattle.ipnet_base.proofs.BlockLaws.{last_of};
     ghost use Rattle.ipnet.specs.NetworkOf.{ipv6_network, ipv6_network_of};
     ghost use Rattle.ipnet_base.specs.RangeOf.{ipv6_range};
-    ghost use Rattle.ipnet.specs.SubnetsLeft.{ipv6_subnets_left};
+    ghost use Rattle.ipnet.specs.SubnetsLeft.{ipv6_subnet_range, ipv6_subnets_left};
 
     /// The network of the address and the length; the address keeps its host bits.
     ///
@@ -249,6 +249,7 @@ impl Ipv6Net {
     /// fd00::/16 at 18: fd00::/18, fd00:4000::/18, fd00:8000::/18, fd00:c000::/18; at 15 an error
     /// ```
     pub fn subnets(&self, new_prefix_len: u8) -> Result<Ipv6Subnets, PrefixLenError>
+        ensures range { IfOk result (λ s. IsBlockRange (ipv6_network self.now) new_prefix_len (ipv6_subnet_range s)) }
         ensures walk { IfOk result (λ s. AreSubnetsOfLength (ipv6_network self.now) new_prefix_len (ipv6_subnets_left s)) }
         ensures refused { IsErr result ↔ ((new_prefix_len < (ipv6_network self.now).prefix_len) ⊎ (128 < new_prefix_len)) }
     {

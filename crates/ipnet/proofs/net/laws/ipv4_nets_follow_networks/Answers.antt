@@ -1,6 +1,9 @@
-use Rattle.ipnet.specs.NetLaws.{ipv4_one_to_one}
+use Rattle.ipnet.specs.NetLaws.{ipv4_valid, ipv4_one_to_one}
 use Rattle.ipnet.proofs.NetOrderLaws.{ipv4_ranks, ipv4_hash}
 use Rattle.ipnet.proofs.net.laws.ipv4_nets_follow_networks.Goals as goal
+
+pub returns-clause-valid : goal.returns-clause-valid
+returns-clause-valid c = ipv4_valid c.args.a
 
 pub returns-clause-one_to_one : goal.returns-clause-one_to_one
 returns-clause-one_to_one c = ipv4_one_to_one c.args.a c.args.b
