@@ -4,7 +4,7 @@ use arrayvec::ArrayString;
 use ipnet::print::{ipv4_addr_text, ipv6_addr_text};
 use ipnet::{IpNet, Ipv4Net, Ipv6Net};
 use std::alloc::{AllocError, Global};
-use std::fmt::Write;
+use std::fmt::{Debug, Display, Write};
 use std::net::{IpAddr, Ipv4Addr, Ipv6Addr};
 use std::process::Abort;
 use std::test::Fail;
@@ -107,16 +107,30 @@ fn addresses(rt: HostRuntime) {
     }
 }
 
-#[test]
-fn width_of_the_formatter_is_dropped(rt: HostRuntime) {
-    let network = ip_net(&rt, "10.1.1.0/24");
+/// Asserts that what the outer formatter is asked for, width, fill and flags, changes nothing.
+fn check_formatter<N: Display + Debug>(rt: &impl Abort, network: &N, text: &str) {
+    let label = "printing: width of the formatter is dropped";
     let mut buffer = ArrayString::<43>::new();
     assert!(rt; write!(buffer, "{:>30}", network).is_ok());
-    assert_eq!(rt;
-        buffer.as_str(),
-        "10.1.1.0/24",
-        "printing: width of the formatter is dropped"
-    );
+    assert_eq!(rt; buffer.as_str(), text, "{label}");
+    buffer.clear();
+    assert!(rt; write!(buffer, "{:*^30}", network).is_ok());
+    assert_eq!(rt; buffer.as_str(), text, "{label}");
+    buffer.clear();
+    assert!(rt; write!(buffer, "{:<30?}", network).is_ok());
+    assert_eq!(rt; buffer.as_str(), text, "{label}");
+    buffer.clear();
+    assert!(rt; write!(buffer, "{:#?}", network).is_ok());
+    assert_eq!(rt; buffer.as_str(), text, "{label}");
+}
+
+#[test]
+fn width_of_the_formatter_is_dropped(rt: HostRuntime) -> Result<(), Fail> {
+    check_formatter(&rt, &"10.1.1.0/24".parse::<Ipv4Net>()?, "10.1.1.0/24");
+    check_formatter(&rt, &"fd00::/32".parse::<Ipv6Net>()?, "fd00::/32");
+    check_formatter(&rt, &"10.1.1.0/24".parse::<IpNet>()?, "10.1.1.0/24");
+    check_formatter(&rt, &"fd00::/32".parse::<IpNet>()?, "fd00::/32");
+    Ok(())
 }
 
 #[test]

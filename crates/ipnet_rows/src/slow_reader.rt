@@ -128,7 +128,7 @@ const PIECES: [&str; 12] = [
 ];
 
 /// Reads every text of so many pieces whose code lies in the range, as all three types: the digits of the code to
-/// the base 15 are the places of its pieces, the last one first.
+/// the base 12 are the places of its pieces, the last one first.
 fn read_all(
     rt: &impl Abort,
     alloc: Global,
