@@ -173,8 +173,8 @@ impl IpNet {
     /// and in order.
     ///
     /// It holds, once each, the truncated networks whose block lies in what the networks cover and in no larger such
-    /// block, IPv4 before IPv6 and by ascending first address. Order, repeats and host bits of the input do not matter, and
-    /// lists over the same addresses have the same aggregate.
+    /// block, IPv4 before IPv6 and by ascending first address. Order, repeats and host bits of the input do not
+    /// matter, and lists over the same addresses have the same aggregate.
     ///
     /// Makes one list, as long as the input, and no other. The error is want of memory; an empty list needs none.
     ///

@@ -9,8 +9,8 @@ use super::{IpNet, Ipv4Net, Ipv6Net};
 use ipnet_base::{PrefixLenError, ip_mask_to_prefix, ipv4_mask_to_prefix, ipv6_mask_to_prefix};
 use std::hash::Hash;
 
-/// Each IPv4 network has a number of 32 bits and a length of at most 32; they are equal where they stand for one network, ordered as networks, and hashed alike exactly where
-/// equal.
+/// Each IPv4 network has a number of 32 bits and a length of at most 32. They are equal where they stand for one
+/// network, ordered as networks, and hashed alike exactly where equal.
 pub fn ipv4_nets_follow_networks(a: Ipv4Net, b: Ipv4Net)
     ensures valid { IsNetwork (ipv4_network a) }
     ensures equality { IsTrue (⟦<Ipv4Net as PartialEq>⟧.eq a b) ↔ (ipv4_network a ≡ ipv4_network b) }
@@ -21,8 +21,8 @@ pub fn ipv4_nets_follow_networks(a: Ipv4Net, b: Ipv4Net)
     ensures hash { (⟦<Ipv4Net as Hash>⟧.hash_input a ≡ ⟦<Ipv4Net as Hash>⟧.hash_input b) ↔ (ipv4_network a ≡ ipv4_network b) }
 {}
 
-/// Each IPv6 network has a number of 128 bits and a length of at most 128; they are equal where they stand for one network, ordered as networks, and hashed alike exactly where
-/// equal.
+/// Each IPv6 network has a number of 128 bits and a length of at most 128. They are equal where they stand for one
+/// network, ordered as networks, and hashed alike exactly where equal.
 pub fn ipv6_nets_follow_networks(a: Ipv6Net, b: Ipv6Net)
     ensures valid { IsNetwork (ipv6_network a) }
     ensures equality { IsTrue (⟦<Ipv6Net as PartialEq>⟧.eq a b) ↔ (ipv6_network a ≡ ipv6_network b) }
@@ -33,8 +33,8 @@ pub fn ipv6_nets_follow_networks(a: Ipv6Net, b: Ipv6Net)
     ensures hash { (⟦<Ipv6Net as Hash>⟧.hash_input a ≡ ⟦<Ipv6Net as Hash>⟧.hash_input b) ↔ (ipv6_network a ≡ ipv6_network b) }
 {}
 
-/// Networks of either family have a number and a length within its width, are equal where they stand for one network, ordered as networks, so IPv4 before IPv6, and
-/// hashed alike exactly where equal.
+/// Networks of either family have a number and a length within its width. They are equal where they stand for one
+/// network, ordered as networks, so IPv4 before IPv6, and hashed alike exactly where equal.
 pub fn ip_nets_follow_networks(a: IpNet, b: IpNet)
     ensures valid { IsNetwork (ip_network a) }
     ensures equality { IsTrue (⟦<IpNet as PartialEq>⟧.eq a b) ↔ (ip_network a ≡ ip_network b) }

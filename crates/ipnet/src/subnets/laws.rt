@@ -33,7 +33,8 @@ pub fn ipv6_subnets_compare_by_range()
         → ⟦<Ipv6Subnets as Hash>⟧.hash_input s ≡ ⟦<Ipv6Subnets as Hash>⟧.hash_input t }
 {}
 
-/// Walks of either family have a least length within its width; they are equal, ordered and hashed by their ranges: an IPv4 one stands before every IPv6 one.
+/// Walks of either family have a least length within its width; they are equal, ordered and hashed by their ranges:
+/// an IPv4 one stands before every IPv6 one.
 pub fn ip_subnets_compare_by_range()
     ensures valid { (s : IpSubnets) → (ip_subnet_range s).min_prefix_len ≤ width (ip_subnet_range s).family }
     ensures equal { (s t : IpSubnets) → IsTrue (⟦<IpSubnets as PartialEq>⟧.eq s t) ↔ (ip_subnet_range s ≡ ip_subnet_range t) }
