@@ -16,9 +16,16 @@ fn compare(rt: &impl Abort, label: &str, outcomes: &[Outcome]) {
     assert_eq!(rt; outcomes.last(), Some(&Outcome::Answered), "{label}");
 }
 
+/// Grows the stack by the 64 KiB that a run of the program takes: where all memory is taken it could not grow.
+fn grow_stack(rt: &impl Abort, alloc: Global) {
+    let told = run_once(alloc, b"", 0, b"", b"");
+    assert_eq!(rt; told, Outcome::Answered, "program: no input");
+}
+
 #[test]
 fn text_tool(rt: HostRuntime) -> Result<(), Fail> {
     let alloc = rt.alloc();
+    grow_stack(&rt, alloc);
     // label, text, the answer or the number of the bad line
     let rows: [(&str, &str, Result<&str, usize>); 5] = [
         ("tool", "10.0.1.0/24\n\n10.0.0.0/24", Ok("10.0.0.0/23\n")),
@@ -107,6 +114,7 @@ fn program(rt: HostRuntime) -> Result<(), Fail> {
 #[test]
 fn first_request_refused(rt: HostRuntime) -> Result<(), Fail> {
     let alloc = rt.alloc();
+    grow_stack(&rt, alloc);
     let held = exhaust(alloc)?;
     let left = is_memory_left(alloc);
     let empty = aggregate_text(alloc, "");
