@@ -1,9 +1,10 @@
 -- What contracts see of a walk: the range that is left to it, and the list of the networks that it still gives.
-use Rattle.std.specs.Prelude.{◌≡◌, ℕ, ◌-◌, ◌*◌, ◌≤◌, List, length}
+use Rattle.std.specs.Prelude.{◌≡◌, ℕ, ◌-◌, ◌*◌, ◌<◌, ◌≤◌, ◌↔◌, List, length, Option, ⊤, IfSome, IfNone, IsNone}
+use Rattle.std.specs.Iterator.{MakesProgress, item_count}
 use Rattle.ipnet_base.specs.Address.{Address, IPv4, IPv6, IsBetween, width}
-use Rattle.ipnet_base.specs.Network.{Network}
+use Rattle.ipnet_base.specs.Network.{Network, IsGreatestOf}
 use Rattle.ipnet_base.specs.Blocks.{AreMaximalBlocks, ArePairwiseDisjoint, IsShortestCover}
-use Rattle.ipnet_base.specs.Subnets.{SubnetRange}
+use Rattle.ipnet_base.specs.Subnets.{SubnetRange, IsAdvancedPast, IsLargestSubnetAt}
 use Rattle.ipnet_base.proofs.WalkLaws.{blocks_exist}
 use Rattle.ipnet.specs.declared.subnets.IpSubnets.{IpSubnets}
 use Rattle.ipnet.specs.declared.subnets.IpSubnets.TheVariants as Ip
@@ -31,6 +32,24 @@ pub record IsWalkOf (range : SubnetRange) (networks : List Network) : Type 0 whe
   pub shortest : IsShortestCover (IsInRange range) range.min_prefix_len networks
   -- without a least length they are few: at most 62 for IPv4, 254 for IPv6
   pub few : range.min_prefix_len ≡ 0 → length networks ≤ 2 * width range.family - 2
+
+-- What `next` of a type of walks does beside giving the first of its list, where network_of is the network that an
+-- item stands for, range_of the range that a walk has left, and left the networks that it still gives. It stands on
+-- `next` as the clause `goes` of the trait: a `for` reads `on`, `keeps` and `rests` there, which `progress` has.
+pub record IsSubnetStep {S A : Type 0} (network_of : A → Network) (range_of : S → SubnetRange) (left : S → List Network) (old : S) (answer : Option A) (new : S) : Type 0 where
+  -- what std wants of each call of `next`: the list gets shorter
+  pub progress : MakesProgress (λ _. ⊤) (item_count left) old answer new
+  pub open progress use *
+  -- the largest network that starts at the start, ends at or before the end and has at least the least length
+  pub largest : IfSome answer (λ n. IsLargestSubnetAt (range_of old).family (range_of old).start (range_of old).end (range_of old).min_prefix_len (network_of n))
+  -- the stored ends that it leaves
+  pub advanced : IfSome answer (λ n. (x : Address) → IsGreatestOf (network_of n) x → IsAdvancedPast x.number (range_of old) (range_of new))
+  -- the list before the call is the walk over the range before, and so behind the call
+  pub walk : IsWalkOf (range_of old) (left old)
+  pub rest : IsWalkOf (range_of new) (left new)
+  -- `None` comes exactly where the start lies above the end, and changes nothing
+  pub over : IsNone answer ↔ ((range_of old).end < (range_of old).start)
+  pub unchanged : IfNone answer (new ≡ old)
 
 -- the range that the walk has left, by its stored ends
 abbrev pub ipv4_subnet_range : Ipv4Subnets → SubnetRange

@@ -1,12 +1,9 @@
 //! Walks: the fewest networks that tile a range of addresses, in ascending order.
-ghost use Rattle.std.specs.Prelude.{◌≡◌, ◌<◌, ◌↔◌, ⊤, IfSome, IfNone, IsNone};
-ghost use Rattle.std.specs.Iterator.{YieldsFirstBy, MakesProgress, item_count};
-ghost use Rattle.ipnet_base.specs.Address.{Address};
-ghost use Rattle.ipnet_base.specs.Network.{IsGreatestOf};
-ghost use Rattle.ipnet_base.specs.Subnets.{IsLargestSubnetAt, IsAdvancedPast};
+ghost use Rattle.std.specs.Prelude.{◌≡◌};
+ghost use Rattle.std.specs.Iterator.{YieldsFirstBy, item_count};
 ghost use Rattle.ipnet.specs.NetworkOf.{ip_network};
 ghost use Rattle.ipnet.specs.declared.subnets.IpSubnets.TheVariants.{V4, V6};
-ghost use Rattle.ipnet.specs.SubnetsLeft.{IsWalkOf, ip_subnet_range, ip_subnets_left};
+ghost use Rattle.ipnet.specs.SubnetsLeft.{IsSubnetStep, ip_subnet_range, ip_subnets_left};
 
 use crate::net::IpNet;
 use std::iter::FusedIterator;
@@ -64,15 +61,7 @@ impl Iterator for IpSubnets {
     /// What the walk that it holds gives next: `None`, then and ever after, where the start lies above the end.
     fn next(&mut self) -> Option<IpNet>
         ensures steps { YieldsFirstBy ip_network ip_subnets_left self.old result self.new }
-        ensures goes { MakesProgress (λ _. ⊤) (item_count ip_subnets_left) self.old result self.new }
-        ensures largest { let range = ip_subnet_range self.old in
-            IfSome result (λ n. IsLargestSubnetAt range.family range.start range.end range.min_prefix_len (ip_network n)) }
-        ensures advanced { IfSome result (λ n. (x : Address) → IsGreatestOf (ip_network n) x
-            → IsAdvancedPast x.number (ip_subnet_range self.old) (ip_subnet_range self.new)) }
-        ensures walk { IsWalkOf (ip_subnet_range self.old) (ip_subnets_left self.old) }
-        ensures rest { IsWalkOf (ip_subnet_range self.new) (ip_subnets_left self.new) }
-        ensures over { IsNone result ↔ ((ip_subnet_range self.old).end < (ip_subnet_range self.old).start) }
-        ensures unchanged { IfNone result (self.new ≡ self.old) }
+        ensures goes { IsSubnetStep ip_network ip_subnet_range ip_subnets_left self.old result self.new }
     {
         match self {
             IpSubnets::V4(walk) => {

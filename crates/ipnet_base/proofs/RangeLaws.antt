@@ -1,14 +1,13 @@
 -- The list that a range gives, and what the calls on a range do to it.
-use Rattle.std.proofs.Common.{◌≡◌, ℕ, ◌+◌, ◌-◌, ◌<◌, ◌≤◌, Option, Some, None, List, [], ◌∷◌, ◌++◌, length, map, take, drop, reverse, slice_get, slice_index_or, option_map, Contains, AllPairs, MatchOption, refl, sym, ap, ap₂, ◌∙◌, subst, arith, zero, suc, inl, inr}
+use Rattle.std.proofs.Common.{◌≡◌, ℕ, ◌+◌, ◌-◌, ◌<◌, ◌≤◌, Option, Some, None, [], ◌∷◌, ◌++◌, length, map, take, drop, reverse, slice_get, slice_index_or, option_map, Contains, AllPairs, MatchOption, refl, sym, ap, ap₂, ◌∙◌, subst, arith, zero, suc, inl, inr, length-append}
+use Rattle.std.specs.Iterator.{YieldsFirstBy, YieldsLastBy}
 use Rattle.std.specs.List.{range_with_len}
 use Rattle.std.proofs.lemmas.Bool.{cases_lt, cases_eq}
-use Rattle.std.proofs.lemmas.Iterator.{YieldsList}
-use Rattle.std.proofs.lemmas.Iterator.Consumers.{YieldsList-from_shown}
 use Rattle.std.proofs.lemmas.List.{length-reverse, get_or-reverse}
 use Rattle.std.proofs.lemmas.List.FromFn.{length-map-range_with_len, get_or-map-range_with_len, map-range_with_len_more, take-map-range_with_len}
 use Rattle.std.proofs.lemmas.Option.{slice_get-get_or, slice_get_past}
 use Rattle.ipnet_base.specs.Address.{Address, IsBetween}
-use Rattle.ipnet_base.specs.Ranges.{AddressRange, numbers_between, address_at, addresses_of, address_count, with_ends, IsNext, IsNextBack, IsNth, IsNthBack, GivesFirst, GivesLast}
+use Rattle.ipnet_base.specs.Ranges.{AddressRange, numbers_between, address_at, addresses_of, address_count, with_ends, IsNext, IsNextBack, IsNth, IsNthBack, IsRangeStep, IsRangeStepBack}
 
 -- ---- the list of a range
 
@@ -138,15 +137,32 @@ IsNextBack-yields r answer s h = elim (cases_lt r.end r.start) [
 ]
 
 -- so the ends tell all that `next` does
-pub gives_first : {R A : Type 0} {address_of : A → Address} {range_of : R → AddressRange} {old new : R} {answer : Option A}
-    → IsNext (range_of old) (option_map address_of answer) (range_of new) → GivesFirst address_of range_of old answer new
-gives_first {address_of = address_of} {range_of = range_of} {old = old} {new = new} {answer = None} h = record { list = IsNext-yields (range_of old) None (range_of new) h; ends = h }
-gives_first {address_of = address_of} {range_of = range_of} {old = old} {new = new} {answer = Some x} h = record { list = IsNext-yields (range_of old) (Some (address_of x)) (range_of new) h; ends = h }
+pub range_step : {R A : Type 0} {address_of : A → Address} {range_of : R → AddressRange} {old new : R} {answer : Option A}
+    → IsNext (range_of old) (option_map address_of answer) (range_of new) → IsRangeStep address_of range_of old answer new
+range_step {answer = None} h = record { progress = record { on = λ _. tt; keeps = tt; rests = λ _. tt }; ends = h }
+range_step {address_of = address_of} {range_of = range_of} {old = old} {new = new} {answer = Some x} h =
+    let one_less = ap length (IsNext-yields (range_of old) (Some (address_of x)) (range_of new) h) in
+    record { progress = record { on = λ _. (tt, tt, omega (arith, one_less, length-addresses_of (range_of old), length-addresses_of (range_of new))); keeps = tt; rests = λ _. tt }; ends = h }
 
-pub gives_last : {R A : Type 0} {address_of : A → Address} {range_of : R → AddressRange} {old new : R} {answer : Option A}
-    → IsNextBack (range_of old) (option_map address_of answer) (range_of new) → GivesLast address_of range_of old answer new
-gives_last {address_of = address_of} {range_of = range_of} {old = old} {new = new} {answer = None} h = record { list = IsNextBack-yields (range_of old) None (range_of new) h; ends = h }
-gives_last {address_of = address_of} {range_of = range_of} {old = old} {new = new} {answer = Some x} h = record { list = IsNextBack-yields (range_of old) (Some (address_of x)) (range_of new) h; ends = h }
+pub yields_first : {R A : Type 0} {address_of : A → Address} {range_of : R → AddressRange} {old new : R} {answer : Option A}
+    → IsRangeStep address_of range_of old answer new → YieldsFirstBy address_of (λ r. addresses_of (range_of r)) old answer new
+yields_first {range_of = range_of} {old = old} {new = new} {answer = None} step = IsNext-yields (range_of old) None (range_of new) step.ends
+yields_first {address_of = address_of} {range_of = range_of} {old = old} {new = new} {answer = Some x} step =
+    IsNext-yields (range_of old) (Some (address_of x)) (range_of new) step.ends
+
+pub range_step_back : {R A : Type 0} {address_of : A → Address} {range_of : R → AddressRange} {old new : R} {answer : Option A}
+    → IsNextBack (range_of old) (option_map address_of answer) (range_of new) → IsRangeStepBack address_of range_of old answer new
+range_step_back {answer = None} h = record { progress = record { on = λ _. tt; keeps = tt; rests = λ _. tt }; ends = h }
+range_step_back {address_of = address_of} {range_of = range_of} {old = old} {new = new} {answer = Some x} h =
+    let rest = addresses_of (range_of new) in
+    let one_less = ap length (IsNextBack-yields (range_of old) (Some (address_of x)) (range_of new) h) ∙ length-append rest (address_of x ∷ []) in
+    record { progress = record { on = λ _. (tt, tt, omega (arith, one_less, length-addresses_of (range_of old), length-addresses_of (range_of new))); keeps = tt; rests = λ _. tt }; ends = h }
+
+pub yields_last : {R A : Type 0} {address_of : A → Address} {range_of : R → AddressRange} {old new : R} {answer : Option A}
+    → IsRangeStepBack address_of range_of old answer new → YieldsLastBy address_of (λ r. addresses_of (range_of r)) old answer new
+yields_last {range_of = range_of} {old = old} {new = new} {answer = None} step = IsNextBack-yields (range_of old) None (range_of new) step.ends
+yields_last {address_of = address_of} {range_of = range_of} {old = old} {new = new} {answer = Some x} step =
+    IsNextBack-yields (range_of old) (Some (address_of x)) (range_of new) step.ends
 
 pub IsNth-item : (n : ℕ) (r : AddressRange) (answer : Option Address) (s : AddressRange) → IsNth n r answer s → answer ≡ slice_get (addresses_of r) n
 IsNth-item n r answer s h = elim (cases_lt n (address_count r)) [
@@ -188,9 +204,3 @@ IsNthBack-left n r answer s h = elim (cases_lt (n + 1) (address_count r)) [
         | inr ne ↦ ap addresses_of (h.past (omega arith)).1 ∙ used_up r ∙ sym none
       ]
 ]
-
--- the items of a range that is walked from the front are its addresses
-pub YieldsList-gives_first : {R A : Type 0} (address_of : A → Address) (range_of : R → AddressRange) (r : R)
-    → YieldsList (GivesFirst address_of range_of) address_of r (addresses_of (range_of r))
-YieldsList-gives_first address_of range_of r =
-    YieldsList-from_shown (GivesFirst address_of range_of) address_of (λ s. addresses_of (range_of s)) (λ t u h. ap length h.list.0) (λ t x u h. h.list) r

@@ -1,7 +1,7 @@
 -- Ranges of addresses, walked from both ends: the addresses from a first to a last one, the two ends that a
 -- range keeps, and what each call answers and leaves.
 use Rattle.std.specs.Prelude.{◌≡◌, ℕ, ◌+◌, ◌-◌, ◌<◌, ◌≤◌, ◌⊎◌, ⊤, Option, Some, None, List, [], ◌∷◌, map, option_map}
-use Rattle.std.specs.Iterator.{YieldsFirstBy, YieldsLastBy}
+use Rattle.std.specs.Iterator.{MakesProgress, at_most}
 use Rattle.std.specs.List.{range_with_len, filter_map}
 use Rattle.ipnet_base.specs.Address.{Family, Address, family_index}
 
@@ -56,16 +56,19 @@ pub record IsNthBack (n : ℕ) (old : AddressRange) (answer : Option Address) (n
   pub first : n + 1 ≡ address_count old → (answer ≡ Some (address_at old old.start)) × (new ≡ with_ends old 1 0)
   pub behind : n + 1 < address_count old → (answer ≡ Some (address_at old (old.end - n))) × (new ≡ with_ends old old.start (old.end - n - 1))
 
--- What `next` of a type of ranges does, where range_of is the range that a value keeps and address_of the
--- address that an item stands for: it gives the first address that is left and leaves the others, with the ends
--- as above.
-pub record GivesFirst {R A : Type 0} (address_of : A → Address) (range_of : R → AddressRange) (old : R) (answer : Option A) (new : R) : Type 0 where
-  pub list : YieldsFirstBy address_of (λ r. addresses_of (range_of r)) old answer new
+-- What `next` of a type of ranges does beside giving the first address that is left, where range_of is the range
+-- that a value keeps and address_of the address that an item stands for: it leaves the ends as above. It stands on
+-- `next` as the clause `goes` of the trait: a `for` reads `on`, `keeps` and `rests` there, which `progress` has.
+pub record IsRangeStep {R A : Type 0} (address_of : A → Address) (range_of : R → AddressRange) (old : R) (answer : Option A) (new : R) : Type 0 where
+  -- what std wants of each call of `next`: fewer addresses are left
+  pub progress : MakesProgress (λ _. ⊤) (λ r. at_most (address_count (range_of r))) old answer new
+  pub open progress use *
   pub ends : IsNext (range_of old) (option_map address_of answer) (range_of new)
 
--- what `next_back` does: it gives the last
-pub record GivesLast {R A : Type 0} (address_of : A → Address) (range_of : R → AddressRange) (old : R) (answer : Option A) (new : R) : Type 0 where
-  pub list : YieldsLastBy address_of (λ r. addresses_of (range_of r)) old answer new
+-- what `next_back` does beside giving the last
+pub record IsRangeStepBack {R A : Type 0} (address_of : A → Address) (range_of : R → AddressRange) (old : R) (answer : Option A) (new : R) : Type 0 where
+  pub progress : MakesProgress (λ _. ⊤) (λ r. at_most (address_count (range_of r))) old answer new
+  pub open progress use *
   pub ends : IsNextBack (range_of old) (option_map address_of answer) (range_of new)
 
 -- one of the four calls

@@ -95,11 +95,8 @@ impl Ipv4Subnets {
 impl Iterator for Ipv4Subnets {
     type Item = Ipv4Net;
 
-    ghost use Rattle.std.specs.Prelude.{◌↔◌, ⊤, IfSome, IfNone, IsNone};
-    ghost use Rattle.std.specs.Iterator.{YieldsFirstBy, MakesProgress, item_count};
-    ghost use Rattle.ipnet_base.specs.Address.{Address};
-    ghost use Rattle.ipnet_base.specs.Network.{IsGreatestOf};
-    ghost use Rattle.ipnet.specs.SubnetsLeft.{IsWalkOf, ipv4_subnet_range, ipv4_subnets_left};
+    ghost use Rattle.std.specs.Iterator.{YieldsFirstBy, item_count};
+    ghost use Rattle.ipnet.specs.SubnetsLeft.{IsSubnetStep, ipv4_subnet_range, ipv4_subnets_left};
 
     ghost next_gives = { YieldsFirstBy ipv4_network ipv4_subnets_left };
 
@@ -112,15 +109,7 @@ impl Iterator for Ipv4Subnets {
     /// where the network ended at that last address, or where the start was the end; otherwise it stays.
     fn next(&mut self) -> Option<Ipv4Net>
         ensures steps { YieldsFirstBy ipv4_network ipv4_subnets_left self.old result self.new }
-        ensures goes { MakesProgress (λ _. ⊤) (item_count ipv4_subnets_left) self.old result self.new }
-        ensures largest { let range = ipv4_subnet_range self.old in
-            IfSome result (λ n. IsLargestSubnetAt IPv4 range.start range.end range.min_prefix_len (ipv4_network n)) }
-        ensures advanced { IfSome result (λ n. (x : Address) → IsGreatestOf (ipv4_network n) x
-            → IsAdvancedPast x.number (ipv4_subnet_range self.old) (ipv4_subnet_range self.new)) }
-        ensures walk { IsWalkOf (ipv4_subnet_range self.old) (ipv4_subnets_left self.old) }
-        ensures rest { IsWalkOf (ipv4_subnet_range self.new) (ipv4_subnets_left self.new) }
-        ensures over { IsNone result ↔ ((ipv4_subnet_range self.old).end < (ipv4_subnet_range self.old).start) }
-        ensures unchanged { IfNone result (self.new ≡ self.old) }
+        ensures goes { IsSubnetStep ipv4_network ipv4_subnet_range ipv4_subnets_left self.old result self.new }
     {
         if self.start > self.end {
             return None;

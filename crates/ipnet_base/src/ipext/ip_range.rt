@@ -168,20 +168,23 @@ impl Iterator for IpAddrRange {
     type Item = IpAddr;
 
     ghost use Rattle.std.specs.Prelude.{◌+◌, ◌-◌, IfSome};
-    ghost use Rattle.std.specs.Iterator.{UpTo, at_most};
+    ghost use Rattle.std.specs.Iterator.{YieldsFirstBy, UpTo, at_most};
     ghost use Rattle.std.specs.Iterator.SizeHint.{IsWithinCount, IsExactHint};
     ghost use Rattle.ipnet_base.specs.Address.{ip_address};
-    ghost use Rattle.ipnet_base.specs.Ranges.{address_count, GivesFirst};
-    ghost use Rattle.ipnet_base.specs.RangeOf.{ip_range};
+    ghost use Rattle.ipnet_base.specs.Ranges.{address_count, IsRangeStep};
+    ghost use Rattle.ipnet_base.specs.RangeOf.{ip_range, ip_addresses};
 
-    ghost next_gives = { GivesFirst ip_address ip_range };
+    ghost next_gives = { YieldsFirstBy ip_address ip_addresses };
 
     ghost remaining = { λ r. at_most (address_count (ip_range r)) };
 
     /// The first address that is left, or `None`, then and ever after, if none is.
     ///
     /// Behind its only address a range stores the ends 1 and 0; a range with no address keeps its ends.
-    fn next(&mut self) -> Option<IpAddr> {
+    fn next(&mut self) -> Option<IpAddr>
+        ensures steps { YieldsFirstBy ip_address ip_addresses self.old result self.new }
+        ensures goes { IsRangeStep ip_address ip_range self.old result self.new }
+    {
         match self {
             IpAddrRange::V4(range) => range.next().map(IpAddr::V4),
             IpAddrRange::V6(range) => range.next().map(IpAddr::V6),
@@ -204,15 +207,19 @@ impl Iterator for IpAddrRange {
 
 impl DoubleEndedIterator for IpAddrRange {
     ghost use Rattle.ipnet_base.specs.Address.{ip_address};
-    ghost use Rattle.ipnet_base.specs.Ranges.{GivesLast};
-    ghost use Rattle.ipnet_base.specs.RangeOf.{ip_range};
+    ghost use Rattle.std.specs.Iterator.{YieldsLastBy};
+    ghost use Rattle.ipnet_base.specs.Ranges.{IsRangeStepBack};
+    ghost use Rattle.ipnet_base.specs.RangeOf.{ip_range, ip_addresses};
 
-    ghost next_back_gives = { GivesLast ip_address ip_range };
+    ghost next_back_gives = { YieldsLastBy ip_address ip_addresses };
 
     /// The last address that is left, or `None`, then and ever after, if none is.
     ///
     /// Behind its only address a range stores the ends 1 and 0; a range with no address keeps its ends.
-    fn next_back(&mut self) -> Option<IpAddr> {
+    fn next_back(&mut self) -> Option<IpAddr>
+        ensures steps { YieldsLastBy ip_address ip_addresses self.old result self.new }
+        ensures goes { IsRangeStepBack ip_address ip_range self.old result self.new }
+    {
         match self {
             IpAddrRange::V4(range) => range.next_back().map(IpAddr::V4),
             IpAddrRange::V6(range) => range.next_back().map(IpAddr::V6),

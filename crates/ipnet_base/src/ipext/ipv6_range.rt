@@ -190,20 +190,23 @@ impl Iterator for Ipv6AddrRange {
     type Item = Ipv6Addr;
 
     ghost use Rattle.std.specs.Prelude.{◌+◌, ◌-◌, IfSome};
-    ghost use Rattle.std.specs.Iterator.{UpTo, at_most};
+    ghost use Rattle.std.specs.Iterator.{YieldsFirstBy, UpTo, at_most};
     ghost use Rattle.std.specs.Iterator.SizeHint.{IsWithinCount, IsExactHint};
     ghost use Rattle.ipnet_base.specs.Address.{ipv6_address};
-    ghost use Rattle.ipnet_base.specs.Ranges.{address_count, GivesFirst};
-    ghost use Rattle.ipnet_base.specs.RangeOf.{ipv6_range};
+    ghost use Rattle.ipnet_base.specs.Ranges.{address_count, IsRangeStep};
+    ghost use Rattle.ipnet_base.specs.RangeOf.{ipv6_range, ipv6_addresses};
 
-    ghost next_gives = { GivesFirst ipv6_address ipv6_range };
+    ghost next_gives = { YieldsFirstBy ipv6_address ipv6_addresses };
 
     ghost remaining = { λ r. at_most (address_count (ipv6_range r)) };
 
     /// The first address that is left, or `None`, then and ever after, if none is.
     ///
     /// Behind its only address a range stores the ends 1 and 0; a range with no address keeps its ends.
-    fn next(&mut self) -> Option<Ipv6Addr> {
+    fn next(&mut self) -> Option<Ipv6Addr>
+        ensures steps { YieldsFirstBy ipv6_address ipv6_addresses self.old result self.new }
+        ensures goes { IsRangeStep ipv6_address ipv6_range self.old result self.new }
+    {
         let first = self.start;
         if first < self.end {
             self.start = first + 1;
@@ -237,15 +240,19 @@ impl Iterator for Ipv6AddrRange {
 
 impl DoubleEndedIterator for Ipv6AddrRange {
     ghost use Rattle.ipnet_base.specs.Address.{ipv6_address};
-    ghost use Rattle.ipnet_base.specs.Ranges.{GivesLast};
-    ghost use Rattle.ipnet_base.specs.RangeOf.{ipv6_range};
+    ghost use Rattle.std.specs.Iterator.{YieldsLastBy};
+    ghost use Rattle.ipnet_base.specs.Ranges.{IsRangeStepBack};
+    ghost use Rattle.ipnet_base.specs.RangeOf.{ipv6_range, ipv6_addresses};
 
-    ghost next_back_gives = { GivesLast ipv6_address ipv6_range };
+    ghost next_back_gives = { YieldsLastBy ipv6_address ipv6_addresses };
 
     /// The last address that is left, or `None`, then and ever after, if none is.
     ///
     /// Behind its only address a range stores the ends 1 and 0; a range with no address keeps its ends.
-    fn next_back(&mut self) -> Option<Ipv6Addr> {
+    fn next_back(&mut self) -> Option<Ipv6Addr>
+        ensures steps { YieldsLastBy ipv6_address ipv6_addresses self.old result self.new }
+        ensures goes { IsRangeStepBack ipv6_address ipv6_range self.old result self.new }
+    {
         let last = self.end;
         if self.start < last {
             self.end = last - 1;

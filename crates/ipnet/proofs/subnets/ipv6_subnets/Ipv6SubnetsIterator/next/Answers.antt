@@ -11,11 +11,16 @@ returns-then-self-clause-steps c =
     nothing_left (ipv6_subnet_range c.args.self.now) (ipv6_subnets_left c.args.self.now) (ipv6_subnets_left-are_blocks c.args.self.now) c.if-self.true in
     (nothing, nothing)
 
-pub returns-then-self-clause-walk : goal.returns-then-self-clause-walk
-returns-then-self-clause-walk c = ipv6_walk c.args.self.now
-
-pub returns-then-self-clause-rest : goal.returns-then-self-clause-rest
-returns-then-self-clause-rest c = ipv6_walk c.args.self.now
+pub returns-then-self-clause-goes : goal.returns-then-self-clause-goes
+returns-then-self-clause-goes c = record {
+  progress = search rules;
+  largest = search rules;
+  advanced = search rules;
+  walk = ipv6_walk c.args.self.now;
+  rest = ipv6_walk c.args.self.now;
+  over = search rules;
+  unchanged = search rules;
+}
 
 pub returns-clause-steps : goal.returns-clause-steps
 returns-clause-steps c =
@@ -28,16 +33,13 @@ returns-clause-steps c =
 pub returns-clause-goes : goal.returns-clause-goes
 returns-clause-goes c =
     let shorter = ap length (returns-clause-steps c) in
-    search rules
-
-pub returns-clause-advanced : goal.returns-clause-advanced
-returns-clause-advanced c x greatest =
-    let last = greatest_is_last (ipv6_network c.largest_subnet_at-network.result) x greatest in
-    subst (λ last. IsAdvancedPast last (ipv6_subnet_range c.args.self.now) (ipv6_subnet_range c.advance_past.new.self))
-    (c.last_number.ensures ∙ sym last) c.advance_past.ensures
-
-pub returns-clause-walk : goal.returns-clause-walk
-returns-clause-walk c = ipv6_walk c.args.self.now
-
-pub returns-clause-rest : goal.returns-clause-rest
-returns-clause-rest c = ipv6_walk c.advance_past.new.self
+    record {
+      progress = search rules;
+      largest = search rules;
+      advanced = λ x greatest. subst (λ last. IsAdvancedPast last (ipv6_subnet_range c.args.self.now) (ipv6_subnet_range c.advance_past.new.self))
+          (c.last_number.ensures ∙ sym (greatest_is_last (ipv6_network c.largest_subnet_at-network.result) x greatest)) c.advance_past.ensures;
+      walk = ipv6_walk c.args.self.now;
+      rest = ipv6_walk c.advance_past.new.self;
+      over = search rules;
+      unchanged = search rules;
+    }

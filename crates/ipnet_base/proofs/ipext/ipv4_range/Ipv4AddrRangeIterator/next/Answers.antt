@@ -1,9 +1,15 @@
 use Rattle.std.proofs.Common.{rules}
-use Rattle.ipnet_base.proofs.RangeLaws.{gives_first}
+use Rattle.ipnet_base.proofs.RangeLaws.{yields_first, range_step}
 use Rattle.ipnet_base.proofs.ipext.ipv4_range.Ipv4AddrRangeIterator.next.Goals as goal
 
+pub returns-else-first-self-2-clause-goes : goal.returns-else-first-self-2-clause-goes
+returns-else-first-self-2-clause-goes c = range_step (search rules)
+
 pub returns-else-first-self-2-clause-steps : goal.returns-else-first-self-2-clause-steps
-returns-else-first-self-2-clause-steps c = gives_first (search rules)
+returns-else-first-self-2-clause-steps c = yields_first (returns-else-first-self-2-clause-goes c)
+
+pub returns-clause-goes : goal.returns-clause-goes
+returns-clause-goes c = range_step (search rules)
 
 pub returns-clause-steps : goal.returns-clause-steps
-returns-clause-steps c = gives_first (search rules)
+returns-clause-steps c = yields_first (returns-clause-goes c)
