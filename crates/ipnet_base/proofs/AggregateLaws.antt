@@ -3,12 +3,12 @@ use Rattle.std.proofs.Common.{◌≡◌, ◌+◌, ◌^◌, ◌<◌, ◌≤◌, �
 use Rattle.std.proofs.lemmas.Bool.{cases_lt}
 use Rattle.ipnet_base.specs.Address.{Address, IsAddress, width, family_index}
 use Rattle.ipnet_base.specs.Network.{Network, IsNetwork, InBlock, IsSubnetOf, AreHalves, IsSupernetOf, truncation}
-use Rattle.ipnet_base.specs.Blocks.{IsCoveredBy, HaveSameCover, IsExactCover, IsShortestCover, ArePairwiseDisjoint, IsAggregateOf, AreAggregatedNeighbours}
+use Rattle.ipnet_base.specs.Blocks.{IsCoveredBy, HaveSameCover, IsExactCover, IsShortestCover, ArePairwiseDisjoint, IsAggregateOf, IsCanonicalAggregateOf, AreAggregatedNeighbours}
 use Rattle.ipnet_base.proofs.BlockLaws.{between_from_block, last_fits, supernet_to_halves, halves_to_supernet}
 use Rattle.ipnet_base.proofs.ListLaws.{contains_here, contains_there, contains_cases, any_from_contains, all_at}
 use Rattle.ipnet_base.proofs.UniqueLaws.{AreMaximalBlocks-unique, same_family_from_index}
 use Rattle.ipnet_base.proofs.NeighbourLaws.{LiesBefore, AreSettled, AreMaximalBlocks-from_neighbours}
-use Rattle.ipnet_base.proofs.SupernetLaws.{IsDecided-cover, blocks_cover, AreMaximalBlocks-same_set, neighbours_from_blocks}
+use Rattle.ipnet_base.proofs.SupernetLaws.{IsDecided-cover, blocks_cover, AreMaximalBlocks-same_set, same_blocks_iff_same_cover, neighbours_from_blocks}
 use Rattle.ipnet_base.proofs.StackLaws.{cover_truncation}
 use Rattle.ipnet_base.proofs.CoverLaws.{IsExactCover-of_maximal, IsShortestCover-of_maximal, maximal_blocks_apart}
 
@@ -180,3 +180,18 @@ aggregate_of_same_truncations networks others answer same = (
     cover : HaveSameCover networks others
     cover = HaveSameCover-trans networks (map truncation networks) others (HaveSameCover-sym (map truncation networks) networks (cover_truncation networks))
         (HaveSameCover-trans (map truncation networks) (map truncation others) others (cover_same_members (map truncation networks) (map truncation others) same) (cover_truncation others))
+
+-- all that is said of the aggregate of a list of networks
+pub IsCanonicalAggregateOf-from_aggregate : (networks answer : List Network) → All IsNetwork networks
+    → IsAggregateOf answer networks → IsCanonicalAggregateOf answer networks
+IsCanonicalAggregateOf-from_aggregate networks answer valid h = record {
+  aggregate = h;
+  addresses = blocks_cover networks answer valid h;
+  disjoint = aggregate_apart networks answer h;
+  shortest = IsShortestCover-of_aggregate networks answer valid h;
+  no_longer = aggregate_no_longer networks answer valid h;
+  only = λ other k. IsAggregateOf-unique networks other answer k h;
+  canonical = λ others others_valid. same_blocks_iff_same_cover networks others answer valid others_valid h;
+  unordered = λ others same. (aggregate_of_same_truncations others networks answer same).1 h;
+  again = aggregate_of_aggregate networks answer valid h;
+}

@@ -1,10 +1,10 @@
 -- Lists of networks of one family: the aggregate of IPv4 networks, followed by the aggregate of IPv6 networks, is
 -- the aggregate of all of them.
-use Rattle.std.proofs.Common.{◌≡◌, ℕ, ◌<◌, ◌⊎◌, ◌↔◌, List, [], ◌∷◌, ◌++◌, Contains, All, AllPairs, refl, sym, ap, ◌∙◌, arith, inl, inr}
+use Rattle.std.proofs.Common.{◌≡◌, ℕ, ◌⊎◌, ◌↔◌, List, [], ◌∷◌, ◌++◌, Contains, All, AllPairs, refl, sym, ap, ◌∙◌, arith, inl, inr}
 use Rattle.std.proofs.lemmas.List.Elements.{Contains-append_left, Contains-append_right, Contains-append_cases}
 use Rattle.ipnet_base.specs.Address.{Family, Address, IPv4, IPv6, family_index}
-use Rattle.ipnet_base.specs.Network.{Network, InBlock, IsSubnetOf, IsBefore}
-use Rattle.ipnet_base.specs.Blocks.{IsCoveredBy, HaveSameCover, IsInside, IsMaximal, AreMaximalBlocks, IsAggregateOf}
+use Rattle.ipnet_base.specs.Network.{Network, InBlock, IsBefore}
+use Rattle.ipnet_base.specs.Blocks.{IsCoveredBy, HaveSameCover, IsInside, IsMaximal, IsAggregateOf}
 use Rattle.ipnet_base.proofs.BlockLaws.{own, own_in, cases_family}
 use Rattle.ipnet_base.proofs.ListLaws.{contains_here, contains_there, pairs_head, pairs_tail, pairs_cons, any_from_contains, all_at}
 

@@ -3,13 +3,13 @@ use Rattle.std.proofs.Common.{◌≡◌, ℕ, zero, suc, ◌+◌, ◌-◌, ◌<�
 use Rattle.std.specs.List.{AllAdjacentBelow}
 use Rattle.std.proofs.lemmas.Bool.{cases_lt, cases_eq, cases_order}
 use Rattle.std.proofs.lemmas.List.{length_push, get_or_push, get_or_append_left, length-map, get_or-map, take_more, take_all}
-use Rattle.std.proofs.lemmas.List.Elements.{All-push, Contains-append_left, Contains-append_right, Contains-append_cases, All-map, All-weaker}
-use Rattle.std.proofs.lemmas.List.Sorted.{All-permutation, IsPermutation-map, Contains-permutation, IsPermutation-sym}
+use Rattle.std.proofs.lemmas.List.Elements.{All-push, Contains-append_left, Contains-append_right, Contains-append_cases, All-weaker}
+use Rattle.std.proofs.lemmas.List.Sorted.{IsPermutation-map, Contains-permutation, IsPermutation-sym}
 use Rattle.ipnet_base.specs.Network.{truncation, Network, IsNetwork, host_bits, InBlock, IsSubnetOf, IsTruncated, IsBefore, AreHalves, IsSupernetOf}
 use Rattle.ipnet_base.specs.Blocks.{HaveSameCover, IsCoveredBy}
 use Rattle.ipnet_base.specs.Address.{Address, width, family_index}
 use Rattle.ipnet_base.proofs.NeighbourLaws.{LiesBefore, AreSettled}
-use Rattle.ipnet_base.proofs.BlockLaws.{IsTruncated-truncation, same_network, truncation_in, in_truncation, own, own_in, block_between, nested_or_disjoint, nested, supernet_to_halves, halves_to_supernet}
+use Rattle.ipnet_base.proofs.BlockLaws.{same_network, truncation_in, in_truncation, own, own_in, block_between, nested_or_disjoint, nested, supernet_to_halves, halves_to_supernet}
 use Rattle.ipnet_base.proofs.UniqueLaws.{same_family_from_index}
 use Rattle.ipnet_base.proofs.ListLaws.{contains_nil, contains_here, contains_cases, any_from_contains, at_place}
 
