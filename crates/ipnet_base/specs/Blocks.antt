@@ -1,6 +1,6 @@
 -- What a list of networks covers, the maximal blocks of a set of addresses, and the shortest cover of it.
 -- A set is given by its membership, as `IsCoveredBy networks` or `IsBetween family start end`.
-use Rattle.std.specs.Prelude.{◌≡◌, ℕ, ◌<◌, ◌≤◌, ◌↔◌, List, length, map, Contains, All, AllPairs, Any, IsPermutation}
+use Rattle.std.specs.Prelude.{◌≡◌, ℕ, ◌<◌, ◌≤◌, ◌↔◌, ◌⊎◌, List, length, map, Contains, All, AllPairs, Any, IsPermutation}
 use Rattle.std.specs.List.{AllAdjacentBelow}
 use Rattle.ipnet_base.specs.Address.{Address, family_index}
 use Rattle.ipnet_base.specs.Network.{Network, IsNetwork, InBlock, IsSubnetOf, AreDisjoint, IsTruncated, AreHalves}
@@ -93,3 +93,20 @@ pub record AreAggregatedNeighbours (networks : List Network) : Type 0 where
       networks (length networks)
   -- no two neighbours are the two halves of one supernet
   pub unjoined : AllAdjacentBelow (λ n k. ¬ (AreHalves n k)) networks (length networks)
+
+-- the addresses of either set
+abbrev pub IsInEither : (Address → Type 0) → (Address → Type 0) → Address → Type 0
+IsInEither First Second x = First x ⊎ Second x
+
+-- IPv4 addresses come before IPv6 addresses, and in a family the smaller number comes first
+abbrev pub ComesBefore : Address → Address → Type 0
+ComesBefore x y = (family_index x.family < family_index y.family) ⊎ ((x.family ≡ y.family) × (x.number < y.number))
+
+-- The first set comes before the second, and the two are not adjacent: no block has addresses of both and of no others.
+pub record AreSeparated (First Second : Address → Type 0) : Type 0 where
+  -- every address of the first set comes before every address of the second
+  pub before : (x y : Address) → First x → Second y → ComesBefore x y
+  -- between two of one family there is an address that is in neither set
+  pub gap : (x y : Address) → First x → Second y → x.family ≡ y.family
+      → (z : Address) × (z.family ≡ x.family) × (x.number < z.number) × (z.number < y.number)
+      × ¬ (IsInEither First Second z)

@@ -2,7 +2,7 @@
 //! lists of networks, as `specs/` defines them, are what a reader takes them for. No part of the crate's surface
 //! for users.
 ghost use Rattle.std.specs.Prelude.{◌≡◌, ◌≢◌, ℕ, ◌+◌, ◌-◌, ◌*◌, ◌^◌, ◌<◌, ◌≤◌, ◌⊎◌, ◌↔◌, Bool};
-ghost use Rattle.std.specs.Prelude.{List, ◌∷◌, length, map, Contains, All, IsPermutation};
+ghost use Rattle.std.specs.Prelude.{List, [], ◌∷◌, ◌++◌, length, map, Contains, All, IsPermutation};
 ghost use Rattle.ipnet_base.specs.Address.{Family, Address, IsAddress, IsBetween, IsAcceptedBy, width, family_index};
 ghost use Rattle.ipnet_base.specs.Address.{greatest_number};
 ghost use Rattle.ipnet_base.specs.Network.{Network, IsNetwork, InBlock, IsLeastOf, IsGreatestOf, IsSubnetOf};
@@ -10,7 +10,7 @@ ghost use Rattle.ipnet_base.specs.Network.{HaveSameBlock, AreDisjoint, IsTruncat
 ghost use Rattle.ipnet_base.specs.Network.{AreSiblings, AreHalves, IsBefore, truncation};
 ghost use Rattle.ipnet_base.specs.Blocks.{IsCoveredBy, HaveSameCover, IsMaximal, AreMaximalBlocks, ArePairwiseDisjoint};
 ghost use Rattle.ipnet_base.specs.Blocks.{IsExactCover, IsShortestCover, IsAggregateOf, IsCanonicalAggregateOf};
-ghost use Rattle.ipnet_base.specs.Blocks.{AreAggregatedNeighbours};
+ghost use Rattle.ipnet_base.specs.Blocks.{AreAggregatedNeighbours, IsAscending, IsInEither, AreSeparated};
 ghost use Rattle.ipnet_base.specs.Subnets.{IsLargestSubnetAt};
 ghost use Rattle.ipnet_base.specs.Masks.{netmask_number, hostmask_number, IsNetmaskOf};
 
@@ -177,6 +177,47 @@ pub fn order_repeats_and_host_bits_do_not_matter()
     ensures { (networks others answer : List Network)
         → ((n : Network) → Contains (map truncation networks) n ↔ Contains (map truncation others) n)
         → IsAggregateOf answer networks ↔ IsAggregateOf answer others }
+{}
+
+/// The empty list covers nothing; a list with one network more covers that network's block and what it covered; two
+/// lists joined cover what the one or the other covers.
+pub fn cover_is_a_union()
+    ensures empty { (x : Address) → ¬ (IsCoveredBy [] x) }
+    ensures in_front { (n : Network) (networks : List Network) (x : Address)
+        → IsCoveredBy (n ∷ networks) x ↔ (InBlock n x ⊎ IsCoveredBy networks x) }
+    ensures at_end { (networks : List Network) (n : Network) (x : Address)
+        → IsCoveredBy (networks ++ n ∷ []) x ↔ (IsCoveredBy networks x ⊎ InBlock n x) }
+    ensures joined { (networks others : List Network) (x : Address)
+        → IsCoveredBy (networks ++ others) x ↔ (IsCoveredBy networks x ⊎ IsCoveredBy others x) }
+{}
+
+/// The aggregate of two aggregates, one after the other, is the aggregate of both lists, so that a long list may be
+/// split, its parts aggregated apart, and the answers once more.
+pub fn aggregates_can_be_aggregated()
+    ensures { (networks others first second answer : List Network) → All IsNetwork networks → All IsNetwork others
+        → IsAggregateOf first networks → IsAggregateOf second others
+        → IsAggregateOf answer (first ++ second) ↔ IsAggregateOf answer (networks ++ others) }
+{}
+
+/// Where one set comes before another and is not adjacent to it, the maximal blocks of both together are those of the
+/// first, followed by those of the second; so are the aggregates of two lists that cover such sets.
+pub fn separated_blocks_append()
+    ensures of_sets { (first second : Address → Bool) (m : ℕ) (networks others : List Network)
+        → AreSeparated (IsAcceptedBy first) (IsAcceptedBy second)
+        → AreMaximalBlocks (IsAcceptedBy first) m networks → AreMaximalBlocks (IsAcceptedBy second) m others
+        → AreMaximalBlocks (IsInEither (IsAcceptedBy first) (IsAcceptedBy second)) m (networks ++ others) }
+    ensures of_lists { (networks others first second : List Network)
+        → AreSeparated (IsCoveredBy networks) (IsCoveredBy others)
+        → IsAggregateOf first networks → IsAggregateOf second others
+        → IsAggregateOf (first ++ second) (networks ++ others) }
+{}
+
+/// Ascending networks, each maximal in a set, that cover the set are all its maximal blocks.
+pub fn covering_blocks_are_all()
+    ensures { (test : Address → Bool) (m : ℕ) (networks : List Network)
+        → IsAscending networks → All (IsMaximal (IsAcceptedBy test) m) networks
+        → ((x : Address) → IsAcceptedBy test x → IsCoveredBy networks x)
+        → AreMaximalBlocks (IsAcceptedBy test) m networks }
 {}
 
 /// What keeps a list's cover: truncating its networks; sorting it; dropping a network that lies in another member;

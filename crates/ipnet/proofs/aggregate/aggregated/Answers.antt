@@ -3,7 +3,8 @@ use Rattle.std.proofs.lemmas.List.{length-map, nil_from_length}
 use Rattle.std.proofs.lemmas.List.Sorted.{All-permutation, IsPermutation-map}
 use Rattle.ipnet_base.specs.Network.{IsNetwork, IsTruncated}
 use Rattle.ipnet_base.proofs.NeighbourLaws.{AreSettled}
-use Rattle.ipnet_base.proofs.AggregateLaws.{IsCanonicalAggregateOf-from_aggregate, HaveSameCover-trans}
+use Rattle.ipnet_base.proofs.AggregateLaws.{IsCanonicalAggregateOf-from_aggregate}
+use Rattle.ipnet_base.proofs.CoverLaws.{HaveSameCover-trans}
 use Rattle.ipnet_base.proofs.StackLaws.{IsInOrder, IsSwept, swept_whole, in_order_from_sort}
 use Rattle.ipnet.proofs.FrontLaws.{front_kept}
 use Rattle.ipnet.proofs.AnswerLaws.{All-read, aggregate_from_stack}
