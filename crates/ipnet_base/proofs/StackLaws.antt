@@ -270,9 +270,9 @@ joining_end old came xs next h no_half = record {
 }
 
 -- where the last one covers it, nothing changes
-pub cover_pushed : (old : List Network) (came : Network) (top : Network) → AreSettled old → All (λ m. IsAtMost m came) old
+pub pushed_covered : (old : List Network) (came : Network) (top : Network) → AreSettled old → All (λ m. IsAtMost m came) old
     → Contains old top → IsSubnetOf came top → IsPushed old came old
-cover_pushed old came top good order c sub = record {
+pushed_covered old came top good order c sub = record {
   good = good;
   order = order;
   cover = λ x. (λ h. inl h, from x);
