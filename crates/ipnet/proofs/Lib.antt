@@ -21,6 +21,7 @@ pub mod LineLaws
 pub mod CompactLaws
 pub mod JsonLaws
 pub mod ReaderTurns
+pub use Rattle.ipnet_base.proofs.CoverLaws
 pub use Rattle.ipnet_base.proofs.FamilyLaws
 pub use Rattle.ipnet_base.proofs.AggregateLaws
 pub use Rattle.ipnet_base.proofs.WalkLaws

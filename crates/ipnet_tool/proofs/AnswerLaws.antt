@@ -9,8 +9,9 @@ use Rattle.ipnet.specs.CanonicalTexts.{canonical_text}
 use Rattle.ipnet.specs.NetworkOf.{ipv4_network, ipv6_network}
 use Rattle.ipnet.specs.declared.net.ipv4_net.Ipv4Net.{Ipv4Net}
 use Rattle.ipnet.specs.declared.net.ipv6_net.Ipv6Net.{Ipv6Net}
-use Rattle.ipnet.proofs.FamilyLaws.{IsAggregateOf-append, cover_append, cover_append_left, cover_append_right, cover_append_cases}
-use Rattle.ipnet.proofs.AggregateLaws.{aggregate_of_same_cover, HaveSameCover-sym}
+use Rattle.ipnet.proofs.FamilyLaws.{aggregate_of_families}
+use Rattle.ipnet.proofs.CoverLaws.{cover_append_left, cover_append_right, cover_append_cases, HaveSameCover-append, HaveSameCover-sym}
+use Rattle.ipnet.proofs.AggregateLaws.{aggregate_of_same_cover}
 use Rattle.ipnet.proofs.LineLaws.{no_lines}
 use Rattle.ipnet.proofs.WalkLaws.{AreMaximalBlocks-nil}
 use Rattle.ipnet.specs.Grammar.{Grammar}
@@ -35,7 +36,7 @@ pub both_families : (ipv4 blocks4 : List Ipv4Net) (ipv6 blocks6 : List Ipv6Net)
     → IsAggregateOf (map ipv4_network blocks4) (map ipv4_network ipv4) → IsAggregateOf (map ipv6_network blocks6) (map ipv6_network ipv6)
     → IsAggregateOf (map ipv4_network blocks4 ++ map ipv6_network blocks6) (map ipv4_network ipv4 ++ map ipv6_network ipv6)
 both_families ipv4 blocks4 ipv6 blocks6 =
-    IsAggregateOf-append (map ipv4_network ipv4) (map ipv6_network ipv6) (map ipv4_network blocks4) (map ipv6_network blocks6)
+    aggregate_of_families (map ipv4_network ipv4) (map ipv6_network ipv6) (map ipv4_network blocks4) (map ipv6_network blocks6)
     (All-map (λ n. n.family ≡ IPv4) ipv4_network ipv4 (λ k d l. refl)) (All-map (λ n. n.family ≡ IPv6) ipv6_network ipv6 (λ k d l. refl))
 
 -- one network more in front of the networks of the second list, and the same behind both
@@ -77,7 +78,7 @@ pushed_ipv6 ipv4 ipv6 new n e =
 pub cover_moves_on : (whole old new more : List Network) (n : Network) → HaveSameCover new (old ++ n ∷ [])
     → HaveSameCover whole (old ++ n ∷ more) → HaveSameCover whole (new ++ more)
 cover_moves_on whole old new more n pushed same x =
-    let there : IsCoveredBy (new ++ more) x ↔ IsCoveredBy ((old ++ n ∷ []) ++ more) x = cover_append new more (old ++ n ∷ []) more pushed (λ y. (λ a. a, λ a. a)) x in
+    let there : IsCoveredBy (new ++ more) x ↔ IsCoveredBy ((old ++ n ∷ []) ++ more) x = HaveSameCover-append new more (old ++ n ∷ []) more pushed (λ y. (λ a. a, λ a. a)) x in
     let spelled : (old ++ n ∷ []) ++ more ≡ old ++ n ∷ more = append_assoc old (n ∷ []) more in (
       λ a. there.1 (subst (λ z. IsCoveredBy z x) (sym spelled) ((same x).0 a)),
       λ a. (same x).1 (subst (λ z. IsCoveredBy z x) spelled (there.0 a)),
