@@ -20,3 +20,4 @@ pub mod ArithmeticLaws
 pub mod RangeLaws
 pub mod CallLaws
 pub mod FamilyLaws
+pub mod ValueLaws
