@@ -6,6 +6,7 @@ pub mod SubnetsLaws
 pub mod SubnetCountLaws
 pub mod NumberLaws
 pub mod NetOrderLaws
+pub mod WalkValueLaws
 pub use Rattle.ipnet_base.proofs.BlockLaws
 pub mod NumberOctets
 pub mod DigitTexts

@@ -22,3 +22,4 @@ pub use Rattle.ipnet_base.specs.Masks
 pub use Rattle.ipnet_base.specs.Ranges
 pub use Rattle.ipnet_base.specs.RangeOf
 pub use Rattle.ipnet_base.specs.Arithmetic
+pub use Rattle.ipnet_base.specs.Values

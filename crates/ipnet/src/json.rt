@@ -8,6 +8,8 @@ ghost use Rattle.ipnet.specs.NetworkTexts.{IsNetworkText, IsIpv4NetworkText, IsI
 ghost use Rattle.ipnet.specs.Results.{IsOkExactlyAt};
 ghost use Rattle.ipnet.specs.JsonTexts.{network_json, IsNetworkJson, IsNoJsonString, IsOtherJsonString};
 
+pub mod laws;
+
 use crate::net::{IpNet, Ipv4Net, Ipv6Net};
 use serde_json::Value;
 use std::alloc::{AllocError, Global};

@@ -35,6 +35,7 @@ use crate::net::{IpNet, Ipv4Net, Ipv6Net};
 use std::str::FromStr;
 use thiserror::Error;
 
+pub mod laws;
 mod reader;
 
 /// The refusal of a text that writes no network of the type that was asked for.

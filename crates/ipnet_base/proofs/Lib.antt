@@ -22,3 +22,4 @@ pub mod RangeLaws
 pub mod CallLaws
 pub mod SeparationLaws
 pub mod FamilyLaws
+pub mod ValueLaws

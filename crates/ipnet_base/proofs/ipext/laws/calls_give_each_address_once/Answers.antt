@@ -1,5 +1,5 @@
 use Rattle.ipnet_base.proofs.CallLaws.{given_from_range, given_once, given_exactly_once, none_stays}
-use Rattle.ipnet_base.proofs.ipext.range_laws.calls_give_each_address_once.Goals as goal
+use Rattle.ipnet_base.proofs.ipext.laws.calls_give_each_address_once.Goals as goal
 
 pub returns-clause-of_the_range : goal.returns-clause-of_the_range
 returns-clause-of_the_range c = given_from_range
