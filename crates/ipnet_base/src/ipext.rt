@@ -9,6 +9,7 @@ ghost use Rattle.ipnet_base.specs.Arithmetic.{saturating_sum, saturating_differe
 mod ip_range;
 mod ipv4_range;
 mod ipv6_range;
+pub mod member_laws;
 pub mod range_laws;
 
 use crate::addr::{Ipv4Addr, Ipv6Addr, ipv4_from_number, ipv6_from_number};
