@@ -10,6 +10,7 @@ mod ip_range;
 mod ipv4_range;
 mod ipv6_range;
 pub mod laws;
+pub mod member_laws;
 
 use crate::addr::{Ipv4Addr, Ipv6Addr, ipv4_from_number, ipv6_from_number};
 pub use ip_range::IpAddrRange;
