@@ -5,6 +5,7 @@ ghost use Rattle.ipnet.specs.Grammar.{Grammar};
 ghost use Rattle.ipnet_tool.specs.Families.{grammar_of};
 ghost use Rattle.ipnet_tool.specs.Runs.{IsChosenBy, IsAnswered, HasBadLine};
 ghost use Rattle.ipnet_tool.specs.Statuses.{status_of};
+ghost use Rattle.ipnet_tool.specs.declared.program.Fault.TheVariants.{Unreadable, Memory};
 
 use crate::tool::{Reading, ToolError, answer_to};
 use std::alloc::Global;
@@ -127,7 +128,7 @@ pub(crate) fn told<X: Write>(faults: &mut X, fault: Fault) -> u8
 fn read_all<R: Read>(alloc: Global, input: &mut R) -> Result<Vec<u8>, Fault>
     ensures bytes { IfOk result (λ bytes. Consumes (R.remaining input.old) (R.remaining input.new) bytes.items) }
     ensures end { OnOk result (IsAtEnd (R.remaining input.new)) }
-    ensures status { IfErr result (λ fault. status_of fault ≡ 3) }
+    ensures fault { IfErr result (λ fault. (fault ≡ Unreadable) ⊎ (fault ≡ Memory)) }
 {
     let mut bytes = Vec::new(alloc);
     let mut piece = [0u8; PIECE];

@@ -7,7 +7,7 @@ ghost use Rattle.ipnet.specs.Grammar.{Strict, Legacy};
 ghost use Rattle.ipnet.specs.Lines.{lines_of, AreNetworksOf, IsGoodLine, IsFirstBadLine};
 ghost use Rattle.ipnet.specs.NetworkOf.{ip_network};
 ghost use Rattle.ipnet.specs.NetworkTexts.{IsNetworkText, ReadsNetwork};
-ghost use Rattle.ipnet_tool.specs.Answers.{IsAnswerTo, IsBadAtOnce, text_of_lines};
+ghost use Rattle.ipnet_tool.specs.Answers.{IsTextAnswer, StartsWithBadLine, text_of_lines};
 ghost use Rattle.ipnet_tool.specs.Families.{grammar_of, networks_of};
 
 use ipnet::parser::AddrParseError;
@@ -45,11 +45,7 @@ pub enum ToolError {
 /// aggregate_text(alloc, "10.0.0.0/24\n\nx\n")           is  Err(ToolError::Line(3))
 /// ```
 pub fn aggregate_text(alloc: Global, text: &str) -> Result<String, ToolError>
-    ensures empty { text.now ≡ [] → IsOkAnd result (λ answer. string_bytes answer ≡ []) }
-    ensures answer { IfOk result (λ answer. IsAnswerTo Strict text.now (string_bytes answer)) }
-    ensures no_bad_line { OnOk result (All (IsGoodLine Strict) (lines_of text.now)) }
-    ensures bad_line { (number : ℕ) → result ≡ Err (ToolError.Line number) → IsFirstBadLine Strict (lines_of text.now) number }
-    ensures bad_at_once { (number : ℕ) → IsBadAtOnce Strict (lines_of text.now) number → result ≡ Err (ToolError.Line number) }
+    ensures { IsTextAnswer Strict text.now result }
 {
     answer_to(alloc, text, Reading::Strict)
 }
@@ -60,11 +56,7 @@ pub fn aggregate_text(alloc: Global, text: &str) -> Result<String, ToolError>
 /// aggregate_text_legacy(alloc, "10.0.0.0/24\n10.0.01.0/24\n")  is  Ok("10.0.0.0/23\n")
 /// ```
 pub fn aggregate_text_legacy(alloc: Global, text: &str) -> Result<String, ToolError>
-    ensures empty { text.now ≡ [] → IsOkAnd result (λ answer. string_bytes answer ≡ []) }
-    ensures answer { IfOk result (λ answer. IsAnswerTo Legacy text.now (string_bytes answer)) }
-    ensures no_bad_line { OnOk result (All (IsGoodLine Legacy) (lines_of text.now)) }
-    ensures bad_line { (number : ℕ) → result ≡ Err (ToolError.Line number) → IsFirstBadLine Legacy (lines_of text.now) number }
-    ensures bad_at_once { (number : ℕ) → IsBadAtOnce Legacy (lines_of text.now) number → result ≡ Err (ToolError.Line number) }
+    ensures { IsTextAnswer Legacy text.now result }
 {
     answer_to(alloc, text, Reading::Legacy)
 }
@@ -85,11 +77,7 @@ struct Families {
 
 /// The answer, in the grammar that is asked for.
 pub(crate) fn answer_to(alloc: Global, text: &str, reading: Reading) -> Result<String, ToolError>
-    ensures empty { text.now ≡ [] → IsOkAnd result (λ answer. string_bytes answer ≡ []) }
-    ensures answer { IfOk result (λ answer. IsAnswerTo (grammar_of reading) text.now (string_bytes answer)) }
-    ensures no_bad_line { OnOk result (All (IsGoodLine (grammar_of reading)) (lines_of text.now)) }
-    ensures bad_line { (number : ℕ) → result ≡ Err (ToolError.Line number) → IsFirstBadLine (grammar_of reading) (lines_of text.now) number }
-    ensures bad_at_once { (number : ℕ) → IsBadAtOnce (grammar_of reading) (lines_of text.now) number → result ≡ Err (ToolError.Line number) }
+    ensures { IsTextAnswer (grammar_of reading) text.now result }
 {
     if text.is_empty() {
         return Ok(String::new(alloc));
@@ -147,7 +135,7 @@ fn read_lines(alloc: Global, text: &str, reading: Reading) -> Result<Families, T
     ensures networks { IfOk result (λ families. (networks : List Network) × AreNetworksOf (grammar_of reading) (lines_of text.now) networks
         × HaveSameCover networks (networks_of families)) }
     ensures bad_line { (number : ℕ) → result ≡ Err (ToolError.Line number) → IsFirstBadLine (grammar_of reading) (lines_of text.now) number }
-    ensures bad_at_once { (number : ℕ) → IsBadAtOnce (grammar_of reading) (lines_of text.now) number → result ≡ Err (ToolError.Line number) }
+    ensures bad_at_once { (number : ℕ) → StartsWithBadLine (grammar_of reading) (lines_of text.now) number → result ≡ Err (ToolError.Line number) }
 {
     let mut families = Families {
         ipv4: Vec::new(alloc),

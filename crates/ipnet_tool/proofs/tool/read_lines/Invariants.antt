@@ -4,7 +4,7 @@ use denote.Shadow.{shadow}
 use Rattle.ipnet.specs.Network.{Network}
 use Rattle.ipnet.specs.Blocks.{HaveSameCover}
 use Rattle.ipnet.specs.Lines.{lines_of, AreNetworksOf, IsFirstBadLine}
-use Rattle.ipnet_tool.specs.Answers.{IsBadAtOnce}
+use Rattle.ipnet_tool.specs.Answers.{StartsWithBadLine}
 use Rattle.ipnet_tool.specs.Families.{grammar_of, networks_of}
 use Rattle.ipnet_tool.proofs.tool.read_lines.Given as goal
 
@@ -16,8 +16,8 @@ invariant-lines l = record {
   networks : (more : List Network) → AreNetworksOf (grammar_of l.reading) (lines_of l.rest) more
       → (whole : List Network) × AreNetworksOf (grammar_of l.reading) (lines_of l.text) whole × HaveSameCover whole (networks_of l.families ++ more);
   bad_line : (later : ℕ) → IsFirstBadLine (grammar_of l.reading) (lines_of l.rest) later → IsFirstBadLine (grammar_of l.reading) (lines_of l.text) (l.number + later);
-  at_once : (number : ℕ) → IsBadAtOnce (grammar_of l.reading) (lines_of l.text) number
-      → (later : ℕ) × (number ≡ l.number + later) × IsBadAtOnce (grammar_of l.reading) (lines_of l.rest) later;
+  at_once : (number : ℕ) → StartsWithBadLine (grammar_of l.reading) (lines_of l.text) number
+      → (later : ℕ) × (number ≡ l.number + later) × StartsWithBadLine (grammar_of l.reading) (lines_of l.rest) later;
 }
 
 abbrev pub decreases-lines : goal.decreases-lines
