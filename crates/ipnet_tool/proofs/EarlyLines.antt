@@ -20,19 +20,22 @@ after_empty grammar line lines number none h = found h.first.before h.first.line
         absurd (is_bad.0 (subst (λ z. z ≡ []) same (empty_text line none)))
     found (first ∷ before) bad after cut is empty is_bad =
         let rest : lines ≡ before ++ bad ∷ after = cc in
-        let empty_rest = All-tail (λ line. line ≡ []) first before empty in
-        (length before + 1, omega (arith, is), record {
-          first = record {
-            before = before;
-            line = bad;
-            behind = after;
-            cut = rest;
-            number_is = refl;
-            good = λ k d less. inl (empty_rest k d less);
-            bad = is_bad;
-          };
-          empty = empty_rest;
-        })
+        let empty_rest = All-tail (λ line. line ≡ []) first before empty in (
+          length before + 1,
+          omega (arith, is),
+          record {
+            first = record {
+              before = before;
+              line = bad;
+              behind = after;
+              cut = rest;
+              number_is = refl;
+              good = λ k d less. inl (empty_rest k d less);
+              bad = is_bad;
+            };
+            empty = empty_rest;
+          },
+        )
 
 -- a line that is not empty is itself the one
 pub bad_here : (grammar : Grammar) (line : List ℕ) (lines : List (List ℕ)) (number : ℕ) → 0 < length line

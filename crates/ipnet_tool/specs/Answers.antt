@@ -1,5 +1,6 @@
 -- The answer of the tool to a text: its networks aggregated, one a line.
-use Rattle.std.specs.Prelude.{◌≡◌, ℕ, ◌+◌, List, [], ◌∷◌, ◌++◌, All, Result, Err, IfOk, IsOkAnd, OnOk, String, string_bytes}
+use Rattle.std.specs.Prelude.{◌≡◌, ℕ, List, [], ◌∷◌, ◌++◌, All, Result, Err, IfOk, IsOkAnd, OnOk}
+use Rattle.std.specs.Prelude.{String, string_bytes}
 use Rattle.std.specs.declared.alloc.Global.{Global}
 use Rattle.ipnet.specs.Network.{Network}
 use Rattle.ipnet.specs.Blocks.{IsAggregateOf}
@@ -35,5 +36,7 @@ pub record IsTextAnswer (grammar : Grammar) (text : List ℕ) (result : Result (
   pub empty : text ≡ [] → IsOkAnd result (λ answer. string_bytes answer ≡ [])
   pub answer : IfOk result (λ answer. IsAnswerTo grammar text (string_bytes answer))
   pub no_bad_line : OnOk result (All (IsGoodLine grammar) (lines_of text))
-  pub bad_line : (number : ℕ) → result ≡ Err (ToolErrors.Line number) → IsFirstBadLine grammar (lines_of text) number
-  pub bad_at_once : (number : ℕ) → StartsWithBadLine grammar (lines_of text) number → result ≡ Err (ToolErrors.Line number)
+  pub bad_line : (number : ℕ) → result ≡ Err (ToolErrors.Line number)
+      → IsFirstBadLine grammar (lines_of text) number
+  pub bad_at_once : (number : ℕ) → StartsWithBadLine grammar (lines_of text) number
+      → result ≡ Err (ToolErrors.Line number)

@@ -6,7 +6,7 @@ pub mod program;
 mod tests;
 pub mod tool;
 
-use crate::program::{Fault, run, told};
+use crate::program::{Failure, report, run};
 use std::env;
 use std::io::ErrorKind;
 use std::process::ExitCode;
@@ -21,19 +21,19 @@ fn main(rt: HostRuntime) -> ExitCode {
             &mut rt.stdout(),
             &mut faults,
         ),
-        Err(fault) => told(&mut faults, fault),
+        Err(failure) => report(&mut faults, failure),
     };
     ExitCode::from(status)
 }
 
 /// The arguments, without the program's own name. One that is not UTF-8 is refused as any other word is.
-fn arguments(rt: &HostRuntime) -> Result<Vec<String>, Fault> {
+fn arguments(rt: &HostRuntime) -> Result<Vec<String>, Failure> {
     match env::args(rt) {
         Ok(args) => {
             let words = args.skip(1).collect::<Vec<String>>(rt.alloc());
-            words.map_err(|_| Fault::Memory)
+            words.map_err(|_| Failure::Memory)
         }
-        Err(error) if error.kind() == ErrorKind::OutOfMemory => Err(Fault::Memory),
-        Err(_) => Err(Fault::Arguments),
+        Err(error) if error.kind() == ErrorKind::OutOfMemory => Err(Failure::Memory),
+        Err(_) => Err(Failure::Arguments),
     }
 }

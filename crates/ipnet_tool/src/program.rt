@@ -5,7 +5,7 @@ ghost use Rattle.ipnet.specs.Grammar.{Grammar};
 ghost use Rattle.ipnet_tool.specs.Families.{grammar_of};
 ghost use Rattle.ipnet_tool.specs.Runs.{IsChosenBy, IsAnswered, HasBadLine};
 ghost use Rattle.ipnet_tool.specs.Statuses.{status_of};
-ghost use Rattle.ipnet_tool.specs.declared.program.Fault.TheVariants.{Unreadable, Memory};
+ghost use Rattle.ipnet_tool.specs.declared.program.Failure.TheVariants.{Unreadable, Memory};
 
 use crate::tool::{Reading, ToolError, answer_to};
 use std::alloc::Global;
@@ -18,7 +18,7 @@ const PIECE: usize = 65536;
 
 /// Why a run writes no answer, or not the whole of it.
 #[derive(Clone, Copy, Debug, Drop, Error)]
-pub(crate) enum Fault {
+pub(crate) enum Failure {
     #[error("ipnet: takes no argument or the word legacy")]
     Arguments,
     #[error("ipnet: input cannot be read")]
@@ -33,17 +33,17 @@ pub(crate) enum Fault {
     Unwritable,
 }
 
-impl Fault {
+impl Failure {
     ghost use Rattle.ipnet_tool.specs.Statuses.{status_of};
 
-    /// The exit status that tells of this fault.
+    /// The exit status that tells of this failure.
     fn status(self) -> u8
         ensures { result ≡ status_of self }
     {
         match self {
-            Fault::Line(_) => 1,
-            Fault::Arguments => 2,
-            Fault::Unreadable | Fault::NotUtf8 | Fault::Memory | Fault::Unwritable => 3,
+            Failure::Line(_) => 1,
+            Failure::Arguments => 2,
+            Failure::Unreadable | Failure::NotUtf8 | Failure::Memory | Failure::Unwritable => 3,
         }
     }
 }
@@ -51,18 +51,18 @@ impl Fault {
 /// Runs the program, and answers its exit status.
 ///
 /// It reads networks from `input` up to its end, one a line, and writes their aggregate to `out`, one network a line.
-/// With the one argument `legacy` the lines are read by the legacy grammar. What goes wrong is told on `faults` in
-/// one line; where that cannot be written, the status stays.
+/// With the one argument `legacy` the lines are read by the legacy grammar. An error is reported on `faults` in one
+/// line; if that write fails, the status is the same.
 ///
-/// | Status | When, in this order | On `faults` |
+/// | Status | On `faults` | When, in this order |
 /// |---|---|---|
-/// | 2 | arguments other than none, or the one word `legacy`; nothing is read | `ipnet: takes no argument or the word legacy` |
-/// | 3 | a read fails | `ipnet: input cannot be read` |
-/// | 3 | the input is not UTF-8 | `ipnet: input is not UTF-8` |
-/// | 3 | want of memory at any point, also while reading | `ipnet: out of memory` |
-/// | 1 | line N is the first that is neither empty nor a network | `line N: invalid IP address syntax` |
-/// | 3 | a write or the flush behind it fails; a beginning of the answer may have gone out | `ipnet: output cannot be written` |
-/// | 0 | otherwise | nothing |
+/// | 2 | `ipnet: takes no argument or the word legacy` | other arguments than none or `legacy`; nothing is read |
+/// | 3 | `ipnet: input cannot be read` | a read fails |
+/// | 3 | `ipnet: input is not UTF-8` | the input is not UTF-8 |
+/// | 3 | `ipnet: out of memory` | want of memory at any point, also while reading |
+/// | 1 | `line N: invalid IP address syntax` | line N is the first that is neither empty nor a network |
+/// | 3 | `ipnet: output cannot be written` | a write or the flush after it fails; the answer may be out in part |
+/// | 0 | nothing | otherwise |
 ///
 /// ```text
 /// arguments none, input "fd00::/32\n10.0.0.0/24\n": status 0, and out gets "10.0.0.0/24\nfd00::/32\n"
@@ -79,27 +79,28 @@ pub fn run<R: Read, W: Write, X: Write>(
     ensures refused { (result ≡ 2) ↔ ((grammar : Grammar) → ¬ (IsChosenBy args.now grammar)) }
     ensures unread { result ≡ 2 → Keeps (R.remaining input.old) (R.remaining input.new) }
     ensures silent { (result ≡ 1) ⊎ (result ≡ 2) → Keeps (W.contents out.old) (W.contents out.new) }
-    ensures answered { result ≡ 0 → IsAnswered args.now (R.remaining input.old) (R.remaining input.new) (W.contents out.old) (W.contents out.new) }
+    ensures answered { result ≡ 0 → IsAnswered args.now
+        (R.remaining input.old) (R.remaining input.new) (W.contents out.old) (W.contents out.new) }
     ensures faultless { result ≡ 0 → Keeps (X.contents faults.old) (X.contents faults.new) }
     ensures bad_line { result ≡ 1 → HasBadLine args.now (R.remaining input.old) (R.remaining input.new) }
 {
     let Some(reading) = chosen(args) else {
-        return told(faults, Fault::Arguments);
+        return report(faults, Failure::Arguments);
     };
     let bytes = match read_all(alloc, input) {
         Ok(bytes) => bytes,
-        Err(fault) => return told(faults, fault),
+        Err(failure) => return report(faults, failure),
     };
     let Ok(text) = str::from_utf8(bytes.as_slice()) else {
-        return told(faults, Fault::NotUtf8);
+        return report(faults, Failure::NotUtf8);
     };
     let answer = match answer_to(alloc, text, reading) {
         Ok(answer) => answer,
-        Err(ToolError::Line(number)) => return told(faults, Fault::Line(number)),
-        Err(ToolError::Memory) => return told(faults, Fault::Memory),
+        Err(ToolError::Line(number)) => return report(faults, Failure::Line(number)),
+        Err(ToolError::Memory) => return report(faults, Failure::Memory),
     };
     if out.write_all(answer.as_bytes()).is_err() || out.flush().is_err() {
-        return told(faults, Fault::Unwritable);
+        return report(faults, Failure::Unwritable);
     }
     0
 }
@@ -116,19 +117,19 @@ fn chosen(args: &[String]) -> Option<Reading>
     }
 }
 
-/// Tells the fault in a line, if that can be written, and answers its status.
-pub(crate) fn told<X: Write>(faults: &mut X, fault: Fault) -> u8
-    ensures { result ≡ status_of fault }
+/// Reports the failure in one line, ignoring a failed write, and returns its status.
+pub(crate) fn report<X: Write>(faults: &mut X, failure: Failure) -> u8
+    ensures { result ≡ status_of failure }
 {
-    let _ = writeln!(faults, "{fault}");
-    fault.status()
+    let _ = writeln!(faults, "{failure}");
+    failure.status()
 }
 
 /// The bytes that the reader gives up to its end. A read that was interrupted is made again.
-fn read_all<R: Read>(alloc: Global, input: &mut R) -> Result<Vec<u8>, Fault>
+fn read_all<R: Read>(alloc: Global, input: &mut R) -> Result<Vec<u8>, Failure>
     ensures bytes { IfOk result (λ bytes. Consumes (R.remaining input.old) (R.remaining input.new) bytes.items) }
     ensures end { OnOk result (IsAtEnd (R.remaining input.new)) }
-    ensures fault { IfErr result (λ fault. (fault ≡ Unreadable) ⊎ (fault ≡ Memory)) }
+    ensures failure { IfErr result (λ failure. (failure ≡ Unreadable) ⊎ (failure ≡ Memory)) }
 {
     let mut bytes = Vec::new(alloc);
     let mut piece = [0u8; PIECE];
@@ -137,15 +138,15 @@ fn read_all<R: Read>(alloc: Global, input: &mut R) -> Result<Vec<u8>, Fault>
             Ok(0) => return Ok(bytes),
             Ok(count) => {
                 let Ok(()) = bytes.extend_from_slice(&piece[..count]) else {
-                    return Err(Fault::Memory);
+                    return Err(Failure::Memory);
                 };
             }
             Err(error) => {
                 if error.kind() != ErrorKind::Interrupted {
-                    return Err(Fault::Unreadable);
+                    return Err(Failure::Unreadable);
                 }
             }
         }
     }
-    Err(Fault::Unreadable)
+    Err(Failure::Unreadable)
 }

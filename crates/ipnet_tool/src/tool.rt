@@ -1,10 +1,10 @@
 //! The text tool: a list of networks, one a line, into the shortest list of the same addresses.
-ghost use Rattle.std.specs.Prelude.{◌≡◌, ℕ, ◌<◌, [], ◌∷◌, List, ◌++◌, length, All, Err, IfOk, IsOkAnd, OnOk, string_bytes};
+ghost use Rattle.std.specs.Prelude.{◌≡◌, ℕ, ◌<◌, [], ◌∷◌, List, ◌++◌, length, Err, IfOk, OnOk, string_bytes};
 ghost use Rattle.ipnet.specs.Network.{Network};
 ghost use Rattle.ipnet.specs.Blocks.{HaveSameCover, IsAggregateOf};
 ghost use Rattle.ipnet.specs.CanonicalTexts.{canonical_text};
 ghost use Rattle.ipnet.specs.Grammar.{Strict, Legacy};
-ghost use Rattle.ipnet.specs.Lines.{lines_of, AreNetworksOf, IsGoodLine, IsFirstBadLine};
+ghost use Rattle.ipnet.specs.Lines.{lines_of, AreNetworksOf, IsFirstBadLine};
 ghost use Rattle.ipnet.specs.NetworkOf.{ip_network};
 ghost use Rattle.ipnet.specs.NetworkTexts.{IsNetworkText, ReadsNetwork};
 ghost use Rattle.ipnet_tool.specs.Answers.{IsTextAnswer, StartsWithBadLine, text_of_lines};
@@ -14,6 +14,8 @@ use ipnet::parser::AddrParseError;
 use ipnet::{IpNet, Ipv4Net, Ipv6Net};
 use std::alloc::{AllocError, Global};
 use thiserror::Error;
+
+pub mod laws;
 
 /// Why a text has no answer. The text of a bad line has its number in decimal; that of `Memory` is `out of memory`.
 ///
@@ -34,7 +36,7 @@ pub enum ToolError {
 /// The shortest list of networks that cover the addresses of the text's networks, in canonical text, one a
 /// line.
 ///
-/// The text is cut at each "\n"; what stands behind the last is a line too, unless it is empty. Empty lines
+/// The text is cut at each "\n"; what stands after the last is a line too, unless it is empty. Empty lines
 /// are skipped, and each other line is read as [`IpNet`] by the strict grammar. The answer has the maximal
 /// aligned blocks of the addresses, IPv4 first, ascending, each followed by "\n". The first bad line is
 /// refused with its number, and a growth that is refused before that line is reached is want of memory; where
@@ -93,7 +95,7 @@ pub(crate) fn answer_to(alloc: Global, text: &str, reading: Reading) -> Result<S
     Ok(answer)
 }
 
-/// The first line of a text that is not empty, and what stands behind its end.
+/// The first line of a text that is not empty, and what stands after its end.
 fn first_line(text: &str) -> (&str, &str)
     requires { 0 < length text.now }
     ensures lines { lines_of text.now ≡ result.0.now ∷ lines_of result.1.now }
@@ -132,10 +134,13 @@ impl Families {
 
 /// The networks that the lines write, up to the end or to the first bad line.
 fn read_lines(alloc: Global, text: &str, reading: Reading) -> Result<Families, ToolError>
-    ensures networks { IfOk result (λ families. (networks : List Network) × AreNetworksOf (grammar_of reading) (lines_of text.now) networks
+    ensures networks { IfOk result (λ families. (networks : List Network)
+        × AreNetworksOf (grammar_of reading) (lines_of text.now) networks
         × HaveSameCover networks (networks_of families)) }
-    ensures bad_line { (number : ℕ) → result ≡ Err (ToolError.Line number) → IsFirstBadLine (grammar_of reading) (lines_of text.now) number }
-    ensures bad_at_once { (number : ℕ) → StartsWithBadLine (grammar_of reading) (lines_of text.now) number → result ≡ Err (ToolError.Line number) }
+    ensures bad_line { (number : ℕ) → result ≡ Err (ToolError.Line number)
+        → IsFirstBadLine (grammar_of reading) (lines_of text.now) number }
+    ensures bad_at_once { (number : ℕ) → StartsWithBadLine (grammar_of reading) (lines_of text.now) number
+        → result ≡ Err (ToolError.Line number) }
 {
     let mut families = Families {
         ipv4: Vec::new(alloc),
@@ -144,8 +149,8 @@ fn read_lines(alloc: Global, text: &str, reading: Reading) -> Result<Families, T
     let mut rest = text;
     let mut number = 0;
     'lines: while !rest.is_empty() {
-        let (line, behind) = first_line(rest);
-        rest = behind;
+        let (line, after) = first_line(rest);
+        rest = after;
         number += 1;
         if !line.is_empty() {
             let Ok(network) = read_line(line, reading) else {
@@ -182,9 +187,10 @@ fn printed(alloc: Global, families: &Families) -> Result<String, AllocError>
     Ok(text)
 }
 
-/// Puts the line of one network more behind the text.
+/// Appends the network's text and a newline.
 fn push_line(text: &mut String, network: IpNet) -> Result<(), AllocError>
-    ensures { OnOk result (string_bytes text.new ≡ (string_bytes text.old ++ canonical_text (ip_network network)) ++ 10 ∷ []) }
+    ensures { OnOk result
+        (string_bytes text.new ≡ (string_bytes text.old ++ canonical_text (ip_network network)) ++ 10 ∷ []) }
 {
     text.push_str(network.to_text().as_str())?;
     text.push_str("\n")

@@ -1,6 +1,5 @@
-use Rattle.std.proofs.Common.{◌≡◌, ℕ, length, string_bytes, Ok, Err, Result, IsErrAnd, String, Global, sym, subst, ap}
-use Rattle.ipnet.specs.Lines.{lines_of}
-use Rattle.ipnet_tool.specs.Answers.{IsTextAnswer, StartsWithBadLine}
+use Rattle.std.proofs.Common.{◌≡◌, length, string_bytes, Ok, Err, Result, IsErrAnd, String, Global, sym, subst, ap}
+use Rattle.ipnet_tool.specs.Answers.{IsTextAnswer}
 use Rattle.ipnet_tool.specs.declared.tool.ToolError.{ToolError}
 use Rattle.ipnet_tool.specs.declared.tool.ToolError.TheVariants as ToolErrors
 use Rattle.ipnet_tool.specs.Families.{grammar_of, networks_of}
