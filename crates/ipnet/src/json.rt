@@ -137,7 +137,7 @@ impl IpNet {
 #[cfg(test)]
 mod tests {
     use super::*;
-    use crate::memory::{RUNS, outcomes};
+    use out_of_memory::{RUNS, outcomes};
     use std::test::Fail;
 
     #[test]

@@ -5,30 +5,42 @@ ghost use Rattle.ipnet.specs.Grammar.{Grammar};
 ghost use Rattle.ipnet_tool.specs.Families.{grammar_of};
 ghost use Rattle.ipnet_tool.specs.Runs.{IsChosenBy, IsAnswered, HasBadLine};
 ghost use Rattle.ipnet_tool.specs.Statuses.{status_of};
-ghost use Rattle.ipnet_tool.specs.declared.program.Failure.TheVariants.{Unreadable, Memory};
+ghost use Rattle.ipnet_tool.specs.declared.program.Failure.TheVariants.{Arguments, Unreadable, Memory};
 
 use crate::tool::{Reading, ToolError, answer_to};
 use std::alloc::Global;
+use std::env::Env;
 use std::io::{ErrorKind, Read, Write};
-use std::str;
+use std::{env, str};
 use thiserror::Error;
 
 /// How many bytes are asked for in one read.
 const PIECE: usize = 65536;
 
-/// Why a run writes no answer, or not the whole of it.
+/// Why a run writes no answer, or not the whole of it. The text is the line that [`report`] writes.
+///
+/// ```text
+/// Failure::Line(2), whose text is  line 2: invalid IP address syntax
+/// ```
 #[derive(Clone, Copy, Debug, Drop, Error)]
-pub(crate) enum Failure {
+pub enum Failure {
+    /// The arguments are other than none or the one word `legacy`.
     #[error("ipnet: takes no argument or the word legacy")]
     Arguments,
+    /// A read failed.
     #[error("ipnet: input cannot be read")]
     Unreadable,
+    /// The input is not UTF-8.
     #[error("ipnet: input is not UTF-8")]
     NotUtf8,
+    /// A growth was refused.
     #[error("ipnet: out of memory")]
     Memory,
+    /// The line of this number, counted from 1 with the empty ones, is the first that is neither empty nor a
+    /// network.
     #[error("line {0}: invalid IP address syntax")]
     Line(usize),
+    /// A write failed, or the flush after it.
     #[error("ipnet: output cannot be written")]
     Unwritable,
 }
@@ -117,8 +129,34 @@ fn chosen(args: &[String]) -> Option<Reading>
     }
 }
 
-/// Reports the failure in one line, ignoring a failed write, and returns its status.
-pub(crate) fn report<X: Write>(faults: &mut X, failure: Failure) -> u8
+/// The arguments that the system gives, without the program's own name, which stands first.
+///
+/// One that is not UTF-8 is refused as any other word is, with `Arguments`; where there is no memory for them the
+/// error is `Memory`.
+///
+/// ```text
+/// of the words  ipnet legacy  the arguments are  legacy
+/// ```
+pub fn arguments<R: Env + AllocGlobal>(rt: &R) -> Result<Vec<String>, Failure>
+    ensures { IfErr result (λ failure. (failure ≡ Arguments) ⊎ (failure ≡ Memory)) }
+{
+    match env::args(rt) {
+        Ok(args) => {
+            let words = args.skip(1).collect::<Vec<String>>(rt.alloc());
+            words.map_err(|_| Failure::Memory)
+        }
+        Err(error) if error.kind() == ErrorKind::OutOfMemory => Err(Failure::Memory),
+        Err(_) => Err(Failure::Arguments),
+    }
+}
+
+/// Reports the failure in one line, ignoring a failed write, and returns its exit status, as the table of [`run`]
+/// has both.
+///
+/// ```text
+/// of Failure::Line(2): status 1, and faults gets "line 2: invalid IP address syntax\n"
+/// ```
+pub fn report<X: Write>(faults: &mut X, failure: Failure) -> u8
     ensures { result ≡ status_of failure }
 {
     let _ = writeln!(faults, "{failure}");
