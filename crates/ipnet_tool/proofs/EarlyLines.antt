@@ -1,6 +1,6 @@
 -- The first line that is not empty, where it is bad.
 use Rattle.std.proofs.Common.{◌≡◌, ℕ, ◌+◌, ◌<◌, List, [], ◌∷◌, length, arith}
-use Rattle.ipnet.specs.Grammar.{Grammar}
+use Rattle.ipnet.specs.declared.parser.Grammar.{Grammar}
 use Rattle.ipnet.specs.Lines.{lines_of, IsBadLine}
 use Rattle.ipnet_tool.specs.Answers.{IsBadAtOnce}
 

@@ -3,7 +3,7 @@ use Rattle.std.specs.Prelude.{◌≡◌, ℕ, ◌+◌, List, [], ◌∷◌, ◌+
 use Rattle.ipnet.specs.Network.{Network}
 use Rattle.ipnet.specs.Blocks.{IsAggregateOf}
 use Rattle.ipnet.specs.CanonicalTexts.{canonical_text}
-use Rattle.ipnet.specs.Grammar.{Grammar}
+use Rattle.ipnet.specs.declared.parser.Grammar.{Grammar}
 use Rattle.ipnet.specs.Lines.{lines_of, AreNetworksOf, IsBadLine}
 
 -- the canonical texts of the networks, in order, each followed by "\n" (10)
