@@ -1,5 +1,5 @@
 -- The run of digits at the front of a text, and what it writes.
-use Rattle.std.proofs.Common.{take, drop, lit<, add-one, add-zero, length-take-le, get_or-drop, take-append-drop, ◌≡◌, ℕ, zero, suc, ◌+◌, ◌*◌, ◌^◌, ◌<◌, ◌≤◌, Bool, true, false, not, ◌&&◌, ◌==◌, nat_lt, List, [], ◌∷◌, ◌++◌, length, get_or, Some, refl, ap, arith, inl, inr, lt-ltb, le-ltb, le-leb, ne_eqb, eq-eqb}
+use Rattle.std.proofs.Common.{take, drop, lit<, add-one, add-zero, length-take-le, get_or-drop, take-append-drop, ◌≡◌, ℕ, zero, suc, ◌+◌, ◌*◌, ◌^◌, ◌<◌, ◌≤◌, true, false, List, [], ◌∷◌, ◌++◌, length, get_or, Some, refl, ap, arith, inl, inr, lt-ltb, le-ltb, le-leb, ne_eqb, eq-eqb}
 use Rattle.std.proofs.lemmas.Bool.{cases_lt, cases_eq, and_from, and_parts, ltb-true, leb-true}
 use Rattle.std.proofs.Math.Nat.{pow-le-pow_right, pow-suc}
 use Rattle.std.proofs.lemmas.Option.{cond_some}

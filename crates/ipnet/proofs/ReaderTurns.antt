@@ -1,5 +1,5 @@
 -- One turn of the loop that reads groups: what is read in all, by what it meets.
-use Rattle.std.proofs.Common.{◌≡◌, ◌≢◌, ℕ, suc, ◌+◌, ◌-◌, ◌<◌, Bool, true, false, List, [], ◌∷◌, ◌++◌, drop, get_or, Some, None, refl, sym, ◌∙◌, arith, append_assoc, eq-eqb, ne_eqb, lt-ltb, le-ltb}
+use Rattle.std.proofs.Common.{◌≡◌, ◌≢◌, ℕ, suc, ◌+◌, ◌-◌, ◌<◌, true, false, List, [], ◌∷◌, ◌++◌, drop, get_or, Some, None, refl, sym, ◌∙◌, arith, append_assoc, eq-eqb, ne_eqb, lt-ltb, le-ltb}
 use Rattle.ipnet.specs.declared.parser.reader.Run.{Run}
 use Rattle.ipnet.specs.declared.parser.Grammar.{Grammar}
 use Rattle.ipnet.specs.Reading.{Pieces, behind, run_of, digit_run, is_single_colon, read_last, read_pieces}
