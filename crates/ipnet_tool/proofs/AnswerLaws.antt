@@ -13,7 +13,7 @@ use Rattle.ipnet.proofs.FamilyLaws.{IsAggregateOf-append, cover_append, cover_ap
 use Rattle.ipnet.proofs.AggregateLaws.{aggregate_of_same_cover, HaveSameCover-sym}
 use Rattle.ipnet.proofs.LineLaws.{no_lines, all_good}
 use Rattle.ipnet.proofs.WalkLaws.{AreMaximalBlocks-nil}
-use Rattle.ipnet.specs.Grammar.{Grammar}
+use Rattle.ipnet.specs.declared.parser.Grammar.{Grammar}
 use Rattle.ipnet.specs.Lines.{lines_of, AreNetworksOf, IsFirstBadLine}
 use Rattle.ipnet_tool.specs.Answers.{IsAnswerTo, IsTextAnswer, StartsWithBadLine, text_of_lines}
 use Rattle.ipnet_tool.specs.declared.tool.ToolError.{ToolError}

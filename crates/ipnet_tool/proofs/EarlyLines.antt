@@ -2,7 +2,7 @@
 use Rattle.std.proofs.Common.{◌≡◌, ℕ, ◌+◌, ◌<◌, List, [], ◌∷◌, ◌++◌, length, All, refl, sym, ap, subst, inl, arith}
 use Rattle.std.proofs.lemmas.List.Elements.{All-head, All-tail}
 use Rattle.ipnet.specs.Network.{Network}
-use Rattle.ipnet.specs.Grammar.{Grammar}
+use Rattle.ipnet.specs.declared.parser.Grammar.{Grammar}
 use Rattle.ipnet.specs.Lines.{lines_of, IsBadLine}
 use Rattle.ipnet.specs.NetworkTexts.{IsNetworkText}
 use Rattle.ipnet_tool.specs.Answers.{StartsWithBadLine}

@@ -5,7 +5,7 @@ use Rattle.std.specs.declared.alloc.Global.{Global}
 use Rattle.ipnet.specs.Network.{Network}
 use Rattle.ipnet.specs.Blocks.{IsAggregateOf}
 use Rattle.ipnet.specs.CanonicalTexts.{canonical_text}
-use Rattle.ipnet.specs.Grammar.{Grammar}
+use Rattle.ipnet.specs.declared.parser.Grammar.{Grammar}
 use Rattle.ipnet.specs.Lines.{lines_of, AreNetworksOf, IsGoodLine, IsFirstBadLine}
 use Rattle.ipnet_tool.specs.declared.tool.ToolError.{ToolError}
 use Rattle.ipnet_tool.specs.declared.tool.ToolError.TheVariants as ToolErrors

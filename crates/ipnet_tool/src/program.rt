@@ -1,13 +1,13 @@
 //! The program, over any reader and writers.
 ghost use Rattle.std.specs.Prelude.{◌≡◌, ◌≤◌, ◌⊎◌, ◌↔◌, IfOk, IfErr, IfSome, IfNone, OnOk};
 ghost use Rattle.std.specs.Io.KnownBytes.{Consumes, IsAtEnd, Keeps};
-ghost use Rattle.ipnet.specs.Grammar.{Grammar};
-ghost use Rattle.ipnet_tool.specs.Families.{grammar_of};
+ghost use Rattle.ipnet.specs.declared.parser.Grammar.{Grammar};
 ghost use Rattle.ipnet_tool.specs.Runs.{IsChosenBy, IsAnswered, HasBadLine};
 ghost use Rattle.ipnet_tool.specs.Statuses.{status_of};
 ghost use Rattle.ipnet_tool.specs.declared.program.Failure.TheVariants.{Arguments, Unreadable, Memory};
 
-use crate::tool::{Reading, ToolError, answer_to};
+use crate::tool::{ToolError, answer_to};
+use ipnet::Grammar;
 use std::alloc::Global;
 use std::env::Env;
 use std::io::{ErrorKind, Read, Write};
@@ -96,7 +96,7 @@ pub fn run<R: Read, W: Write, X: Write>(
     ensures faultless { result ≡ 0 → Keeps (X.contents faults.old) (X.contents faults.new) }
     ensures bad_line { result ≡ 1 → HasBadLine args.now (R.remaining input.old) (R.remaining input.new) }
 {
-    let Some(reading) = chosen(args) else {
+    let Some(grammar) = chosen(args) else {
         return report(faults, Failure::Arguments);
     };
     let bytes = match read_all(alloc, input) {
@@ -106,7 +106,7 @@ pub fn run<R: Read, W: Write, X: Write>(
     let Ok(text) = str::from_utf8(bytes.as_slice()) else {
         return report(faults, Failure::NotUtf8);
     };
-    let answer = match answer_to(alloc, text, reading) {
+    let answer = match answer_to(alloc, text, grammar) {
         Ok(answer) => answer,
         Err(ToolError::Line(number)) => return report(faults, Failure::Line(number)),
         Err(ToolError::Memory) => return report(faults, Failure::Memory),
@@ -118,13 +118,13 @@ pub fn run<R: Read, W: Write, X: Write>(
 }
 
 /// The grammar that the arguments choose.
-fn chosen(args: &[String]) -> Option<Reading>
-    ensures some { IfSome result (λ reading. IsChosenBy args.now (grammar_of reading)) }
+fn chosen(args: &[String]) -> Option<Grammar>
+    ensures some { IfSome result (IsChosenBy args.now) }
     ensures none { IfNone result ((grammar : Grammar) → ¬ (IsChosenBy args.now grammar)) }
 {
     match args {
-        [] => Some(Reading::Strict),
-        [word] if word.as_str() == "legacy" => Some(Reading::Legacy),
+        [] => Some(Grammar::Strict),
+        [word] if word.as_str() == "legacy" => Some(Grammar::Legacy),
         _ => None,
     }
 }

@@ -3,15 +3,15 @@ ghost use Rattle.std.specs.Prelude.{◌≡◌, ℕ, ◌<◌, [], ◌∷◌, List
 ghost use Rattle.ipnet.specs.Network.{Network};
 ghost use Rattle.ipnet.specs.Blocks.{HaveSameCover, IsAggregateOf};
 ghost use Rattle.ipnet.specs.CanonicalTexts.{canonical_text};
-ghost use Rattle.ipnet.specs.Grammar.{Strict, Legacy};
+ghost use Rattle.ipnet.specs.declared.parser.Grammar.TheVariants.{Strict, Legacy};
 ghost use Rattle.ipnet.specs.Lines.{lines_of, AreNetworksOf, IsFirstBadLine};
 ghost use Rattle.ipnet.specs.NetworkOf.{ip_network};
 ghost use Rattle.ipnet.specs.NetworkTexts.{IsNetworkText, ReadsNetwork};
 ghost use Rattle.ipnet_tool.specs.Answers.{IsTextAnswer, StartsWithBadLine, text_of_lines};
-ghost use Rattle.ipnet_tool.specs.Families.{grammar_of, networks_of};
+ghost use Rattle.ipnet_tool.specs.Families.{networks_of};
 
 use ipnet::parser::AddrParseError;
-use ipnet::{IpNet, Ipv4Net, Ipv6Net};
+use ipnet::{Grammar, IpNet, Ipv4Net, Ipv6Net};
 use std::alloc::{AllocError, Global};
 use thiserror::Error;
 
@@ -49,7 +49,7 @@ pub enum ToolError {
 pub fn aggregate_text(alloc: Global, text: &str) -> Result<String, ToolError>
     ensures { IsTextAnswer Strict text.now result }
 {
-    answer_to(alloc, text, Reading::Strict)
+    answer_to(alloc, text, Grammar::Strict)
 }
 
 /// The same for lines that are read by the legacy grammar, [`IpNet::parse_legacy`].
@@ -60,14 +60,7 @@ pub fn aggregate_text(alloc: Global, text: &str) -> Result<String, ToolError>
 pub fn aggregate_text_legacy(alloc: Global, text: &str) -> Result<String, ToolError>
     ensures { IsTextAnswer Legacy text.now result }
 {
-    answer_to(alloc, text, Reading::Legacy)
-}
-
-/// The grammar by which lines are read.
-#[derive(Clone, Copy)]
-pub(crate) enum Reading {
-    Strict,
-    Legacy,
+    answer_to(alloc, text, Grammar::Legacy)
 }
 
 /// Networks by family, so that each family is sorted without the room and the tests that the other needs.
@@ -78,13 +71,13 @@ struct Families {
 }
 
 /// The answer, in the grammar that is asked for.
-pub(crate) fn answer_to(alloc: Global, text: &str, reading: Reading) -> Result<String, ToolError>
-    ensures { IsTextAnswer (grammar_of reading) text.now result }
+pub(crate) fn answer_to(alloc: Global, text: &str, grammar: Grammar) -> Result<String, ToolError>
+    ensures { IsTextAnswer grammar text.now result }
 {
     if text.is_empty() {
         return Ok(String::new(alloc));
     }
-    let families = read_lines(alloc, text, reading)?;
+    let families = read_lines(alloc, text, grammar)?;
     let Ok(blocks) = aggregated(alloc, &families) else {
         return Err(ToolError::Memory);
     };
@@ -108,12 +101,12 @@ fn first_line(text: &str) -> (&str, &str)
 }
 
 /// The network that the line writes in this grammar.
-fn read_line(line: &str, reading: Reading) -> Result<IpNet, AddrParseError>
-    ensures { ReadsNetwork ip_network (IsNetworkText (grammar_of reading)) line.now result }
+fn read_line(line: &str, grammar: Grammar) -> Result<IpNet, AddrParseError>
+    ensures { ReadsNetwork ip_network (IsNetworkText grammar) line.now result }
 {
-    match reading {
-        Reading::Strict => line.parse::<IpNet>(),
-        Reading::Legacy => IpNet::parse_legacy(line),
+    match grammar {
+        Grammar::Strict => line.parse::<IpNet>(),
+        Grammar::Legacy => IpNet::parse_legacy(line),
     }
 }
 
@@ -133,13 +126,13 @@ impl Families {
 }
 
 /// The networks that the lines write, up to the end or to the first bad line.
-fn read_lines(alloc: Global, text: &str, reading: Reading) -> Result<Families, ToolError>
+fn read_lines(alloc: Global, text: &str, grammar: Grammar) -> Result<Families, ToolError>
     ensures networks { IfOk result (λ families. (networks : List Network)
-        × AreNetworksOf (grammar_of reading) (lines_of text.now) networks
+        × AreNetworksOf grammar (lines_of text.now) networks
         × HaveSameCover networks (networks_of families)) }
     ensures bad_line { (number : ℕ) → result ≡ Err (ToolError.Line number)
-        → IsFirstBadLine (grammar_of reading) (lines_of text.now) number }
-    ensures bad_at_once { (number : ℕ) → StartsWithBadLine (grammar_of reading) (lines_of text.now) number
+        → IsFirstBadLine grammar (lines_of text.now) number }
+    ensures bad_at_once { (number : ℕ) → StartsWithBadLine grammar (lines_of text.now) number
         → result ≡ Err (ToolError.Line number) }
 {
     let mut families = Families {
@@ -153,7 +146,7 @@ fn read_lines(alloc: Global, text: &str, reading: Reading) -> Result<Families, T
         rest = after;
         number += 1;
         if !line.is_empty() {
-            let Ok(network) = read_line(line, reading) else {
+            let Ok(network) = read_line(line, grammar) else {
                 return Err(ToolError::Line(number));
             };
             let Ok(()) = families.push(network) else {
