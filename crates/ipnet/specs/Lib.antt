@@ -2,7 +2,6 @@
 pub mod NetworkOf
 pub mod NetworkParts
 pub mod NetLaws
-pub mod Grammar
 pub mod Numerals
 pub mod AddressTexts
 pub mod NetworkTexts
