@@ -3,11 +3,11 @@
 use Rattle.std.proofs.Common.{◌≡◌, ℕ, zero, suc, ◌+◌, ◌-◌, ◌*◌, ◌/◌, ◌^◌, ◌<◌, ◌≤◌, ◌⊎◌, ◌↔◌, List, [], ◌∷◌, Contains, All, refl, sym, ap, ◌∙◌, subst, arith, inl, inr, pow_pos}
 use Rattle.std.proofs.lemmas.Bool.{cases_lt, cases_eq}
 use Rattle.ipnet_base.specs.Address.{Address, width, IsBetween}
-use Rattle.ipnet_base.specs.Network.{Network, IsNetwork, host_bits, InBlock, IsSubnetOf, IsTruncated, IsBefore, AreHalves, IsSupernetOf, truncation}
+use Rattle.ipnet_base.specs.Network.{Network, IsNetwork, host_bits, InBlock, IsSubnetOf, IsTruncated, IsBefore, AreHalves, IsSupernetOf, truncation, first_of, last_of}
 use Rattle.ipnet_base.specs.Blocks.{IsCoveredBy, IsInside, IsMaximal, AreMaximalBlocks, HaveSameCover}
 use Rattle.ipnet_base.proofs.NeighbourLaws.{LiesBefore, AreSettled}
 use Rattle.ipnet_base.proofs.PrefixLaws.{coarser, block_from, first_in_block}
-use Rattle.ipnet_base.proofs.BlockLaws.{at, own, own_in, first_of, last_of, between_from_block, block_from_between, number_from_truncated, truncated_from_number, nested, bits_from_subnet, same_from_block, supernet_to_halves, supernet_bits, in_block_at, cases_family, truncation_in, in_truncation, IsTruncated-truncation, IsNetwork-truncation}
+use Rattle.ipnet_base.proofs.BlockLaws.{at, own, own_in, between_from_block, block_from_between, number_from_truncated, truncated_from_number, nested, bits_from_subnet, same_from_block, supernet_to_halves, supernet_bits, in_block_at, cases_family, truncation_in, in_truncation, IsTruncated-truncation, IsNetwork-truncation}
 use Rattle.ipnet_base.proofs.ListLaws.{contains_here, contains_there, contains_cases, any_from_contains, all_at, all_from_members, adjacent_from_pairs, pairs_from_members}
 use Rattle.ipnet_base.proofs.UniqueLaws.{IsBefore-asymmetric}
 use Rattle.ipnet_base.proofs.ShortestLaws.{one_maximal}

@@ -30,6 +30,10 @@ pub record Address : Type 0 where
   pub family : Family
   pub number : ℕ
 
+-- the address of this family and number
+abbrev pub address_at : Family → ℕ → Address
+address_at family number = record { family = family; number = number }
+
 -- the number has no more bits than an address of the family
 abbrev pub IsAddress : Address → Type 0
 IsAddress x = x.number < 2 ^ width x.family
