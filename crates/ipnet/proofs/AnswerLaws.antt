@@ -5,9 +5,9 @@ use Rattle.std.proofs.lemmas.Bool.{ltb-true, lt-ltb, eqb-true}
 use Rattle.std.proofs.lemmas.List.{length-map, map_more, get_or-map}
 use Rattle.std.proofs.lemmas.List.Elements.{All-map}
 use Rattle.ipnet_base.specs.Address.{family_index}
-use Rattle.ipnet_base.specs.Network.{Network, IsNetwork, IsTruncated, AreHalves, truncation}
+use Rattle.ipnet_base.specs.Network.{Network, IsNetwork, IsTruncated, AreHalves, truncation, last_of}
 use Rattle.ipnet_base.specs.Blocks.{IsCoveredBy, HaveSameCover, IsAggregateOf, AreAggregatedNeighbours}
-use Rattle.ipnet_base.proofs.BlockLaws.{last_of, between_from_block, number_from_truncated, truncated_from_number}
+use Rattle.ipnet_base.proofs.BlockLaws.{between_from_block, number_from_truncated, truncated_from_number}
 use Rattle.ipnet_base.specs.Stack.{LiesBefore, AreJoined}
 use Rattle.ipnet_base.proofs.NeighbourLaws.{ends_by_numbers, AreMaximalBlocks-from_neighbours}
 use Rattle.ipnet_base.proofs.SupernetLaws.{AreMaximalBlocks-same_set, neighbours_from_blocks}

@@ -8,11 +8,11 @@ use Rattle.std.proofs.lemmas.Nat.{div-mul-add, pow_below}
 use Rattle.std.proofs.Math.Nat.{mul-div_cancel, div-one}
 use Rattle.ipnet_base.specs.Address.{Family, Address, width, family_index}
 use Rattle.ipnet_base.specs.Network.{Network, IsNetwork, host_bits, InBlock, IsSubnetOf, IsTruncated, AreHalves}
-use Rattle.ipnet_base.specs.Network.{IsBefore}
+use Rattle.ipnet_base.specs.Network.{IsBefore, first_of, last_of}
 use Rattle.ipnet_base.specs.Blocks.{IsCoveredBy, IsInside, IsMaximal, AreMaximalBlocks}
 use Rattle.ipnet_base.specs.Stack.{LiesBefore, AreJoined}
 use Rattle.ipnet_base.proofs.PrefixLaws.{coarser}
-use Rattle.ipnet_base.proofs.BlockLaws.{at, own, own_in, first_of, last_of, first_in, last_in, between_from_block}
+use Rattle.ipnet_base.proofs.BlockLaws.{at, own, own_in, first_in, last_in, between_from_block}
 use Rattle.ipnet_base.proofs.BlockLaws.{number_from_truncated, nested, same_len_from_bits, same_from_block}
 use Rattle.ipnet_base.proofs.ListLaws.{at_place, pair_at, one_place, adjacent_at, pairs_from_adjacent, pairs_weaker}
 use Rattle.ipnet_base.proofs.ListLaws.{any_from_contains, all_at}

@@ -5,11 +5,11 @@ use Rattle.std.proofs.Common.{All, refl, sym, ap, ◌∙◌, subst, arith, inl, 
 use Rattle.std.proofs.lemmas.Bool.{cases_lt, cases_eq}
 use Rattle.ipnet_base.specs.Address.{Address, width, IsBetween}
 use Rattle.ipnet_base.specs.Network.{Network, IsNetwork, host_bits, InBlock, IsSubnetOf, IsTruncated, IsBefore}
-use Rattle.ipnet_base.specs.Network.{AreHalves, IsSupernetOf, truncation}
+use Rattle.ipnet_base.specs.Network.{AreHalves, IsSupernetOf, truncation, first_of, last_of}
 use Rattle.ipnet_base.specs.Blocks.{IsCoveredBy, IsInside, IsMaximal, AreMaximalBlocks, HaveSameCover}
 use Rattle.ipnet_base.specs.Stack.{LiesBefore, AreJoined}
 use Rattle.ipnet_base.proofs.PrefixLaws.{coarser, block_from, first_in_block}
-use Rattle.ipnet_base.proofs.BlockLaws.{at, own, own_in, first_of, last_of, between_from_block, block_from_between}
+use Rattle.ipnet_base.proofs.BlockLaws.{at, own, own_in, between_from_block, block_from_between}
 use Rattle.ipnet_base.proofs.BlockLaws.{number_from_truncated, truncated_from_number, nested, bits_from_subnet}
 use Rattle.ipnet_base.proofs.BlockLaws.{same_from_block, supernet_to_halves, supernet_bits, in_block_at, cases_family}
 use Rattle.ipnet_base.proofs.BlockLaws.{truncation_in, in_truncation, IsTruncated-truncation, IsNetwork-truncation}
