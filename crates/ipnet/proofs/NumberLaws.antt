@@ -10,7 +10,7 @@ use Rattle.ipnet_base.specs.Blocks.{IsMaximal, AreMaximalBlocks}
 use Rattle.ipnet_base.specs.Subnets.{SubnetRange}
 use Rattle.ipnet_base.specs.Ranges.{AddressRange}
 use Rattle.ipnet_base.proofs.BlockLaws.{own, own_in, last_fits, first_from_least, last_from_greatest, nested, bits_from_subnet, same_network, same_from_block}
-use Rattle.ipnet_base.proofs.CoverLaws.{maximal_blocks_apart}
+use Rattle.ipnet_base.proofs.ExactCoverLaws.{maximal_blocks_apart}
 use Rattle.ipnet_base.proofs.ListLaws.{all_at}
 use Rattle.ipnet_base.proofs.NetworkLaws.{IsTruncationOf-truncation}
 use Rattle.ipnet_base.proofs.SupernetLaws.{supernet, IsSupernetOf-supernet}
