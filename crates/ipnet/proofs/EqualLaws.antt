@@ -11,7 +11,7 @@ use Rattle.ipnet.specs.declared.net.IpNet.TheVariants.{V4, V6}
 use Rattle.ipnet.specs.contracts.net.IpNetPartialEq.TheImpl.{eq-value}
 use Rattle.ipnet.specs.NetworkOf.{ipv4_network_of, ipv6_network, ip_network}
 use Rattle.ipnet.specs.NetLaws.{ip_valid, ip_one_to_one}
-use Rattle.ipnet.proofs.AnswerLaws.{All-read}
+use Rattle.ipnet.proofs.JoinedLaws.{All-read}
 use lib.Pointwise.{pointwise}
 
 three_equal : (a b c d p q : ℕ) → (eqb a b && (eqb c d && eqb p q) ≡ true) ↔ ((a ≡ b) × ((c ≡ d) × (p ≡ q)))
@@ -21,7 +21,7 @@ three_equal a b c d p q = (
 )
 
 -- two networks are equal exactly where `==` says so
-pub ip_equal : (x y : IpNet) → (eq-value.it x y ≡ true) ↔ (x ≡ y)
+ip_equal : (x y : IpNet) → (eq-value.it x y ≡ true) ↔ (x ≡ y)
 ip_equal (V4 x) (V4 y) = (
   λ h. let same : x.word ≡ y.word = eqb-true x.word y.word h in
       ip_one_to_one (V4 x) (V4 y) (ap (λ w. ipv4_network_of (w / 2 ^ 32) (w % 2 ^ 32)) same),
@@ -45,7 +45,7 @@ both_true true b = (λ e. (refl, e), λ e. e.1)
 both_true false b = (λ e. cc, λ e. cc)
 
 -- so are two lists
-pub lists_equal : {X : Type 0} (E : X → X → Bool) → ((x y : X) → (E x y ≡ true) ↔ (x ≡ y)) → (xs ys : List X)
+lists_equal : {X : Type 0} (E : X → X → Bool) → ((x y : X) → (E x y ≡ true) ↔ (x ≡ y)) → (xs ys : List X)
     → (pointwise E xs ys ≡ true) ↔ (xs ≡ ys)
 lists_equal E h [] [] = (λ e. refl, λ e. refl)
 lists_equal E h [] (y ∷ ys) = (λ e. cc, λ e. cc)
@@ -58,7 +58,7 @@ lists_equal E h (x ∷ xs) (y ∷ ys) = (
 )
 
 -- lists of values that stand for the same networks are one
-pub read_one_to_one : {X Y : Type 0} (f : X → Y) → ((x y : X) → f x ≡ f y → x ≡ y) → (xs ys : List X)
+read_one_to_one : {X Y : Type 0} (f : X → Y) → ((x y : X) → f x ≡ f y → x ≡ y) → (xs ys : List X)
     → map f xs ≡ map f ys → xs ≡ ys
 read_one_to_one f h [] [] e = refl
 read_one_to_one f h [] (y ∷ ys) e = cc

@@ -1,4 +1,4 @@
--- The front of a list: its first networks as they are read, topped, pushed onto, and the rest behind them.
+-- The front of a list: its first networks as they are read, the last of them, one more pushed, and the rest after them.
 use Rattle.std.proofs.Common.{◌≡◌, ℕ, ◌+◌, ◌-◌, ◌<◌, ◌≤◌, List, [], ◌∷◌, ◌++◌, map, take, drop, set, length, get_or}
 use Rattle.std.proofs.Common.{sym, ap, ◌∙◌, arith}
 use Rattle.std.proofs.lemmas.List.{length-map, length-take-le, map_more, map_push, get_or_push, get_or-drop}
@@ -27,12 +27,12 @@ front_last f xs n t l m e d =
     ap (λ k. get_or (map f (take n xs)) (k - 1) d) size ∙ ap (λ z. get_or z (n - 1) d) (front_more f xs n t l m e)
     ∙ get_or_push (map f (take (n - 1) xs)) (f t) d (n - 1) before
 
--- the front with one network written behind it
+-- the front with one network written after it
 pub front_push : {X Y : Type 0} (f : X → Y) (xs : List X) (n : ℕ) (x : X) → n < length xs
     → map f (take (n + 1) (set xs n x)) ≡ map f (take n xs) ++ f x ∷ []
 front_push f xs n x l = ap (map f) (take_more_set xs n x l) ∙ map_push f (take n xs) x
 
--- what lies behind a place is what lies behind an earlier one, cut further
+-- what lies after a place is what lies after an earlier one, cut further
 pub rest_later : {X : Type 0} (xs ys : List X) (i j : ℕ) → i ≤ j → drop i xs ≡ drop i ys → drop j xs ≡ drop j ys
 rest_later xs ys i j l e =
     let at : i + (j - i) ≡ j = omega arith in
@@ -40,7 +40,7 @@ rest_later xs ys i j l e =
     (λ k. drop k ys) at
 
 -- a list that is the same from a place on has the same network there
-pub rest_first : {X : Type 0} (xs ys : List X) (i : ℕ) (d : X) → drop i xs ≡ drop i ys → get_or xs i d ≡ get_or ys i d
+rest_first : {X : Type 0} (xs ys : List X) (i : ℕ) (d : X) → drop i xs ≡ drop i ys → get_or xs i d ≡ get_or ys i d
 rest_first xs ys i d e =
     let at : i + 0 ≡ i = omega arith in
     ap (λ k. get_or xs k d) (sym at) ∙ sym (get_or-drop i xs 0 d) ∙ ap (λ z. get_or z 0 d) e ∙ get_or-drop i ys 0 d

@@ -1,6 +1,6 @@
 -- Lemmas that the proofs of this crate share.
 pub mod FrontLaws
-pub mod AnswerLaws
+pub mod JoinedLaws
 pub mod EqualLaws
 pub mod SubnetsLaws
 pub mod SubnetCountLaws

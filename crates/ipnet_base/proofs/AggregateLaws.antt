@@ -82,7 +82,7 @@ pub aggregate_apart : (networks answer : List Network) → IsAggregateOf answer 
 aggregate_apart networks answer h = maximal_blocks_apart (IsCoveredBy networks) 0 answer h
 
 -- a list covers itself, so its aggregate is no longer
-pub IsExactCover-itself : (networks : List Network) → All IsNetwork networks
+IsExactCover-itself : (networks : List Network) → All IsNetwork networks
     → IsExactCover (IsCoveredBy networks) 0 networks
 IsExactCover-itself networks valid =
     record { valid = valid; long_enough = λ k d l. omega arith; covers = λ x. (λ a. a, λ a. a) }

@@ -27,7 +27,7 @@ ends_by_numbers n k (inl h) = inl h
 ends_by_numbers n k (inr h) = inr (ap family_index h.0, h.1 (at n (last_of n)) (last_in n))
 
 -- a network's own number is at most the last of its block
-pub own_to_last : (n : Network) → n.number ≤ last_of n
+own_to_last : (n : Network) → n.number ≤ last_of n
 own_to_last n = (between_from_block n (own n) (own_in n)).to_end
 
 pub LiesBefore-transitive : (n k l : Network) → LiesBefore n k → LiesBefore k l → LiesBefore n l
@@ -120,12 +120,12 @@ touching networks ends n k c e f t =
         (ends_by_numbers mid k (pair_at LiesBefore networks ends mid k m e lt))
 
 -- the numbers with the leading bits c, but for the low k bits, lie in the block of one member
-abbrev pub LiesInOne : List Network → Family → ℕ → ℕ → Type 0
+abbrev LiesInOne : List Network → Family → ℕ → ℕ → Type 0
 LiesInOne networks family k c = (n : Network) × Contains networks n × (n.family ≡ family) × (k ≤ host_bits n)
     × ((c * 2 ^ k) / 2 ^ host_bits n ≡ n.number / 2 ^ host_bits n)
 
 -- the addresses with those leading bits are covered
-abbrev pub IsCovered : List Network → Family → ℕ → ℕ → Type 0
+abbrev IsCovered : List Network → Family → ℕ → ℕ → Type 0
 IsCovered networks family k c = (x : Address) → x.family ≡ family → x.number / 2 ^ k ≡ c → IsCoveredBy networks x
 
 -- numbers with k low bits and one more: c begins both halves, 2 * c and 2 * c + 1
@@ -211,7 +211,7 @@ lies_step networks valid joined family k c le (n, in_n, fn, bn, en) (l, in_l, fl
       ]
     ]
 
-pub lies_in_one : (networks : List Network) → All IsNetwork networks → AreJoined networks
+lies_in_one : (networks : List Network) → All IsNetwork networks → AreJoined networks
     → (family : Family) (k c : ℕ) → k ≤ width family → IsCovered networks family k c → LiesInOne networks family k c
 lies_in_one networks valid joined family zero c le cover =
     let x : Address = record { family = family; number = c } in

@@ -64,7 +64,7 @@ ends_before_next t n u v tt_ tn (inr (inr (f, order))) out =
     between : (x : Address) → InBlock t x → n.number ≤ x.number → InBlock t (own n)
     between x a ge = block_between t x (own n) a (sym f) (omega (arith, order)) ge
 
-pub stack_truncated : (xs : List Network) (n : Network) → AreJoined xs → IsTruncated n → All IsTruncated (xs ++ n ∷ [])
+stack_truncated : (xs : List Network) (n : Network) → AreJoined xs → IsTruncated n → All IsTruncated (xs ++ n ∷ [])
 stack_truncated xs n joined t = All-push IsTruncated xs n joined.truncated t
 
 -- what holds of neighbours holds with one more at the end, if it holds of the last and the new one
@@ -95,7 +95,7 @@ neighbours_push xs n joined t ends halves = record {
 }
 
 -- and with the last one gone
-pub neighbours_pop : (xs : List Network) (n : Network) → AreJoined (xs ++ n ∷ []) → AreJoined xs
+neighbours_pop : (xs : List Network) (n : Network) → AreJoined (xs ++ n ∷ []) → AreJoined xs
 neighbours_pop xs n joined = record {
   truncated = λ k d l. subst IsTruncated (get_or_append_left xs (n ∷ []) d k l)
       (joined.truncated k d (omega (arith, l, length_push xs n)));
@@ -106,7 +106,7 @@ neighbours_pop xs n joined = record {
 }
 
 -- the supernet of two halves stands where the first of them does
-pub supernet_start : (s t n : Network) → IsNetwork t → IsSupernetOf s t → AreHalves t n → IsTruncated t
+supernet_start : (s t n : Network) → IsNetwork t → IsSupernetOf s t → AreHalves t n → IsTruncated t
     → IsTruncated n → LiesBefore t n → s.number ≡ t.number
 supernet_start s t n u p h tr tn ends =
     let up : s.number ≤ t.number = p.truncated (own t) (p.contains (own t) (own_in t)) in
@@ -120,13 +120,13 @@ supernet_start s t n u p h tr tn ends =
     behind (inr i) = i.1 (own t) (own_in t)
 
 -- what ends before the first half ends before the supernet, and the supernet stands before that half
-pub ends_before_supernet : (m s t : Network) → IsSupernetOf s t → s.number ≡ t.number → LiesBefore m t → LiesBefore m s
+ends_before_supernet : (m s t : Network) → IsSupernetOf s t → s.number ≡ t.number → LiesBefore m t → LiesBefore m s
 ends_before_supernet m s t p e (inl h) =
     inl (omega (arith, h, ap family_index (p.contains (own t) (own_in t)).same_family))
 ends_before_supernet m s t p e (inr h) =
     inr (h.0 ∙ (p.contains (own t) (own_in t)).same_family, λ x a. omega (arith, h.1 x a, e))
 
-pub supernet_before : (s t : Network) → IsSupernetOf s t → s.number ≡ t.number → IsBefore s t
+supernet_before : (s t : Network) → IsSupernetOf s t → s.number ≡ t.number → IsBefore s t
 supernet_before s t p e = inr (sym (p.contains (own t) (own_in t)).same_family, inr (e, omega (arith, p.shorter)))
 
 -- the last of a list that has one
@@ -134,7 +134,7 @@ abbrev pub LastLiesBefore : List Network → Network → Type 0
 LastLiesBefore xs n = (d : Network) → 0 < length xs → LiesBefore (get_or xs (length xs - 1) d) n
 
 -- two halves at the end of a list cover what their supernet covers
-pub joined_cover : (ys : List Network) (t next s : Network) → IsNetwork t → AreHalves t next → IsSupernetOf s t
+joined_cover : (ys : List Network) (t next s : Network) → IsNetwork t → AreHalves t next → IsSupernetOf s t
     → (x : Address)
     → (IsCoveredBy ys x ⊎ InBlock s x) ↔ (IsCoveredBy (ys ++ t ∷ []) x ⊎ InBlock next x)
 joined_cover ys t next s u halves p x = (down, up)
@@ -346,7 +346,7 @@ stack_of_first_more networks i came stack new sorted l e h p = record {
       | inr b ↦ inr b
     ])
 
-pub in_order_from_adjacent : (xs : List Network)
+in_order_from_adjacent : (xs : List Network)
     → ((k : ℕ) (d : Network) → k + 1 < length xs → IsBeforeOrEqual (get_or xs k d) (get_or xs (k + 1) d)) → IsInOrder xs
 in_order_from_adjacent xs h i zero d le l = inl (ap (λ k. get_or xs k d) (omega arith))
 in_order_from_adjacent xs h i (suc j) d le l =

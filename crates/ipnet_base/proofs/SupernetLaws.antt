@@ -47,7 +47,7 @@ IsSupernetOf-supernet n u long = record {
     bits = omega (arith, u.prefix_fits, long)
 
 -- what contains a network, and more, contains its supernet
-pub supernet_below : (s n k : Network) → IsNetwork n → IsSupernetOf s n → IsSubnetOf n k → host_bits n < host_bits k
+supernet_below : (s n k : Network) → IsNetwork n → IsSupernetOf s n → IsSubnetOf n k → host_bits n < host_bits k
     → IsSubnetOf s k
 supernet_below s n k u p sub lt =
     nested s k (own n) (p.contains (own n) (own_in n)) (sub (own n) (own_in n))
@@ -104,7 +104,7 @@ all_below P dec (suc n) =
     ]
 
 -- whether a block lies in such a set
-pub block_decided : (InSet : Address → Type 0) → IsDecided InSet → (n : Network)
+block_decided : (InSet : Address → Type 0) → IsDecided InSet → (n : Network)
     → ((x : Address) → InBlock n x → InSet x) ⊎ (((x : Address) → InBlock n x → InSet x) → ⊥)
 block_decided InSet dec n =
     elim (all_below (λ i. InSet (at n (first_of n + i))) (λ i. dec (at n (first_of n + i))) (2 ^ host_bits n)) [

@@ -6,10 +6,10 @@ use Rattle.ipnet_base.specs.Blocks.{AreMaximalBlocks}
 use Rattle.ipnet_base.proofs.ListLaws.{same_from_members}
 
 -- the order of networks by numbers alone
-abbrev pub OrderedBy : (f g a b p q : ℕ) → Type 0
+abbrev OrderedBy : (f g a b p q : ℕ) → Type 0
 OrderedBy f g a b p q = (f < g) ⊎ ((f ≡ g) × ((a < b) ⊎ ((a ≡ b) × (p < q))))
 
-pub before_by_numbers : (n k : Network) → IsBefore n k
+before_by_numbers : (n k : Network) → IsBefore n k
     → OrderedBy (family_index n.family) (family_index k.family) n.number k.number n.prefix_len k.prefix_len
 before_by_numbers n k (inl h) = inl h
 before_by_numbers n k (inr h) = inr (ap family_index h.0, h.1)

@@ -1,3 +1,5 @@
+-- The sorted list is swept onto a stack that covers what the input covers. Nothing is left to join in it, so it is the
+-- aggregate, and all that is said of aggregates follows.
 use Rattle.std.proofs.Common.{◌≡◌, All, map, take, drop, length, sym, ap, subst, arith}
 use Rattle.std.proofs.lemmas.List.{length-map, nil_from_length}
 use Rattle.std.proofs.lemmas.List.Sorted.{All-permutation, IsPermutation-map}
@@ -7,7 +9,7 @@ use Rattle.ipnet_base.proofs.AggregateLaws.{IsCanonicalAggregateOf-from_aggregat
 use Rattle.ipnet_base.proofs.CoverLaws.{HaveSameCover-trans}
 use Rattle.ipnet_base.proofs.StackLaws.{stack_of_first_whole, in_order_from_sort}
 use Rattle.ipnet.proofs.FrontLaws.{front_kept}
-use Rattle.ipnet.proofs.AnswerLaws.{All-read, aggregate_from_stack}
+use Rattle.ipnet.proofs.JoinedLaws.{All-read, aggregate_from_stack}
 use Rattle.ipnet.proofs.aggregate.aggregated.Goals as goal
 
 pub sweep-stacked-requires-clause-truncated : goal.sweep-stacked-requires-clause-truncated

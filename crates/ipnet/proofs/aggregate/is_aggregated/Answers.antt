@@ -1,3 +1,5 @@
+-- As long as each test passes, nothing is left to join in the networks read so far; where one fails, the list does not
+-- show the four conditions, and so is not its own aggregate.
 use Rattle.std.proofs.Common.{map, subst, arith}
 use Rattle.std.proofs.lemmas.List.{take_all}
 use Rattle.ipnet_base.specs.Network.{IsNetwork}
@@ -5,8 +7,8 @@ use Rattle.ipnet_base.proofs.ListLaws.{true_gives, false_gives}
 use Rattle.ipnet_base.specs.Stack.{AreJoined}
 use Rattle.ipnet.specs.NetworkOf.{ip_network}
 use Rattle.ipnet.specs.NetLaws.{ip_valid}
-use Rattle.ipnet.proofs.AnswerLaws.{All-read, joined_first, joined_more, joined_at, joined_pair, joined_is_own}
-use Rattle.ipnet.proofs.AnswerLaws.{joined_is_neighbours, unjoined_is_not_own, unjoined_is_not_neighbours}
+use Rattle.ipnet.proofs.JoinedLaws.{All-read, joined_first, joined_more, joined_at, joined_pair, joined_is_own}
+use Rattle.ipnet.proofs.JoinedLaws.{joined_is_neighbours, unjoined_is_not_own, unjoined_is_not_neighbours}
 use Rattle.ipnet.proofs.aggregate.is_aggregated.Goals as goal
 use Rattle.ipnet.proofs.aggregate.is_aggregated.Goals.{then-index-gt0+else-not-lies_before+else-is_other_half}
 use Rattle.ipnet.proofs.aggregate.is_aggregated.Goals.{else-index-gt0, then-not-lies_before-via-then-not-lies_before}

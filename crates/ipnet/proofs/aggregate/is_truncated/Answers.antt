@@ -1,7 +1,8 @@
+-- A network has no host bit exactly where its number is that of its truncation.
 use Rattle.std.proofs.Common.{◌↔◌, IsTrue, eqb, sym, subst}
 use Rattle.ipnet_base.specs.Network.{IsTruncated}
 use Rattle.ipnet.specs.NetworkOf.{ipv4_network, ipv6_network, ip_network}
-use Rattle.ipnet.proofs.AnswerLaws.{truncated_by_number}
+use Rattle.ipnet.proofs.JoinedLaws.{truncated_by_number}
 use Rattle.ipnet.proofs.aggregate.is_truncated.Goals as goal
 
 pub returns-in-V4 : goal.returns-in-V4

@@ -1,7 +1,8 @@
+-- In one family the last number of the first, below the number of the second, tells that it lies before it.
 use Rattle.std.proofs.Common.{◌↔◌, IsTrue, ltb, refl, sym, subst₂}
 use Rattle.ipnet_base.specs.Stack.{LiesBefore}
 use Rattle.ipnet.specs.NetworkOf.{ipv4_network, ipv6_network, ip_network}
-use Rattle.ipnet.proofs.AnswerLaws.{lies_by_last}
+use Rattle.ipnet.proofs.JoinedLaws.{lies_by_last}
 use Rattle.ipnet.proofs.aggregate.lies_before.Goals as goal
 
 pub returns-in-V4-V4 : goal.returns-in-V4-V4

@@ -1,3 +1,5 @@
+-- Each turn joins the topmost and the next network to their supernet, which covers what the two did; the stack below
+-- still has nothing to join.
 use Rattle.std.proofs.Common.{◌≡◌, ◌-◌, ◌<◌, ◌≤◌, List, Contains, map, take, length, get_or, ◌∙◌, sym, ap, subst, arith}
 use Rattle.std.proofs.lemmas.List.Elements.{All-map}
 use Rattle.ipnet_base.specs.Network.{Network, IsNetwork, IsSubnetOf, AreHalves, IsSupernetOf}

@@ -1,3 +1,4 @@
+-- Each turn joins the last network and the next one to their supernet, which covers what the two did.
 use Rattle.std.proofs.Common.{◌≡◌, ◌-◌, ◌∷◌, ◌++◌, [], List, Option, Some, map, length, get_or, ◌∙◌, sym, ap, subst}
 use Rattle.std.proofs.Common.{arith, slice_get, option_copied, option_to_list, Bor}
 use Rattle.std.proofs.lemmas.List.{map_push}

@@ -1,3 +1,4 @@
+-- After i turns the stack in the front covers the first i networks, and the rest of the list is as it was.
 use Rattle.std.proofs.Common.{◌+◌, ◌<◌, All, map, take, length, ◌∙◌, subst, arith}
 use Rattle.std.proofs.lemmas.List.{length-map}
 use Rattle.ipnet_base.specs.Network.{IsTruncated}

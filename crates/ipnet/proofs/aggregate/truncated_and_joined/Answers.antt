@@ -1,3 +1,4 @@
+-- After i turns the list covers the first i networks, whose host bits do not matter for that.
 use Rattle.std.proofs.Common.{map, ◌∙◌, sym, ap, subst, arith}
 use Rattle.std.proofs.lemmas.List.{length-map, get_or-map}
 use Rattle.ipnet_base.specs.Network.{IsTruncated}

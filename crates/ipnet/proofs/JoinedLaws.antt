@@ -1,4 +1,5 @@
--- What makes the stack of a sweep the aggregate of a list, and what tests of neighbours tell of one.
+-- Lists in which nothing is left to join: the stack of a sweep as the aggregate of a list, and what tests of neighbours
+-- tell.
 use Rattle.std.proofs.Common.{◌≡◌, ℕ, ◌+◌, ◌-◌, ◌<◌, ◌↔◌, IsTrue, true, false, ltb, eqb, List, [], ◌∷◌, ◌++◌, map}
 use Rattle.std.proofs.Common.{take, length, get_or, All, refl, sym, ap, ◌∙◌, subst, subst₂, arith, inl, inr, eq-eqb}
 use Rattle.std.proofs.lemmas.Bool.{ltb-true, lt-ltb, eqb-true}
