@@ -1,4 +1,10 @@
-//! Laws of ranges that no single call carries. Each is a function with nothing to run, whose contract is the law.
+//! Laws of ranges that no single call carries: what they list, what a mix of calls gives, and `==`, the order, the hash
+//! and the clone. Each is a function with nothing to run, whose contract is the law.
+//!
+//! ```text
+//! 0.0.0.1 to 0.0.0.0 < 0.0.0.1 to 0.0.0.6 < 0.0.0.5 to 0.0.0.3 < :: to ::6
+//! the first and the third have no address, and are not equal
+//! ```
 ghost use Rattle.std.specs.Prelude.{◌≡◌, ◌≢◌, ◌<◌, ◌↔◌, None, List, length};
 ghost use Rattle.std.specs.Prelude.{Contains, All, AllPairs, Any, IsPermutation};
 ghost use Rattle.ipnet_base.specs.Address.{Address, IsBetween};
