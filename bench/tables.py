@@ -1,0 +1,311 @@
+"""The tables of the bench. README.md says what a figure is."""
+import hashlib
+import os
+import tempfile
+from typing import NamedTuple
+
+from lists import MILLION, Missing, path_of
+from programs import figure, floor, run
+
+MIB = 1 << 20
+
+
+class Call(NamedTuple):
+    """A row of the table of calls: a task of ipnet_bench on a list, beside the original's."""
+    label: str
+    task: list
+    list_name: str | None
+    bound: float
+    goal: float | None = None
+    original_task: list | None = None  # where it isn't our task
+
+
+class Program(NamedTuple):
+    """A row of the table of the program. Times are of the original's, peaks in MiB."""
+    label: str
+    list_name: str
+    iprange: bool  # whether iprange can read the list
+    time: float | None = None
+    time_goal: float | None = None
+    peak: float | None = None
+    peak_goal: float | None = None
+
+
+IPV4_RANGE = ["10.0.0.0", "10.255.255.255"]
+IPV6_RANGE = ["2001:db8::", "2001:db8::ff:ffff"]
+IPV4_WALK = ["0.0.0.1", "255.255.255.254"]
+IPV6_WALK = ["2001:db8::1", "2001:db8:ffff:ffff:ffff:ffff:ffff:fffe"]
+
+CALLS = [
+    Call("2^24 `next` of an IPv4 range", ["range_next_ipv4", *IPV4_RANGE], None, 1.0),
+    Call("2^24 `next` of an IPv6 range", ["range_next_ipv6", *IPV6_RANGE], None, 1.0),
+    Call("walk of an IPv4 range, minimum prefix length 24", ["walk_ipv4", *IPV4_WALK], None, 0.4, 0.31),
+    Call("walk of an IPv6 range, minimum prefix length 56", ["walk_ipv6", *IPV6_WALK], None, 0.4, 0.31),
+    Call("sort of `IpNet`, routing table", ["sort"], "routing_table", 1.0, 0.8),
+    Call("`contains`, random IPv4", ["contains"], "random_ipv4", 1.5, 1.0),
+    Call("`contains`, random IPv6", ["contains"], "random_ipv6", 1.0),
+    Call("`contains`, routing table", ["contains"], "routing_table", 1.5, 1.0),
+    Call("`IpNet::aggregate`, random IPv4", ["aggregate"], "random_ipv4", 1.25, 1.22),
+    Call("`IpNet::aggregate`, random IPv6", ["aggregate"], "random_ipv6", 1.0, 0.7),
+    Call("`IpNet::aggregate`, random, both families", ["aggregate"], "random_both", 0.65, 0.59),
+    Call("`IpNet::aggregate`, routing table", ["aggregate"], "routing_table", 1.25, 1.19),
+    Call("`IpNet::aggregate`, consecutive /32, descending", ["aggregate"], "consecutive_hosts", 1.0, 0.62),
+    Call("`IpNet::aggregate`, aggregated IPv4", ["aggregate"], "aggregated_ipv4", 1.0, 0.7),
+    Call("`IpNet::aggregate`, aggregated IPv6", ["aggregate"], "aggregated_ipv6", 1.0, 0.7),
+    Call("`Ipv4Net::aggregate`, random IPv4", ["aggregate_ipv4"], "random_ipv4", 1.0, 0.7),
+    Call("`Ipv4Net::aggregate`, consecutive /32, descending", ["aggregate_ipv4"], "consecutive_hosts", 1.0, 0.7),
+    Call("`Ipv4Net::aggregate`, aggregated IPv4", ["aggregate_ipv4"], "aggregated_ipv4", 1.0, 0.7),
+    Call("`Ipv6Net::aggregate`, random IPv6", ["aggregate_ipv6"], "random_ipv6", 1.0, 0.7),
+    Call("`Ipv6Net::aggregate`, aggregated IPv6", ["aggregate_ipv6"], "aggregated_ipv6", 1.0, 0.7),
+    Call("`Display` into one buffer, both families", ["print"], "random_both", 0.7, 0.4),
+    Call("`to_text` into one buffer, both families, beside `Display`", ["to_text"], "random_both", 0.7, 0.4, ["print"]),
+    Call("reading IPv4 texts", ["read"], "random_ipv4", 0.75, 0.7),
+    Call("reading IPv6 texts", ["read"], "random_ipv6", 0.4),
+    Call("reading texts of both families", ["read"], "random_both", 0.4),
+    Call("reading texts, routing table", ["read"], "routing_table", 0.75, 0.72),
+]
+
+AGGREGATED = ["random_ipv4", "random_ipv6", "random_both", "routing_table", "consecutive_hosts", "aggregated_ipv4",
+              "aggregated_ipv6"]
+
+PROGRAM = [
+    Program("all IPv4 ranges", "ranges_ipv4", True, 0.5, 0.34, 4, 2.0),
+    Program("all IPv6 ranges", "ranges_ipv6", False, 0.45, 0.33, 5, 2.6),
+    Program("both, in any order", "ranges_both", False, 0.45, 0.31, 25, 20),
+    Program("forty countries, IPv4", "countries_ipv4", True, 0.5, 0.4, 10, 6.7),
+    Program("forty countries, both families", "countries_both", False),
+    Program("IPv4 routes", "routes_ipv4", True, 0.5, 0.38, 14, 9.6),
+    Program("descending /32", "descending_hosts", True, 0.4, 0.25, 8, 5.4),
+    Program("/48 inside forty /32", "sites_ipv6", False, 0.45, 0.32, 35, 25),
+]
+
+# The lengths at which `IpNet::aggregate`, and the program, are measured.
+CALL_LENGTHS = [10_000, 100_000, MILLION]
+PROGRAM_LENGTHS = [10_000, 100_000, MILLION, 10 * MILLION]
+
+
+class Bench:
+    """The programs, how often each is run, and what was found: bounds held and missed, answers that differ."""
+
+    def __init__(self, programs, rounds, only):
+        self.programs, self.rounds, self.only = programs, rounds, only
+        self.held, self.missed, self.differing = 0, [], []
+
+    def wants(self, *names):
+        return any(self.only in name for name in names if name)
+
+    def judged(self, row, value, bound, goal=None):
+        """The cell of a bound: the bound, its goal in brackets, and whether the value is within the bound."""
+        if bound is None:
+            return "-"
+        cell = "%g (%g)" % (bound, goal) if goal else "%g" % bound
+        if value is None:
+            return cell
+        if value <= bound:
+            self.held += 1
+            return cell + " held"
+        self.missed.append(row)
+        return cell + " **missed**"
+
+    def compared(self, row, answers):
+        """The cell that says whether all programs gave one answer."""
+        if len(answers) < 2:
+            return "-"
+        if len(set(answers)) == 1:
+            return "same"
+        self.differing.append(row)
+        return "**DIFFER**"
+
+
+def row(*cells):
+    print("| " + " | ".join(cells) + " |", flush=True)
+
+
+def head(title, *cells):
+    print("\n### %s\n" % title)
+    row(*cells)
+    row(*["---"] + ["---:"] * (len(cells) - 1))
+
+
+def left_out(name, missing):
+    print("\n(%s is left out: %s)\n" % (name, missing), flush=True)
+
+
+def milliseconds(nanoseconds):
+    return "-" if nanoseconds is None else "%.2f" % (nanoseconds / 1e6)
+
+
+def mebibytes(size):
+    return "-" if size is None else "%.1f" % (size / MIB)
+
+
+def ratio(one, other):
+    return None if one is None or other is None else one / other
+
+
+def shown(number, form="%.2f"):
+    return "-" if number is None else form % number
+
+
+def least(times):
+    return min(times) if times else None
+
+
+def calls(bench):
+    head("Calls", "call", "items", "ours ms", "original ms", "of the original's", "bound (goal)", "answers")
+    for call in CALLS:
+        if bench.wants(call.label, call.list_name):
+            call_row(bench, call)
+    refused(bench)
+
+
+def call_row(bench, call):
+    source = path_of(call.list_name) if call.list_name else os.devnull
+    ours, theirs, answers = [], [], []
+    for _ in range(bench.rounds):
+        line, _ = figure(bench.programs.our_calls, call.task, source)
+        ours.append(line["min_ns"])
+        answers.append((line["items"], line["check"]))
+        if bench.programs.original_calls:
+            line, _ = figure(bench.programs.original_calls, call.original_task or call.task, source)
+            theirs.append(line["min_ns"])
+            answers.append((line["items"], line["check"]))
+    part = ratio(least(ours), least(theirs))
+    row(call.label, format(answers[0][0], ","), milliseconds(least(ours)), milliseconds(least(theirs)), shown(part),
+        bench.judged(call.label, part, call.bound, call.goal),
+        bench.compared(call.label, answers) if theirs else "-")
+
+
+def refused(bench):
+    if not bench.wants("refused"):
+        return
+    head("Refused texts, 100,000 calls", "the text repeats", "64 times ms", "100,000 times ms", "ratio", "bound")
+    for piece in (":", "0"):
+        short, long = [], []
+        for _ in range(bench.rounds):
+            short.append(figure(bench.programs.our_calls, ["refuse", piece, "64"])[0]["min_ns"])
+            long.append(figure(bench.programs.our_calls, ["refuse", piece, "100000"])[0]["min_ns"])
+        part = ratio(least(long), least(short))
+        row("`%s`" % piece, milliseconds(least(short)), milliseconds(least(long)), shown(part),
+            bench.judged("refused texts of " + piece, part, 2))
+
+
+def growth(bench):
+    head("Growth of `IpNet::aggregate`", "list", *("%s ms" % format(length, ",") for length in CALL_LENGTHS),
+         "10^5 over 10^4", "10^6 over 10^5", "bound")
+    for name in AGGREGATED:
+        if bench.wants(name):
+            times = [least([figure(bench.programs.our_calls, ["aggregate"], path_of(name, length))[0]["min_ns"]
+                            for _ in range(bench.rounds)]) for length in CALL_LENGTHS]
+            steps = [times[1] / times[0], times[2] / times[1]]
+            row(name, *map(milliseconds, times), *("%.1f" % step for step in steps),
+                bench.judged("growth, " + name, max(steps), 14))
+
+
+def memory(bench):
+    head("Memory of `IpNet::aggregate`", "list", "the input's list MiB", "peak that holds it MiB",
+         "peak that aggregates it MiB", "beside the input, in lists", "bound", "the original's, in its lists")
+    for name in AGGREGATED:
+        if bench.wants(name):
+            listed, held, most = peaks(bench.programs.our_calls, name)
+            part, original = (most - held) / listed, None
+            if bench.programs.original_calls:
+                size, least_peak, most_peak = peaks(bench.programs.original_calls, name)
+                original = (most_peak - least_peak) / size
+            row(name, *map(mebibytes, (listed, held, most)), "%.2f" % part,
+                bench.judged("memory, " + name, part, 1.05), shown(original))
+
+
+def peaks(program, name):
+    """(the bytes of the list, the peak of holding it, the peak of aggregating it)"""
+    held, peak = figure(program, ["hold"], path_of(name))
+    return held["check"], peak, figure(program, ["aggregate"], path_of(name))[1]
+
+
+def digest(path, puts_back):
+    """The digest of an output. iprange leaves out the length of a single address, which is put back here."""
+    found = hashlib.sha256()
+    with open(path, "rb") as lines:
+        for line in lines:
+            bare = puts_back and b"/" not in line
+            found.update(line.rstrip(b"\n") + b"/32\n" if bare else line)
+    return found.hexdigest()
+
+
+def runs_of(bench, source, with_iprange):
+    """(the runs of each program on a list, the digests of their outputs). The programs take turns; the first run of
+    each is not measured, and its output is kept."""
+    commands = {"ours": bench.programs.our_program, "original": bench.programs.original_program,
+                "iprange": bench.programs.iprange if with_iprange else None}
+    commands = {who: [path] for who, path in commands.items() if path}
+    outputs = []
+    with tempfile.NamedTemporaryFile() as answer, open(os.devnull, "wb") as nowhere:
+        for who, command in commands.items():
+            answer.truncate(0)
+            answer.seek(0)
+            run(command, source, answer)
+            outputs.append(digest(answer.name, who == "iprange"))
+        runs = {who: [] for who in commands}
+        for _ in range(bench.rounds):
+            for who, command in commands.items():
+                runs[who].append(run(command, source, nowhere)[0])
+    return runs, outputs
+
+
+def best(runs, who, field):
+    """The least of the runs of a program: wall time, processor time or peak. None: it was not run."""
+    return least([getattr(run, field) for run in runs.get(who, [])])
+
+
+def program(bench):
+    print("\nThe floor of a peak is %s MiB." % mebibytes(floor()))
+    head("The program", "list", "lines", "wall ms", "processor ms", "wall, of the original's",
+         "processor, of the original's", "bound (goal)", "processor, of iprange's", "peak MiB", "bound (goal)",
+         "the original's", "iprange's", "output")
+    for listed in PROGRAM:
+        if bench.wants(listed.label, listed.list_name):
+            try:
+                program_row(bench, listed, path_of(listed.list_name))
+            except Missing as missing:
+                left_out(listed.label, missing)
+
+
+def program_row(bench, listed, source):
+    runs, outputs = runs_of(bench, source, listed.iprange)
+    wall, processor, peak = (best(runs, "ours", field) for field in ("wall", "processor", "peak"))
+    part = ratio(processor, best(runs, "original", "processor"))
+    row(listed.label, format(lines_of(source), ","), milliseconds(wall), milliseconds(processor),
+        shown(ratio(wall, best(runs, "original", "wall"))), shown(part),
+        bench.judged(listed.label + ", time", part, listed.time, listed.time_goal),
+        shown(ratio(processor, best(runs, "iprange", "processor"))), mebibytes(peak),
+        bench.judged(listed.label + ", peak", peak / MIB, listed.peak, listed.peak_goal),
+        mebibytes(best(runs, "original", "peak")), mebibytes(best(runs, "iprange", "peak")),
+        bench.compared(listed.label, outputs))
+
+
+def lines_of(path):
+    with open(path, "rb") as text:
+        return sum(1 for _ in text)
+
+
+def lengths(bench):
+    head("The program by the number of lines", "list", "lines", "processor ms", "ns a line", "of 10^6 lines'",
+         "of the original's", "peak MiB", "bytes a line", "the original's MiB", "output")
+    for name in ("routes_ipv4", "sites_ipv6"):
+        if bench.wants(name, "lengths"):
+            found = [(length, *runs_of(bench, path_of(name, length), False)) for length in PROGRAM_LENGTHS
+                     if name != "sites_ipv6" or length <= MILLION]
+            for length, runs, outputs in found:
+                length_row(bench, name, length, runs, outputs, found)
+
+
+def length_row(bench, name, length, runs, outputs, found):
+    processor, peak = best(runs, "ours", "processor"), best(runs, "ours", "peak")
+    million = next(best(runs, "ours", "processor") for of, runs, _ in found if of == MILLION) / MILLION
+    row(name, format(length, ","), milliseconds(processor), "%.1f" % (processor / length),
+        "%.2f" % (processor / length / million), shown(ratio(processor, best(runs, "original", "processor"))),
+        mebibytes(peak), "%.1f" % (peak / length), mebibytes(best(runs, "original", "peak")),
+        bench.compared("%s, %d lines" % (name, length), outputs))
+
+
+PARTS = {"calls": calls, "growth": growth, "memory": memory, "program": program, "lengths": lengths}
