@@ -241,6 +241,8 @@ def countries_both():
 GENERATED = {make.__name__: make for make in (
     random_ipv4, random_ipv6, random_both, routing_table, consecutive_hosts, aggregated_ipv4, aggregated_ipv6,
     routes_ipv4, descending_hosts, sites_ipv6)}
+# The lists that are at most so long.
+MOST = {"sites_ipv6": MILLION, "consecutive_hosts": 10 * MILLION, "descending_hosts": 10 * MILLION}
 REAL = {make.__name__: make for make in (ranges_ipv4, ranges_ipv6, ranges_both, countries_ipv4, countries_both)}
 
 

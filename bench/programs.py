@@ -84,8 +84,8 @@ def originals():
     if not shutil.which("cargo"):
         note("there is no cargo: the original's columns stay empty")
     elif subprocess.run(command).returncode != 0:
-        note("the original can't be built: its columns stay empty. Without a registry, let IPNET_SOURCE name the folder "
-             "of the source of ipnet 2.12.2")
+        note("the original can't be built: its columns stay empty. Without a registry, let IPNET_SOURCE name the "
+             "folder of the source of ipnet 2.12.2")
     else:
         return [os.path.join(copy, "target/release", name) for name in ("original_calls", "original_program")]
     return [None, None]
@@ -108,12 +108,13 @@ def programs():
     return Programs(ours(CALLS_CRATE), ours(PROGRAM_CRATE), *originals(), iprange)
 
 
-def run(command, source=os.devnull, sink=subprocess.PIPE):
-    """(what the run took, what it wrote to a pipe) of one run of a program, which has to end with status 0."""
+def run(command, source=os.devnull, sink=subprocess.PIPE, status=0):
+    """(what the run took, what it wrote to a pipe) of one run of a program, which has to end with this status."""
     with open(source, "rb") as given, tempfile.NamedTemporaryFile("r") as report:
         launched = [os.path.join(CACHE, "launch"), report.name] + command
-        ended = subprocess.run(launched, stdin=given, stdout=sink)
-        if ended.returncode != 0:
+        errors = subprocess.DEVNULL if status else None
+        ended = subprocess.run(launched, stdin=given, stdout=sink, stderr=errors)
+        if ended.returncode != status:
             sys.exit("bench/run: %s < %s ended with status %d" % (" ".join(command), source, ended.returncode))
         wall, processor, peak = map(int, report.read().split())
     return Took(wall, 1000 * processor, 1024 * peak), ended.stdout

@@ -4,6 +4,7 @@ import os
 import tempfile
 from typing import NamedTuple
 
+import lists
 from lists import MILLION, Missing, path_of
 from programs import figure, floor, run
 
@@ -128,7 +129,7 @@ def head(title, *cells):
 
 
 def left_out(name, missing):
-    print("\n(%s is left out: %s)\n" % (name, missing), flush=True)
+    row(name, "left out: %s" % missing)
 
 
 def milliseconds(nanoseconds):
@@ -152,11 +153,13 @@ def least(times):
 
 
 def calls(bench):
-    head("Calls", "call", "items", "ours ms", "original ms", "of the original's", "bound (goal)", "answers")
-    for call in CALLS:
-        if bench.wants(call.label, call.list_name):
-            call_row(bench, call)
-    refused(bench)
+    wanted = [call for call in CALLS if bench.wants(call.label, call.list_name)]
+    if wanted:
+        head("Calls", "call", "items", "ours ms", "original ms", "of the original's", "bound (goal)", "answers")
+    for call in wanted:
+        call_row(bench, call)
+    if bench.wants("refused texts"):
+        refused(bench)
 
 
 def call_row(bench, call):
@@ -177,8 +180,6 @@ def call_row(bench, call):
 
 
 def refused(bench):
-    if not bench.wants("refused"):
-        return
     head("Refused texts, 100,000 calls", "the text repeats", "64 times ms", "100,000 times ms", "ratio", "bound")
     for piece in (":", "0"):
         short, long = [], []
@@ -191,35 +192,38 @@ def refused(bench):
 
 
 def growth(bench):
-    head("Growth of `IpNet::aggregate`", "list", *("%s ms" % format(length, ",") for length in CALL_LENGTHS),
-         "10^5 over 10^4", "10^6 over 10^5", "bound")
-    for name in AGGREGATED:
-        if bench.wants(name):
-            times = [least([figure(bench.programs.our_calls, ["aggregate"], path_of(name, length))[0]["min_ns"]
-                            for _ in range(bench.rounds)]) for length in CALL_LENGTHS]
-            steps = [times[1] / times[0], times[2] / times[1]]
-            row(name, *map(milliseconds, times), *("%.1f" % step for step in steps),
-                bench.judged("growth, " + name, max(steps), 14))
+    wanted = [name for name in AGGREGATED if bench.wants(name)]
+    if wanted:
+        head("Growth of `IpNet::aggregate`", "list", *("%s ms" % format(length, ",") for length in CALL_LENGTHS),
+             "10^5 over 10^4", "10^6 over 10^5", "bound")
+    for name in wanted:
+        times = [least([figure(bench.programs.our_calls, ["aggregate"], path_of(name, length))[0]["min_ns"]
+                        for _ in range(bench.rounds)]) for length in CALL_LENGTHS]
+        steps = [times[1] / times[0], times[2] / times[1]]
+        row(name, *map(milliseconds, times), *("%.1f" % step for step in steps),
+            bench.judged("growth, " + name, max(steps), 14))
 
 
 def memory(bench):
-    head("Memory of `IpNet::aggregate`", "list", "the input's list MiB", "peak that holds it MiB",
-         "peak that aggregates it MiB", "beside the input, in lists", "bound", "the original's, in its lists")
-    for name in AGGREGATED:
-        if bench.wants(name):
-            listed, held, most = peaks(bench.programs.our_calls, name)
-            part, original = (most - held) / listed, None
-            if bench.programs.original_calls:
-                size, least_peak, most_peak = peaks(bench.programs.original_calls, name)
-                original = (most_peak - least_peak) / size
-            row(name, *map(mebibytes, (listed, held, most)), "%.2f" % part,
-                bench.judged("memory, " + name, part, 1.05), shown(original))
+    wanted = [name for name in AGGREGATED if bench.wants(name)]
+    if wanted:
+        head("Memory of `IpNet::aggregate`", "list", "the input's list MiB", "taken beside it MiB", "in lists", "bound",
+             "the original's list MiB", "taken beside it MiB", "in lists")
+    for name in wanted:
+        listed, taken = beside_list(bench.programs.our_calls, name)
+        cells = [mebibytes(listed), mebibytes(taken), "%.2f" % (taken / listed),
+                 bench.judged("memory, " + name, taken / listed, 1.05)]
+        if bench.programs.original_calls:
+            listed, taken = beside_list(bench.programs.original_calls, name)
+            cells += [mebibytes(listed), mebibytes(taken), "%.2f" % (taken / listed)]
+        row(name, *cells, *["-"] * (7 - len(cells)))
 
 
-def peaks(program, name):
-    """(the bytes of the list, the peak of holding it, the peak of aggregating it)"""
-    held, peak = figure(program, ["hold"], path_of(name))
-    return held["check"], peak, figure(program, ["aggregate"], path_of(name))[1]
+def beside_list(program, name):
+    """(the bytes of a list of networks, the bytes that aggregating it takes beside it)"""
+    held, peak_held = figure(program, ["hold"], path_of(name))
+    _, peak_aggregated = figure(program, ["aggregate"], path_of(name))
+    return held["check"], peak_aggregated - peak_held
 
 
 def digest(path, puts_back):
@@ -232,9 +236,9 @@ def digest(path, puts_back):
     return found.hexdigest()
 
 
-def runs_of(bench, source, with_iprange):
-    """(the runs of each program on a list, the digests of their outputs). The programs take turns; the first run of
-    each is not measured, and its output is kept."""
+def runs_of(bench, source, with_iprange, times=1):
+    """(the runs of each program on a list, the digests of their outputs). The programs take turns, so many times in
+    each round; the first run of each is not measured, and its output is kept."""
     commands = {"ours": bench.programs.our_program, "original": bench.programs.original_program,
                 "iprange": bench.programs.iprange if with_iprange else None}
     commands = {who: [path] for who, path in commands.items() if path}
@@ -246,7 +250,7 @@ def runs_of(bench, source, with_iprange):
             run(command, source, answer)
             outputs.append(digest(answer.name, who == "iprange"))
         runs = {who: [] for who in commands}
-        for _ in range(bench.rounds):
+        for _ in range(times * bench.rounds):
             for who, command in commands.items():
                 runs[who].append(run(command, source, nowhere)[0])
     return runs, outputs
@@ -258,16 +262,18 @@ def best(runs, who, field):
 
 
 def program(bench):
-    print("\nThe floor of a peak is %s MiB." % mebibytes(floor()))
-    head("The program", "list", "lines", "wall ms", "processor ms", "wall, of the original's",
-         "processor, of the original's", "bound (goal)", "processor, of iprange's", "peak MiB", "bound (goal)",
-         "the original's", "iprange's", "output")
-    for listed in PROGRAM:
-        if bench.wants(listed.label, listed.list_name):
-            try:
-                program_row(bench, listed, path_of(listed.list_name))
-            except Missing as missing:
-                left_out(listed.label, missing)
+    wanted = [listed for listed in PROGRAM if bench.wants(listed.label, listed.list_name)]
+    if wanted:
+        head("The program", "list", "lines", "wall ms", "processor ms", "wall, of the original's",
+             "processor, of the original's", "bound (goal)", "processor, of iprange's", "peak MiB", "bound (goal)",
+             "the original's", "iprange's", "output")
+    for listed in wanted:
+        try:
+            program_row(bench, listed, path_of(listed.list_name))
+        except Missing as missing:
+            left_out(listed.label, missing)
+    if wanted:
+        print("\nThe floor of a peak is %s MiB." % mebibytes(floor()))
 
 
 def program_row(bench, listed, source):
@@ -289,23 +295,44 @@ def lines_of(path):
 
 
 def lengths(bench):
-    head("The program by the number of lines", "list", "lines", "processor ms", "ns a line", "of 10^6 lines'",
-         "of the original's", "peak MiB", "bytes a line", "the original's MiB", "output")
-    for name in ("routes_ipv4", "sites_ipv6"):
-        if bench.wants(name, "lengths"):
-            found = [(length, *runs_of(bench, path_of(name, length), False)) for length in PROGRAM_LENGTHS
-                     if name != "sites_ipv6" or length <= MILLION]
-            for length, runs, outputs in found:
-                length_row(bench, name, length, runs, outputs, found)
+    wanted = [name for name in ("routes_ipv4", "sites_ipv6") if bench.wants(name)]
+    if wanted:
+        head("The program by the number of lines", "list", "lines", "processor ms", "ns a line", "of 10^6 lines'",
+             "bound", "of the original's", "peak MiB", "bytes a line", "the original's MiB", "output")
+    start = least([run([bench.programs.our_program])[0].processor for _ in range(bench.rounds)])
+    for name in wanted:
+        most = lists.MOST.get(name, PROGRAM_LENGTHS[-1])
+        found = {length: runs_of(bench, path_of(name, length), False, max(1, MILLION // length // 5))
+                 for length in PROGRAM_LENGTHS if length <= most}
+        million = (best(found[MILLION][0], "ours", "processor") - start) / MILLION
+        for length, (runs, outputs) in found.items():
+            length_row(bench, "%s, %s lines" % (name, format(length, ",")), length, runs, outputs, start, million)
+    if bench.wants("unbroken line"):
+        unbroken(bench)
 
 
-def length_row(bench, name, length, runs, outputs, found):
+def length_row(bench, name, length, runs, outputs, start, million):
+    """A row of a length, where starting the program takes `start` and a line of a million takes `million`."""
     processor, peak = best(runs, "ours", "processor"), best(runs, "ours", "peak")
-    million = next(best(runs, "ours", "processor") for of, runs, _ in found if of == MILLION) / MILLION
-    row(name, format(length, ","), milliseconds(processor), "%.1f" % (processor / length),
-        "%.2f" % (processor / length / million), shown(ratio(processor, best(runs, "original", "processor"))),
-        mebibytes(peak), "%.1f" % (peak / length), mebibytes(best(runs, "original", "peak")),
-        bench.compared("%s, %d lines" % (name, length), outputs))
+    line = (processor - start) / length
+    row(*name.split(", ", 1), milliseconds(processor), "%.1f" % line, "%.2f" % (line / million),
+        bench.judged(name, line / million, 1.1 if length < MILLION else None),
+        shown(ratio(processor, best(runs, "original", "processor"))), mebibytes(peak), "%.1f" % (peak / length),
+        mebibytes(best(runs, "original", "peak")), bench.compared(name, outputs))
+
+
+def unbroken(bench):
+    """A line that never ends is bad, and is not kept."""
+    head("One line of 10^7 digits, refused", "program", "processor ms", "peak MiB", "bound")
+    with tempfile.NamedTemporaryFile() as text:
+        text.write(b"1" * 10 * MILLION)
+        text.flush()
+        for who, path in (("ours", bench.programs.our_program), ("original", bench.programs.original_program)):
+            if path:
+                took, _ = run([path], text.name, status=1)
+                bound = 4 if who == "ours" else None
+                row(who, milliseconds(took.processor), mebibytes(took.peak),
+                    bench.judged("unbroken line", took.peak / MIB, bound))
 
 
 PARTS = {"calls": calls, "growth": growth, "memory": memory, "program": program, "lengths": lengths}

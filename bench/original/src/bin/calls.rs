@@ -176,7 +176,6 @@ fn over_lines(task: &str) -> Outcome {
         return report(task, count, || read(&texts));
     }
     let networks = texts.iter().map(|text| text.parse()).collect::<Result<Vec<IpNet>, _>>()?;
-    drop(texts);
     match task {
         "hold" => report(task, count, || (count * size_of::<IpNet>()) as u64),
         "sort" => report(task, count, || sorted(&networks)),
