@@ -4,10 +4,9 @@ use Rattle.std.specs.Cmp.{ranks}
 use Rattle.std.proofs.lemmas.Bool.{cases_order}
 use Rattle.std.specs.Ordering.{MatchOrdering, ordering_then}
 use Rattle.std.specs.Hash.{le_bytes}
-use Rattle.std.specs.Int.{w64, from_le_bytes}
-use Rattle.std.proofs.lemmas.Nat.{from_le_bytes-to_le_bytes_8}
 use Rattle.ipnet_base.specs.Network.{Network, IsBefore}
 use Rattle.ipnet_base.proofs.BlockLaws.{same_network}
+use Rattle.ipnet_base.proofs.ValueLaws.{same_by_bytes, families_fed_apart}
 use Rattle.ipnet.specs.declared.net.IpNet.{IpNet}
 use Rattle.ipnet.specs.declared.net.IpNet.TheVariants as Ip
 use Rattle.ipnet.specs.declared.net.ipv4_net.Ipv4Net.{Ipv4Net}
@@ -87,11 +86,7 @@ ipv6_ranks x y =
     ((y.low < x.low) ⊎ ((x.low ≡ y.low) × (y.prefix_len < x.prefix_len)))
     (ranks x.high y.high) low)
 
--- numbers are told by the bytes that a hasher is fed
-pub eight_bytes : (x y : ℕ) → x < 2 ^ 64 → y < 2 ^ 64 → le_bytes 8 x ≡ le_bytes 8 y → x ≡ y
-unfolding le_bytes
-eight_bytes x y h k e = sym (from_le_bytes-to_le_bytes_8 x h) ∙ ap (from_le_bytes w64) e ∙ from_le_bytes-to_le_bytes_8 y k
-
+-- what a hasher is fed of a network
 abbrev pub ipv4_fed : Ipv4Net → List (List ℕ)
 ipv4_fed n = le_bytes 8 n.word ∷ []
 
@@ -101,7 +96,7 @@ ipv4_hash x y = (to, λ e. ap ipv4_fed (ipv4_one_to_one x y e))
     to : ipv4_fed x ≡ ipv4_fed y → ipv4_network x ≡ ipv4_network y
     to e =
         let word : le_bytes 8 x.word ≡ le_bytes 8 y.word = cc in
-        let same : x.word ≡ y.word = eight_bytes x.word y.word x.word_fits y.word_fits word in
+        let same : x.word ≡ y.word = same_by_bytes 8 x.word y.word x.word_fits y.word_fits word in
         same_network (ipv4_network x) (ipv4_network y) refl (ap (λ w. w / 2 ^ 32) same) (ap (λ w. w % 2 ^ 32) same)
 
 abbrev pub ipv6_fed : Ipv6Net → List (List ℕ)
@@ -115,23 +110,18 @@ ipv6_hash x y = (to, λ e. ap ipv6_fed (ipv6_one_to_one x y e))
         let high : le_bytes 8 x.high ≡ le_bytes 8 y.high = cc in
         let low : le_bytes 8 x.low ≡ le_bytes 8 y.low = cc in
         let len : le_bytes 8 x.prefix_len ≡ le_bytes 8 y.prefix_len = cc in
-        let same_high : x.high ≡ y.high = eight_bytes x.high y.high x.high_fits y.high_fits high in
-        let same_low : x.low ≡ y.low = eight_bytes x.low y.low x.low_fits y.low_fits low in
+        let same_high : x.high ≡ y.high = same_by_bytes 8 x.high y.high x.high_fits y.high_fits high in
+        let same_low : x.low ≡ y.low = same_by_bytes 8 x.low y.low x.low_fits y.low_fits low in
         same_network (ipv6_network x) (ipv6_network y) refl (omega arith)
-        (eight_bytes x.prefix_len y.prefix_len (omega (arith, x.prefix_fits)) (omega (arith, y.prefix_fits)) len)
+        (same_by_bytes 8 x.prefix_len y.prefix_len (omega (arith, x.prefix_fits)) (omega (arith, y.prefix_fits)) len)
 
 -- Of either family a hasher is fed the family's place first.
 pub ip_hash : (fed : IpNet → List (List ℕ)) → ((n : Ipv4Net) → fed (Ip.V4 n) ≡ le_bytes 8 0 ∷ ipv4_fed n) → ((n : Ipv6Net) → fed (Ip.V6 n) ≡ le_bytes 8 1 ∷ ipv6_fed n)
     → (x y : IpNet) → (fed x ≡ fed y) ↔ (ip_network x ≡ ip_network y)
 ip_hash fed four six x y = (to x y, λ e. ap fed (ip_one_to_one x y e))
   where
-    apart : (xs ys : List (List ℕ)) → le_bytes 8 0 ∷ xs ≡ le_bytes 8 1 ∷ ys → ⊥
-    apart xs ys e =
-        let first : le_bytes 8 0 ≡ le_bytes 8 1 = cc in
-        omega (arith, eight_bytes 0 1 (omega arith) (omega arith) first)
-
     to : (x y : IpNet) → fed x ≡ fed y → ip_network x ≡ ip_network y
     to (Ip.V4 m) (Ip.V4 n) e = let both = sym (four m) ∙ e ∙ four n in let rest : ipv4_fed m ≡ ipv4_fed n = cc in (ipv4_hash m n).0 rest
-    to (Ip.V4 m) (Ip.V6 n) e = absurd (apart (ipv4_fed m) (ipv6_fed n) (sym (four m) ∙ e ∙ six n))
-    to (Ip.V6 m) (Ip.V4 n) e = absurd (apart (ipv4_fed n) (ipv6_fed m) (sym (four n) ∙ sym e ∙ six m))
+    to (Ip.V4 m) (Ip.V6 n) e = absurd (families_fed_apart (ipv4_fed m) (ipv6_fed n) (sym (four m) ∙ e ∙ six n))
+    to (Ip.V6 m) (Ip.V4 n) e = absurd (families_fed_apart (ipv4_fed n) (ipv6_fed m) (sym (four n) ∙ sym e ∙ six m))
     to (Ip.V6 m) (Ip.V6 n) e = let both = sym (six m) ∙ e ∙ six n in let rest : ipv6_fed m ≡ ipv6_fed n = cc in (ipv6_hash m n).0 rest

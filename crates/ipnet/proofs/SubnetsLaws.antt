@@ -10,7 +10,7 @@ use Rattle.ipnet_base.specs.Subnets.{SubnetRange, IsAdvancedPast, IsLargestSubne
 use Rattle.ipnet_base.proofs.BlockLaws.{last_of, last_in, at, between_from_block}
 use Rattle.ipnet_base.proofs.UniqueLaws.{AreMaximalBlocks-unique}
 use Rattle.ipnet_base.proofs.SupernetLaws.{AreMaximalBlocks-same_set}
-use Rattle.ipnet_base.proofs.CoverLaws.{IsShortestCover-of_range, maximal_blocks_apart}
+use Rattle.ipnet_base.proofs.ExactCoverLaws.{IsShortestCover-of_range, maximal_blocks_apart}
 use Rattle.ipnet_base.proofs.CountLaws.{maximal_blocks_bound}
 use Rattle.ipnet_base.proofs.WalkLaws.{AreMaximalBlocks-nil, AreMaximalBlocks-step, FitsFrom, step_from_bits}
 use Rattle.ipnet_base.proofs.StepLaws.{IsMostBits, fits_by_counts, counts_by_fits}

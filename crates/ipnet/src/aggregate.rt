@@ -1,7 +1,8 @@
 //! Aggregates: the shortest list of networks over the addresses of a list, and lists compared by what they cover.
-ghost use Rattle.std.specs.Prelude.{◌≡◌, ◌↔◌, ◌+◌, ◌<◌, ◌≤◌, List, [], map, take, drop, length, All, Contains, IfOk, OnOk, IsOk, IsOkAnd, IsTrue};
-ghost use Rattle.ipnet_base.specs.Network.{Network, IsNetwork, IsTruncated, truncation};
-ghost use Rattle.ipnet_base.specs.Blocks.{IsCoveredBy, HaveSameCover, IsAggregateOf, IsShortestCover, ArePairwiseDisjoint, AreAggregatedNeighbours};
+ghost use Rattle.std.specs.Prelude.{◌≡◌, ◌↔◌, ◌+◌, ◌<◌, ◌≤◌, [], map, take, drop, length, All};
+ghost use Rattle.std.specs.Prelude.{IfOk, OnOk, IsOk, IsOkAnd, IsTrue};
+ghost use Rattle.ipnet_base.specs.Network.{IsTruncated};
+ghost use Rattle.ipnet_base.specs.Blocks.{HaveSameCover, IsAggregateOf, IsCanonicalAggregateOf, AreAggregatedNeighbours};
 ghost use Rattle.ipnet_base.proofs.NeighbourLaws.{AreSettled, LiesBefore};
 ghost use Rattle.ipnet_base.proofs.StackLaws.{IsAtMost, IsInOrder, IsGathered, IsPushed, IsSwept};
 ghost use Rattle.ipnet.specs.NetworkOf.{ipv4_network, ipv6_network, ip_network};
@@ -85,17 +86,8 @@ fn sweep<N: Net>(list: &mut [N]) -> usize
 /// The aggregate, in the one list that is made for it.
 fn aggregated<N: Net>(alloc: Global, networks: &Vec<N>) -> Result<Vec<N>, AllocError>
     ensures empty { networks.now.items ≡ [] → IsOkAnd result (λ answer. answer.items ≡ []) }
-    ensures aggregate { IfOk result (λ answer. IsAggregateOf (map N.network answer.items) (map N.network networks.now.items)) }
-    ensures addresses { IfOk result (λ answer. HaveSameCover (map N.network answer.items) (map N.network networks.now.items)) }
-    ensures disjoint { IfOk result (λ answer. ArePairwiseDisjoint (map N.network answer.items)) }
-    ensures shortest { IfOk result (λ answer. IsShortestCover (IsCoveredBy (map N.network networks.now.items)) 0 (map N.network answer.items)) }
-    ensures no_longer { IfOk result (λ answer. length answer.items ≤ length networks.now.items) }
-    ensures only { IfOk result (λ answer. (other : List Network) → IsAggregateOf other (map N.network networks.now.items) → other ≡ map N.network answer.items) }
-    ensures canonical { IfOk result (λ answer. (others : List Network) → All IsNetwork others
-        → IsAggregateOf (map N.network answer.items) others ↔ HaveSameCover others (map N.network networks.now.items)) }
-    ensures unordered { IfOk result (λ answer. (others : List Network)
-        → ((n : Network) → Contains (map truncation others) n ↔ Contains (map truncation (map N.network networks.now.items)) n) → IsAggregateOf (map N.network answer.items) others) }
-    ensures again { IfOk result (λ answer. IsAggregateOf (map N.network answer.items) (map N.network answer.items)) }
+    ensures aggregate { IfOk result (λ answer.
+        IsCanonicalAggregateOf (map N.network answer.items) (map N.network networks.now.items)) }
 {
     let mut list = gathered(alloc, networks)?;
     list.sort_unstable();
@@ -120,17 +112,8 @@ impl Ipv4Net {
     /// ```
     pub fn aggregate(alloc: Global, networks: &Vec<Ipv4Net>) -> Result<Vec<Ipv4Net>, AllocError>
         ensures empty { networks.now.items ≡ [] → IsOkAnd result (λ answer. answer.items ≡ []) }
-        ensures aggregate { IfOk result (λ answer. IsAggregateOf (map ipv4_network answer.items) (map ipv4_network networks.now.items)) }
-        ensures addresses { IfOk result (λ answer. HaveSameCover (map ipv4_network answer.items) (map ipv4_network networks.now.items)) }
-        ensures disjoint { IfOk result (λ answer. ArePairwiseDisjoint (map ipv4_network answer.items)) }
-        ensures shortest { IfOk result (λ answer. IsShortestCover (IsCoveredBy (map ipv4_network networks.now.items)) 0 (map ipv4_network answer.items)) }
-        ensures no_longer { IfOk result (λ answer. length answer.items ≤ length networks.now.items) }
-        ensures only { IfOk result (λ answer. (other : List Network) → IsAggregateOf other (map ipv4_network networks.now.items) → other ≡ map ipv4_network answer.items) }
-        ensures canonical { IfOk result (λ answer. (others : List Network) → All IsNetwork others
-            → IsAggregateOf (map ipv4_network answer.items) others ↔ HaveSameCover others (map ipv4_network networks.now.items)) }
-        ensures unordered { IfOk result (λ answer. (others : List Network)
-            → ((n : Network) → Contains (map truncation others) n ↔ Contains (map truncation (map ipv4_network networks.now.items)) n) → IsAggregateOf (map ipv4_network answer.items) others) }
-        ensures again { IfOk result (λ answer. IsAggregateOf (map ipv4_network answer.items) (map ipv4_network answer.items)) }
+        ensures aggregate { IfOk result (λ answer.
+            IsCanonicalAggregateOf (map ipv4_network answer.items) (map ipv4_network networks.now.items)) }
     {
         aggregated::<Ipv4Net>(alloc, networks)
     }
@@ -152,17 +135,8 @@ impl Ipv6Net {
     /// ```
     pub fn aggregate(alloc: Global, networks: &Vec<Ipv6Net>) -> Result<Vec<Ipv6Net>, AllocError>
         ensures empty { networks.now.items ≡ [] → IsOkAnd result (λ answer. answer.items ≡ []) }
-        ensures aggregate { IfOk result (λ answer. IsAggregateOf (map ipv6_network answer.items) (map ipv6_network networks.now.items)) }
-        ensures addresses { IfOk result (λ answer. HaveSameCover (map ipv6_network answer.items) (map ipv6_network networks.now.items)) }
-        ensures disjoint { IfOk result (λ answer. ArePairwiseDisjoint (map ipv6_network answer.items)) }
-        ensures shortest { IfOk result (λ answer. IsShortestCover (IsCoveredBy (map ipv6_network networks.now.items)) 0 (map ipv6_network answer.items)) }
-        ensures no_longer { IfOk result (λ answer. length answer.items ≤ length networks.now.items) }
-        ensures only { IfOk result (λ answer. (other : List Network) → IsAggregateOf other (map ipv6_network networks.now.items) → other ≡ map ipv6_network answer.items) }
-        ensures canonical { IfOk result (λ answer. (others : List Network) → All IsNetwork others
-            → IsAggregateOf (map ipv6_network answer.items) others ↔ HaveSameCover others (map ipv6_network networks.now.items)) }
-        ensures unordered { IfOk result (λ answer. (others : List Network)
-            → ((n : Network) → Contains (map truncation others) n ↔ Contains (map truncation (map ipv6_network networks.now.items)) n) → IsAggregateOf (map ipv6_network answer.items) others) }
-        ensures again { IfOk result (λ answer. IsAggregateOf (map ipv6_network answer.items) (map ipv6_network answer.items)) }
+        ensures aggregate { IfOk result (λ answer.
+            IsCanonicalAggregateOf (map ipv6_network answer.items) (map ipv6_network networks.now.items)) }
     {
         aggregated::<Ipv6Net>(alloc, networks)
     }
@@ -184,17 +158,8 @@ impl IpNet {
     /// ```
     pub fn aggregate(alloc: Global, networks: &Vec<IpNet>) -> Result<Vec<IpNet>, AllocError>
         ensures empty { networks.now.items ≡ [] → IsOkAnd result (λ answer. answer.items ≡ []) }
-        ensures aggregate { IfOk result (λ answer. IsAggregateOf (map ip_network answer.items) (map ip_network networks.now.items)) }
-        ensures addresses { IfOk result (λ answer. HaveSameCover (map ip_network answer.items) (map ip_network networks.now.items)) }
-        ensures disjoint { IfOk result (λ answer. ArePairwiseDisjoint (map ip_network answer.items)) }
-        ensures shortest { IfOk result (λ answer. IsShortestCover (IsCoveredBy (map ip_network networks.now.items)) 0 (map ip_network answer.items)) }
-        ensures no_longer { IfOk result (λ answer. length answer.items ≤ length networks.now.items) }
-        ensures only { IfOk result (λ answer. (other : List Network) → IsAggregateOf other (map ip_network networks.now.items) → other ≡ map ip_network answer.items) }
-        ensures canonical { IfOk result (λ answer. (others : List Network) → All IsNetwork others
-            → IsAggregateOf (map ip_network answer.items) others ↔ HaveSameCover others (map ip_network networks.now.items)) }
-        ensures unordered { IfOk result (λ answer. (others : List Network)
-            → ((n : Network) → Contains (map truncation others) n ↔ Contains (map truncation (map ip_network networks.now.items)) n) → IsAggregateOf (map ip_network answer.items) others) }
-        ensures again { IfOk result (λ answer. IsAggregateOf (map ip_network answer.items) (map ip_network answer.items)) }
+        ensures aggregate { IfOk result (λ answer.
+            IsCanonicalAggregateOf (map ip_network answer.items) (map ip_network networks.now.items)) }
     {
         aggregated::<IpNet>(alloc, networks)
     }

@@ -1,16 +1,16 @@
 -- Aggregates of lists: the four conditions on neighbours, the shortest cover, equal answers and equal covers.
-use Rattle.std.proofs.Common.{◌≡◌, ◌+◌, ◌^◌, ◌<◌, ◌≤◌, ◌⊎◌, ◌↔◌, List, ◌∷◌, length, get_or, map, Contains, All, sym, ap, subst, arith, inl, inr}
+use Rattle.std.proofs.Common.{◌≡◌, ◌+◌, ◌^◌, ◌<◌, ◌≤◌, ◌↔◌, List, ◌++◌, length, get_or, map, Contains, All, sym, ap, subst, arith, inl, inr}
 use Rattle.std.proofs.lemmas.Bool.{cases_lt}
 use Rattle.ipnet_base.specs.Address.{Address, IsAddress, width, family_index}
-use Rattle.ipnet_base.specs.Network.{Network, IsNetwork, InBlock, IsSubnetOf, AreHalves, IsSupernetOf, truncation}
-use Rattle.ipnet_base.specs.Blocks.{IsCoveredBy, HaveSameCover, IsExactCover, IsShortestCover, ArePairwiseDisjoint, IsAggregateOf, AreAggregatedNeighbours}
-use Rattle.ipnet_base.proofs.BlockLaws.{between_from_block, last_fits, supernet_to_halves, halves_to_supernet}
-use Rattle.ipnet_base.proofs.ListLaws.{contains_here, contains_there, contains_cases, any_from_contains, all_at}
+use Rattle.ipnet_base.specs.Network.{Network, IsNetwork, InBlock, truncation}
+use Rattle.ipnet_base.specs.Blocks.{IsCoveredBy, HaveSameCover, IsExactCover, IsShortestCover, ArePairwiseDisjoint, IsAggregateOf, IsCanonicalAggregateOf, AreAggregatedNeighbours}
+use Rattle.ipnet_base.proofs.BlockLaws.{between_from_block, last_fits}
+use Rattle.ipnet_base.proofs.ListLaws.{all_at}
 use Rattle.ipnet_base.proofs.UniqueLaws.{AreMaximalBlocks-unique, same_family_from_index}
 use Rattle.ipnet_base.proofs.NeighbourLaws.{LiesBefore, AreSettled, AreMaximalBlocks-from_neighbours}
-use Rattle.ipnet_base.proofs.SupernetLaws.{IsDecided-cover, blocks_cover, AreMaximalBlocks-same_set, neighbours_from_blocks}
-use Rattle.ipnet_base.proofs.StackLaws.{cover_truncation}
-use Rattle.ipnet_base.proofs.CoverLaws.{IsExactCover-of_maximal, IsShortestCover-of_maximal, maximal_blocks_apart}
+use Rattle.ipnet_base.proofs.SupernetLaws.{IsDecided-cover, blocks_cover, AreMaximalBlocks-same_set, same_blocks_iff_same_cover, neighbours_from_blocks}
+use Rattle.ipnet_base.proofs.CoverLaws.{HaveSameCover-sym, HaveSameCover-trans, HaveSameCover-append, cover_same_members, cover_truncation}
+use Rattle.ipnet_base.proofs.ExactCoverLaws.{IsExactCover-of_maximal, IsShortestCover-of_maximal, maximal_blocks_apart}
 
 -- the four conditions are the three that lemmas take
 pub AreSettled-from_neighbours : (networks : List Network) → AreAggregatedNeighbours networks → AreSettled networks
@@ -106,71 +106,9 @@ same_aggregate_iff_same_cover networks others answer other u v h k = (to, from)
     from : HaveSameCover networks others → answer ≡ other
     from same = IsAggregateOf-unique others answer other (aggregate_of_same_cover networks others answer same h) k
 
--- lists with the same members, in whatever order and however often, cover the same
-pub cover_same_members : (networks others : List Network) → ((n : Network) → Contains networks n ↔ Contains others n) → HaveSameCover networks others
-cover_same_members networks others same x = (
-  λ a. any_from_contains (λ n. InBlock n x) others a.1 ((same a.1).0 (a.0, a.2, a.3)) a.4,
-  λ a. any_from_contains (λ n. InBlock n x) networks a.1 ((same a.1).1 (a.0, a.2, a.3)) a.4,
-)
-
--- what a list with one more in front covers
-pub cover_cons : (n : Network) (networks : List Network) (x : Address) → IsCoveredBy (n ∷ networks) x ↔ (InBlock n x ⊎ IsCoveredBy networks x)
-cover_cons n networks x = (to, from)
-  where
-    to : IsCoveredBy (n ∷ networks) x → InBlock n x ⊎ IsCoveredBy networks x
-    to a = elim (contains_cases n networks a.1 (a.0, a.2, a.3)) [
-      | inl e ↦ inl (subst (λ m. InBlock m x) (sym e) a.4)
-      | inr c ↦ inr (any_from_contains (λ m. InBlock m x) networks a.1 c a.4)
-    ]
-
-    from : InBlock n x ⊎ IsCoveredBy networks x → IsCoveredBy (n ∷ networks) x
-    from (inl a) = any_from_contains (λ m. InBlock m x) (n ∷ networks) n (contains_here n networks) a
-    from (inr a) = any_from_contains (λ m. InBlock m x) (n ∷ networks) a.1 (contains_there n networks a.1 (a.0, a.2, a.3)) a.4
-
--- a network that lies in a member can be dropped
-pub cover_without_nested : (n k : Network) (networks : List Network) → Contains networks k → IsSubnetOf n k → HaveSameCover (n ∷ networks) networks
-cover_without_nested n k networks c sub x = (
-  λ a. elim ((cover_cons n networks x).0 a) [
-    | inl b ↦ any_from_contains (λ m. InBlock m x) networks k c (sub x b)
-    | inr b ↦ b
-  ],
-  λ a. (cover_cons n networks x).1 (inr a),
-)
-
--- the two halves of a supernet can be joined
-pub cover_of_joined : (s n k : Network) (networks : List Network) → IsNetwork n → IsSupernetOf s n → AreHalves n k → HaveSameCover (n ∷ k ∷ networks) (s ∷ networks)
-cover_of_joined s n k networks u p halves x = (to, from)
-  where
-    to : IsCoveredBy (n ∷ k ∷ networks) x → IsCoveredBy (s ∷ networks) x
-    to a = elim ((cover_cons n (k ∷ networks) x).0 a) [
-      | inl b ↦ (cover_cons s networks x).1 (inl (halves_to_supernet s n k u p halves x (inl b)))
-      | inr b ↦ elim ((cover_cons k networks x).0 b) [
-        | inl c ↦ (cover_cons s networks x).1 (inl (halves_to_supernet s n k u p halves x (inr c)))
-        | inr c ↦ (cover_cons s networks x).1 (inr c)
-      ]
-    ]
-
-    from : IsCoveredBy (s ∷ networks) x → IsCoveredBy (n ∷ k ∷ networks) x
-    from a = elim ((cover_cons s networks x).0 a) [
-      | inr b ↦ (cover_cons n (k ∷ networks) x).1 (inr ((cover_cons k networks x).1 (inr b)))
-      | inl b ↦ elim (supernet_to_halves s n k u p halves x b) [
-        | inl c ↦ (cover_cons n (k ∷ networks) x).1 (inl c)
-        | inr c ↦ (cover_cons n (k ∷ networks) x).1 (inr ((cover_cons k networks x).1 (inl c)))
-      ]
-    ]
-
--- to cover the same is reflexive, symmetric and transitive
-pub HaveSameCover-refl : (networks : List Network) → HaveSameCover networks networks
-HaveSameCover-refl networks x = (λ a. a, λ a. a)
-
-pub HaveSameCover-sym : (networks others : List Network) → HaveSameCover networks others → HaveSameCover others networks
-HaveSameCover-sym networks others h x = ((h x).1, (h x).0)
-
-pub HaveSameCover-trans : (a b c : List Network) → HaveSameCover a b → HaveSameCover b c → HaveSameCover a c
-HaveSameCover-trans a b c h k x = (λ y. (k x).0 ((h x).0 y), λ y. (h x).1 ((k x).1 y))
-
 -- lists with the same truncated members have the same aggregate
-pub aggregate_of_same_truncations : (networks others answer : List Network) → ((n : Network) → Contains (map truncation networks) n ↔ Contains (map truncation others) n)
+pub aggregate_of_same_truncations : (networks others answer : List Network)
+    → ((n : Network) → Contains (map truncation networks) n ↔ Contains (map truncation others) n)
     → IsAggregateOf answer networks ↔ IsAggregateOf answer others
 aggregate_of_same_truncations networks others answer same = (
   λ h. aggregate_of_same_cover networks others answer cover h,
@@ -178,5 +116,39 @@ aggregate_of_same_truncations networks others answer same = (
 )
   where
     cover : HaveSameCover networks others
-    cover = HaveSameCover-trans networks (map truncation networks) others (HaveSameCover-sym (map truncation networks) networks (cover_truncation networks))
-        (HaveSameCover-trans (map truncation networks) (map truncation others) others (cover_same_members (map truncation networks) (map truncation others) same) (cover_truncation others))
+    cover =
+        let truncated : List Network = map truncation networks in
+        let others_truncated : List Network = map truncation others in
+        HaveSameCover-trans networks truncated others
+        (HaveSameCover-sym truncated networks (cover_truncation networks))
+        (HaveSameCover-trans truncated others_truncated others
+        (cover_same_members truncated others_truncated same) (cover_truncation others))
+
+-- the aggregate of two aggregates, one after the other, is the aggregate of the two lists together
+pub aggregate_of_aggregates : (networks others first second answer : List Network) → All IsNetwork networks
+    → All IsNetwork others → IsAggregateOf first networks → IsAggregateOf second others
+    → IsAggregateOf answer (first ++ second) ↔ IsAggregateOf answer (networks ++ others)
+aggregate_of_aggregates networks others first second answer valid others_valid h k = (
+  λ a. aggregate_of_same_cover (first ++ second) (networks ++ others) answer same a,
+  λ a. aggregate_of_same_cover (networks ++ others) (first ++ second) answer
+      (HaveSameCover-sym (first ++ second) (networks ++ others) same) a,
+)
+  where
+    same : HaveSameCover (first ++ second) (networks ++ others)
+    same = HaveSameCover-append first second networks others (blocks_cover networks first valid h)
+        (blocks_cover others second others_valid k)
+
+-- all that is said of the aggregate of a list of networks
+pub IsCanonicalAggregateOf-from_aggregate : (networks answer : List Network) → All IsNetwork networks
+    → IsAggregateOf answer networks → IsCanonicalAggregateOf answer networks
+IsCanonicalAggregateOf-from_aggregate networks answer valid h = record {
+  aggregate = h;
+  addresses = blocks_cover networks answer valid h;
+  disjoint = aggregate_apart networks answer h;
+  shortest = IsShortestCover-of_aggregate networks answer valid h;
+  no_longer = aggregate_no_longer networks answer valid h;
+  only = λ other k. IsAggregateOf-unique networks other answer k h;
+  canonical = λ others others_valid. same_blocks_iff_same_cover networks others answer valid others_valid h;
+  unordered = λ others same. (aggregate_of_same_truncations others networks answer same).1 h;
+  again = aggregate_of_aggregate networks answer valid h;
+}

@@ -51,9 +51,30 @@ pub ends_before_all : (networks : List Network) → AreSettled networks → AllP
 ends_before_all networks good = pairs_from_adjacent LiesBefore LiesBefore-transitive networks good.apart
 
 -- a network that ends before another shares no address with it
-ends_apart : (n k : Network) (x : Address) → IsTruncated k → LiesBefore n k → InBlock n x → InBlock k x → ⊥
+pub ends_apart : (n k : Network) (x : Address) → IsTruncated k → LiesBefore n k → InBlock n x → InBlock k x → ⊥
 ends_apart n k x t (inl h) a b = absurd (omega (arith, h, ap family_index (sym a.same_family ∙ b.same_family)))
 ends_apart n k x t (inr h) a b = absurd (omega (arith, h.1 x a, t x b))
+
+-- what lies before a network lies before each network in its block
+pub before_subnet : (r k n : Network) → IsTruncated k → LiesBefore r k → IsSubnetOf n k → LiesBefore r n
+before_subnet r k n t (inl h) s = inl (omega (arith, h, ap family_index (s (own n) (own_in n)).same_family))
+before_subnet r k n t (inr h) s =
+    inr (h.0 ∙ sym (s (own n) (own_in n)).same_family, λ x a. omega (arith, h.1 x a, t (own n) (s (own n) (own_in n))))
+
+-- what lies before a member of a list in order lies before all from there on
+pub before_rest : (networks : List Network) → AllPairs LiesBefore networks → (r n k : Network) (c : Contains networks n)
+    (e : Contains networks k) → LiesBefore r n → c.0 ≤ e.0 → LiesBefore r k
+before_rest networks ends r n k c e before le =
+    elim (cases_order c.0 e.0) [
+      | inl same ↦ subst (LiesBefore r) (one_place networks n k c e same) before
+      | inr (inl lt) ↦ LiesBefore-transitive r n k before (pair_at LiesBefore networks ends n k c e lt)
+      | inr (inr gt) ↦ absurd (omega (arith, gt, le))
+    ]
+
+-- what lies before a network stands before every network whose own address is in that one's block
+pub before_own : (n k m : Network) → LiesBefore n k → IsTruncated k → InBlock k (own m) → IsBefore n m
+before_own n k m (inl h) t a = inl (omega (arith, h, ap family_index a.same_family))
+before_own n k m (inr h) t a = inr (h.0 ∙ sym a.same_family, inl (omega (arith, h.1 (own n) (own_in n), t (own m) a)))
 
 -- members that share an address are one
 pub one_member : (networks : List Network) → All IsTruncated networks → AllPairs LiesBefore networks

@@ -3,15 +3,16 @@ use Rattle.std.proofs.Common.{◌≡◌, ℕ, zero, suc, ◌+◌, ◌-◌, ◌<�
 use Rattle.std.specs.List.{AllAdjacentBelow}
 use Rattle.std.proofs.lemmas.Bool.{cases_lt, cases_eq, cases_order}
 use Rattle.std.proofs.lemmas.List.{length_push, get_or_push, get_or_append_left, length-map, get_or-map, take_more, take_all}
-use Rattle.std.proofs.lemmas.List.Elements.{All-push, Contains-append_left, Contains-append_right, Contains-append_cases, All-map, All-weaker}
-use Rattle.std.proofs.lemmas.List.Sorted.{All-permutation, IsPermutation-map, Contains-permutation, IsPermutation-sym}
+use Rattle.std.proofs.lemmas.List.Elements.{All-push, All-weaker}
+use Rattle.std.proofs.lemmas.List.Sorted.{IsPermutation-map}
 use Rattle.ipnet_base.specs.Network.{truncation, Network, IsNetwork, host_bits, InBlock, IsSubnetOf, IsTruncated, IsBefore, AreHalves, IsSupernetOf}
 use Rattle.ipnet_base.specs.Blocks.{HaveSameCover, IsCoveredBy}
 use Rattle.ipnet_base.specs.Address.{Address, width, family_index}
 use Rattle.ipnet_base.proofs.NeighbourLaws.{LiesBefore, AreSettled}
-use Rattle.ipnet_base.proofs.BlockLaws.{IsTruncated-truncation, same_network, truncation_in, in_truncation, own, own_in, block_between, nested_or_disjoint, nested, supernet_to_halves, halves_to_supernet}
+use Rattle.ipnet_base.proofs.BlockLaws.{same_network, truncation_in, in_truncation, own, own_in, block_between, nested_or_disjoint, nested, supernet_to_halves, halves_to_supernet}
 use Rattle.ipnet_base.proofs.UniqueLaws.{same_family_from_index}
-use Rattle.ipnet_base.proofs.ListLaws.{contains_nil, contains_here, contains_cases, any_from_contains, at_place}
+use Rattle.ipnet_base.proofs.CoverLaws.{cover_push, cover_permutation}
+use Rattle.ipnet_base.proofs.ListLaws.{any_from_contains, at_place}
 
 -- in the order of networks, the first is the second or stands before it
 abbrev pub IsAtMost : Network → Network → Type 0
@@ -95,26 +96,6 @@ neighbours_pop xs n good = record {
   unjoined = λ k d l. subst₂ (λ a b. ¬ (AreHalves a b)) (get_or_append_left xs (n ∷ []) d k (omega (arith, l))) (get_or_append_left xs (n ∷ []) d (k + 1) l) (good.unjoined k d (omega (arith, l, length_push xs n)));
 }
 
--- the cover of two lists together
-pub cover_append : (xs ys : List Network) (x : Address) → IsCoveredBy (xs ++ ys) x ↔ (IsCoveredBy xs x ⊎ IsCoveredBy ys x)
-cover_append xs ys x = (to, from)
-  where
-    to : IsCoveredBy (xs ++ ys) x → IsCoveredBy xs x ⊎ IsCoveredBy ys x
-    to h = elim (Contains-append_cases xs ys h.1 (h.0, h.2, h.3)) [
-      | inl c ↦ inl (any_from_contains (λ n. InBlock n x) xs h.1 c h.4)
-      | inr c ↦ inr (any_from_contains (λ n. InBlock n x) ys h.1 c h.4)
-    ]
-
-    from : IsCoveredBy xs x ⊎ IsCoveredBy ys x → IsCoveredBy (xs ++ ys) x
-    from (inl h) = any_from_contains (λ n. InBlock n x) (xs ++ ys) h.1 (Contains-append_left xs ys h.1 (h.0, h.2, h.3)) h.4
-    from (inr h) = any_from_contains (λ n. InBlock n x) (xs ++ ys) h.1 (Contains-append_right xs ys h.1 (h.0, h.2, h.3)) h.4
-
-pub cover_one : (n : Network) (x : Address) → IsCoveredBy (n ∷ []) x ↔ InBlock n x
-cover_one n x = (to, λ a. any_from_contains (λ k. InBlock k x) (n ∷ []) n (contains_here n []) a)
-  where
-    to : IsCoveredBy (n ∷ []) x → InBlock n x
-    to h = elim (contains_cases n [] h.1 (h.0, h.2, h.3)) [ inl e ↦ subst (λ k. InBlock k x) (sym e) h.4 | inr c ↦ absurd (contains_nil h.1 c) ]
-
 -- the supernet of two halves stands where the first of them does
 pub supernet_start : (s t n : Network) → IsNetwork t → IsSupernetOf s t → AreHalves t n → IsTruncated t → IsTruncated n → LiesBefore t n → s.number ≡ t.number
 supernet_start s t n u p h tr tn ends =
@@ -146,25 +127,18 @@ pub joined_cover : (ys : List Network) (t next s : Network) → IsNetwork t → 
 joined_cover ys t next s u halves p x = (down, up)
   where
     down : IsCoveredBy ys x ⊎ InBlock s x → IsCoveredBy (ys ++ t ∷ []) x ⊎ InBlock next x
-    down (inl c) = inl ((cover_append ys (t ∷ []) x).1 (inl c))
+    down (inl c) = inl ((cover_push ys t x).1 (inl c))
     down (inr a) = elim (supernet_to_halves s t next u p halves x a) [
-      | inl b ↦ inl ((cover_append ys (t ∷ []) x).1 (inr ((cover_one t x).1 b)))
+      | inl b ↦ inl ((cover_push ys t x).1 (inr b))
       | inr b ↦ inr b
     ]
 
     up : IsCoveredBy (ys ++ t ∷ []) x ⊎ InBlock next x → IsCoveredBy ys x ⊎ InBlock s x
     up (inr b) = inr (halves_to_supernet s t next u p halves x (inr b))
-    up (inl c) = elim ((cover_append ys (t ∷ []) x).0 c) [
+    up (inl c) = elim ((cover_push ys t x).0 c) [
       | inl d ↦ inl d
-      | inr d ↦ inr (halves_to_supernet s t next u p halves x (inl ((cover_one t x).0 d)))
+      | inr d ↦ inr (halves_to_supernet s t next u p halves x (inl d))
     ]
-
--- what a list with one more at its end covers
-pub pushed_cover : (xs : List Network) (n : Network) (x : Address) → IsCoveredBy (xs ++ n ∷ []) x ↔ (IsCoveredBy xs x ⊎ InBlock n x)
-pushed_cover xs n x = (
-  λ c. elim ((cover_append xs (n ∷ []) x).0 c) [ inl a ↦ inl a | inr b ↦ inr ((cover_one n x).0 b) ],
-  λ c. (cover_append xs (n ∷ []) x).1 (elim c [ inl a ↦ inl a | inr b ↦ inr ((cover_one n x).1 b) ]),
-)
 
 -- Between two joins of networks in whatever order: none has a host bit, and the list and the next network cover what
 -- the old list and the network that came do.
@@ -192,7 +166,7 @@ gathering_step old came ys t next s u h halves p = record {
 pub gathering_end : (old : List Network) (came : Network) (xs : List Network) (next : Network) → IsGathering old came xs next → IsGathered old came (xs ++ next ∷ [])
 gathering_end old came xs next h = record {
   truncated = All-push IsTruncated xs next h.truncated h.next_truncated;
-  cover = λ x. let pushed = pushed_cover xs next x in (λ c. (h.cover x).0 (pushed.0 c), λ c. pushed.1 ((h.cover x).1 c));
+  cover = λ x. let pushed = cover_push xs next x in (λ c. (h.cover x).0 (pushed.0 c), λ c. pushed.1 ((h.cover x).1 c));
 }
 
 -- the first i networks are in the list, but for host bits
@@ -214,11 +188,11 @@ gathered_more given i came list new l e h p = record {
     more = take_more given i came l ∙ ap (λ z. take i given ++ z ∷ []) e
 
     to : (x : Address) → IsCoveredBy new x → IsCoveredBy (take (i + 1) given) x
-    to x a = subst (λ z. IsCoveredBy z x) (sym more) ((pushed_cover (take i given) came x).1
+    to x a = subst (λ z. IsCoveredBy z x) (sym more) ((cover_push (take i given) came x).1
         (elim ((p.cover x).0 a) [ inl b ↦ inl ((h.cover x).0 b) | inr b ↦ inr (truncation_in came x b) ]))
 
     from : (x : Address) → IsCoveredBy (take (i + 1) given) x → IsCoveredBy new x
-    from x a = (p.cover x).1 (elim ((pushed_cover (take i given) came x).0 (subst (λ z. IsCoveredBy z x) more a)) [
+    from x a = (p.cover x).1 (elim ((cover_push (take i given) came x).0 (subst (λ z. IsCoveredBy z x) more a)) [
       | inl b ↦ inl ((h.cover x).1 b)
       | inr b ↦ inr (in_truncation came x b)
     ])
@@ -292,7 +266,7 @@ pub joining_end : (old : List Network) (came : Network) (xs : List Network) (nex
 joining_end old came xs next h no_half = record {
   good = neighbours_push xs next h.good h.truncated h.ends no_half;
   order = All-push (λ m. IsAtMost m came) xs next h.order h.next_order;
-  cover = λ x. let pushed = pushed_cover xs next x in (λ c. (h.cover x).0 (pushed.0 c), λ c. pushed.1 ((h.cover x).1 c));
+  cover = λ x. let pushed = cover_push xs next x in (λ c. (h.cover x).0 (pushed.0 c), λ c. pushed.1 ((h.cover x).1 c));
 }
 
 -- where the last one covers it, nothing changes
@@ -358,40 +332,14 @@ swept_step networks i came stack new sorted l e h p = record {
     more = take_more networks i came l ∙ ap (λ z. take i networks ++ z ∷ []) e
 
     to : (x : Address) → IsCoveredBy new x → IsCoveredBy (take (i + 1) networks) x
-    to x a = subst (λ z. IsCoveredBy z x) (sym more) ((cover_append (take i networks) (came ∷ []) x).1
-        (elim ((p.cover x).0 a) [ inl b ↦ inl ((h.cover x).0 b) | inr b ↦ inr ((cover_one came x).1 b) ]))
+    to x a = subst (λ z. IsCoveredBy z x) (sym more) ((cover_push (take i networks) came x).1
+        (elim ((p.cover x).0 a) [ inl b ↦ inl ((h.cover x).0 b) | inr b ↦ inr b ]))
 
     from : (x : Address) → IsCoveredBy (take (i + 1) networks) x → IsCoveredBy new x
-    from x a = (p.cover x).1 (elim ((cover_append (take i networks) (came ∷ []) x).0 (subst (λ z. IsCoveredBy z x) more a)) [
+    from x a = (p.cover x).1 (elim ((cover_push (take i networks) came x).0 (subst (λ z. IsCoveredBy z x) more a)) [
       | inl b ↦ inl ((h.cover x).1 b)
-      | inr b ↦ inr ((cover_one came x).0 b)
+      | inr b ↦ inr b
     ])
-
--- a list in another order, and one without host bits, cover the same
-pub cover_permutation : (xs ys : List Network) → IsPermutation xs ys → HaveSameCover ys xs
-cover_permutation xs ys h x = (
-  λ a. any_from_contains (λ n. InBlock n x) xs a.1 (Contains-permutation ys xs a.1 (IsPermutation-sym xs ys h) (a.0, a.2, a.3)) a.4,
-  λ a. any_from_contains (λ n. InBlock n x) ys a.1 (Contains-permutation xs ys a.1 h (a.0, a.2, a.3)) a.4,
-)
-
-pub cover_truncation : (xs : List Network) → HaveSameCover (map truncation xs) xs
-cover_truncation [] x = (λ a. a, λ a. a)
-cover_truncation (n ∷ ns) x = cons_cover (cover_truncation ns x)
-  where
-    cons_cover : IsCoveredBy (map truncation ns) x ↔ IsCoveredBy ns x → IsCoveredBy (map truncation (n ∷ ns)) x ↔ IsCoveredBy (n ∷ ns) x
-    cons_cover rest = (to, from)
-      where
-        to : IsCoveredBy (map truncation (n ∷ ns)) x → IsCoveredBy (n ∷ ns) x
-        to a = elim ((cover_append (truncation n ∷ []) (map truncation ns) x).0 a) [
-          | inl b ↦ (cover_append (n ∷ []) ns x).1 (inl ((cover_one n x).1 (truncation_in n x ((cover_one (truncation n) x).0 b))))
-          | inr b ↦ (cover_append (n ∷ []) ns x).1 (inr (rest.0 b))
-        ]
-
-        from : IsCoveredBy (n ∷ ns) x → IsCoveredBy (map truncation (n ∷ ns)) x
-        from a = elim ((cover_append (n ∷ []) ns x).0 a) [
-          | inl b ↦ (cover_append (truncation n ∷ []) (map truncation ns) x).1 (inl ((cover_one (truncation n) x).1 (in_truncation n x ((cover_one n x).0 b))))
-          | inr b ↦ (cover_append (truncation n ∷ []) (map truncation ns) x).1 (inr (rest.1 b))
-        ]
 
 pub in_order_from_adjacent : (xs : List Network) → ((k : ℕ) (d : Network) → k + 1 < length xs → IsAtMost (get_or xs k d) (get_or xs (k + 1) d)) → IsInOrder xs
 in_order_from_adjacent xs h i zero d le l = inl (ap (λ k. get_or xs k d) (omega arith))

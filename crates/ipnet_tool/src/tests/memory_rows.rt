@@ -18,8 +18,8 @@ fn compare(rt: &impl Abort, label: &str, outcomes: &[Outcome]) {
 
 /// Grows the stack by the 64 KiB that a run of the program takes: where all memory is taken it could not grow.
 fn grow_stack(rt: &impl Abort, alloc: Global) {
-    let told = run_once(alloc, b"", 0, b"", b"");
-    assert_eq!(rt; told, Outcome::Answered, "program: no input");
+    let outcome = run_once(alloc, b"", 0, b"", b"");
+    assert_eq!(rt; outcome, Outcome::Answered, "program: no input");
 }
 
 #[test]
@@ -61,15 +61,15 @@ fn text_tool(rt: HostRuntime) -> Result<(), Fail> {
 }
 
 /// Runs the program on the bytes: whether it gave the wanted status, standard output and standard error.
-fn run_once(alloc: Global, bytes: &[u8], status: u8, wanted: &[u8], fault: &[u8]) -> Outcome {
+fn run_once(alloc: Global, bytes: &[u8], status: u8, wanted: &[u8], report: &[u8]) -> Outcome {
     let mut input = ByteReader::whole(bytes);
     let mut out = ArrayWriter::whole();
     let mut faults = ArrayWriter::whole();
-    let told = run(alloc, &[], &mut input, &mut out, &mut faults);
-    if told == status && out.held() == wanted && faults.held() == fault {
+    let answer = run(alloc, &[], &mut input, &mut out, &mut faults);
+    if answer == status && out.held() == wanted && faults.held() == report {
         return Outcome::Answered;
     }
-    match (told, out.held(), faults.held()) {
+    match (answer, out.held(), faults.held()) {
         (3, b"", b"ipnet: out of memory\n") => Outcome::Refused,
         _ => Outcome::Wrong,
     }
@@ -102,8 +102,8 @@ fn program(rt: HostRuntime) -> Result<(), Fail> {
             b"ipnet: input is not UTF-8\n",
         ),
     ];
-    for (label, bytes, status, wanted, fault) in rows {
-        let call = || run_once(alloc, bytes, status, wanted, fault);
+    for (label, bytes, status, wanted, report) in rows {
+        let call = || run_once(alloc, bytes, status, wanted, report);
         if let Some(outcomes) = outcomes(alloc, call)? {
             compare(&rt, label, &outcomes);
         }

@@ -3,5 +3,6 @@ use Rattle.ipnet.proofs.aggregate.same_addresses.Goals as goal
 
 pub returns-clause-addresses : goal.returns-clause-addresses
 returns-clause-addresses c =
-    equal_tells_cover c.args.networks.now.items c.args.others.now.items c.in_ok-first.first.items c.in_ok-second.second.items c.eq.result c.eq.ensures
-    c.in_ok-first.ensures.aggregate c.in_ok-second.ensures.aggregate
+    equal_tells_cover c.args.networks.now.items c.args.others.now.items c.in_ok-first.first.items
+    c.in_ok-second.second.items c.eq.result c.eq.ensures
+    c.in_ok-first.ensures.aggregate.aggregate c.in_ok-second.ensures.aggregate.aggregate
