@@ -164,8 +164,6 @@ def sites_ipv6():
 
 def ranges(path, address):
     """(networks, country) of each range of a table, the networks as pairs of an address and a prefix length."""
-    if not os.path.exists(path):
-        raise Missing("there is no %s (apt-get install tor-geoipdb)" % path)
     with open(path, encoding="ascii") as lines:
         for line in lines:
             if not line.startswith("#"):
@@ -251,6 +249,8 @@ def path_of(name, count=MILLION):
     file = name + ".txt" if name in REAL else "%s.%d.txt" % (name, count)
     path = os.path.join(CACHE, "lists", file)
     if not os.path.exists(path):
+        if name in REAL and not (os.path.exists(GEOIP_IPV4) and os.path.exists(GEOIP_IPV6)):
+            raise Missing("there is no %s (apt-get install tor-geoipdb)" % GEOIP_IPV4)
         print("making the list " + file, file=sys.stderr, flush=True)
         lines = REAL[name]() if name in REAL else itertools.islice(GENERATED[name](), count)
         os.makedirs(os.path.dirname(path), exist_ok=True)

@@ -4,8 +4,7 @@ import os
 import tempfile
 from typing import NamedTuple
 
-import lists
-from lists import MILLION, Missing, path_of
+from lists import MILLION, MOST, Missing, path_of
 from programs import figure, floor, run
 
 MIB = 1 << 20
@@ -96,13 +95,13 @@ class Bench:
         return any(self.only in name for name in names if name)
 
     def judged(self, row, value, bound, goal=None):
-        """The cell of a bound: the bound, its goal in brackets, and whether the value is within the bound."""
+        """The cell of a bound: the bound, its goal in brackets, and whether the value as it is shown is within it."""
         if bound is None:
             return "-"
         cell = "%g (%g)" % (bound, goal) if goal else "%g" % bound
         if value is None:
             return cell
-        if value <= bound:
+        if round(value, 2) <= bound:
             self.held += 1
             return cell + " held"
         self.missed.append(row)
@@ -201,7 +200,7 @@ def growth(bench):
                         for _ in range(bench.rounds)]) for length in CALL_LENGTHS]
         steps = [times[1] / times[0], times[2] / times[1]]
         row(name, *map(milliseconds, times), *("%.1f" % step for step in steps),
-            bench.judged("growth, " + name, max(steps), 14))
+            bench.judged("growth, " + name, round(max(steps), 1), 14))
 
 
 def memory(bench):
@@ -284,7 +283,7 @@ def program_row(bench, listed, source):
         shown(ratio(wall, best(runs, "original", "wall"))), shown(part),
         bench.judged(listed.label + ", time", part, listed.time, listed.time_goal),
         shown(ratio(processor, best(runs, "iprange", "processor"))), mebibytes(peak),
-        bench.judged(listed.label + ", peak", peak / MIB, listed.peak, listed.peak_goal),
+        bench.judged(listed.label + ", peak", round(peak / MIB, 1), listed.peak, listed.peak_goal),
         mebibytes(best(runs, "original", "peak")), mebibytes(best(runs, "iprange", "peak")),
         bench.compared(listed.label, outputs))
 
@@ -301,7 +300,7 @@ def lengths(bench):
              "bound", "of the original's", "peak MiB", "bytes a line", "the original's MiB", "output")
     start = least([run([bench.programs.our_program])[0].processor for _ in range(bench.rounds)])
     for name in wanted:
-        most = lists.MOST.get(name, PROGRAM_LENGTHS[-1])
+        most = MOST.get(name, PROGRAM_LENGTHS[-1])
         found = {length: runs_of(bench, path_of(name, length), False, max(1, MILLION // length // 5))
                  for length in PROGRAM_LENGTHS if length <= most}
         million = (best(found[MILLION][0], "ours", "processor") - start) / MILLION
@@ -332,7 +331,7 @@ def unbroken(bench):
                 took, _ = run([path], text.name, status=1)
                 bound = 4 if who == "ours" else None
                 row(who, milliseconds(took.processor), mebibytes(took.peak),
-                    bench.judged("unbroken line", took.peak / MIB, bound))
+                    bench.judged("unbroken line", round(took.peak / MIB, 1), bound))
 
 
 PARTS = {"calls": calls, "growth": growth, "memory": memory, "program": program, "lengths": lengths}
