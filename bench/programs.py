@@ -15,7 +15,7 @@ TOP = os.path.dirname(BENCH)
 
 # The crate of the program that times the calls, and that of the program that the script `ipnet` runs.
 CALLS_CRATE = "ipnet_bench"
-PROGRAM_CRATE = "ipnet_tool"
+PROGRAM_CRATE = "ipnet_program"
 
 
 class Took(NamedTuple):
@@ -68,6 +68,7 @@ def ours(crate):
         folder = os.path.join(TOP, "crates", crate)
         if subprocess.run(["rt", "run"], cwd=folder, stdin=subprocess.DEVNULL, stdout=subprocess.DEVNULL).returncode:
             sys.exit("bench/run: rt run failed in " + folder)
+        os.utime(program)  # also where rt had nothing to build, or the next run would build again
     return program
 
 
