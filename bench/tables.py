@@ -31,6 +31,20 @@ class Program(NamedTuple):
     peak_goal: float | None = None
 
 
+class Measured(NamedTuple):
+    """The runs of each program on a list, and the digests of their outputs."""
+    runs: dict
+    outputs: list
+
+    def least(self, who, field):
+        """The least time of a program: wall or processor. None: it was not run."""
+        return least([getattr(took, field) for took in self.runs.get(who, [])])
+
+    def peak(self, who):
+        """The greatest peak of a program. None: it was not run."""
+        return max((took.peak for took in self.runs.get(who, [])), default=None)
+
+
 IPV4_RANGE = ["10.0.0.0", "10.255.255.255"]
 IPV6_RANGE = ["2001:db8::", "2001:db8::ff:ffff"]
 IPV4_WALK = ["0.0.0.1", "255.255.255.254"]
@@ -127,10 +141,6 @@ def head(title, *cells):
     row(*["---"] + ["---:"] * (len(cells) - 1))
 
 
-def left_out(name, missing):
-    row(name, "left out: %s" % missing)
-
-
 def milliseconds(nanoseconds):
     return "-" if nanoseconds is None else "%.2f" % (nanoseconds / 1e6)
 
@@ -143,8 +153,8 @@ def ratio(one, other):
     return None if one is None or other is None else one / other
 
 
-def shown(number, form="%.2f"):
-    return "-" if number is None else form % number
+def shown(number):
+    return "-" if number is None else "%.2f" % number
 
 
 def least(times):
@@ -164,14 +174,14 @@ def calls(bench):
 def call_row(bench, call):
     source = path_of(call.list_name) if call.list_name else os.devnull
     ours, theirs, answers = [], [], []
+    sides = [(bench.programs.our_calls, call.task, ours),
+             (bench.programs.original_calls, call.original_task or call.task, theirs)]
     for _ in range(bench.rounds):
-        line, _ = figure(bench.programs.our_calls, call.task, source)
-        ours.append(line["min_ns"])
-        answers.append((line["items"], line["check"]))
-        if bench.programs.original_calls:
-            line, _ = figure(bench.programs.original_calls, call.original_task or call.task, source)
-            theirs.append(line["min_ns"])
-            answers.append((line["items"], line["check"]))
+        for path, task, times in sides:
+            if path:
+                line, _ = figure(path, task, source)
+                times.append(line["min_ns"])
+                answers.append((line["items"], line["check"]))
     part = ratio(least(ours), least(theirs))
     row(call.label, format(answers[0][0], ","), milliseconds(least(ours)), milliseconds(least(theirs)), shown(part),
         bench.judged(call.label, part, call.bound, call.goal),
@@ -235,9 +245,9 @@ def digest(path, puts_back):
     return found.hexdigest()
 
 
-def runs_of(bench, source, with_iprange, times=1):
-    """(the runs of each program on a list, the digests of their outputs). The programs take turns, so many times in
-    each round; the first run of each is not measured, and its output is kept."""
+def measured(bench, source, with_iprange, times=1):
+    """The programs on a list. They take turns, so many times in each round; the first run of each is not measured,
+    and its output is kept."""
     commands = {"ours": bench.programs.our_program, "original": bench.programs.original_program,
                 "iprange": bench.programs.iprange if with_iprange else None}
     commands = {who: [path] for who, path in commands.items() if path}
@@ -252,12 +262,7 @@ def runs_of(bench, source, with_iprange, times=1):
         for _ in range(times * bench.rounds):
             for who, command in commands.items():
                 runs[who].append(run(command, source, nowhere)[0])
-    return runs, outputs
-
-
-def best(runs, who, field):
-    """The least of the runs of a program: wall time, processor time or peak. None: it was not run."""
-    return least([getattr(run, field) for run in runs.get(who, [])])
+    return Measured(runs, outputs)
 
 
 def program(bench):
@@ -270,22 +275,22 @@ def program(bench):
         try:
             program_row(bench, listed, path_of(listed.list_name))
         except Missing as missing:
-            left_out(listed.label, missing)
+            row(listed.label, "left out: %s" % missing)
     if wanted:
         print("\nThe floor of a peak is %s MiB." % mebibytes(floor()))
 
 
 def program_row(bench, listed, source):
-    runs, outputs = runs_of(bench, source, listed.iprange)
-    wall, processor, peak = (best(runs, "ours", field) for field in ("wall", "processor", "peak"))
-    part = ratio(processor, best(runs, "original", "processor"))
+    found = measured(bench, source, listed.iprange)
+    wall, processor, peak = found.least("ours", "wall"), found.least("ours", "processor"), found.peak("ours")
+    part = ratio(processor, found.least("original", "processor"))
     row(listed.label, format(lines_of(source), ","), milliseconds(wall), milliseconds(processor),
-        shown(ratio(wall, best(runs, "original", "wall"))), shown(part),
+        shown(ratio(wall, found.least("original", "wall"))), shown(part),
         bench.judged(listed.label + ", time", part, listed.time, listed.time_goal),
-        shown(ratio(processor, best(runs, "iprange", "processor"))), mebibytes(peak),
+        shown(ratio(processor, found.least("iprange", "processor"))), mebibytes(peak),
         bench.judged(listed.label + ", peak", round(peak / MIB, 1), listed.peak, listed.peak_goal),
-        mebibytes(best(runs, "original", "peak")), mebibytes(best(runs, "iprange", "peak")),
-        bench.compared(listed.label, outputs))
+        mebibytes(found.peak("original")), mebibytes(found.peak("iprange")),
+        bench.compared(listed.label, found.outputs))
 
 
 def lines_of(path):
@@ -300,24 +305,23 @@ def lengths(bench):
              "bound", "of the original's", "peak MiB", "bytes a line", "the original's MiB", "output")
     start = least([run([bench.programs.our_program])[0].processor for _ in range(bench.rounds)])
     for name in wanted:
-        most = MOST.get(name, PROGRAM_LENGTHS[-1])
-        found = {length: runs_of(bench, path_of(name, length), False, max(1, MILLION // length // 5))
-                 for length in PROGRAM_LENGTHS if length <= most}
-        million = (best(found[MILLION][0], "ours", "processor") - start) / MILLION
-        for length, (runs, outputs) in found.items():
-            length_row(bench, "%s, %s lines" % (name, format(length, ",")), length, runs, outputs, start, million)
+        found = {length: measured(bench, path_of(name, length), False, max(1, MILLION // length // 5))
+                 for length in PROGRAM_LENGTHS if length <= MOST.get(name, length)}
+        a_line = {length: (found[length].least("ours", "processor") - start) / length for length in found}
+        for length in found:
+            length_row(bench, name, length, found[length], a_line[length], a_line[length] / a_line[MILLION])
     if bench.wants("unbroken line"):
         unbroken(bench)
 
 
-def length_row(bench, name, length, runs, outputs, start, million):
-    """A row of a length, where starting the program takes `start` and a line of a million takes `million`."""
-    processor, peak = best(runs, "ours", "processor"), best(runs, "ours", "peak")
-    line = (processor - start) / length
-    row(*name.split(", ", 1), milliseconds(processor), "%.1f" % line, "%.2f" % (line / million),
-        bench.judged(name, line / million, 1.1 if length < MILLION else None),
-        shown(ratio(processor, best(runs, "original", "processor"))), mebibytes(peak), "%.1f" % (peak / length),
-        mebibytes(best(runs, "original", "peak")), bench.compared(name, outputs))
+def length_row(bench, name, length, found, a_line, part):
+    """The row of a length, whose lines take so many nanoseconds each, which is that part of a line of a million."""
+    processor, peak = found.least("ours", "processor"), found.peak("ours")
+    label = "%s, %d lines" % (name, length)
+    row(name, format(length, ","), milliseconds(processor), "%.1f" % a_line, "%.2f" % part,
+        bench.judged(label, part, 1.1 if length < MILLION else None),
+        shown(ratio(processor, found.least("original", "processor"))), mebibytes(peak), "%.1f" % (peak / length),
+        mebibytes(found.peak("original")), bench.compared(label, found.outputs))
 
 
 def unbroken(bench):
