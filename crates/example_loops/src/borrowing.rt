@@ -5,7 +5,7 @@ use ipnet::{
 };
 use std::alloc::{AllocError, Global};
 
-/// Puts what the walk still gives behind the list's own networks. The error is want of memory.
+/// Puts what the walk still gives after the list's own networks. The error is want of memory.
 pub fn ipv4_push_all(walk: Ipv4Subnets, list: &mut Vec<Ipv4Net>) -> Result<(), AllocError> {
     for subnet in walk {
         list.push(subnet)?;

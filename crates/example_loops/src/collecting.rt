@@ -64,7 +64,8 @@ pub fn ipv4_subnets(
 ) -> Result<Vec<Ipv4Net>, AllocError>
     requires no_shorter { (ipv4_network network.now).prefix_len ≤ prefix_len }
     requires fits { prefix_len ≤ 32 }
-    ensures all { IfOk result (λ list. AreSubnetsOfLength (ipv4_network network.now) prefix_len (map ipv4_network list.items)) }
+    ensures all { IfOk result (λ list.
+        AreSubnetsOfLength (ipv4_network network.now) prefix_len (map ipv4_network list.items)) }
 {
     match network.subnets(prefix_len) {
         Ok(walk) => walk.collect(alloc),

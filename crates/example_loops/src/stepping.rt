@@ -7,7 +7,8 @@ ghost use Rattle.ipnet.specs.Ranges.{IsNext, IsNextBack};
 ghost use Rattle.ipnet.specs.RangeOf.{ipv4_range, ip_range};
 ghost use Rattle.ipnet.specs.Subnets.{IsLargestSubnetAt, IsAdvancedPast};
 ghost use Rattle.ipnet.specs.NetworkOf.{ipv4_network, ip_network};
-ghost use Rattle.ipnet.specs.SubnetsLeft.{IsWalkOf, ipv4_subnet_range, ipv4_subnets_left, ip_subnet_range, ip_subnets_left};
+ghost use Rattle.ipnet.specs.SubnetsLeft.{IsWalkOf, ipv4_subnet_range, ipv4_subnets_left};
+ghost use Rattle.ipnet.specs.SubnetsLeft.{ip_subnet_range, ip_subnets_left};
 
 use ipnet::{IpAddr, IpAddrRange, IpNet, IpSubnets, Ipv4Addr, Ipv4AddrRange, Ipv4Net, Ipv4Subnets};
 
@@ -46,7 +47,8 @@ pub fn ipv4_next_by_trait_name(walk: &mut Ipv4Subnets) -> Option<Ipv4Net>
 
 /// The network after the next one; where both are there, the walk has two fewer left.
 pub fn ipv4_second_network(walk: &mut Ipv4Subnets) -> Option<Ipv4Net>
-    ensures two { IfSome result (λ _. length (ipv4_subnets_left walk.old) ≡ length (ipv4_subnets_left walk.new) + 2) }
+    ensures two { IfSome result (λ _.
+        length (ipv4_subnets_left walk.old) ≡ length (ipv4_subnets_left walk.new) + 2) }
     ensures rest { IsWalkOf (ipv4_subnet_range walk.new) (ipv4_subnets_left walk.new) }
 {
     walk.next()?;
