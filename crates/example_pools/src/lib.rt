@@ -2,11 +2,13 @@
 //!
 //! That every subnet lies in the block, and that no two share an address, is proved for every caller.
 #![tactic(auto)]
+
 ghost use Rattle.std.specs.Prelude.{◌≡◌, ◌-◌, ◌^◌, ◌<◌, ◌⊎◌, ◌↔◌, length, map, take, All, Err, IfOk, IsErr};
 ghost use Rattle.ipnet.specs.Blocks.{ArePairwiseDisjoint};
 ghost use Rattle.ipnet.specs.NetworkOf.{ipv4_network};
 ghost use Rattle.ipnet.specs.NetworkParts.{IsSubnetOfLength};
 ghost use Rattle.ipnet.specs.SubnetsLeft.{ipv4_subnets_left};
+ghost use Rattle.example_pools.specs.declared.PlanError.TheVariants.{PrefixLen, TooFew, Memory};
 
 use ipnet::{Ipv4Net, Ipv4Subnets, PrefixLenError};
 use std::alloc::{AllocError, Global};
@@ -16,14 +18,30 @@ use thiserror::Error;
 #[derive(Debug, PartialEq, Eq, Drop, Error)]
 pub enum PlanError {
     /// The subnets' length is below the block's own, or above 32.
-    #[error("{0}")]
-    PrefixLen(#[from] PrefixLenError),
-    /// The block has fewer subnets of that length than there are sites.
-    #[error("too few subnets")]
+    #[error("the block has no subnets of this length")]
+    PrefixLen,
+    /// The block has fewer subnets of this length than there are sites.
+    #[error("the block has too few subnets of this length")]
     TooFew,
     /// Memory is short.
     #[error("out of memory")]
-    Memory(#[from] AllocError),
+    Memory,
+}
+
+impl From<PrefixLenError> for PlanError {
+    ghost from_gives = { λ _ result. result ≡ PrefixLen };
+
+    fn from(_: PrefixLenError) -> PlanError {
+        PlanError::PrefixLen
+    }
+}
+
+impl From<AllocError> for PlanError {
+    ghost from_gives = { λ _ result. result ≡ Memory };
+
+    fn from(_: AllocError) -> PlanError {
+        PlanError::Memory
+    }
 }
 
 /// The first networks that the walk gives: as many as are asked for, or all where there are fewer.
@@ -37,7 +55,7 @@ pub fn first_networks(
     let mut list = Vec::new(alloc);
     for network in walk {
         if list.len() == count {
-            break;
+            return Ok(list);
         }
         list.push(network)?;
     }
@@ -59,6 +77,9 @@ pub fn site_plan(
     ensures subnets { IfOk result (λ plan.
         All (IsSubnetOfLength (ipv4_network block.now) prefix_len) (map ipv4_network plan.items)) }
     ensures disjoint { IfOk result (λ plan. ArePairwiseDisjoint (map ipv4_network plan.items)) }
+    ensures no_such_length { let n = ipv4_network block.now in
+        (result ≡ Err PrefixLen) ↔ ((prefix_len < n.prefix_len) ⊎ (32 < prefix_len)) }
+    ensures too_few { result ≡ Err TooFew → 2 ^ (prefix_len - (ipv4_network block.now).prefix_len) < sites }
 {
     let walk = block.subnets(prefix_len)?;
     let plan = first_networks(alloc, walk, sites)?;
