@@ -11,7 +11,7 @@ use Rattle.ipnet.specs.declared.net.IpNet.{IpNet}
 pub not_covered : (networks : List IpNet) (x : Address)
     → ((i : ℕ) (d : IpNet) → i < length networks → ¬ (InBlock (ip_network (slice_index_or networks i d)) x))
     → ¬ (IsCoveredBy (map ip_network networks) x)
-not_covered [] x misses (i , n , within , is , holds) = absurd (omega arith)
-not_covered (first ∷ rest) x misses (i , n , within , is , holds) =
+not_covered [] x misses (i, n, within, is, holds) = absurd (omega arith)
+not_covered (first ∷ rest) x misses (i, n, within, is, holds) =
     let here : i < length (first ∷ rest) = omega (arith, within, length-map (first ∷ rest) ip_network) in
     misses i first here (subst (λ m. InBlock m x) (sym is ∙ get_or-map ip_network (first ∷ rest) i first n here) holds)

@@ -57,3 +57,6 @@ impl AccessList {
         covers(self.allow.as_slice(), address) && !covers(self.deny.as_slice(), address)
     }
 }
+
+#[cfg(test)]
+mod tests;

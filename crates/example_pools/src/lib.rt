@@ -88,3 +88,6 @@ pub fn site_plan(
     }
     Ok(plan)
 }
+
+#[cfg(test)]
+mod tests;

@@ -7,6 +7,6 @@ use Rattle.example_access_list.proofs.covers.Goals as goal
 -- at the list's end no network contains the address
 pub returns : goal.returns
 returns c = (
-    λ never. absurd (false≢true never),
-    λ covered. absurd (not_covered c.args.networks.now (ip_address c.args.address.now) (λ i d within. c.loop-network.invariant i d (omega (arith, within))) covered),
+  λ never. absurd (false≢true never),
+  λ covered. absurd (not_covered c.args.networks.now (ip_address c.args.address.now) (λ i d within. c.loop-network.invariant i d (omega (arith, within))) covered),
 )
