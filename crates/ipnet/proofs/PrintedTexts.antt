@@ -11,7 +11,8 @@ use Rattle.std.proofs.NetLemmas.Texts.{IsColonHex-ipv6_text as StdColonHex-ipv6_
 use Rattle.ipnet_base.specs.Address.{Family, IPv4, IPv6, width}
 use Rattle.ipnet_base.specs.Network.{Network, IsNetwork}
 use Rattle.ipnet.specs.NetworkOf.{ipv4_network_of, ipv6_network_of}
-use Rattle.ipnet.specs.Grammar.{Grammar, Strict, Legacy}
+use Rattle.ipnet.specs.declared.parser.Grammar.{Grammar}
+use Rattle.ipnet.specs.declared.parser.Grammar.TheVariants.{Strict, Legacy}
 use Rattle.ipnet.specs.Numerals.{IsDecimal, IsOctet, IsGroup}
 use Rattle.ipnet.specs.AddressTexts.{IsJoined, IsIpv4AddressText, IsGroups, EndsInIpv4, IsCompressed, IsIpv6AddressText}
 use Rattle.ipnet.specs.NetworkTexts.{IsIpv4NetworkText, IsIpv6NetworkText, IsNetworkText}

@@ -1,7 +1,7 @@
 -- Every strict text is a legacy text of the same value.
 use Rattle.std.proofs.Common.{ℕ, List, [], ◌∷◌, inl, inr, arith}
 use Rattle.ipnet_base.specs.Network.{Network}
-use Rattle.ipnet.specs.Grammar.{Strict, Legacy}
+use Rattle.ipnet.specs.declared.parser.Grammar.TheVariants.{Strict, Legacy}
 use Rattle.ipnet.specs.Numerals.{IsDecimal, IsOctet}
 use Rattle.ipnet.specs.AddressTexts.{IsJoined, IsIpv4AddressText, EndsInIpv4, IsIpv6AddressText}
 use Rattle.ipnet.specs.NetworkTexts.{IsNetworkText}

@@ -2,7 +2,6 @@
 pub mod NetworkOf
 pub mod NetworkParts
 pub mod NetLaws
-pub mod Grammar
 pub mod Numerals
 pub mod AddressTexts
 pub mod NetworkTexts
@@ -22,3 +21,4 @@ pub use Rattle.ipnet_base.specs.Masks
 pub use Rattle.ipnet_base.specs.Ranges
 pub use Rattle.ipnet_base.specs.RangeOf
 pub use Rattle.ipnet_base.specs.Arithmetic
+pub use Rattle.ipnet_base.specs.Values

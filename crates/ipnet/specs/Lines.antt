@@ -1,7 +1,7 @@
 -- The lines of a text, and the networks that they write.
 use Rattle.std.specs.Prelude.{◌≡◌, ◌≢◌, ℕ, ◌+◌, ◌⊎◌, List, [], ◌∷◌, ◌++◌, ◌==◌, length, All, if◌then◌else◌}
 use Rattle.ipnet_base.specs.Network.{Network}
-use Rattle.ipnet.specs.Grammar.{Grammar}
+use Rattle.ipnet.specs.declared.parser.Grammar.{Grammar}
 use Rattle.ipnet.specs.NetworkTexts.{IsNetworkText}
 
 -- the byte before the first line

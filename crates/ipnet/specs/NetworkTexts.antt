@@ -4,7 +4,7 @@ use Rattle.std.specs.Int.{w32, w128, from_be_bytes}
 use Rattle.std.specs.Net.Addr.{octets_of}
 use Rattle.ipnet_base.specs.Address.{IPv4, IPv6}
 use Rattle.ipnet_base.specs.Network.{Network}
-use Rattle.ipnet.specs.Grammar.{Grammar}
+use Rattle.ipnet.specs.declared.parser.Grammar.{Grammar}
 use Rattle.ipnet.specs.Numerals.{IsDecimal}
 use Rattle.ipnet.specs.AddressTexts.{IsIpv4AddressText, IsIpv6AddressText}
 

@@ -11,7 +11,7 @@ rest_of r = drop r.position r.text.now
 pub record IsForward (old new : Reader) : Type 0 where
   pub position : old.position ≤ new.position
   pub text : new.text.now ≡ old.text.now
-  pub strict : new.strict ≡ old.strict
+  pub grammar : new.grammar ≡ old.grammar
 
 -- what a step read, and the text behind it
 abbrev pub read_to : {A : Type 0} → Option A → Reader → Read A

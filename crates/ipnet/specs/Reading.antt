@@ -1,12 +1,12 @@
--- What the private steps of the reader compute, as functions on lists. `proofs/` shows that they read the grammar. The
--- flag `strict` chooses it, by `grammar_of`.
+-- What the private steps of the reader compute, as functions on lists. `proofs/` shows that they read the grammar.
 use Rattle.std.specs.Prelude.{ℕ, zero, suc, ◌-◌, Bool, true, false, not, ◌&&◌, List, [], ◌∷◌, ◌++◌, length, drop, slice_index, Option, Some, None, option_map, option_and_then, ◌==◌, nat_lt, nat_le, if◌then◌else◌}
 use Rattle.std.specs.List.{list_all}
 use Rattle.std.specs.Char.{is_digit}
 use Rattle.std.specs.Str.Parse.{digits_value}
 use Rattle.std.specs.Net.Addr.{segments_of}
 use Rattle.ipnet.specs.declared.parser.reader.Run.{Run}
-use Rattle.ipnet.specs.Grammar.{grammar_of}
+use Rattle.ipnet.specs.declared.parser.Grammar.{Grammar}
+use Rattle.ipnet.specs.declared.parser.Grammar.TheVariants.{Strict, Legacy}
 use Rattle.ipnet.specs.AddressTexts.{most_written_groups, expanded}
 
 -- a value and the text behind it
@@ -46,50 +46,55 @@ digit_run (suc room) (c ∷ text) =
 abbrev pub all_decimal : List ℕ → Bool
 all_decimal digits = list_all (λ c. is_digit c 10) digits
 
+-- the digits have no leading zero (48), if the grammar allows none
+abbrev pub is_plain : Grammar → List ℕ → Bool
+is_plain Strict digits = not ((slice_index digits 0 == 48) && nat_lt 1 (length digits))
+is_plain Legacy digits = true
+
 -- the octet that a run of digits writes, if it writes one
-unfoldable pub octet_of : Bool → List ℕ → Option ℕ
-octet_of strict digits =
+unfoldable pub octet_of : Grammar → List ℕ → Option ℕ
+octet_of grammar digits =
     if nat_lt 0 (length digits) && nat_le (length digits) 3
     && all_decimal digits && nat_le (digits_value 10 digits) 255
-    && not (strict && (slice_index digits 0 == 48) && nat_lt 1 (length digits))
+    && is_plain grammar digits
     then Some (digits_value 10 digits) else None
 
 -- the group that at most four hexadecimal digits write, if there are any
 unfoldable pub group_of : List ℕ → Option ℕ
 group_of digits = if nat_lt 0 (length digits) then Some (digits_value 16 digits) else None
 
-abbrev pub run_of : Bool → List ℕ → Run
-run_of strict digits = record { count = length digits; octet = octet_of strict digits; group = group_of digits }
+abbrev pub run_of : Grammar → List ℕ → Run
+run_of grammar digits = record { count = length digits; octet = octet_of grammar digits; group = group_of digits }
 
 -- a "." and an octet
-unfoldable pub read_octet : Bool → List ℕ → Read ℕ
-read_octet strict text = do
+unfoldable pub read_octet : Grammar → List ℕ → Read ℕ
+read_octet grammar text = do
   digits ← read_byte dot text
-  octet ← octet_of strict (digit_run 4 digits).0
+  octet ← octet_of grammar (digit_run 4 digits).0
   Some (octet, (digit_run 4 digits).1)
 
 -- the dotted address whose first octet has been read
-unfoldable pub read_dotted : Bool → ℕ → List ℕ → Read (List ℕ)
-read_dotted strict a text = do
-  b ← read_octet strict text
-  c ← read_octet strict b.1
-  d ← read_octet strict c.1
+unfoldable pub read_dotted : Grammar → ℕ → List ℕ → Read (List ℕ)
+read_dotted grammar a text = do
+  b ← read_octet grammar text
+  c ← read_octet grammar b.1
+  d ← read_octet grammar c.1
   Some (a ∷ b.0 ∷ c.0 ∷ d.0 ∷ [], d.1)
 
 -- a "/" and a length, which end the text
-unfoldable pub read_length : Bool → ℕ → ℕ → List ℕ → Option ℕ
-read_length strict most greatest text = do
+unfoldable pub read_length : Grammar → ℕ → ℕ → List ℕ → Option ℕ
+read_length grammar most greatest text = do
   digits ← read_byte slash text
   let run = digit_run 4 digits
-  n ← octet_of strict run.0
+  n ← octet_of grammar run.0
   if nat_le n greatest && nat_le (length run.0) most && (length run.1 == 0) then Some n else None
 
 -- an IPv4 network whose first octet has been read, if its first run was one
-unfoldable pub read_ipv4_network : Bool → Option ℕ → List ℕ → Option (List ℕ × ℕ)
-read_ipv4_network strict octet text = do
+unfoldable pub read_ipv4_network : Grammar → Option ℕ → List ℕ → Option (List ℕ × ℕ)
+read_ipv4_network grammar octet text = do
   first ← octet
-  address ← read_dotted strict first text
-  prefix_len ← read_length strict 2 32 address.1
+  address ← read_dotted grammar first text
+  prefix_len ← read_length grammar 2 32 address.1
   Some (address.0, prefix_len)
 
 -- groups, whether a dotted address stands for the last two, and the text behind them
@@ -105,44 +110,44 @@ abbrev pub is_single_colon : List ℕ → Bool
 is_single_colon text = (slice_index text 0 == colon) && not (slice_index text 1 == colon)
 
 -- a dotted address for two groups, whose first octet has been read, if the run before was one
-unfoldable pub read_last : Bool → Option ℕ → List ℕ → Pieces
-read_last strict octet text = do
+unfoldable pub read_last : Grammar → Option ℕ → List ℕ → Pieces
+read_last grammar octet text = do
   first ← octet
-  address ← read_dotted strict first text
+  address ← read_dotted grammar first text
   Some (segments_of address.0, true, address.1)
 
 -- at most so many groups joined by ":", whose first run has been read, and may be a dotted address
-unfoldable pub read_pieces : Bool → ℕ → Run → List ℕ → Pieces
-read_pieces strict zero first text = None
-read_pieces strict (suc room) first text =
+unfoldable pub read_pieces : Grammar → ℕ → Run → List ℕ → Pieces
+read_pieces grammar zero first text = None
+read_pieces grammar (suc room) first text =
     if slice_index text 0 == dot
-    then (if nat_lt 0 room then read_last strict first.octet text else None)
+    then (if nat_lt 0 room then read_last grammar first.octet text else None)
     else (first.group >>= λ g.
     if is_single_colon text
-    then behind (g ∷ []) (read_pieces strict room (run_of strict (digit_run 4 (drop 1 text)).0) (digit_run 4 (drop 1 text)).1)
+    then behind (g ∷ []) (read_pieces grammar room (run_of grammar (digit_run 4 (drop 1 text)).0) (digit_run 4 (drop 1 text)).1)
     else Some (g ∷ [], false, text))
 
 -- "::" and what stands behind it
-unfoldable pub read_tail : Bool → List ℕ → List ℕ → Read (List ℕ)
-read_tail strict head text = do
+unfoldable pub read_tail : Grammar → List ℕ → List ℕ → Read (List ℕ)
+read_tail grammar head text = do
   one ← read_byte colon text
   two ← read_byte colon one
   let run = digit_run 4 two
   if length run.0 == 0 then Some (expanded head [], run.1) else (do
-    tail ← read_pieces strict (most_written_groups (grammar_of strict) - length head) (run_of strict run.0) run.1
+    tail ← read_pieces grammar (most_written_groups grammar - length head) (run_of grammar run.0) run.1
     Some (expanded head tail.0, tail.2))
 
 -- an IPv6 address whose first run has been read
-unfoldable pub read_ipv6 : Bool → Run → List ℕ → Read (List ℕ)
-read_ipv6 strict first text =
-    if first.count == 0 then read_tail strict [] text else (do
-      head ← read_pieces strict 8 first text
+unfoldable pub read_ipv6 : Grammar → Run → List ℕ → Read (List ℕ)
+read_ipv6 grammar first text =
+    if first.count == 0 then read_tail grammar [] text else (do
+      head ← read_pieces grammar 8 first text
       if length head.0 == 8 then Some (head.0, head.2)
-          else (if head.1 then None else read_tail strict head.0 head.2))
+          else (if head.1 then None else read_tail grammar head.0 head.2))
 
 -- an IPv6 network whose first run has been read
-unfoldable pub read_ipv6_network : Bool → Run → List ℕ → Option (List ℕ × ℕ)
-read_ipv6_network strict first text = do
-  address ← read_ipv6 strict first text
-  prefix_len ← read_length strict 3 128 address.1
+unfoldable pub read_ipv6_network : Grammar → Run → List ℕ → Option (List ℕ × ℕ)
+read_ipv6_network grammar first text = do
+  address ← read_ipv6 grammar first text
+  prefix_len ← read_length grammar 3 128 address.1
   Some (address.0, prefix_len)

@@ -5,6 +5,8 @@ ghost use Rattle.ipnet.specs.NetworkOf.{ipv4_network, ipv6_network, ip_network};
 ghost use Rattle.ipnet.specs.Results.{IsOkExactlyAt};
 ghost use Rattle.ipnet.specs.Bytes.{network_bytes, tagged_network_bytes, HasOtherLen, HasLongPrefix, HasOtherTaggedLen, HasOtherTag, HasLongTaggedPrefix};
 
+pub mod laws;
+
 use crate::net::{IpNet, Ipv4Net, Ipv6Net};
 use arrayvec::ArrayVec;
 use thiserror::Error;

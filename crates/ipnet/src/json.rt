@@ -3,10 +3,12 @@ ghost use Rattle.std.specs.Prelude.{◌≡◌, ◌↔◌, IfOk};
 ghost use Rattle.serde_json.specs.Data.{string};
 ghost use Rattle.serde_json.specs.View.{view};
 ghost use Rattle.ipnet.specs.NetworkOf.{ipv4_network, ipv6_network, ip_network};
-ghost use Rattle.ipnet.specs.Grammar.{Strict};
+ghost use Rattle.ipnet.specs.declared.parser.Grammar.TheVariants.{Strict};
 ghost use Rattle.ipnet.specs.NetworkTexts.{IsNetworkText, IsIpv4NetworkText, IsIpv6NetworkText};
 ghost use Rattle.ipnet.specs.Results.{IsOkExactlyAt};
 ghost use Rattle.ipnet.specs.JsonTexts.{network_json, IsNetworkJson, IsNoJsonString, IsOtherJsonString};
+
+pub mod laws;
 
 use crate::net::{IpNet, Ipv4Net, Ipv6Net};
 use serde_json::Value;
@@ -137,7 +139,7 @@ impl IpNet {
 #[cfg(test)]
 mod tests {
     use super::*;
-    use crate::memory::{RUNS, outcomes};
+    use out_of_memory::{RUNS, outcomes};
     use std::test::Fail;
 
     #[test]

@@ -8,6 +8,7 @@ ghost use Rattle.ipnet.specs.NetworkParts.{network_at, own_address, netmask, hos
 mod ipv4_net;
 mod ipv6_net;
 pub mod laws;
+pub mod member_laws;
 
 use crate::subnets::IpSubnets;
 use ipnet_base::{IpAddr, IpAddrRange, PrefixLenError, ip_mask_to_prefix};

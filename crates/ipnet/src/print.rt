@@ -3,6 +3,7 @@
 //! Every text is made in a buffer of fixed capacity, so printing takes no memory.
 ghost use Rattle.std.specs.Prelude.{◌≡◌, ◌+◌, ◌-◌, ◌*◌, ◌≤◌, ◌<◌, [], ◌∷◌, ◌++◌, length, codes, decimal, Some};
 ghost use Rattle.std.specs.Char.{digit_char};
+ghost use Rattle.std.specs.Fmt.{DisplaysOnOk, DisplaysStyledOnOk};
 ghost use Rattle.std.specs.Net.Addr.{ipv4_octets, ipv4_bits, ipv6_segments, ipv6_bits};
 ghost use Rattle.std.specs.Net.Text.{ipv4_text, ipv6_text, hex, groups_text};
 ghost use Rattle.std.specs.Net.Text as text;
@@ -324,29 +325,38 @@ impl fmt::Display for IpNet {
     }
 }
 
-/// Writes the canonical text, as `Display` does.
+/// Writes the canonical text, as `Display` does, also under `{:#?}`, a width or another flag, which are ignored.
 impl fmt::Debug for Ipv4Net {
     ghost debug_output = { λ n. Some (canonical_text (ipv4_network n)) };
 
-    fn fmt<W: fmt::Write>(&self, f: &mut fmt::Formatter<W>) -> fmt::Result {
+    fn fmt<W: fmt::Write>(&self, f: &mut fmt::Formatter<W>) -> fmt::Result
+        ensures writes { DisplaysOnOk W.write_str_gives f.old result (Some (canonical_text (ipv4_network self.now))) f.new }
+        ensures styled { DisplaysStyledOnOk W.write_str_gives f.old result (Some (canonical_text (ipv4_network self.now))) f.new }
+    {
         <Ipv4Net as fmt::Display>::fmt(self, f)
     }
 }
 
-/// Writes the canonical text, as `Display` does.
+/// Writes the canonical text, as `Display` does, also under `{:#?}`, a width or another flag, which are ignored.
 impl fmt::Debug for Ipv6Net {
     ghost debug_output = { λ n. Some (canonical_text (ipv6_network n)) };
 
-    fn fmt<W: fmt::Write>(&self, f: &mut fmt::Formatter<W>) -> fmt::Result {
+    fn fmt<W: fmt::Write>(&self, f: &mut fmt::Formatter<W>) -> fmt::Result
+        ensures writes { DisplaysOnOk W.write_str_gives f.old result (Some (canonical_text (ipv6_network self.now))) f.new }
+        ensures styled { DisplaysStyledOnOk W.write_str_gives f.old result (Some (canonical_text (ipv6_network self.now))) f.new }
+    {
         <Ipv6Net as fmt::Display>::fmt(self, f)
     }
 }
 
-/// Writes the canonical text, as `Display` does.
+/// Writes the canonical text, as `Display` does, also under `{:#?}`, a width or another flag, which are ignored.
 impl fmt::Debug for IpNet {
     ghost debug_output = { λ n. Some (canonical_text (ip_network n)) };
 
-    fn fmt<W: fmt::Write>(&self, f: &mut fmt::Formatter<W>) -> fmt::Result {
+    fn fmt<W: fmt::Write>(&self, f: &mut fmt::Formatter<W>) -> fmt::Result
+        ensures writes { DisplaysOnOk W.write_str_gives f.old result (Some (canonical_text (ip_network self.now))) f.new }
+        ensures styled { DisplaysStyledOnOk W.write_str_gives f.old result (Some (canonical_text (ip_network self.now))) f.new }
+    {
         <IpNet as fmt::Display>::fmt(self, f)
     }
 }

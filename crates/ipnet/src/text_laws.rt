@@ -3,7 +3,8 @@ ghost use Rattle.std.specs.Prelude.{◌≡◌, ℕ, List, ◌↔◌, ◌++◌, d
 ghost use Rattle.std.specs.Net.Addr.{IsIpv4Mapped, octets_of};
 ghost use Rattle.std.specs.Net.Text.{ipv4_text, ipv6_text};
 ghost use Rattle.ipnet_base.specs.Network.{Network, IsNetwork};
-ghost use Rattle.ipnet.specs.Grammar.{Grammar, Strict, Legacy};
+ghost use Rattle.ipnet.specs.declared.parser.Grammar.{Grammar};
+ghost use Rattle.ipnet.specs.declared.parser.Grammar.TheVariants.{Strict, Legacy};
 ghost use Rattle.ipnet.specs.NetworkTexts.{IsNetworkText, IsIpv4NetworkText, IsIpv6NetworkText};
 ghost use Rattle.ipnet.specs.CanonicalTexts.{canonical_text, IsShortened};
 ghost use Rattle.ipnet.specs.Lines.{AreNetworksOf, IsFirstBadLine};

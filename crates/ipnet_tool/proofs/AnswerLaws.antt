@@ -1,5 +1,5 @@
 -- The networks of a text by family, their aggregates, and the text of these.
-use Rattle.std.proofs.Common.{◌≡◌, ℕ, arith, ◌+◌, ◌<◌, ◌↔◌, inl, inr, subst, take, List, [], ◌∷◌, ◌++◌, map, length, get_or, refl, sym, ap, ◌∙◌, append_assoc, append-nil}
+use Rattle.std.proofs.Common.{◌≡◌, ℕ, arith, ◌+◌, ◌<◌, ◌↔◌, inl, inr, subst, take, List, [], ◌∷◌, ◌++◌, map, length, get_or, Ok, Err, String, Global, string_bytes, refl, sym, ap, ◌∙◌, append_assoc, append-nil}
 use Rattle.std.proofs.lemmas.List.Elements.{All-map}
 use Rattle.std.proofs.lemmas.List.{map_push, take_more}
 use Rattle.ipnet.specs.Address.{IPv4, IPv6}
@@ -9,13 +9,18 @@ use Rattle.ipnet.specs.CanonicalTexts.{canonical_text}
 use Rattle.ipnet.specs.NetworkOf.{ipv4_network, ipv6_network}
 use Rattle.ipnet.specs.declared.net.ipv4_net.Ipv4Net.{Ipv4Net}
 use Rattle.ipnet.specs.declared.net.ipv6_net.Ipv6Net.{Ipv6Net}
-use Rattle.ipnet.proofs.FamilyLaws.{IsAggregateOf-append, cover_append, cover_append_left, cover_append_right, cover_append_cases}
-use Rattle.ipnet.proofs.AggregateLaws.{aggregate_of_same_cover, HaveSameCover-sym}
-use Rattle.ipnet.proofs.LineLaws.{no_lines}
+use Rattle.ipnet.proofs.FamilyLaws.{aggregate_of_families}
+use Rattle.ipnet.proofs.CoverLaws.{cover_append_left, cover_append_right, cover_append_cases, HaveSameCover-append}
+use Rattle.ipnet.proofs.CoverLaws.{HaveSameCover-sym}
+use Rattle.ipnet.proofs.AggregateLaws.{aggregate_of_same_cover}
+use Rattle.ipnet.proofs.LineLaws.{no_lines, all_good}
 use Rattle.ipnet.proofs.WalkLaws.{AreMaximalBlocks-nil}
-use Rattle.ipnet.specs.Grammar.{Grammar}
-use Rattle.ipnet.specs.Lines.{lines_of, AreNetworksOf}
-use Rattle.ipnet_tool.specs.Answers.{IsAnswerTo, text_of_lines}
+use Rattle.ipnet.specs.declared.parser.Grammar.{Grammar}
+use Rattle.ipnet.specs.Lines.{lines_of, AreNetworksOf, IsFirstBadLine}
+use Rattle.ipnet_tool.specs.Answers.{IsAnswerTo, IsTextAnswer, StartsWithBadLine, text_of_lines}
+use Rattle.ipnet_tool.specs.declared.tool.ToolError.{ToolError}
+use Rattle.ipnet_tool.specs.declared.tool.ToolError.TheVariants as ToolErrors
+use Rattle.ipnet_tool.proofs.EarlyLines.{none_bad}
 
 -- the text of two lists of networks, one behind the other
 pub text_of_lines-append : (networks others : List Network) → text_of_lines (networks ++ others) ≡ text_of_lines networks ++ text_of_lines others
@@ -35,7 +40,7 @@ pub both_families : (ipv4 blocks4 : List Ipv4Net) (ipv6 blocks6 : List Ipv6Net)
     → IsAggregateOf (map ipv4_network blocks4) (map ipv4_network ipv4) → IsAggregateOf (map ipv6_network blocks6) (map ipv6_network ipv6)
     → IsAggregateOf (map ipv4_network blocks4 ++ map ipv6_network blocks6) (map ipv4_network ipv4 ++ map ipv6_network ipv6)
 both_families ipv4 blocks4 ipv6 blocks6 =
-    IsAggregateOf-append (map ipv4_network ipv4) (map ipv6_network ipv6) (map ipv4_network blocks4) (map ipv6_network blocks6)
+    aggregate_of_families (map ipv4_network ipv4) (map ipv6_network ipv6) (map ipv4_network blocks4) (map ipv6_network blocks6)
     (All-map (λ n. n.family ≡ IPv4) ipv4_network ipv4 (λ k d l. refl)) (All-map (λ n. n.family ≡ IPv6) ipv6_network ipv6 (λ k d l. refl))
 
 -- one network more in front of the networks of the second list, and the same behind both
@@ -77,7 +82,7 @@ pushed_ipv6 ipv4 ipv6 new n e =
 pub cover_moves_on : (whole old new more : List Network) (n : Network) → HaveSameCover new (old ++ n ∷ [])
     → HaveSameCover whole (old ++ n ∷ more) → HaveSameCover whole (new ++ more)
 cover_moves_on whole old new more n pushed same x =
-    let there : IsCoveredBy (new ++ more) x ↔ IsCoveredBy ((old ++ n ∷ []) ++ more) x = cover_append new more (old ++ n ∷ []) more pushed (λ y. (λ a. a, λ a. a)) x in
+    let there : IsCoveredBy (new ++ more) x ↔ IsCoveredBy ((old ++ n ∷ []) ++ more) x = HaveSameCover-append new more (old ++ n ∷ []) more pushed (λ y. (λ a. a, λ a. a)) x in
     let spelled : (old ++ n ∷ []) ++ more ≡ old ++ n ∷ more = append_assoc old (n ∷ []) more in (
       λ a. there.1 (subst (λ z. IsCoveredBy z x) (sym spelled) ((same x).0 a)),
       λ a. (same x).1 (subst (λ z. IsCoveredBy z x) spelled (there.0 a)),
@@ -96,16 +101,6 @@ one_line_more network_of front items i item text new less is so_far pushed =
     ∙ append_assoc front (text_of_lines (map network_of (take i items)) ++ canonical_text (network_of item)) (10 ∷ [])
     ∙ ap (λ z. front ++ z) (sym (ap text_of_lines more ∙ text_of_lines-push (map network_of (take i items)) (network_of item)))
 
--- a text with no byte has the empty answer
-pub empty_answer : (grammar : Grammar) (text answer : List ℕ) → length text ≡ 0 → answer ≡ [] → IsAnswerTo grammar text answer
-empty_answer grammar text answer none empty = record {
-  networks = [];
-  written = no_lines grammar text none;
-  blocks = [];
-  aggregate = AreMaximalBlocks-nil (IsCoveredBy []) 0 (λ x h. omega (arith, h.2));
-  spelled = empty;
-}
-
 -- the text of the aggregate of networks that cover what the lines' networks cover is the answer
 pub answer_from : (grammar : Grammar) (text answer : List ℕ) (networks families blocks : List Network) → AreNetworksOf grammar (lines_of text) networks
     → HaveSameCover networks families → IsAggregateOf blocks families → answer ≡ text_of_lines blocks → IsAnswerTo grammar text answer
@@ -115,4 +110,46 @@ answer_from grammar text answer networks families blocks written same aggregate 
   blocks = blocks;
   aggregate = aggregate_of_same_cover families networks blocks (HaveSameCover-sym networks families same) aggregate;
   spelled = spelled;
+}
+
+-- ---- what the tool gives
+
+-- for a text with no byte, the empty answer
+pub nothing_for_nothing : (grammar : Grammar) (text : List ℕ) (answer : String Global) → length text ≡ 0 → string_bytes answer ≡ [] → IsTextAnswer grammar text (Ok answer)
+nothing_for_nothing grammar text answer none empty = record {
+  empty = λ _. empty;
+  answer = record {
+    networks = [];
+    written = no_lines grammar text none;
+    blocks = [];
+    aggregate = AreMaximalBlocks-nil (IsCoveredBy []) 0 (λ x h. omega (arith, h.2));
+    spelled = empty;
+  };
+  no_bad_line = all_good grammar (lines_of text) [] (no_lines grammar text none);
+  bad_line = λ number e. absurd cc;
+  bad_at_once = λ number h. absurd (none_bad grammar text number none h);
+}
+
+-- for a text that starts with no bad line, an answer
+pub answered : (grammar : Grammar) (text : List ℕ) (answer : String Global) → 0 < length text → IsAnswerTo grammar text (string_bytes answer)
+    → ((number : ℕ) → ¬ (StartsWithBadLine grammar (lines_of text) number)) → IsTextAnswer grammar text (Ok answer)
+answered grammar text answer some is none_at_once = record {
+  empty = λ e. absurd (omega (arith, some, ap length e));
+  answer = is;
+  no_bad_line = all_good grammar (lines_of text) is.networks is.written;
+  bad_line = λ number e. absurd cc;
+  bad_at_once = λ number h. absurd (none_at_once number h);
+}
+
+-- for another, what ends the reading of its lines
+pub not_answered : (grammar : Grammar) (text : List ℕ) (error : ToolError) → 0 < length text
+    → ((number : ℕ) → error ≡ ToolErrors.Line number → IsFirstBadLine grammar (lines_of text) number)
+    → ((number : ℕ) → StartsWithBadLine grammar (lines_of text) number → error ≡ ToolErrors.Line number)
+    → IsTextAnswer grammar text (Err error)
+not_answered grammar text error some bad_line at_once = record {
+  empty = λ e. absurd (omega (arith, some, ap length e));
+  answer = tt;
+  no_bad_line = tt;
+  bad_line = λ number e. bad_line number cc;
+  bad_at_once = λ number h. ap Err (at_once number h);
 }

@@ -1,4 +1,3 @@
-use Rattle.ipnet_base.proofs.CoverLaws.{maximal_blocks_apart}
 use Rattle.ipnet.specs.Network.{AreDisjoint}
 use Rattle.example_pools.proofs.Fronts.{first_are_subnets, AllPairs-take}
 use Rattle.example_pools.proofs.site_plan.Goals as goal
@@ -8,4 +7,4 @@ returns-clause-subnets c = rw c.in_ok-plan.ensures.first (first_are_subnets _ _ 
 
 pub returns-clause-disjoint : goal.returns-clause-disjoint
 returns-clause-disjoint c = rw c.in_ok-plan.ensures.first
-    (AllPairs-take AreDisjoint c.args.sites _ (maximal_blocks_apart _ _ _ c.in_ok-walk.ensures.walk.blocks))
+    (AllPairs-take AreDisjoint c.args.sites _ c.in_ok-walk.ensures.walk.disjoint)

@@ -6,12 +6,12 @@ ghost use Rattle.std.specs.Str.Parse.{digits_value};
 ghost use Rattle.std.specs.Net.Addr.{ipv4_octets, ipv6_segments};
 ghost use Rattle.ipnet_base.specs.Network.{Network};
 ghost use Rattle.ipnet.specs.AddressTexts.{expanded};
-ghost use Rattle.ipnet.specs.Grammar.{grammar_of};
 ghost use Rattle.ipnet.specs.NetworkOf.{ip_network};
 ghost use Rattle.ipnet.specs.NetworkTexts.{IsNetworkText};
 ghost use Rattle.ipnet.specs.Reading.{digit_run, all_decimal, run_of, octet_of, read_byte, read_octet, read_dotted, read_length, read_ipv4_network, read_last, read_pieces, read_tail, read_ipv6, read_ipv6_network, is_single_colon};
 
 use crate::net::{IpNet, Ipv4Net, Ipv6Net};
+use crate::parser::Grammar;
 use arrayvec::ArrayVec;
 use std::net::{Ipv4Addr, Ipv6Addr};
 
@@ -100,17 +100,17 @@ fn first_digits(rest: &[u8]) -> Digits
 
 /// The octet that the digits write, if they write one.
 #[tactic(auto, using(std::proofs::lemmas::Bool::Decides::nat_tests), unfolding(crate::specs::Reading::octet_of))]
-fn octet(rest: &[u8], digits: Digits, strict: bool) -> Option<u8>
+fn octet(rest: &[u8], digits: Digits, grammar: Grammar) -> Option<u8>
     requires within { digits.count ≤ length rest.now }
     requires in_decimal { digits.in_decimal ≡ digits_value 10 (take digits.count rest.now) }
     requires is_decimal { digits.is_decimal ≡ all_decimal (take digits.count rest.now) }
-    ensures { result ≡ octet_of strict (take digits.count rest.now) }
+    ensures { result ≡ octet_of grammar (take digits.count rest.now) }
 {
     let count = digits.count;
     if count == 0 || count > 3 || !digits.is_decimal || digits.in_decimal > 255 {
         return None;
     }
-    if strict && count > 1 && rest[0] == b'0' {
+    if grammar == Grammar::Strict && count > 1 && rest[0] == b'0' {
         return None;
     }
     Some(digits.in_decimal as u8)
@@ -139,7 +139,7 @@ fn expand(head: &[u16], tail: &[u16]) -> Ipv6Addr
 struct Reader<'a> {
     text: &'a [u8],
     position: usize,
-    strict: bool,
+    grammar: Grammar,
     ghost within: { position ≤ length text.now },
 }
 
@@ -163,13 +163,13 @@ impl<'a> Reader<'a> {
     #[tactic(auto, using(std::proofs::lemmas::Bool::Decides::nat_tests), unfolding(crate::specs::Reading::group_of))]
     fn run(&mut self) -> Run
         ensures forward { IsForward self.old self.new }
-        ensures run { result ≡ run_of self.old.strict (digit_run 4 (rest_of self.old)).0 }
+        ensures run { result ≡ run_of self.old.grammar (digit_run 4 (rest_of self.old)).0 }
         ensures rest { rest_of self.new ≡ (digit_run 4 (rest_of self.old)).1 }
     {
         let rest = &self.text[self.position..];
         let digits = first_digits(rest);
         let count = digits.count;
-        let octet = octet(rest, digits, self.strict);
+        let octet = octet(rest, digits, self.grammar);
         self.position += count;
         Run {
             count,
@@ -182,7 +182,7 @@ impl<'a> Reader<'a> {
     #[tactic(auto, unfolding(crate::specs::Reading::read_octet))]
     fn next_octet(&mut self) -> Option<u8>
         ensures forward { IsForward self.old self.new }
-        ensures value { read_to result self.new ≡ read_octet self.old.strict (rest_of self.old) }
+        ensures value { read_to result self.new ≡ read_octet self.old.grammar (rest_of self.old) }
     {
         if !self.byte(b'.') {
             return None;
@@ -195,7 +195,7 @@ impl<'a> Reader<'a> {
     fn dotted(&mut self, first: u8) -> Option<Ipv4Addr>
         ensures forward { IsForward self.old self.new }
         ensures value { option_map (λ a. (ipv4_octets a, rest_of self.new)) result
-            ≡ read_dotted self.old.strict first (rest_of self.old) }
+            ≡ read_dotted self.old.grammar first (rest_of self.old) }
     {
         let second = self.next_octet()?;
         let third = self.next_octet()?;
@@ -207,7 +207,7 @@ impl<'a> Reader<'a> {
     #[tactic(auto, unfolding(crate::specs::Reading::read_length))]
     fn prefix_len(&mut self, most: usize, greatest: u8) -> Option<u8>
         ensures forward { IsForward self.old self.new }
-        ensures value { result ≡ read_length self.old.strict most greatest (rest_of self.old) }
+        ensures value { result ≡ read_length self.old.grammar most greatest (rest_of self.old) }
         ensures small { IfSome result (λ n. n ≤ greatest) }
     {
         if !self.byte(b'/') {
@@ -227,7 +227,7 @@ impl<'a> Reader<'a> {
     fn ipv4_network(&mut self, first: Option<u8>) -> Option<(Ipv4Addr, u8)>
         ensures forward { IsForward self.old self.new }
         ensures value { option_map (λ n. (ipv4_octets n.0, n.1)) result
-            ≡ read_ipv4_network self.old.strict first (rest_of self.old) }
+            ≡ read_ipv4_network self.old.grammar first (rest_of self.old) }
         ensures small { IfSome result (λ n. n.1 ≤ 32) }
     {
         let addr = self.dotted(first?)?;
@@ -267,7 +267,7 @@ impl<'a> Reader<'a> {
     fn last(&mut self, octet: Option<u8>) -> Option<(u16, u16)>
         ensures forward { IsForward self.old self.new }
         ensures value { option_map (λ g. (g.0 ∷ g.1 ∷ [], true, rest_of self.new)) result
-            ≡ read_last self.old.strict octet (rest_of self.old) }
+            ≡ read_last self.old.grammar octet (rest_of self.old) }
     {
         let [a, b, c, d] = self.dotted(octet?)?.octets();
         Some((
@@ -281,7 +281,7 @@ impl<'a> Reader<'a> {
         requires { room ≤ 8 }
         ensures forward { IsForward self.old self.new }
         ensures value { option_map (λ p. (p.groups.items, p.is_dotted, rest_of self.new)) result
-            ≡ read_pieces self.old.strict room first (rest_of self.old) }
+            ≡ read_pieces self.old.grammar room first (rest_of self.old) }
         ensures fits { IfSome result (λ p. length p.groups.items ≤ room) }
     {
         let mut groups = ArrayVec::new();
@@ -322,7 +322,7 @@ impl<'a> Reader<'a> {
         requires { length head.now ≤ 7 }
         ensures forward { IsForward self.old self.new }
         ensures value { option_map (λ a. (ipv6_segments a, rest_of self.new)) result
-            ≡ read_tail self.old.strict head.now (rest_of self.old) }
+            ≡ read_tail self.old.grammar head.now (rest_of self.old) }
     {
         if !self.byte(b':') {
             return None;
@@ -334,7 +334,10 @@ impl<'a> Reader<'a> {
         if run.count == 0 {
             return Some(expand(head, &[]));
         }
-        let most = if self.strict { 7 } else { 8 };
+        let most = match self.grammar {
+            Grammar::Strict => 7,
+            Grammar::Legacy => 8,
+        };
         let tail = self.pieces(run, most - head.len())?;
         Some(expand(head, tail.groups.as_slice()))
     }
@@ -344,7 +347,7 @@ impl<'a> Reader<'a> {
     fn ipv6(&mut self, first: Run) -> Option<Ipv6Addr>
         ensures forward { IsForward self.old self.new }
         ensures value { option_map (λ a. (ipv6_segments a, rest_of self.new)) result
-            ≡ read_ipv6 self.old.strict first (rest_of self.old) }
+            ≡ read_ipv6 self.old.grammar first (rest_of self.old) }
     {
         if first.count == 0 {
             return self.tail(&[]);
@@ -365,7 +368,7 @@ impl<'a> Reader<'a> {
     fn ipv6_network(&mut self, first: Run) -> Option<(Ipv6Addr, u8)>
         ensures forward { IsForward self.old self.new }
         ensures value { option_map (λ n. (ipv6_segments n.0, n.1)) result
-            ≡ read_ipv6_network self.old.strict first (rest_of self.old) }
+            ≡ read_ipv6_network self.old.grammar first (rest_of self.old) }
         ensures small { IfSome result (λ n. n.1 ≤ 128) }
     {
         let addr = self.ipv6(first)?;
@@ -376,14 +379,14 @@ impl<'a> Reader<'a> {
 
 /// The network that the whole text writes, if it writes one. The byte behind the first run of digits tells the
 /// family.
-pub(super) fn read_network(text: &[u8], strict: bool) -> Option<IpNet>
-    ensures { MatchOption result ((network : Network) → ¬ (IsNetworkText (grammar_of strict) text.now network))
-        (λ n. IsNetworkText (grammar_of strict) text.now (ip_network n)) }
+pub(super) fn read_network(text: &[u8], grammar: Grammar) -> Option<IpNet>
+    ensures { MatchOption result ((network : Network) → ¬ (IsNetworkText grammar text.now network))
+        (λ n. IsNetworkText grammar text.now (ip_network n)) }
 {
     let mut reader = Reader {
         text,
         position: 0,
-        strict,
+        grammar,
     };
     let first = reader.run();
     if reader.peek(0) == b'.' {

@@ -1,8 +1,7 @@
 ghost use Rattle.std.specs.Prelude.{◌≡◌, ◌<◌, ◌≤◌, ◌-◌, ◌^◌};
 ghost use Rattle.std.specs.Net.Addr.{ipv4_bits};
 ghost use Rattle.ipnet_base.specs.Address.{IPv4};
-ghost use Rattle.ipnet_base.specs.Subnets.{IsLargestSubnetAt, IsAdvancedPast};
-ghost use Rattle.ipnet_base.proofs.StepLaws.{IsMostBits};
+ghost use Rattle.ipnet_base.specs.Subnets.{IsLargestSubnetAt, IsAdvancedPast, IsMostBits};
 ghost use Rattle.ipnet.specs.NetworkOf.{ipv4_network};
 
 use crate::net::Ipv4Net;

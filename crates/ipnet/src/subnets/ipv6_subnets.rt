@@ -1,8 +1,7 @@
 ghost use Rattle.std.specs.Prelude.{◌≡◌, ◌<◌, ◌≤◌, ◌-◌, ◌^◌};
 ghost use Rattle.std.specs.Net.Addr.{ipv6_bits};
 ghost use Rattle.ipnet_base.specs.Address.{IPv6};
-ghost use Rattle.ipnet_base.specs.Subnets.{IsLargestSubnetAt, IsAdvancedPast};
-ghost use Rattle.ipnet_base.proofs.StepLaws.{IsMostBits};
+ghost use Rattle.ipnet_base.specs.Subnets.{IsLargestSubnetAt, IsAdvancedPast, IsMostBits};
 ghost use Rattle.ipnet.specs.NetworkOf.{ipv6_network};
 
 use crate::net::Ipv6Net;

@@ -1,7 +1,6 @@
 use Rattle.std.proofs.Common.{Option, Some, None, MatchOption, MatchResult, sym, subst₂}
 use Rattle.std.specs.Option.{ok_or}
 use Rattle.ipnet_base.specs.Network.{Network}
-use Rattle.ipnet.specs.Grammar.{grammar_of}
 use Rattle.ipnet.specs.NetworkOf.{ip_network}
 use Rattle.ipnet.specs.NetworkTexts.{IsNetworkText, ReadsNetwork}
 use Rattle.ipnet.proofs.parser.ip_net.Goals as goal
@@ -14,6 +13,6 @@ carried P Q (Some n) e h = h
 pub returns : goal.returns
 returns c =
     let bytes = c.as_bytes.result.now in
-    let grammar = grammar_of c.args.strict in
+    let grammar = c.args.grammar in
     subst₂ (ReadsNetwork ip_network (IsNetworkText grammar)) (c.as_bytes.ensures.value) (sym c.ok_or.ensures.value)
     (carried ((network : Network) → ¬ (IsNetworkText grammar bytes network)) (λ n. IsNetworkText grammar bytes (ip_network n)) c.read_network.result _ c.read_network.ensures)

@@ -3,7 +3,7 @@ use Rattle.serde_json.specs.Find.{as_str}
 use Rattle.serde_json.specs.View.{view}
 use Rattle.ipnet.specs.NetworkOf.{ipv4_network}
 use Rattle.ipnet.specs.NetLaws.{ipv4_one_to_one}
-use Rattle.ipnet.specs.Grammar.{Strict}
+use Rattle.ipnet.specs.declared.parser.Grammar.TheVariants.{Strict}
 use Rattle.ipnet.specs.NetworkTexts.{IsIpv4NetworkText}
 use Rattle.ipnet.specs.declared.json.JsonError.TheVariants.{Syntax}
 use Rattle.ipnet.proofs.WholeTexts.{one_network}

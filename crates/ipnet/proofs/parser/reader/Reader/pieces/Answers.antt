@@ -11,12 +11,12 @@ returns-then-len-room-clause-value c =
 pub returns-in_default-clause-value : goal.returns-in_default-clause-value
 returns-in_default-clause-value c =
     let whole = dotted _ _ _ _ _ _ _ (omega arith) c.pieces.invariant.same (sym c.peek.ensures ∙ c.if-peek-eq46.true) (omega arith) in
-    sym (whole ∙ rw (← c.pieces.invariant.forward.strict, ← c.in_default.ensures.value))
+    sym (whole ∙ rw (← c.pieces.invariant.forward.grammar, ← c.in_default.ensures.value))
 
 pub returns-then-peek-eq46-clause-value : goal.returns-then-peek-eq46-clause-value
 returns-then-peek-eq46-clause-value c =
     let whole = dotted _ _ _ _ _ _ _ (omega arith) c.pieces.invariant.same (sym c.peek.ensures ∙ c.if-peek-eq46.true) (omega arith) in
-    sym (whole ∙ rw (← c.pieces.invariant.forward.strict, ← c.in-Some.ensures.value, c.push-then-peek-eq46.ensures.items, c.push.ensures.items, append_assoc))
+    sym (whole ∙ rw (← c.pieces.invariant.forward.grammar, ← c.in-Some.ensures.value, c.push-then-peek-eq46.ensures.items, c.push.ensures.items, append_assoc))
 
 pub returns-in_default-group-clause-value : goal.returns-in_default-group-clause-value
 returns-in_default-group-clause-value c =
@@ -36,12 +36,12 @@ pieces-preserved c =
       forward = record {
         position = omega (arith, c.pieces.invariant.forward.position, c.separator.ensures.forward.position, c.run-run.ensures.forward.position);
         text = c.run-run.ensures.forward.text ∙ c.separator.ensures.forward.text ∙ c.pieces.invariant.forward.text;
-        strict = c.run-run.ensures.forward.strict ∙ c.separator.ensures.forward.strict ∙ c.pieces.invariant.forward.strict;
+        grammar = c.run-run.ensures.forward.grammar ∙ c.separator.ensures.forward.grammar ∙ c.pieces.invariant.forward.grammar;
       };
       same =
           goes_on _ _ _ _ _ _ _ (omega arith) c.pieces.invariant.same c.in-Some-group.group _ _ _ _ _ _ other c.in-Some-group.is c.if-not-separator.ensures.single
           c.push-in-pieces.ensures.len c.push-in-pieces.ensures.items c.if-not-separator.ensures.taken
-          (c.separator.ensures.forward.strict ∙ c.pieces.invariant.forward.strict) c.run-run.ensures.run c.run-run.ensures.rest;
+          (c.separator.ensures.forward.grammar ∙ c.pieces.invariant.forward.grammar) c.run-run.ensures.run c.run-run.ensures.rest;
     }
 
 pub returns-clause-value : goal.returns-clause-value
