@@ -1,4 +1,4 @@
-use Rattle.std.proofs.Common.{◌≡◌, ℕ, ◌+◌, ◌<◌, ◌∷◌, [], length, subst, arith, rules, append-nil, inl, inr}
+use Rattle.std.proofs.Common.{◌≡◌, ℕ, ◌+◌, ◌<◌, ◌∷◌, [], length, refl, subst, arith, rules, append-nil, inl, inr}
 use Rattle.ipnet.specs.Lines.{lines_of, IsFirstBadLine}
 use Rattle.ipnet.specs.NetworkOf.{ip_network}
 use Rattle.ipnet.proofs.LineLaws.{empty_line, network_line, bad_line, good_line, no_lines}
@@ -17,7 +17,7 @@ pub returns-in_default-clause-bad_line : goal.returns-in_default-clause-bad_line
 returns-in_default-clause-bad_line c = λ number e.
     let cut = c.first_line.ensures.lines in
     let first : IsFirstBadLine c.args.grammar (lines_of c.args.text.now) (c.lines.number + 1) =
-    c.lines.invariant.bad_line 1 (rw cut (bad_line c.args.grammar c.first_line.result.0.now (lines_of c.first_line.result.1.now) (some_bytes (length c.first_line.result.0.now) c.if-not-is_empty.ensures) c.in_default.ensures)) in
+    c.lines.invariant.bad_line 1 (rw cut (bad_line c.args.grammar c.first_line.result.0.now (lines_of c.first_line.result.1.now) (some_bytes (length c.first_line.result.0.now) c.if-not-is_empty.ensures) (c.in_default.ensures.error.0 refl))) in
     let same : c.lines.number + 1 ≡ number = cc in
     subst (IsFirstBadLine c.args.grammar (lines_of c.args.text.now)) same first
 
@@ -33,13 +33,13 @@ lines-preserved-in-Ok-push c =
       is_text = search rules;
       count = omega (arith, c.first_line.ensures.shorter);
       networks = λ more h.
-          let (whole, is, same) = c.lines.invariant.networks (n ∷ more) (rw cut (network_line grammar line behind n more some c.in-Ok.ensures h)) in
+          let (whole, is, same) = c.lines.invariant.networks (n ∷ more) (rw cut (network_line grammar line behind n more some ((c.in-Ok.ensures.ok c.in-Ok.network).0 refl) h)) in
           (whole, is, cover_moves_on whole (networks_of c.lines.families) (networks_of c.push.new.self) more n c.in-Ok-push.ensures same);
-      bad_line = λ later h. rw append_one (c.lines.invariant.bad_line (1 + later) (rw cut (good_line grammar line behind later (inr (n, c.in-Ok.ensures)) h)));
+      bad_line = λ later h. rw append_one (c.lines.invariant.bad_line (1 + later) (rw cut (good_line grammar line behind later (inr (n, (c.in-Ok.ensures.ok c.in-Ok.network).0 refl)) h)));
       at_once = λ number h.
           let (later, is, at) = c.lines.invariant.at_once number h in
           let (bad, one) = bad_here grammar line behind later some (subst (λ z. IsBadAtOnce grammar z later) cut at) in
-          absurd (bad.1 n c.in-Ok.ensures);
+          absurd (bad.1 n ((c.in-Ok.ensures.ok c.in-Ok.network).0 refl));
     }
 
 pub lines-preserved : goal.lines-preserved
