@@ -36,14 +36,17 @@ pub record IsWalkOf (range : SubnetRange) (networks : List Network) : Type 0 whe
 -- What `next` of a type of walks does beside giving the first of its list, where network_of is the network that an
 -- item stands for, range_of the range that a walk has left, and left the networks that it still gives. It stands on
 -- `next` as the clause `goes` of the trait: a `for` reads `on`, `keeps` and `rests` there, which `progress` has.
-pub record IsSubnetStep {S A : Type 0} (network_of : A → Network) (range_of : S → SubnetRange) (left : S → List Network) (old : S) (answer : Option A) (new : S) : Type 0 where
+pub record IsSubnetStep {S A : Type 0} (network_of : A → Network) (range_of : S → SubnetRange) (left : S → List Network)
+    (old : S) (answer : Option A) (new : S) : Type 0 where
   -- what std wants of each call of `next`: the list gets shorter
   pub progress : MakesProgress (λ _. ⊤) (item_count left) old answer new
   pub open progress use *
   -- the largest network that starts at the start, ends at or before the end and has at least the least length
-  pub largest : IfSome answer (λ n. IsLargestSubnetAt (range_of old).family (range_of old).start (range_of old).end (range_of old).min_prefix_len (network_of n))
+  pub largest : IfSome answer (λ n. IsLargestSubnetAt (range_of old).family (range_of old).start (range_of old).end
+      (range_of old).min_prefix_len (network_of n))
   -- the stored ends that it leaves
-  pub advanced : IfSome answer (λ n. (x : Address) → IsGreatestOf (network_of n) x → IsAdvancedPast x.number (range_of old) (range_of new))
+  pub advanced : IfSome answer (λ n. (x : Address) → IsGreatestOf (network_of n) x
+      → IsAdvancedPast x.number (range_of old) (range_of new))
   -- `None` comes exactly where the start lies above the end, and changes nothing
   pub over : IsNone answer ↔ ((range_of old).end < (range_of old).start)
   pub unchanged : IfNone answer (new ≡ old)

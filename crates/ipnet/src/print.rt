@@ -334,8 +334,10 @@ impl fmt::Debug for Ipv4Net {
     ghost debug_output = { λ n. Some (canonical_text (ipv4_network n)) };
 
     fn fmt<W: fmt::Write>(&self, f: &mut fmt::Formatter<W>) -> fmt::Result
-        ensures writes { DisplaysOnOk W.write_str_gives f.old result (Some (canonical_text (ipv4_network self.now))) f.new }
-        ensures styled { DisplaysStyledOnOk W.write_str_gives f.old result (Some (canonical_text (ipv4_network self.now))) f.new }
+        ensures writes { DisplaysOnOk W.write_str_gives f.old result
+            (Some (canonical_text (ipv4_network self.now))) f.new }
+        ensures styled { DisplaysStyledOnOk W.write_str_gives f.old result
+            (Some (canonical_text (ipv4_network self.now))) f.new }
     {
         <Ipv4Net as fmt::Display>::fmt(self, f)
     }
@@ -346,8 +348,10 @@ impl fmt::Debug for Ipv6Net {
     ghost debug_output = { λ n. Some (canonical_text (ipv6_network n)) };
 
     fn fmt<W: fmt::Write>(&self, f: &mut fmt::Formatter<W>) -> fmt::Result
-        ensures writes { DisplaysOnOk W.write_str_gives f.old result (Some (canonical_text (ipv6_network self.now))) f.new }
-        ensures styled { DisplaysStyledOnOk W.write_str_gives f.old result (Some (canonical_text (ipv6_network self.now))) f.new }
+        ensures writes { DisplaysOnOk W.write_str_gives f.old result
+            (Some (canonical_text (ipv6_network self.now))) f.new }
+        ensures styled { DisplaysStyledOnOk W.write_str_gives f.old result
+            (Some (canonical_text (ipv6_network self.now))) f.new }
     {
         <Ipv6Net as fmt::Display>::fmt(self, f)
     }
@@ -358,8 +362,10 @@ impl fmt::Debug for IpNet {
     ghost debug_output = { λ n. Some (canonical_text (ip_network n)) };
 
     fn fmt<W: fmt::Write>(&self, f: &mut fmt::Formatter<W>) -> fmt::Result
-        ensures writes { DisplaysOnOk W.write_str_gives f.old result (Some (canonical_text (ip_network self.now))) f.new }
-        ensures styled { DisplaysStyledOnOk W.write_str_gives f.old result (Some (canonical_text (ip_network self.now))) f.new }
+        ensures writes { DisplaysOnOk W.write_str_gives f.old result
+            (Some (canonical_text (ip_network self.now))) f.new }
+        ensures styled { DisplaysStyledOnOk W.write_str_gives f.old result
+            (Some (canonical_text (ip_network self.now))) f.new }
     {
         <IpNet as fmt::Display>::fmt(self, f)
     }
