@@ -135,6 +135,12 @@ pub greatest_is_last : (n : Network) (x : Address) → IsGreatestOf n x → x.nu
 greatest_is_last n x g =
     omega (arith, (between_from_block n x g.inside).to_end, g.greatest (at n (last_of n)) (last_in n))
 
+-- a whole block of the minimum prefix length at the start is the largest
+pub largest_by_minimum : (f : Family) (s e m : ℕ) → s ≤ e → e < 2 ^ width f → m ≤ width f → FitsFrom s e (width f - m)
+    → IsLargestSubnetAt f s e m (record { family = f; number = s; prefix_len = m })
+largest_by_minimum f s e m le e_fits m_fits fits =
+    step_from_bits f s e m (width f - m) le e_fits m_fits (omega arith) fits (λ b b_fits good. b_fits) m (omega (arith, m_fits))
+
 -- the counts by which the code finds the largest network at the start
 pub largest_by_counts : (f : Family) (w : Width) → bits w ≡ width f → trailing_zeros w 0 ≡ bits w → (s e m by_range p : ℕ)
     → s ≤ e → s < 2 ^ bits w → e < 2 ^ width f → m ≤ width f → by_range ≤ width f → trailing_zeros w s ≤ width f

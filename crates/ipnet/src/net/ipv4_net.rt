@@ -1,3 +1,4 @@
+//! IPv4 networks: their parts, blocks and subnets, in bit operations on one word.
 ghost use Rattle.std.specs.Prelude.{◌≡◌, ◌-◌, ◌*◌, ◌/◌, ◌%◌, ◌^◌, ◌<◌, ◌≤◌, ◌⊎◌, ◌↔◌, IsTrue, IsErr, IfOk, IsNone, IfSome};
 ghost use Rattle.ipnet_base.specs.Address.{IPv4, width, ipv4_address, address_at};
 ghost use Rattle.ipnet_base.specs.Network.{Network, IsLeastOf, IsGreatestOf, IsSubnetOf, InBlock, IsSupernetOf, AreSiblings, IsTruncationOf, last_of};

@@ -4,7 +4,6 @@
 //! A contract with a member in it, as `Contains::contains` has it, says no more than the member does: here that is held
 //! to the definitions.
 ghost use Rattle.std.specs.Prelude.{◌≡◌, ◌↔◌, Some};
-ghost use Rattle.std.specs.declared.fmt.formatter.FormatSpec.{FormatSpec};
 ghost use Rattle.ipnet_base.specs.Address.{width, ipv4_address, ipv6_address, ip_address};
 ghost use Rattle.ipnet_base.specs.Network.{InBlock, IsSubnetOf};
 ghost use Rattle.ipnet.specs.NetworkOf.{ipv4_network, ipv4_network_of, ipv6_network, ipv6_network_of, ip_network};
@@ -75,12 +74,9 @@ pub fn nets_print_canonical_text(v4: Ipv4Net, v6: Ipv6Net, net: IpNet)
     ensures of_ipv4 { ⟦<Ipv4Net as fmt::Display>⟧.output v4 ≡ Some (canonical_text (ipv4_network v4)) }
     ensures of_ipv6 { ⟦<Ipv6Net as fmt::Display>⟧.output v6 ≡ Some (canonical_text (ipv6_network v6)) }
     ensures of_either { ⟦<IpNet as fmt::Display>⟧.output net ≡ Some (canonical_text (ip_network net)) }
-    ensures styled_ipv4 { (style : FormatSpec) →
-        ⟦<Ipv4Net as fmt::Display>⟧.styled_output v4 style ≡ Some (canonical_text (ipv4_network v4)) }
-    ensures styled_ipv6 { (style : FormatSpec) →
-        ⟦<Ipv6Net as fmt::Display>⟧.styled_output v6 style ≡ Some (canonical_text (ipv6_network v6)) }
-    ensures styled_either { (style : FormatSpec) →
-        ⟦<IpNet as fmt::Display>⟧.styled_output net style ≡ Some (canonical_text (ip_network net)) }
+    ensures styled_ipv4 { ⟦<Ipv4Net as fmt::Display>⟧.styled_output v4 ≡ (λ _. Some (canonical_text (ipv4_network v4))) }
+    ensures styled_ipv6 { ⟦<Ipv6Net as fmt::Display>⟧.styled_output v6 ≡ (λ _. Some (canonical_text (ipv6_network v6))) }
+    ensures styled_either { ⟦<IpNet as fmt::Display>⟧.styled_output net ≡ (λ _. Some (canonical_text (ip_network net))) }
     ensures debug_ipv4 { ⟦<Ipv4Net as fmt::Debug>⟧.debug_output v4 ≡ Some (canonical_text (ipv4_network v4)) }
     ensures debug_ipv6 { ⟦<Ipv6Net as fmt::Debug>⟧.debug_output v6 ≡ Some (canonical_text (ipv6_network v6)) }
     ensures debug_either { ⟦<IpNet as fmt::Debug>⟧.debug_output net ≡ Some (canonical_text (ip_network net)) }

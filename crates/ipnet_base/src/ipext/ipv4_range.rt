@@ -22,7 +22,10 @@ use std::iter::FusedIterator;
 /// ```
 #[derive(Clone, Copy, PartialEq, Eq, PartialOrd, Ord, Hash, Debug)]
 pub struct Ipv4AddrRange {
+    /// The number of the first address that is left; 1 once the last address was given, or `nth` or `nth_back` passed
+    /// over all.
     start: u32,
+    /// The number of the last address that is left; then 0, which lies below the start.
     end: u32,
     ghost start_fits: { start < 2 ^ 32 },
     ghost end_fits: { end < 2 ^ 32 },

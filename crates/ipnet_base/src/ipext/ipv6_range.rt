@@ -22,7 +22,10 @@ use std::iter::FusedIterator;
 /// ```
 #[derive(Clone, Copy, PartialEq, Eq, PartialOrd, Ord, Hash, Debug)]
 pub struct Ipv6AddrRange {
+    /// The number of the first address that is left; 1 once the last address was given, or `nth` or `nth_back` passed
+    /// over all.
     start: u128,
+    /// The number of the last address that is left; then 0, which lies below the start.
     end: u128,
     ghost start_fits: { start < 2 ^ 128 },
     ghost end_fits: { end < 2 ^ 128 },
