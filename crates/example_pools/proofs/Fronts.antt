@@ -6,13 +6,14 @@ use Rattle.std.proofs.lemmas.List.Kept.{AllPairs-cons}
 use Rattle.ipnet.specs.Network.{Network}
 use Rattle.ipnet.specs.NetworkParts.{IsSubnetOfLength, AreSubnetsOfLength}
 
-pub first_are_subnets : (block : Network) (prefix_len count : ℕ) (all : List Network) → AreSubnetsOfLength block prefix_len all
-    → All (IsSubnetOfLength block prefix_len) (take count all)
+pub first_are_subnets : (block : Network) (prefix_len count : ℕ) (all : List Network)
+    → AreSubnetsOfLength block prefix_len all → All (IsSubnetOfLength block prefix_len) (take count all)
 first_are_subnets block prefix_len count all subnets = All-take (IsSubnetOfLength block prefix_len) count all
     (λ i d within. (subnets.members _).0 (All-contains_itself all i d within))
 
 -- each two items of a front are two items of the list
-pub AllPairs-take : {X : Type 0} (R : X → X → Type 0) (count : ℕ) (all : List X) → AllPairs R all → AllPairs R (take count all)
+pub AllPairs-take : {X : Type 0} (R : X → X → Type 0) (count : ℕ) (all : List X) → AllPairs R all
+    → AllPairs R (take count all)
 AllPairs-take R zero all pairs = λ i j d before within. absurd (omega arith)
 AllPairs-take R (suc n) [] pairs = pairs
 AllPairs-take R (suc n) (x ∷ xs) pairs =
