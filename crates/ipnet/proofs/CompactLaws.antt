@@ -7,7 +7,7 @@ use Rattle.ipnet_base.specs.Address.{Family, IPv4, IPv6, width, family_index}
 use Rattle.ipnet_base.specs.Network.{Network, IsNetwork}
 use Rattle.ipnet.specs.CanonicalTexts.{address_octets}
 use Rattle.ipnet.specs.Results.{IsOkExactlyAt}
-use Rattle.ipnet.specs.Bytes.{network_bytes, octet_count, HasOtherTag}
+use Rattle.ipnet.specs.Bytes.{network_bytes, octet_count, HasUnknownVariant}
 use Rattle.ipnet_base.proofs.DigitLaws.{number_back}
 use Rattle.ipnet.proofs.NumberOctets.{sixteen_again}
 
@@ -69,5 +69,5 @@ ok_at_bytes network_of family of_family valid one value bytes e = λ n. (
 )
 
 -- Behind a byte for a family the variant is never refused.
-pub no_other_tag : {P : Type 0} (family : Family) (bytes rest : List ℕ) (tag : ℕ) → bytes ≡ tag ∷ rest → tag ≡ family_index family → ¬ P → P ↔ HasOtherTag bytes
+pub no_other_tag : {P : Type 0} (family : Family) (bytes rest : List ℕ) (tag : ℕ) → bytes ≡ tag ∷ rest → tag ≡ family_index family → ¬ P → P ↔ HasUnknownVariant bytes
 no_other_tag family bytes rest tag e is never = (λ p. absurd (never p), λ h. let first : h.0 ≡ tag = cc (h.2) in absurd (h.3 family (first ∙ is)))

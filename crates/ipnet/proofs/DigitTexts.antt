@@ -10,7 +10,7 @@ use Rattle.std.proofs.NetLemmas.Numbers.{NoDigit}
 use Rattle.ipnet.specs.declared.parser.Grammar.{Grammar}
 use Rattle.ipnet.specs.declared.parser.Grammar.TheVariants.{Strict, Legacy}
 use Rattle.ipnet.specs.Numerals.{IsOctet, IsGroup}
-use Rattle.ipnet.specs.Reading.{digit_run, octet_of, group_of, is_plain}
+use Rattle.ipnet.specs.ReaderSteps.{digit_run, octet_of, group_of, is_plain}
 
 -- ---- the run
 

@@ -11,7 +11,7 @@ use Rattle.std.specs.Int.{w32, from_be_bytes}
 use Rattle.ipnet_base.specs.Network.{Network}
 use Rattle.ipnet.specs.NetworkOf.{ipv4_network_of}
 use Rattle.ipnet.specs.NetworkTexts.{IsIpv4NetworkText}
-use Rattle.ipnet.specs.Reading.{read_byte, digit_run, octet_of, read_octet, read_dotted, read_length, read_ipv4_network}
+use Rattle.ipnet.specs.ReaderSteps.{read_byte, digit_run, octet_of, read_octet, read_dotted, read_length, read_ipv4_network}
 use Rattle.ipnet.proofs.DigitTexts.{AllDigits_hex, digit_run-append, digit_run_sound, octet_of_complete, octet_of_sound}
 
 -- the run at the front of a decimal text that a byte other than a digit follows

@@ -13,28 +13,28 @@ use Rattle.ipnet.specs.declared.parser.Grammar.{Grammar}
 use Rattle.ipnet.specs.declared.parser.Grammar.TheVariants.{Strict, Legacy}
 use Rattle.ipnet.specs.Numerals.{IsGroup}
 use Rattle.ipnet.specs.AddressTexts.{IsIpv4AddressText, IsGroups, EndsInIpv4, IsIpv6AddressText, most_written_groups, expanded}
-use Rattle.ipnet.specs.Reading.{Read, Pieces, behind, run_of, digit_run, octet_of, group_of, is_single_colon, read_last, read_dotted, read_pieces, read_byte, read_tail, read_ipv6}
+use Rattle.ipnet.specs.ReaderSteps.{Read, Pieces, behind, run_of, digit_run, octet_of, group_of, is_single_colon, read_last, read_dotted, read_pieces, read_byte, read_tail, read_ipv6}
 use Rattle.ipnet.proofs.DigitTexts.{digit_run-append, digit_run_sound, octet_of_complete, group_of_complete, group_of_sound, AllDigits_hex}
 use Rattle.ipnet.proofs.Ipv4Texts.{Dots, Dots-from, Dots-rest, octet_run, read_dotted_complete, read_dotted_sound}
 
 -- no group or dotted address goes on into the text, and no group follows a ":"
-record Stops (text : List ℕ) : Type 0 where
+pub record Stops (text : List ℕ) : Type 0 where
   no_digit : NoDigit 16 text
   no_dot : get_or text 0 0 ≢ 46
   no_colon : is_single_colon text ≡ false
 
-slash_stops : (text : List ℕ) → Stops (47 ∷ text)
+pub slash_stops : (text : List ℕ) → Stops (47 ∷ text)
 slash_stops text = record { no_digit = lit≤ tt; no_dot = omega arith; no_colon = refl }
 
-colons_stop : (text : List ℕ) → Stops (58 ∷ 58 ∷ text)
+pub colons_stop : (text : List ℕ) → Stops (58 ∷ 58 ∷ text)
 colons_stop text = record { no_digit = lit≤ tt; no_dot = omega arith; no_colon = refl }
 
 -- the groups at the front of a text
-abbrev pieces_at : Grammar → ℕ → List ℕ → Pieces
+abbrev pub pieces_at : Grammar → ℕ → List ℕ → Pieces
 pieces_at grammar room text = read_pieces grammar room (run_of grammar (digit_run 4 text).0) (digit_run 4 text).1
 
 -- the text begins with a digit
-abbrev Begins : List ℕ → Type 0
+abbrev pub Begins : List ℕ → Type 0
 Begins text = digit_value (get_or text 0 0) < 16
 
 first_digit : (ds rest : List ℕ) → 0 < length ds → AllDigits 16 ds → Begins (ds ++ rest)
@@ -66,12 +66,12 @@ one_group grammar room ds text g h begins =
       single text begins,
     )
 
-groups_begin : (text rest : List ℕ) (g : ℕ) (groups : List ℕ) → IsGroups text (g ∷ groups) → Begins (text ++ rest)
+pub groups_begin : (text rest : List ℕ) (g : ℕ) (groups : List ℕ) → IsGroups text (g ∷ groups) → Begins (text ++ rest)
 groups_begin text rest g [] h = first_digit text rest h.digits.0 h.digits.1
 groups_begin text rest g (i ∷ groups) h =
     rw (h.2, append_assoc h.0, append_assoc h.0) (first_digit h.0 _ h.3.digits.0 h.3.digits.1)
 
-mixed_begins : (grammar : Grammar) (text rest groups : List ℕ) → EndsInIpv4 grammar text groups → Begins (text ++ rest)
+pub mixed_begins : (grammar : Grammar) (text rest groups : List ℕ) → EndsInIpv4 grammar text groups → Begins (text ++ rest)
 mixed_begins grammar text rest [] h = absurd h
 mixed_begins grammar text rest (g ∷ []) h = absurd h
 mixed_begins grammar text rest (g ∷ i ∷ []) (octets, dotted, value) =
@@ -80,7 +80,7 @@ mixed_begins grammar text rest (g ∷ i ∷ []) (octets, dotted, value) =
 mixed_begins grammar text rest (g ∷ i ∷ j ∷ groups) h =
     rw (h.2, append_assoc h.0, append_assoc h.0) (first_digit h.0 _ h.3.digits.0 h.3.digits.1)
 
-groups_complete : (grammar : Grammar) (room : ℕ) (text rest : List ℕ) (g : ℕ) (groups : List ℕ) → IsGroups text (g ∷ groups) → Stops rest → length groups < room → pieces_at grammar room (text ++ rest) ≡ Some (g ∷ groups, false, rest)
+pub groups_complete : (grammar : Grammar) (room : ℕ) (text rest : List ℕ) (g : ℕ) (groups : List ℕ) → IsGroups text (g ∷ groups) → Stops rest → length groups < room → pieces_at grammar room (text ++ rest) ≡ Some (g ∷ groups, false, rest)
 groups_complete grammar zero text rest g groups h stop fits = absurd (omega arith)
 groups_complete grammar (suc room) text rest g [] h stop fits = last_group grammar room text rest g h stop
 groups_complete grammar (suc room) text rest g (i ∷ groups) h stop fits =
@@ -99,7 +99,7 @@ last_dotted grammar room text rest octets h stop some =
       read_dotted_complete grammar text octets rest dots stop.no_digit,
     )
 
-mixed_complete : (grammar : Grammar) (room : ℕ) (text rest groups : List ℕ) → EndsInIpv4 grammar text groups → Stops rest → length groups ≤ room → pieces_at grammar room (text ++ rest) ≡ Some (groups, true, rest)
+pub mixed_complete : (grammar : Grammar) (room : ℕ) (text rest groups : List ℕ) → EndsInIpv4 grammar text groups → Stops rest → length groups ≤ room → pieces_at grammar room (text ++ rest) ≡ Some (groups, true, rest)
 mixed_complete grammar room text rest [] h stop fits = absurd h
 mixed_complete grammar room text rest (g ∷ []) h stop fits = absurd h
 mixed_complete grammar zero text rest (g ∷ i ∷ groups) h stop fits = absurd (omega arith)
@@ -197,7 +197,7 @@ prepend grammar false ds text g (i ∷ groups) is some h = (ds, text, simp appen
 prepend grammar true ds text g (i ∷ []) is some h = absurd h
 prepend grammar true ds text g (i ∷ j ∷ groups) is some h = (ds, text, simp append_assoc, is, h)
 
-three_parts : {A B C : Type 0} (a x : A) (b y : B) (c z : C) → ◌≡◌ {A = Option (A × B × C)} (Some (a, b, c)) (Some (x, y, z)) → (a ≡ x) × (b ≡ y) × (c ≡ z)
+pub three_parts : {A B C : Type 0} (a x : A) (b y : B) (c z : C) → ◌≡◌ {A = Option (A × B × C)} (Some (a, b, c)) (Some (x, y, z)) → (a ≡ x) × (b ≡ y) × (c ≡ z)
 three_parts a x b y c z e = let same = same_Some _ _ e in (ap (λ p. p.0) same, ap (λ p. p.1) same, ap (λ p. p.2) same)
 
 length-segments_of : (grammar : Grammar) (text octets : List ℕ) → Dots grammar text octets → length (segments_of octets) ≡ 2

@@ -1,6 +1,6 @@
 -- Lemmas that the proofs of this crate share.
 pub mod FrontLaws
-pub mod AnswerLaws
+pub mod JoinedLaws
 pub mod EqualLaws
 pub mod SubnetsLaws
 pub mod SubnetCountLaws
@@ -14,6 +14,8 @@ pub mod Ipv4Texts
 pub mod Ipv6Texts
 pub mod WholeTexts
 pub mod StrictTexts
+pub mod StdTexts
+pub mod Ipv6Forms
 pub mod ValidTexts
 pub mod PrintedTexts
 pub mod PrintedDigits

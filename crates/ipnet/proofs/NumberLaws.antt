@@ -4,16 +4,17 @@ use Rattle.std.proofs.Math.Nat.{div-eq_of_lt}
 use Rattle.std.proofs.lemmas.Nat.{pow_below, xor_shr}
 use Rattle.std.specs.Int.Bits.{xor_self, xor_zero_l, xor_zero_r, xor_assoc}
 use Rattle.std.proofs.lemmas.Bool.{cases_eq}
-use Rattle.ipnet_base.specs.Address.{Address, width, IsBetween}
-use Rattle.ipnet_base.specs.Network.{Network, IsNetwork, host_bits, InBlock, IsSubnetOf, AreHalves, IsLeastOf, IsGreatestOf, IsTruncationOf, IsSupernetOf, truncation}
+use Rattle.ipnet_base.specs.Address.{Address, width, IsBetween, address_at}
+use Rattle.ipnet_base.specs.Network.{Network, IsNetwork, host_bits, InBlock, IsSubnetOf, AreHalves, IsLeastOf, IsGreatestOf, IsTruncationOf, IsSupernetOf, truncation, first_of, last_of}
 use Rattle.ipnet_base.specs.Blocks.{IsMaximal, AreMaximalBlocks}
 use Rattle.ipnet_base.specs.Subnets.{SubnetRange}
 use Rattle.ipnet_base.specs.Ranges.{AddressRange}
-use Rattle.ipnet_base.proofs.BlockLaws.{own, own_in, first_of, last_of, last_fits, first_from_least, last_from_greatest, nested, bits_from_subnet, same_network, same_from_block}
+use Rattle.ipnet_base.proofs.BlockLaws.{own, own_in, last_fits, first_from_least, last_from_greatest, nested, bits_from_subnet, same_network, same_from_block}
+use Rattle.ipnet_base.proofs.ExactCoverLaws.{maximal_blocks_apart}
 use Rattle.ipnet_base.proofs.ListLaws.{all_at}
 use Rattle.ipnet_base.proofs.NetworkLaws.{IsTruncationOf-truncation}
 use Rattle.ipnet_base.proofs.SupernetLaws.{supernet, IsSupernetOf-supernet}
-use Rattle.ipnet.specs.NetworkParts.{address_at, IsSubnetOfLength, AreSubnetsOfLength, IsBlockRange, HasReservedEnds, IsHostRange}
+use Rattle.ipnet.specs.NetworkParts.{IsSubnetOfLength, AreSubnetsOfLength, IsBlockRange, HasReservedEnds, IsHostRange}
 use Rattle.ipnet.proofs.SubnetCountLaws.{AreOfLength, subnets_of_length}
 
 -- Numbers are equal where no bit tells them apart.
@@ -120,6 +121,7 @@ pub AreSubnetsOfLength-from_walk : (n : Network) (q : ℕ) (networks : List Netw
 AreSubnetsOfLength-from_walk n q networks low high u longer fits least greatest walk = record {
   ascending = walk.ascending;
   members = λ k. (to k, from k);
+  disjoint = maximal_blocks_apart (InBlock n) q networks counted.0;
   count = counted.1.1;
   blocks = counted.0;
 }

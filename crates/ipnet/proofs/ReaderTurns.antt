@@ -2,7 +2,7 @@
 use Rattle.std.proofs.Common.{◌≡◌, ◌≢◌, ℕ, suc, ◌+◌, ◌-◌, ◌<◌, true, false, List, [], ◌∷◌, ◌++◌, drop, get_or, Some, None, refl, sym, ◌∙◌, arith, append_assoc, eq-eqb, ne_eqb, lt-ltb, le-ltb}
 use Rattle.ipnet.specs.declared.parser.reader.Run.{Run}
 use Rattle.ipnet.specs.declared.parser.Grammar.{Grammar}
-use Rattle.ipnet.specs.Reading.{Pieces, behind, run_of, digit_run, is_single_colon, read_last, read_pieces}
+use Rattle.ipnet.specs.ReaderSteps.{Pieces, behind, run_of, digit_run, is_single_colon, read_last, read_pieces}
 
 behind-behind : (front more : List ℕ) (found : Pieces) → behind front (behind more found) ≡ behind (front ++ more) found
 behind-behind front more None = refl

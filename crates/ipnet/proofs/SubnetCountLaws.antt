@@ -3,10 +3,10 @@
 use Rattle.std.proofs.Common.{◌≡◌, ℕ, zero, suc, ◌+◌, ◌-◌, ◌*◌, ◌/◌, ◌^◌, ◌<◌, ◌≤◌, List, [], ◌∷◌, length, All, refl, sym, ap, ◌∙◌, subst, arith, inl, inr, pow_pos, pow-add, add-one}
 use Rattle.std.proofs.Math.Nat.{mul_assoc, mul-div_cancel}
 use Rattle.ipnet_base.specs.Address.{Family, width, IsBetween}
-use Rattle.ipnet_base.specs.Network.{Network, IsNetwork, InBlock, host_bits}
+use Rattle.ipnet_base.specs.Network.{Network, IsNetwork, InBlock, host_bits, first_of, last_of}
 use Rattle.ipnet_base.specs.Blocks.{AreMaximalBlocks}
 use Rattle.ipnet_base.specs.Subnets.{IsLargestSubnetAt}
-use Rattle.ipnet_base.proofs.BlockLaws.{first_of, last_of, last_fits, between_from_block, block_from_between}
+use Rattle.ipnet_base.proofs.BlockLaws.{last_fits, between_from_block, block_from_between}
 use Rattle.ipnet_base.proofs.ListLaws.{contains_nil, contains_cases, all_from_members, all_at}
 use Rattle.ipnet_base.proofs.SupernetLaws.{AreMaximalBlocks-same_set}
 use Rattle.ipnet_base.proofs.UniqueLaws.{AreMaximalBlocks-unique}

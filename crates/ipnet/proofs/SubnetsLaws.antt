@@ -1,20 +1,22 @@
 -- How a step of a walk leaves the list of networks that it still gives, for both families.
-use Rattle.std.proofs.Common.{◌≡◌, ℕ, ◌+◌, ◌-◌, ◌^◌, ◌<◌, ◌≤◌, ◌⊎◌, ◌↔◌, List, [], ◌∷◌, subst, sym, refl, ◌∙◌, arith, max, inl, inr, lit<}
+use Rattle.std.proofs.Common.{◌≡◌, ℕ, ◌+◌, ◌-◌, ◌^◌, ◌<◌, ◌≤◌, ◌⊎◌, ◌↔◌, List, [], ◌∷◌, Option, Some, None, IsNone, subst, sym, refl, ◌∙◌, arith, max, inl, inr, lit<}
 use mir.Val.{bits}
 use Rattle.std.specs.Int.{Width, trailing_zeros}
 use Rattle.std.proofs.lemmas.Bool.{cases_eq}
 use Rattle.ipnet_base.specs.Address.{Family, Address, IPv4, IPv6, IsBetween, width, greatest_number}
-use Rattle.ipnet_base.specs.Network.{Network, IsGreatestOf}
+use Rattle.ipnet_base.specs.Network.{Network, IsGreatestOf, last_of}
 use Rattle.ipnet_base.specs.Blocks.{AreMaximalBlocks}
-use Rattle.ipnet_base.specs.Subnets.{SubnetRange, IsAdvancedPast, IsLargestSubnetAt}
-use Rattle.ipnet_base.proofs.BlockLaws.{last_of, last_in, at, between_from_block}
+use Rattle.ipnet_base.specs.Subnets.{SubnetRange, IsAdvancedPast, IsLargestSubnetAt, IsMostBits}
+use Rattle.ipnet_base.proofs.BlockLaws.{last_in, at, between_from_block}
 use Rattle.ipnet_base.proofs.UniqueLaws.{AreMaximalBlocks-unique}
 use Rattle.ipnet_base.proofs.SupernetLaws.{AreMaximalBlocks-same_set}
 use Rattle.ipnet_base.proofs.ExactCoverLaws.{IsShortestCover-of_range, maximal_blocks_apart}
 use Rattle.ipnet_base.proofs.CountLaws.{maximal_blocks_bound}
-use Rattle.ipnet_base.proofs.WalkLaws.{AreMaximalBlocks-nil, AreMaximalBlocks-step, FitsFrom, step_from_bits}
-use Rattle.ipnet_base.proofs.StepLaws.{IsMostBits, fits_by_counts, counts_by_fits}
-use Rattle.ipnet.specs.SubnetsLeft.{IsInRange, IsWalkOf, ipv4_subnet_range, ipv4_subnets_left, ipv4_subnets_left-are_blocks, ipv6_subnet_range, ipv6_subnets_left, ipv6_subnets_left-are_blocks}
+use Rattle.ipnet_base.proofs.WalkLaws.{AreMaximalBlocks-nil, AreMaximalBlocks-step, blocks_exist, FitsFrom, step_from_bits}
+use Rattle.ipnet_base.proofs.StepLaws.{fits_by_counts, counts_by_fits}
+use Rattle.ipnet.specs.SubnetsLeft.{IsInRange, IsWalkOf, IsSubnetStep, ipv4_subnet_range, ipv4_subnets_left, ipv6_subnet_range, ipv6_subnets_left, ip_subnet_range, ip_subnets_left}
+use Rattle.ipnet.specs.declared.subnets.IpSubnets.{IpSubnets}
+use Rattle.ipnet.specs.declared.subnets.IpSubnets.TheVariants as Ip
 use Rattle.ipnet.specs.declared.subnets.ipv4_subnets.Ipv4Subnets.{Ipv4Subnets}
 use Rattle.ipnet.specs.declared.subnets.ipv6_subnets.Ipv6Subnets.{Ipv6Subnets}
 
@@ -32,11 +34,34 @@ IsWalkOf-from_blocks range networks end_fits short blocks = record {
   few = λ zero. maximal_blocks_bound range.family range.start range.end end_fits networks (subst (λ m. AreMaximalBlocks (IsInRange range) m networks) zero blocks);
 }
 
+pub ipv4_subnets_left-are_blocks : (s : Ipv4Subnets) → AreLeft (ipv4_subnet_range s) (ipv4_subnets_left s)
+unfolding ipv4_subnets_left
+ipv4_subnets_left-are_blocks s = (blocks_exist IPv4 s.start s.end s.min_prefix_len s.end_fits s.min_prefix_fits).1
+
+pub ipv6_subnets_left-are_blocks : (s : Ipv6Subnets) → AreLeft (ipv6_subnet_range s) (ipv6_subnets_left s)
+unfolding ipv6_subnets_left
+ipv6_subnets_left-are_blocks s = (blocks_exist IPv6 s.start s.end s.min_prefix_len s.end_fits s.min_prefix_fits).1
+
+-- what a walk has left is the walk of its range
 pub ipv4_walk : (s : Ipv4Subnets) → IsWalkOf (ipv4_subnet_range s) (ipv4_subnets_left s)
 ipv4_walk s = IsWalkOf-from_blocks (ipv4_subnet_range s) (ipv4_subnets_left s) s.end_fits s.min_prefix_fits (ipv4_subnets_left-are_blocks s)
 
 pub ipv6_walk : (s : Ipv6Subnets) → IsWalkOf (ipv6_subnet_range s) (ipv6_subnets_left s)
 ipv6_walk s = IsWalkOf-from_blocks (ipv6_subnet_range s) (ipv6_subnets_left s) s.end_fits s.min_prefix_fits (ipv6_subnets_left-are_blocks s)
+
+pub ip_walk : (s : IpSubnets) → IsWalkOf (ip_subnet_range s) (ip_subnets_left s)
+ip_walk (Ip.V4 s) = ipv4_walk s
+ip_walk (Ip.V6 s) = ipv6_walk s
+
+-- a step after one that answered `None` answers `None`, and changes nothing
+pub none_after_none : {S A : Type 0} (network_of : A → Network) (range_of : S → SubnetRange) (left : S → List Network)
+    → (old middle new : S) (first second : Option A) → IsSubnetStep network_of range_of left old first middle
+    → IsSubnetStep network_of range_of left middle second new → IsNone first → IsNone second × (new ≡ old)
+none_after_none network_of range_of left old middle new None None a b none = (none, b.unchanged ∙ a.unchanged)
+none_after_none network_of range_of left old middle new None (Some n) a b none =
+    let apart = b.over.1 (subst (λ s. (range_of s).end < (range_of s).start) (sym a.unchanged) (a.over.0 none)) in
+    cc
+none_after_none network_of range_of left old middle new (Some n) second a b none = let apart = none in cc
 
 -- the range by its parts
 abbrev pub range_of : Family → (start end min_prefix_len : ℕ) → SubnetRange
@@ -109,6 +134,12 @@ left_advanced old new n networks rest fits step advanced before after =
 pub greatest_is_last : (n : Network) (x : Address) → IsGreatestOf n x → x.number ≡ last_of n
 greatest_is_last n x g =
     omega (arith, (between_from_block n x g.inside).to_end, g.greatest (at n (last_of n)) (last_in n))
+
+-- a whole block of the minimum prefix length at the start is the largest
+pub largest_by_minimum : (f : Family) (s e m : ℕ) → s ≤ e → e < 2 ^ width f → m ≤ width f → FitsFrom s e (width f - m)
+    → IsLargestSubnetAt f s e m (record { family = f; number = s; prefix_len = m })
+largest_by_minimum f s e m le e_fits m_fits fits =
+    step_from_bits f s e m (width f - m) le e_fits m_fits (omega arith) fits (λ b b_fits good. b_fits) m (omega (arith, m_fits))
 
 -- the counts by which the code finds the largest network at the start
 pub largest_by_counts : (f : Family) (w : Width) → bits w ≡ width f → trailing_zeros w 0 ≡ bits w → (s e m by_range p : ℕ)

@@ -23,7 +23,8 @@ ipv4_one_to_one r s e i = record {
   min_prefix_len = (e i).min_prefix_len;
   start_fits = is_prop→PathP (λ j. (e j).start < 2 ^ 32) (λ j. le_prop) r.start_fits s.start_fits i;
   end_fits = is_prop→PathP (λ j. (e j).end < 2 ^ 32) (λ j. le_prop) r.end_fits s.end_fits i;
-  min_prefix_fits = is_prop→PathP (λ j. (e j).min_prefix_len ≤ 32) (λ j. le_prop) r.min_prefix_fits s.min_prefix_fits i;
+  min_prefix_fits = is_prop→PathP (λ j. (e j).min_prefix_len ≤ 32)
+      (λ j. le_prop) r.min_prefix_fits s.min_prefix_fits i;
 }
 
 pub ipv6_one_to_one : (r s : Ipv6Subnets) → ipv6_subnet_range r ≡ ipv6_subnet_range s → r ≡ s
@@ -33,7 +34,8 @@ ipv6_one_to_one r s e i = record {
   min_prefix_len = (e i).min_prefix_len;
   start_fits = is_prop→PathP (λ j. (e j).start < 2 ^ 128) (λ j. le_prop) r.start_fits s.start_fits i;
   end_fits = is_prop→PathP (λ j. (e j).end < 2 ^ 128) (λ j. le_prop) r.end_fits s.end_fits i;
-  min_prefix_fits = is_prop→PathP (λ j. (e j).min_prefix_len ≤ 128) (λ j. le_prop) r.min_prefix_fits s.min_prefix_fits i;
+  min_prefix_fits = is_prop→PathP (λ j. (e j).min_prefix_len ≤ 128)
+      (λ j. le_prop) r.min_prefix_fits s.min_prefix_fits i;
 }
 
 pub ip_one_to_one : (r s : IpSubnets) → ip_subnet_range r ≡ ip_subnet_range s → r ≡ s

@@ -1,16 +1,22 @@
 -- The readers of whole networks are the grammar, and a text writes one network at most.
-use Rattle.std.proofs.Common.{◌≡◌, ◌≢◌, ℕ, List, [], ◌∷◌, ◌++◌, length, get_or, Option, Some, None, refl, sym, ap, ◌∙◌, subst, arith, inl, inr, append_assoc, lit≤}
+use Rattle.std.proofs.Common.{◌≡◌, ◌≢◌, ℕ, List, [], ◌∷◌, ◌++◌, length, get_or, Option, Some, None, Result, Ok, Err, MatchResult, refl, sym, ap, ◌∙◌, subst, arith, inl, inr, append_assoc, lit≤}
 use Rattle.std.proofs.lemmas.Option.{none-some, option_and_then_some, some_pair_parts}
 use Rattle.std.specs.Int.{w32, w128, from_be_bytes}
 use Rattle.std.specs.Net.Addr.{octets_of}
+use Rattle.ipnet_base.specs.Address.{IPv4, IPv6}
 use Rattle.ipnet_base.specs.Network.{Network}
+use Rattle.ipnet_base.proofs.BlockLaws.{same_network}
 use Rattle.ipnet.specs.declared.parser.reader.Run.{Run}
-use Rattle.ipnet.specs.NetworkOf.{ipv6_network_of}
+use Rattle.ipnet.specs.declared.net.IpNet.{IpNet}
+use Rattle.ipnet.specs.declared.net.ipv4_net.Ipv4Net.{Ipv4Net}
+use Rattle.ipnet.specs.declared.net.ipv6_net.Ipv6Net.{Ipv6Net}
+use Rattle.ipnet.specs.NetLaws.{ipv4_one_to_one, ipv6_one_to_one, ip_one_to_one}
+use Rattle.ipnet.specs.NetworkOf.{ipv6_network_of, ipv4_network, ipv6_network, ip_network}
 use Rattle.ipnet.specs.declared.parser.Grammar.{Grammar}
 use Rattle.ipnet.specs.Numerals.{IsDecimal, IsGroup}
 use Rattle.ipnet.specs.AddressTexts.{IsGroups, EndsInIpv4, IsIpv6AddressText}
-use Rattle.ipnet.specs.NetworkTexts.{IsIpv4NetworkText, IsIpv6NetworkText, IsNetworkText}
-use Rattle.ipnet.specs.Reading.{run_of, digit_run, octet_of, read_length, read_ipv4_network, read_ipv6_network}
+use Rattle.ipnet.specs.NetworkTexts.{IsIpv4NetworkText, IsIpv6NetworkText, IsNetworkText, WritesNone, ReadsNetwork}
+use Rattle.ipnet.specs.ReaderSteps.{run_of, digit_run, octet_of, read_length, read_ipv4_network, read_ipv6_network}
 use Rattle.ipnet.proofs.DigitTexts.{digit_run-append}
 use Rattle.ipnet.proofs.Ipv4Texts.{Dots-from, Dots-rest, octet_run, read_length_complete, read_length_sound, read_ipv4_network_complete}
 use Rattle.ipnet.proofs.Ipv6Texts.{ipv6_at, read_ipv6_complete, read_ipv6_sound}
@@ -52,9 +58,6 @@ read_ipv6_network_sound grammar text groups n e =
     }
 
 -- ---- one value a text
-
-same_network : (m n : Network) → m.family ≡ n.family → m.number ≡ n.number → m.prefix_len ≡ n.prefix_len → m ≡ n
-same_network m n f a p = λ i. record { family = f i; number = a i; prefix_len = p i }
 
 ipv4_unique : (grammar : Grammar) (text : List ℕ) (m n : Network) → IsIpv4NetworkText grammar text m → IsIpv4NetworkText grammar text n → m ≡ n
 ipv4_unique grammar text m n h k =
@@ -118,6 +121,48 @@ one_network grammar text m n (inl h) (inl k) = ipv4_unique grammar text m n h k
 one_network grammar text m n (inl h) (inr k) = absurd (families_apart grammar text m n h k)
 one_network grammar text m n (inr h) (inl k) = absurd (families_apart grammar text n m k h)
 one_network grammar text m n (inr h) (inr k) = ipv6_unique grammar text m n h k
+
+-- what is a text of a network is a text of its family
+pub of_ipv4 : (grammar : Grammar) (text : List ℕ) (n : Network) → n.family ≡ IPv4 → IsNetworkText grammar text n → IsIpv4NetworkText grammar text n
+of_ipv4 grammar text n is (inl h) = h
+of_ipv4 grammar text n is (inr h) = let clash : IPv4 ≡ IPv6 = sym is ∙ h.family in absurd cc
+
+pub of_ipv6 : (grammar : Grammar) (text : List ℕ) (n : Network) → n.family ≡ IPv6 → IsNetworkText grammar text n → IsIpv6NetworkText grammar text n
+of_ipv6 grammar text n is (inl h) = let clash : IPv6 ≡ IPv4 = sym is ∙ h.family in absurd cc
+of_ipv6 grammar text n is (inr h) = h
+
+-- what was read from a text that writes the network of a value
+pub read_back : {N E : Type 0} (network_of : N → Network) (Writes : List ℕ → Network → Type 0) (text written : List ℕ) (value : N) (result : Result N E)
+    → ReadsNetwork network_of Writes text result → text ≡ written → Writes written (network_of value) → result ≡ Ok value
+read_back network_of Writes text written value result read same h = (read.ok value).1 (subst (λ t. Writes t (network_of value)) (sym same) h)
+
+-- Where values stand for networks, each for its own: what was read, by what the text writes.
+pub reads : {N E : Type 0} (network_of : N → Network) (one : (x y : N) → network_of x ≡ network_of y → x ≡ y) (Writes : List ℕ → Network → Type 0)
+    (text : List ℕ) (one_network : (m n : Network) → Writes text m → Writes text n → m ≡ n) (result : Result N E)
+    → MatchResult result (λ n. Writes text (network_of n)) (λ _. WritesNone Writes text) → ReadsNetwork network_of Writes text result
+reads network_of one Writes text one_network (Ok m) writes = record {
+  ok = λ n. (λ e. let same : m ≡ n = cc in subst (λ x. Writes text (network_of x)) same writes, λ h. ap Ok (one m n (one_network (network_of m) (network_of n) writes h)));
+  error = (λ e. absurd (cc), λ none. absurd (none (network_of m) writes));
+}
+reads network_of one Writes text one_network (Err _) none = record {
+  ok = λ n. (λ e. absurd (cc), λ h. absurd (none (network_of n) h));
+  error = (λ _. none, λ _. refl);
+}
+
+pub reads_ip : {E : Type 0} (grammar : Grammar) (text : List ℕ) (result : Result IpNet E)
+    → MatchResult result (λ n. IsNetworkText grammar text (ip_network n)) (λ _. WritesNone (IsNetworkText grammar) text)
+    → ReadsNetwork ip_network (IsNetworkText grammar) text result
+reads_ip grammar text = reads ip_network ip_one_to_one (IsNetworkText grammar) text (one_network grammar text)
+
+pub reads_ipv4 : {E : Type 0} (grammar : Grammar) (text : List ℕ) (result : Result Ipv4Net E)
+    → MatchResult result (λ n. IsIpv4NetworkText grammar text (ipv4_network n)) (λ _. WritesNone (IsIpv4NetworkText grammar) text)
+    → ReadsNetwork ipv4_network (IsIpv4NetworkText grammar) text result
+reads_ipv4 grammar text = reads ipv4_network ipv4_one_to_one (IsIpv4NetworkText grammar) text (ipv4_unique grammar text)
+
+pub reads_ipv6 : {E : Type 0} (grammar : Grammar) (text : List ℕ) (result : Result Ipv6Net E)
+    → MatchResult result (λ n. IsIpv6NetworkText grammar text (ipv6_network n)) (λ _. WritesNone (IsIpv6NetworkText grammar) text)
+    → ReadsNetwork ipv6_network (IsIpv6NetworkText grammar) text result
+reads_ipv6 grammar text = reads ipv6_network ipv6_one_to_one (IsIpv6NetworkText grammar) text (ipv6_unique grammar text)
 
 -- ---- what the reader of a whole text met
 

@@ -44,9 +44,6 @@ pub record IsSubnetStep {S A : Type 0} (network_of : A → Network) (range_of : 
   pub largest : IfSome answer (λ n. IsLargestSubnetAt (range_of old).family (range_of old).start (range_of old).end (range_of old).min_prefix_len (network_of n))
   -- the stored ends that it leaves
   pub advanced : IfSome answer (λ n. (x : Address) → IsGreatestOf (network_of n) x → IsAdvancedPast x.number (range_of old) (range_of new))
-  -- the list before the call is the walk over the range before, and so behind the call
-  pub walk : IsWalkOf (range_of old) (left old)
-  pub rest : IsWalkOf (range_of new) (left new)
   -- `None` comes exactly where the start lies above the end, and changes nothing
   pub over : IsNone answer ↔ ((range_of old).end < (range_of old).start)
   pub unchanged : IfNone answer (new ≡ old)
@@ -62,21 +59,14 @@ abbrev pub ip_subnet_range : IpSubnets → SubnetRange
 ip_subnet_range (Ip.V4 s) = ipv4_subnet_range s
 ip_subnet_range (Ip.V6 s) = ipv6_subnet_range s
 
--- The networks that the walk still gives: the maximal blocks of what is left of its range. There is one such
--- list, so that is all that contracts say of it.
-pub ipv4_subnets_left : Ipv4Subnets → List Network
+-- The networks that the walk still gives: the maximal blocks of what is left of its range. A proof that there is such a
+-- list makes it; there is one alone, so it promises no more than that it is the walk of its range (`IsWalkOf`, which the
+-- laws of walks say of each).
+unfoldable pub ipv4_subnets_left : Ipv4Subnets → List Network
 ipv4_subnets_left s = (blocks_exist IPv4 s.start s.end s.min_prefix_len s.end_fits s.min_prefix_fits).0
 
-pub ipv4_subnets_left-are_blocks : (s : Ipv4Subnets) → AreMaximalBlocks (IsBetween IPv4 s.start s.end) s.min_prefix_len (ipv4_subnets_left s)
-unfolding ipv4_subnets_left
-ipv4_subnets_left-are_blocks s = (blocks_exist IPv4 s.start s.end s.min_prefix_len s.end_fits s.min_prefix_fits).1
-
-pub ipv6_subnets_left : Ipv6Subnets → List Network
+unfoldable pub ipv6_subnets_left : Ipv6Subnets → List Network
 ipv6_subnets_left s = (blocks_exist IPv6 s.start s.end s.min_prefix_len s.end_fits s.min_prefix_fits).0
-
-pub ipv6_subnets_left-are_blocks : (s : Ipv6Subnets) → AreMaximalBlocks (IsBetween IPv6 s.start s.end) s.min_prefix_len (ipv6_subnets_left s)
-unfolding ipv6_subnets_left
-ipv6_subnets_left-are_blocks s = (blocks_exist IPv6 s.start s.end s.min_prefix_len s.end_fits s.min_prefix_fits).1
 
 abbrev pub ip_subnets_left : IpSubnets → List Network
 ip_subnets_left (Ip.V4 s) = ipv4_subnets_left s

@@ -1,33 +1,41 @@
 -- Aggregates of lists: the four conditions on neighbours, the shortest cover, equal answers and equal covers.
-use Rattle.std.proofs.Common.{◌≡◌, ◌+◌, ◌^◌, ◌<◌, ◌≤◌, ◌↔◌, List, ◌++◌, length, get_or, map, Contains, All, sym, ap, subst, arith, inl, inr}
+use Rattle.std.proofs.Common.{◌≡◌, ◌+◌, ◌^◌, ◌<◌, ◌≤◌, ◌↔◌, List, ◌++◌, length, get_or, map, Contains, All, sym, ap}
+use Rattle.std.proofs.Common.{subst, arith, inl, inr}
 use Rattle.std.proofs.lemmas.Bool.{cases_lt}
 use Rattle.ipnet_base.specs.Address.{Address, IsAddress, width, family_index}
 use Rattle.ipnet_base.specs.Network.{Network, IsNetwork, InBlock, truncation}
-use Rattle.ipnet_base.specs.Blocks.{IsCoveredBy, HaveSameCover, IsExactCover, IsShortestCover, ArePairwiseDisjoint, IsAggregateOf, IsCanonicalAggregateOf, AreAggregatedNeighbours}
+use Rattle.ipnet_base.specs.Blocks.{IsCoveredBy, HaveSameCover, IsExactCover, IsShortestCover, ArePairwiseDisjoint}
+use Rattle.ipnet_base.specs.Blocks.{IsAggregateOf, IsCanonicalAggregateOf, AreAggregatedNeighbours}
 use Rattle.ipnet_base.proofs.BlockLaws.{between_from_block, last_fits}
 use Rattle.ipnet_base.proofs.ListLaws.{all_at}
 use Rattle.ipnet_base.proofs.UniqueLaws.{AreMaximalBlocks-unique, same_family_from_index}
-use Rattle.ipnet_base.proofs.NeighbourLaws.{LiesBefore, AreSettled, AreMaximalBlocks-from_neighbours}
-use Rattle.ipnet_base.proofs.SupernetLaws.{IsDecided-cover, blocks_cover, AreMaximalBlocks-same_set, same_blocks_iff_same_cover, neighbours_from_blocks}
-use Rattle.ipnet_base.proofs.CoverLaws.{HaveSameCover-sym, HaveSameCover-trans, HaveSameCover-append, cover_same_members, cover_truncation}
+use Rattle.ipnet_base.specs.Stack.{LiesBefore, AreJoined}
+use Rattle.ipnet_base.proofs.NeighbourLaws.{AreMaximalBlocks-from_neighbours}
+use Rattle.ipnet_base.proofs.SupernetLaws.{IsDecided-cover, blocks_cover, AreMaximalBlocks-same_set}
+use Rattle.ipnet_base.proofs.SupernetLaws.{same_blocks_iff_same_cover, neighbours_from_blocks}
+use Rattle.ipnet_base.proofs.CoverLaws.{HaveSameCover-sym, HaveSameCover-trans, HaveSameCover-append}
+use Rattle.ipnet_base.proofs.CoverLaws.{cover_same_members, cover_truncation}
 use Rattle.ipnet_base.proofs.ExactCoverLaws.{IsExactCover-of_maximal, IsShortestCover-of_maximal, maximal_blocks_apart}
 
 -- the four conditions are the three that lemmas take
-pub AreSettled-from_neighbours : (networks : List Network) → AreAggregatedNeighbours networks → AreSettled networks
-AreSettled-from_neighbours networks h = record {
+pub AreJoined-from_neighbours : (networks : List Network) → AreAggregatedNeighbours networks → AreJoined networks
+AreJoined-from_neighbours networks h = record {
   truncated = h.truncated;
   apart = λ k d l. lies (get_or networks k d) (get_or networks (k + 1) d) (h.ipv4_first k d l) (h.apart k d l);
   unjoined = h.unjoined;
 }
   where
-    lies : (n k : Network) → family_index n.family ≤ family_index k.family → (n.family ≡ k.family → (x : Address) → InBlock n x → x.number < k.number) → LiesBefore n k
+    lies : (n k : Network) → family_index n.family ≤ family_index k.family
+        → (n.family ≡ k.family → (x : Address) → InBlock n x → x.number < k.number) → LiesBefore n k
     lies n k le apart = elim (cases_lt (family_index n.family) (family_index k.family)) [
       | inl lt ↦ inl lt
-      | inr ge ↦ let same : n.family ≡ k.family = same_family_from_index n.family k.family (omega (arith, le, ge)) in inr (same, apart same)
+      | inr ge ↦ let same : n.family ≡ k.family = same_family_from_index n.family k.family (omega (arith, le, ge)) in
+          inr (same, apart same)
     ]
 
-pub AreAggregatedNeighbours-from_settled : (networks : List Network) → AreSettled networks → AreAggregatedNeighbours networks
-AreAggregatedNeighbours-from_settled networks h = record {
+pub AreAggregatedNeighbours-from_joined : (networks : List Network) → AreJoined networks
+    → AreAggregatedNeighbours networks
+AreAggregatedNeighbours-from_joined networks h = record {
   truncated = h.truncated;
   ipv4_first = λ k d l. in_order (get_or networks k d) (get_or networks (k + 1) d) (h.apart k d l);
   apart = λ k d l. apart (get_or networks k d) (get_or networks (k + 1) d) (h.apart k d l);
@@ -43,25 +51,30 @@ AreAggregatedNeighbours-from_settled networks h = record {
     apart n k (inr h) same = h.1
 
 -- a list meets the four conditions exactly where it is its own aggregate
-pub neighbours_iff_own_aggregate : (networks : List Network) → All IsNetwork networks → AreAggregatedNeighbours networks ↔ IsAggregateOf networks networks
+pub neighbours_iff_own_aggregate : (networks : List Network) → All IsNetwork networks
+    → AreAggregatedNeighbours networks ↔ IsAggregateOf networks networks
 neighbours_iff_own_aggregate networks valid = (
-  λ h. AreMaximalBlocks-from_neighbours networks valid (AreSettled-from_neighbours networks h),
-  λ h. AreAggregatedNeighbours-from_settled networks (neighbours_from_blocks networks h),
+  λ h. AreMaximalBlocks-from_neighbours networks valid (AreJoined-from_neighbours networks h),
+  λ h. AreAggregatedNeighbours-from_joined networks (neighbours_from_blocks networks h),
 )
 
 -- what a list of networks covers is addresses
-pub covered_fits : (networks : List Network) → All IsNetwork networks → (x : Address) → IsCoveredBy networks x → IsAddress x
+pub covered_fits : (networks : List Network) → All IsNetwork networks → (x : Address) → IsCoveredBy networks x
+    → IsAddress x
 covered_fits networks valid x a =
     let n : Network = a.1 in
     let u : IsNetwork n = all_at IsNetwork networks valid n (a.0, a.2, a.3) in
     omega (arith, (between_from_block n x a.4).to_end, last_fits n u, ap (λ f. 2 ^ width f) a.4.same_family)
 
 -- an aggregate covers what its list covers, is the shortest list that does, and shares no address within
-pub IsExactCover-of_aggregate : (networks answer : List Network) → All IsNetwork networks → IsAggregateOf answer networks → IsExactCover (IsCoveredBy networks) 0 answer
+pub IsExactCover-of_aggregate : (networks answer : List Network) → All IsNetwork networks
+    → IsAggregateOf answer networks → IsExactCover (IsCoveredBy networks) 0 answer
 IsExactCover-of_aggregate networks answer valid h =
-    IsExactCover-of_maximal (IsCoveredBy networks) 0 answer (IsDecided-cover networks) (λ x a. (covered_fits networks valid x a, omega arith)) h
+    IsExactCover-of_maximal (IsCoveredBy networks) 0 answer (IsDecided-cover networks)
+    (λ x a. (covered_fits networks valid x a, omega arith)) h
 
-pub IsShortestCover-of_aggregate : (networks answer : List Network) → All IsNetwork networks → IsAggregateOf answer networks → IsShortestCover (IsCoveredBy networks) 0 answer
+pub IsShortestCover-of_aggregate : (networks answer : List Network) → All IsNetwork networks
+    → IsAggregateOf answer networks → IsShortestCover (IsCoveredBy networks) 0 answer
 IsShortestCover-of_aggregate networks answer valid h =
     IsShortestCover-of_maximal (IsCoveredBy networks) 0 answer h (IsExactCover-of_aggregate networks answer valid h)
 
@@ -69,31 +82,41 @@ pub aggregate_apart : (networks answer : List Network) → IsAggregateOf answer 
 aggregate_apart networks answer h = maximal_blocks_apart (IsCoveredBy networks) 0 answer h
 
 -- a list covers itself, so its aggregate is no longer
-pub IsExactCover-itself : (networks : List Network) → All IsNetwork networks → IsExactCover (IsCoveredBy networks) 0 networks
-IsExactCover-itself networks valid = record { valid = valid; long_enough = λ k d l. omega arith; covers = λ x. (λ a. a, λ a. a) }
+IsExactCover-itself : (networks : List Network) → All IsNetwork networks
+    → IsExactCover (IsCoveredBy networks) 0 networks
+IsExactCover-itself networks valid =
+    record { valid = valid; long_enough = λ k d l. omega arith; covers = λ x. (λ a. a, λ a. a) }
 
-pub aggregate_no_longer : (networks answer : List Network) → All IsNetwork networks → IsAggregateOf answer networks → length answer ≤ length networks
+pub aggregate_no_longer : (networks answer : List Network) → All IsNetwork networks → IsAggregateOf answer networks
+    → length answer ≤ length networks
 aggregate_no_longer networks answer valid h =
     (IsShortestCover-of_aggregate networks answer valid h).shortest networks (IsExactCover-itself networks valid)
 
-pub aggregate_valid : (networks answer : List Network) → All IsNetwork networks → IsAggregateOf answer networks → All IsNetwork answer
+pub aggregate_valid : (networks answer : List Network) → All IsNetwork networks → IsAggregateOf answer networks
+    → All IsNetwork answer
 aggregate_valid networks answer valid h = (IsExactCover-of_aggregate networks answer valid h).valid
 
 -- an aggregate is its own aggregate
-pub aggregate_of_aggregate : (networks answer : List Network) → All IsNetwork networks → IsAggregateOf answer networks → IsAggregateOf answer answer
+pub aggregate_of_aggregate : (networks answer : List Network) → All IsNetwork networks → IsAggregateOf answer networks
+    → IsAggregateOf answer answer
 aggregate_of_aggregate networks answer valid h =
     AreMaximalBlocks-same_set (IsCoveredBy networks) (IsCoveredBy answer) 0 answer
-    (λ x. let same : IsCoveredBy answer x ↔ IsCoveredBy networks x = blocks_cover networks answer valid h x in (same.1, same.0)) h
+    (λ x. let same : IsCoveredBy answer x ↔ IsCoveredBy networks x = blocks_cover networks answer valid h x in
+    (same.1, same.0)) h
 
 -- a list has one aggregate at most
-pub IsAggregateOf-unique : (networks answer other : List Network) → IsAggregateOf answer networks → IsAggregateOf other networks → answer ≡ other
+pub IsAggregateOf-unique : (networks answer other : List Network) → IsAggregateOf answer networks
+    → IsAggregateOf other networks → answer ≡ other
 IsAggregateOf-unique networks answer other h k = AreMaximalBlocks-unique (IsCoveredBy networks) 0 answer other h k
 
 -- lists with one cover have one aggregate, and aggregates are equal exactly where the covers are
-pub aggregate_of_same_cover : (networks others answer : List Network) → HaveSameCover networks others → IsAggregateOf answer networks → IsAggregateOf answer others
-aggregate_of_same_cover networks others answer same h = AreMaximalBlocks-same_set (IsCoveredBy networks) (IsCoveredBy others) 0 answer same h
+pub aggregate_of_same_cover : (networks others answer : List Network) → HaveSameCover networks others
+    → IsAggregateOf answer networks → IsAggregateOf answer others
+aggregate_of_same_cover networks others answer same h =
+    AreMaximalBlocks-same_set (IsCoveredBy networks) (IsCoveredBy others) 0 answer same h
 
-pub same_aggregate_iff_same_cover : (networks others answer other : List Network) → All IsNetwork networks → All IsNetwork others
+pub same_aggregate_iff_same_cover : (networks others answer other : List Network) → All IsNetwork networks
+    → All IsNetwork others
     → IsAggregateOf answer networks → IsAggregateOf other others → (answer ≡ other) ↔ HaveSameCover networks others
 same_aggregate_iff_same_cover networks others answer other u v h k = (to, from)
   where

@@ -4,7 +4,7 @@ use Rattle.std.proofs.lemmas.Nat.{pow_below}
 use Rattle.std.proofs.Math.Nat.{eq_of_mul-eq-mul_right}
 use Rattle.std.proofs.lemmas.Bool.{cases_lt, cases_eq}
 use Rattle.ipnet_base.specs.Address.{Family, Address, IPv4, IPv6, width, IsBetween}
-use Rattle.ipnet_base.specs.Network.{Network, IsNetwork, host_bits, InBlock, IsSubnetOf, HaveSameBlock, AreDisjoint, IsTruncated, AreHalves, truncation, IsSupernetOf, IsLeastOf, IsGreatestOf}
+use Rattle.ipnet_base.specs.Network.{Network, IsNetwork, host_bits, first_of, last_of, InBlock, IsSubnetOf, HaveSameBlock, AreDisjoint, IsTruncated, AreHalves, truncation, IsSupernetOf, IsLeastOf, IsGreatestOf}
 use Rattle.ipnet_base.proofs.PrefixLaws.{coarser, block_from, block_to, in_block, first_in_block, block_end_fits}
 
 -- the address of the network's family with this number
@@ -14,13 +14,6 @@ at n y = record { family = n.family; number = y }
 -- a network's own address
 abbrev pub own : Network → Address
 own n = record { family = n.family; number = n.number }
-
--- the least and the greatest number of a block
-abbrev pub first_of : Network → ℕ
-first_of n = n.number / 2 ^ host_bits n * 2 ^ host_bits n
-
-abbrev pub last_of : Network → ℕ
-last_of n = first_of n + (2 ^ host_bits n - 1)
 
 pub own_in : (n : Network) → InBlock n (own n)
 own_in n = record { same_family = refl; same_prefix = refl }

@@ -4,8 +4,8 @@ use Rattle.std.specs.List.{cons_option}
 use Rattle.std.proofs.lemmas.Bool.{cases_lt, cases_eq}
 use Rattle.std.proofs.lemmas.List.{append-nil, length-append}
 use Rattle.std.proofs.lemmas.List.Sorted.{length_permutation, IsPermutation-refl, IsPermutation-sym, IsPermutation-to_front, IsPermutation-cons, IsPermutation-trans}
-use Rattle.ipnet_base.specs.Address.{Address, IsBetween}
-use Rattle.ipnet_base.specs.Ranges.{AddressRange, address_at, addresses_of, address_count, with_ends, IsNext, IsNextBack, IsNth, IsNthBack, Call, Next, NextBack, Nth, NthBack, IsCall, SkipsNone, Step, IsRun, given}
+use Rattle.ipnet_base.specs.Address.{Address, IsBetween, address_at}
+use Rattle.ipnet_base.specs.Ranges.{AddressRange, addresses_of, address_count, with_ends, IsNext, IsNextBack, IsNth, IsNthBack, Call, Next, NextBack, Nth, NthBack, IsCall, SkipsNone, Step, IsRun, given}
 use Rattle.ipnet_base.proofs.ListLaws.{contains_nil, contains_cases, pairs_cons, all_from_members}
 use Rattle.ipnet_base.proofs.RangeLaws.{addresses_none, addresses_first, addresses_last, used_up, addresses_one, contains_from_between, IsNext-yields, IsNextBack-yields}
 
@@ -21,7 +21,7 @@ record TakesOut (r : AddressRange) (answer : Option Address) (t : AddressRange) 
   over : IfNone answer ((y : Address) → IsIn t y → ⊥)
 
 takes_one : (r : AddressRange) (m a b : ℕ) → r.start ≤ m → m ≤ r.end
-    → ((n : ℕ) → a ≤ n → n ≤ b → (r.start ≤ n) × (n ≤ r.end) × (m ≢ n)) → TakesOut r (Some (address_at r m)) (with_ends r a b)
+    → ((n : ℕ) → a ≤ n → n ≤ b → (r.start ≤ n) × (n ≤ r.end) × (m ≢ n)) → TakesOut r (Some (address_at r.family m)) (with_ends r a b)
 takes_one r m a b low high rest = record {
   kept = λ y p. let q = rest y.number p.from_start p.to_end in record { of_family = p.of_family; from_start = q.0; to_end = q.1 };
   item = (record { of_family = refl; from_start = low; to_end = high }, λ y p e. (rest y.number p.from_start p.to_end).2 (ap (λ x. x.number) e));
@@ -180,9 +180,9 @@ IsNth-is_next n r answer t zero_is h = elim (cases_lt n (address_count r)) [
   | inl within ↦ elim (cases_eq (n + 1) (address_count r)) [
     | inl e ↦ let g = h.last e in
         let one : r.start ≡ r.end = omega arith in
-        rw (g.0, g.1, used_up r) (addresses_one r one ∙ ap (λ m. address_at r m ∷ []) one)
+        rw (g.0, g.1, used_up r) (addresses_one r one ∙ ap (λ m. address_at r.family m ∷ []) one)
     | inr ne ↦ let g = h.before (omega arith) in
-        rw (g.0, g.1) (addresses_first r (omega arith) ∙ ap₂ (λ m k. address_at r m ∷ addresses_of (with_ends r k r.end)) (omega arith) (omega arith))
+        rw (g.0, g.1) (addresses_first r (omega arith) ∙ ap₂ (λ m k. address_at r.family m ∷ addresses_of (with_ends r k r.end)) (omega arith) (omega arith))
   ]
 ]
 
@@ -193,7 +193,7 @@ IsNthBack-is_next_back n r answer t zero_is h = elim (cases_lt n (address_count 
   | inl within ↦ elim (cases_eq (n + 1) (address_count r)) [
     | inl e ↦ let g = h.first e in rw (g.0, g.1, used_up r) (addresses_one r (omega arith))
     | inr ne ↦ let g = h.behind (omega arith) in
-        rw (g.0, g.1) (addresses_last r (omega arith) (omega arith) ∙ ap₂ (λ m k. addresses_of (with_ends r r.start k) ++ address_at r m ∷ []) (omega arith) (omega arith))
+        rw (g.0, g.1) (addresses_last r (omega arith) (omega arith) ∙ ap₂ (λ m k. addresses_of (with_ends r r.start k) ++ address_at r.family m ∷ []) (omega arith) (omega arith))
   ]
 ]
 

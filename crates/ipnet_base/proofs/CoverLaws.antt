@@ -14,7 +14,8 @@ pub cover_member : (networks : List Network) (n : Network) (x : Address) → Con
 cover_member networks n x c a = any_from_contains (λ m. InBlock m x) networks n c a
 
 -- the member whose block holds a covered address
-abbrev pub covering_member : (networks : List Network) (x : Address) (a : IsCoveredBy networks x) → Contains networks a.1
+abbrev pub covering_member : (networks : List Network) (x : Address) (a : IsCoveredBy networks x)
+    → Contains networks a.1
 covering_member networks x a = (a.0, a.2, a.3)
 
 -- the empty list covers nothing

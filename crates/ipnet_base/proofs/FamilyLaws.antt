@@ -23,7 +23,11 @@ pub AreSeparated-families : (ipv4 ipv6 : List Network) → AreOfFamily IPv4 ipv4
     → AreSeparated (IsCoveredBy ipv4) (IsCoveredBy ipv6)
 AreSeparated-families ipv4 ipv6 of4 of6 = record {
   before = λ x y a b.
-      inl (omega (arith, ap family_index (covered_family IPv4 ipv4 of4 x a), ap family_index (covered_family IPv6 ipv6 of6 y b)));
+      inl (omega (
+        arith,
+        ap family_index (covered_family IPv4 ipv4 of4 x a),
+        ap family_index (covered_family IPv6 ipv6 of6 y b),
+      ));
   gap = λ x y a b same.
       let clash : IPv4 ≡ IPv6 = sym (covered_family IPv4 ipv4 of4 x a) ∙ same ∙ covered_family IPv6 ipv6 of6 y b in
       absurd (cc);

@@ -4,10 +4,10 @@ use Rattle.std.proofs.lemmas.Bool.{cases_lt, cases_eq, cases_order}
 use Rattle.std.proofs.lemmas.Nat.{pow_below}
 use Rattle.std.proofs.Math.Nat.{mul-div_cancel}
 use Rattle.ipnet_base.specs.Address.{Family, Address, IsAddress, IsBetween, width, family_index, greatest_number}
-use Rattle.ipnet_base.specs.Network.{Network, IsNetwork, host_bits, InBlock, IsSubnetOf, HaveSameBlock, IsTruncated, IsTruncationOf, IsSupernetOf, AreSiblings, AreHalves, IsBefore, IsLeastOf, IsGreatestOf, truncation}
+use Rattle.ipnet_base.specs.Network.{Network, IsNetwork, host_bits, InBlock, IsSubnetOf, HaveSameBlock, IsTruncated, IsTruncationOf, IsSupernetOf, AreSiblings, AreHalves, IsBefore, IsLeastOf, IsGreatestOf, truncation, first_of, last_of}
 use Rattle.ipnet_base.specs.Masks.{netmask_number, hostmask_number, IsNetmaskOf}
 use Rattle.ipnet_base.proofs.PrefixLaws.{block_from, first_in_block, block_end_fits}
-use Rattle.ipnet_base.proofs.BlockLaws.{at, own, own_in, first_of, last_of, nested, block_from_between, first_from_least, last_from_greatest, IsLeastOf-first, IsGreatestOf-last, last_fits, number_from_truncated, same_network, same_from_block, IsTruncated-truncation, IsNetwork-truncation, truncation_in, in_truncation, supernet_bits}
+use Rattle.ipnet_base.proofs.BlockLaws.{at, own, own_in, nested, block_from_between, first_from_least, last_from_greatest, IsLeastOf-first, IsGreatestOf-last, last_fits, number_from_truncated, same_network, same_from_block, IsTruncated-truncation, IsNetwork-truncation, truncation_in, in_truncation, supernet_bits}
 
 -- inclusion of blocks is reflexive and transitive
 pub IsSubnetOf-refl : (n : Network) → IsSubnetOf n n

@@ -6,60 +6,60 @@ use Rattle.std.proofs.lemmas.Bool.{cases_lt, cases_eq}
 use Rattle.std.proofs.lemmas.List.{length-reverse, get_or-reverse}
 use Rattle.std.proofs.lemmas.List.FromFn.{length-map-range_with_len, get_or-map-range_with_len, map-range_with_len_more, take-map-range_with_len}
 use Rattle.std.proofs.lemmas.Option.{slice_get-get_or, slice_get_past}
-use Rattle.ipnet_base.specs.Address.{Address, IsBetween}
-use Rattle.ipnet_base.specs.Ranges.{AddressRange, numbers_between, address_at, addresses_of, address_count, with_ends, IsNext, IsNextBack, IsNth, IsNthBack, IsRangeStep, IsRangeStepBack}
+use Rattle.ipnet_base.specs.Address.{Address, IsBetween, address_at}
+use Rattle.ipnet_base.specs.Ranges.{AddressRange, numbers_between, addresses_of, address_count, with_ends, IsNext, IsNextBack, IsNth, IsNthBack, IsRangeStep, IsRangeStepBack}
 
 -- ---- the list of a range
 
 pub length-addresses_of : (r : AddressRange) → length (addresses_of r) ≡ address_count r
 unfolding numbers_between
-length-addresses_of r = length-map-range_with_len (address_at r) r.start (address_count r)
+length-addresses_of r = length-map-range_with_len (address_at r.family) r.start (address_count r)
 
 pub addresses_none : (r : AddressRange) → r.end < r.start → addresses_of r ≡ []
 unfolding numbers_between
 addresses_none r h =
     let none : address_count r ≡ 0 = omega arith in
-    ap (λ n. map (address_at r) (range_with_len r.start n)) none
+    ap (λ n. map (address_at r.family) (range_with_len r.start n)) none
 
-pub addresses_first : (r : AddressRange) → r.start ≤ r.end → addresses_of r ≡ address_at r r.start ∷ addresses_of (with_ends r (r.start + 1) r.end)
+pub addresses_first : (r : AddressRange) → r.start ≤ r.end → addresses_of r ≡ address_at r.family r.start ∷ addresses_of (with_ends r (r.start + 1) r.end)
 unfolding numbers_between
 addresses_first r h =
     let more : address_count r ≡ suc (r.end + 1 - (r.start + 1)) = omega arith in
-    ap (λ n. map (address_at r) (range_with_len r.start n)) more
+    ap (λ n. map (address_at r.family) (range_with_len r.start n)) more
 
-pub addresses_last : (r : AddressRange) → r.start ≤ r.end → 0 < r.end → addresses_of r ≡ addresses_of (with_ends r r.start (r.end - 1)) ++ address_at r r.end ∷ []
+pub addresses_last : (r : AddressRange) → r.start ≤ r.end → 0 < r.end → addresses_of r ≡ addresses_of (with_ends r r.start (r.end - 1)) ++ address_at r.family r.end ∷ []
 unfolding numbers_between
 addresses_last r h pos =
     let more : address_count r ≡ r.end - 1 + 1 - r.start + 1 = omega arith in
-    ap (λ n. map (address_at r) (range_with_len r.start n)) more
-    ∙ map-range_with_len_more (address_at r) r.start (r.end - 1 + 1 - r.start) r.end (omega arith)
+    ap (λ n. map (address_at r.family) (range_with_len r.start n)) more
+    ∙ map-range_with_len_more (address_at r.family) r.start (r.end - 1 + 1 - r.start) r.end (omega arith)
 
 -- a range of one address, and one of which nothing is left
-pub addresses_one : (r : AddressRange) → r.start ≡ r.end → addresses_of r ≡ address_at r r.start ∷ []
+pub addresses_one : (r : AddressRange) → r.start ≡ r.end → addresses_of r ≡ address_at r.family r.start ∷ []
 addresses_one r e =
     addresses_first r (omega arith)
-    ∙ ap (λ xs. address_at r r.start ∷ xs) (addresses_none (with_ends r (r.start + 1) r.end) (omega arith))
+    ∙ ap (λ xs. address_at r.family r.start ∷ xs) (addresses_none (with_ends r (r.start + 1) r.end) (omega arith))
 
 pub used_up : (r : AddressRange) → addresses_of (with_ends r 1 0) ≡ []
 used_up r = addresses_none (with_ends r 1 0) (omega arith)
 
-pub addresses_at : (r : AddressRange) (n : ℕ) → n < address_count r → slice_get (addresses_of r) n ≡ Some (address_at r (r.start + n))
+pub addresses_at : (r : AddressRange) (n : ℕ) → n < address_count r → slice_get (addresses_of r) n ≡ Some (address_at r.family (r.start + n))
 unfolding numbers_between
 addresses_at r n h =
-    slice_get-get_or (addresses_of r) n (address_at r 0) (omega (arith, length-addresses_of r, h))
-    ∙ ap Some (get_or-map-range_with_len (address_at r) r.start (address_count r) n (r.start + n) (address_at r 0) h refl)
+    slice_get-get_or (addresses_of r) n (address_at r.family 0) (omega (arith, length-addresses_of r, h))
+    ∙ ap Some (get_or-map-range_with_len (address_at r.family) r.start (address_count r) n (r.start + n) (address_at r.family 0) h refl)
 
 pub addresses_past : (r : AddressRange) (n : ℕ) → address_count r ≤ n → slice_get (addresses_of r) n ≡ None
 addresses_past r n h = slice_get_past (addresses_of r) n (omega (arith, length-addresses_of r, h))
 
-addresses_back_at : (r : AddressRange) (n : ℕ) → n < address_count r → slice_get (reverse (addresses_of r)) n ≡ Some (address_at r (r.end - n))
+addresses_back_at : (r : AddressRange) (n : ℕ) → n < address_count r → slice_get (reverse (addresses_of r)) n ≡ Some (address_at r.family (r.end - n))
 unfolding numbers_between
 addresses_back_at r n h =
     let len = length-addresses_of r in
-    slice_get-get_or (reverse (addresses_of r)) n (address_at r 0) (omega (arith, len, length-reverse (addresses_of r), h))
+    slice_get-get_or (reverse (addresses_of r)) n (address_at r.family 0) (omega (arith, len, length-reverse (addresses_of r), h))
     ∙ ap Some
-    (get_or-reverse (addresses_of r) n (address_at r 0) (omega (arith, len, h))
-    ∙ get_or-map-range_with_len (address_at r) r.start (address_count r) (length (addresses_of r) - 1 - n) (r.end - n) (address_at r 0) (omega (arith, len, h)) (omega (arith, len, h)))
+    (get_or-reverse (addresses_of r) n (address_at r.family 0) (omega (arith, len, h))
+    ∙ get_or-map-range_with_len (address_at r.family) r.start (address_count r) (length (addresses_of r) - 1 - n) (r.end - n) (address_at r.family 0) (omega (arith, len, h)) (omega (arith, len, h)))
 
 addresses_back_past : (r : AddressRange) (n : ℕ) → address_count r ≤ n → slice_get (reverse (addresses_of r)) n ≡ None
 addresses_back_past r n h = slice_get_past (reverse (addresses_of r)) n (omega (arith, length-addresses_of r, length-reverse (addresses_of r), h))
@@ -76,23 +76,23 @@ drop-range_with_len f a (suc c) (suc k) =
 addresses_from : (r : AddressRange) (k : ℕ) → drop k (addresses_of r) ≡ addresses_of (with_ends r (r.start + k) r.end)
 unfolding numbers_between
 addresses_from r k =
-    drop-range_with_len (address_at r) r.start (address_count r) k
-    ∙ ap (λ n. map (address_at r) (range_with_len (r.start + k) n)) (omega arith)
+    drop-range_with_len (address_at r.family) r.start (address_count r) k
+    ∙ ap (λ n. map (address_at r.family) (range_with_len (r.start + k) n)) (omega arith)
 
 addresses_up_to : (r : AddressRange) (k : ℕ) → k < address_count r → take (address_count r - k) (addresses_of r) ≡ addresses_of (with_ends r r.start (r.end - k))
 unfolding numbers_between
 addresses_up_to r k h =
-    take-map-range_with_len (address_at r) r.start (address_count r) (address_count r - k) (omega arith)
-    ∙ ap (λ n. map (address_at r) (range_with_len r.start n)) (omega arith)
+    take-map-range_with_len (address_at r.family) r.start (address_count r) (address_count r - k) (omega arith)
+    ∙ ap (λ n. map (address_at r.family) (range_with_len r.start n)) (omega arith)
 
-address_in_list : (r : AddressRange) (k : ℕ) (d : Address) → k < address_count r → slice_index_or (addresses_of r) k d ≡ address_at r (r.start + k)
+address_in_list : (r : AddressRange) (k : ℕ) (d : Address) → k < address_count r → slice_index_or (addresses_of r) k d ≡ address_at r.family (r.start + k)
 unfolding numbers_between
-address_in_list r k d h = get_or-map-range_with_len (address_at r) r.start (address_count r) k (r.start + k) d h refl
+address_in_list r k d h = get_or-map-range_with_len (address_at r.family) r.start (address_count r) k (r.start + k) d h refl
 
 pub between_from_contains : (r : AddressRange) (x : Address) → Contains (addresses_of r) x → IsBetween r.family r.start r.end x
 between_from_contains r x c =
     let within : c.0 < address_count r = omega (arith, c.1, length-addresses_of r) in
-    let is : address_at r (r.start + c.0) ≡ x = sym (address_in_list r c.0 x within) ∙ c.2 in
+    let is : address_at r.family (r.start + c.0) ≡ x = sym (address_in_list r c.0 x within) ∙ c.2 in
     subst (IsBetween r.family r.start r.end) is (record { of_family = refl; from_start = omega arith; to_end = omega arith })
 
 pub contains_from_between : (r : AddressRange) (x : Address) → IsBetween r.family r.start r.end x → Contains (addresses_of r) x
@@ -102,7 +102,7 @@ contains_from_between r x b =
     let place : r.start + k ≡ x.number = omega (arith, b.from_start) in (
       k,
       omega (arith, within, length-addresses_of r),
-      address_in_list r k x within ∙ ap (address_at r) place ∙ ap (λ f. record { family = f; number = x.number }) (sym b.of_family),
+      address_in_list r k x within ∙ ap (address_at r.family) place ∙ ap (λ f. record { family = f; number = x.number }) (sym b.of_family),
     )
 
 pub addresses_ascend : (r : AddressRange) → AllPairs (λ x y. x.number < y.number) (addresses_of r)
@@ -168,7 +168,7 @@ pub IsNth-item : (n : ℕ) (r : AddressRange) (answer : Option Address) (s : Add
 IsNth-item n r answer s h = elim (cases_lt n (address_count r)) [
   | inr past ↦ (h.past past).0 ∙ sym (addresses_past r n past)
   | inl within ↦ elim (cases_eq (n + 1) (address_count r)) [
-    | inl e ↦ (h.last e).0 ∙ ap (λ m. Some (address_at r m)) (omega arith) ∙ sym (addresses_at r n within)
+    | inl e ↦ (h.last e).0 ∙ ap (λ m. Some (address_at r.family m)) (omega arith) ∙ sym (addresses_at r n within)
     | inr ne ↦ (h.before (omega arith)).0 ∙ sym (addresses_at r n within)
   ]
 ]
@@ -188,7 +188,7 @@ pub IsNthBack-item : (n : ℕ) (r : AddressRange) (answer : Option Address) (s :
 IsNthBack-item n r answer s h = elim (cases_lt n (address_count r)) [
   | inr past ↦ (h.past past).0 ∙ sym (addresses_back_past r n past)
   | inl within ↦ elim (cases_eq (n + 1) (address_count r)) [
-    | inl e ↦ (h.first e).0 ∙ ap (λ m. Some (address_at r m)) (omega arith) ∙ sym (addresses_back_at r n within)
+    | inl e ↦ (h.first e).0 ∙ ap (λ m. Some (address_at r.family m)) (omega arith) ∙ sym (addresses_back_at r n within)
     | inr ne ↦ (h.behind (omega arith)).0 ∙ sym (addresses_back_at r n within)
   ]
 ]

@@ -115,10 +115,12 @@ module _ (First Second : Address → Type 0) (least : ℕ) (apart : AreSeparated
 
 -- so the aggregates of lists whose covers are separated are, one after the other, the aggregate of both lists
 pub IsAggregateOf-append : (networks others first second : List Network)
-    → AreSeparated (IsCoveredBy networks) (IsCoveredBy others) → IsAggregateOf first networks → IsAggregateOf second others
+    → AreSeparated (IsCoveredBy networks) (IsCoveredBy others) → IsAggregateOf first networks
+    → IsAggregateOf second others
     → IsAggregateOf (first ++ second) (networks ++ others)
 IsAggregateOf-append networks others first second apart h k =
-    AreMaximalBlocks-same_set (IsInEither (IsCoveredBy networks) (IsCoveredBy others)) (IsCoveredBy (networks ++ others)) 0
+    AreMaximalBlocks-same_set (IsInEither (IsCoveredBy networks) (IsCoveredBy others))
+    (IsCoveredBy (networks ++ others)) 0
     (first ++ second)
     (λ x. ((cover_append networks others x).1, (cover_append networks others x).0))
     (AreMaximalBlocks-append (IsCoveredBy networks) (IsCoveredBy others) 0 apart first second h k)
@@ -137,5 +139,6 @@ AreMaximalBlocks-from_members InSet least networks ascending maximal covered = r
         let a : IsCoveredBy networks (own n) = covered (own n) (h.inside.within (own n) (own_in n)) in
         let c : Contains networks a.1 = covering_member networks (own n) a in
         subst (Contains networks)
-        (sym (one_maximal InSet least n a.1 h (all_at (IsMaximal InSet least) networks maximal a.1 c) (own n) (own_in n) a.4))
+        (sym (one_maximal InSet least n a.1 h (all_at (IsMaximal InSet least) networks maximal a.1 c) (own n)
+        (own_in n) a.4))
         c

@@ -3,10 +3,10 @@ use Rattle.std.proofs.Common.{◌≡◌, ℕ, zero, suc, ◌+◌, ◌-◌, ◌*�
 use Rattle.std.proofs.Math.Nat.{div-one}
 use Rattle.std.proofs.lemmas.Bool.{cases_lt, cases_eq}
 use Rattle.ipnet_base.specs.Address.{Family, Address, width, IsBetween}
-use Rattle.ipnet_base.specs.Network.{Network, host_bits, InBlock, IsSubnetOf, IsBefore, AreDisjoint}
+use Rattle.ipnet_base.specs.Network.{Network, host_bits, InBlock, IsSubnetOf, IsBefore, AreDisjoint, first_of, last_of}
 use Rattle.ipnet_base.specs.Blocks.{IsInside, IsMaximal, AreMaximalBlocks}
 use Rattle.ipnet_base.specs.Subnets.{StartsAt, IsLargestSubnetAt}
-use Rattle.ipnet_base.proofs.BlockLaws.{at, own, own_in, first_of, last_of, last_in, between_from_block, block_from_between, number_from_truncated, truncated_from_number, nested_or_disjoint, bits_from_subnet, same_network}
+use Rattle.ipnet_base.proofs.BlockLaws.{at, own, own_in, last_in, between_from_block, block_from_between, number_from_truncated, truncated_from_number, nested_or_disjoint, bits_from_subnet, same_network}
 use Rattle.ipnet_base.proofs.ListLaws.{contains_nil, contains_here, contains_there, contains_cases, pairs_cons}
 use Rattle.ipnet_base.proofs.UniqueLaws.{AreMaximalBlocks-unique}
 

@@ -35,6 +35,10 @@ abbrev pub IsAddressBefore : Address → Address → Type 0
 IsAddressBefore x y = (family_index x.family < family_index y.family)
     ⊎ ((x.family ≡ y.family) × (x.number < y.number))
 
+-- the address of this family and number
+abbrev pub address_at : Family → ℕ → Address
+address_at family number = record { family = family; number = number }
+
 -- the number has no more bits than an address of the family
 abbrev pub IsAddress : Address → Type 0
 IsAddress x = x.number < 2 ^ width x.family

@@ -1,6 +1,7 @@
 -- What a list of networks covers, the maximal blocks of a set of addresses, and the shortest cover of it.
 -- A set is given by its membership, as `IsCoveredBy networks` or `IsBetween family start end`.
-use Rattle.std.specs.Prelude.{◌≡◌, ℕ, ◌<◌, ◌≤◌, ◌↔◌, ◌⊎◌, List, length, map, Contains, All, AllPairs, Any, IsPermutation}
+use Rattle.std.specs.Prelude.{◌≡◌, ℕ, ◌<◌, ◌≤◌, ◌↔◌, ◌⊎◌, List, length, map, Contains, All, AllPairs, Any}
+use Rattle.std.specs.Prelude.{IsPermutation}
 use Rattle.std.specs.List.{AllAdjacentBelow}
 use Rattle.ipnet_base.specs.Address.{Address, family_index}
 use Rattle.ipnet_base.specs.Network.{Network, IsNetwork, InBlock, IsSubnetOf, AreDisjoint, IsTruncated, AreHalves}
@@ -46,7 +47,7 @@ pub record IsExactCover (InSet : Address → Type 0) (min_prefix_len : ℕ) (net
   pub long_enough : All (λ n. min_prefix_len ≤ n.prefix_len) networks
   pub covers : (x : Address) → IsCoveredBy networks x ↔ InSet x
 
--- An exact cover of least length. Each exact cover of that length is this list, once truncated and sorted.
+-- An exact cover with the fewest networks. Each exact cover with as few is this list, once truncated and sorted.
 pub record IsShortestCover (InSet : Address → Type 0) (min_prefix_len : ℕ) (networks : List Network) : Type 0 where
   pub exact : IsExactCover InSet min_prefix_len networks
   pub shortest : (cover : List Network) → IsExactCover InSet min_prefix_len cover → length networks ≤ length cover

@@ -115,8 +115,8 @@ pub fn truncated_networks_are_ordered_by_first_address()
         ⊎ ((a.family ≡ b.family) × ((a.number < b.number) ⊎ ((a.number ≡ b.number) × (n.prefix_len < k.prefix_len))))) }
 {}
 
-/// At most one list is the maximal blocks of a set under a least length: of a set that a test tells, of what a list
-/// covers, of a range.
+/// At most one list is the maximal blocks of a set under a minimum prefix length: of a set that a test tells, of what a
+/// list covers, of a range.
 pub fn one_list_of_maximal_blocks()
     ensures of_set { (test : Address → Bool) (m : ℕ) (a b : List Network)
         → AreMaximalBlocks (IsAcceptedBy test) m a → AreMaximalBlocks (IsAcceptedBy test) m b → a ≡ b }
@@ -138,8 +138,8 @@ pub fn same_set_has_same_maximal_blocks()
         → (test : Address → Bool) × ((x : Address) → IsBetween f start end x ↔ IsAcceptedBy test x) }
 {}
 
-/// No exact cover of a set under a least length has fewer members than its maximal blocks, and one with as many is
-/// them, truncated and sorted.
+/// No exact cover of a set under a minimum prefix length has fewer members than its maximal blocks, and one with as
+/// many is them, truncated and sorted.
 pub fn no_cover_is_shorter()
     ensures shortest { (test : Address → Bool) (m : ℕ) (blocks cover : List Network)
         → AreMaximalBlocks (IsAcceptedBy test) m blocks → IsExactCover (IsAcceptedBy test) m cover
@@ -232,7 +232,7 @@ pub fn cover_is_kept()
 {}
 
 /// From every start within a range there is a largest subnet; it is a maximal block of the range, and stands in front
-/// of the maximal blocks of what is left behind its last address.
+/// of the maximal blocks of what is left after its last address.
 pub fn largest_subnet_is_the_next_block()
     ensures exists { (f : Family) (start end m : ℕ) → start ≤ end → end < 2 ^ width f → m ≤ width f
         → (n : Network) × IsLargestSubnetAt f start end m n }
@@ -255,7 +255,8 @@ pub fn range_is_tiled()
         → AreMaximalBlocks (IsBetween f start end) m networks → ArePairwiseDisjoint networks }
 {}
 
-/// Under least length 0 a range has at most twice the width less two maximal blocks: 62 for IPv4, 254 for IPv6.
+/// Under minimum prefix length 0 a range has at most twice the width less two maximal blocks: 62 for IPv4, 254 for
+/// IPv6.
 pub fn range_has_few_blocks()
     ensures { (f : Family) (start end : ℕ) (networks : List Network) → end < 2 ^ width f
         → AreMaximalBlocks (IsBetween f start end) 0 networks → length networks ≤ 2 * width f - 2 }

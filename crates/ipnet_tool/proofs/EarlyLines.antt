@@ -10,11 +10,15 @@ use Rattle.ipnet_tool.proofs.LineCuts.{empty_text}
 
 -- after an empty line
 pub after_empty : (grammar : Grammar) (line : List ℕ) (lines : List (List ℕ)) (number : ℕ) → length line ≡ 0
-    → StartsWithBadLine grammar (line ∷ lines) number → (later : ℕ) × (number ≡ later + 1) × StartsWithBadLine grammar lines later
-after_empty grammar line lines number none h = found h.first.before h.first.line h.first.behind h.first.cut h.first.number_is h.empty h.first.bad
+    → StartsWithBadLine grammar (line ∷ lines) number → (later : ℕ) × (number ≡ later + 1)
+    × StartsWithBadLine grammar lines later
+after_empty grammar line lines number none h =
+    found h.first.before h.first.line h.first.behind h.first.cut h.first.number_is h.empty h.first.bad
   where
-    found : (before : List (List ℕ)) (bad : List ℕ) (after : List (List ℕ)) → line ∷ lines ≡ before ++ bad ∷ after → number ≡ length before + 1
-        → All (λ line. line ≡ []) before → IsBadLine grammar bad → (later : ℕ) × (number ≡ later + 1) × StartsWithBadLine grammar lines later
+    found : (before : List (List ℕ)) (bad : List ℕ) (after : List (List ℕ)) → line ∷ lines ≡ before ++ bad ∷ after
+        → number ≡ length before + 1
+        → All (λ line. line ≡ []) before → IsBadLine grammar bad → (later : ℕ) × (number ≡ later + 1)
+        × StartsWithBadLine grammar lines later
     found [] bad after cut is empty is_bad =
         let same : line ≡ bad = cc in
         absurd (is_bad.0 (subst (λ z. z ≡ []) same (empty_text line none)))
@@ -40,9 +44,11 @@ after_empty grammar line lines number none h = found h.first.before h.first.line
 -- a line that is not empty is itself the one
 pub bad_here : (grammar : Grammar) (line : List ℕ) (lines : List (List ℕ)) (number : ℕ) → 0 < length line
     → StartsWithBadLine grammar (line ∷ lines) number → IsBadLine grammar line × (number ≡ 1)
-bad_here grammar line lines number some h = found h.first.before h.first.line h.first.behind h.first.cut h.first.number_is h.empty h.first.bad
+bad_here grammar line lines number some h =
+    found h.first.before h.first.line h.first.behind h.first.cut h.first.number_is h.empty h.first.bad
   where
-    found : (before : List (List ℕ)) (bad : List ℕ) (after : List (List ℕ)) → line ∷ lines ≡ before ++ bad ∷ after → number ≡ length before + 1
+    found : (before : List (List ℕ)) (bad : List ℕ) (after : List (List ℕ)) → line ∷ lines ≡ before ++ bad ∷ after
+        → number ≡ length before + 1
         → All (λ line. line ≡ []) before → IsBadLine grammar bad → IsBadLine grammar line × (number ≡ 1)
     found [] bad after cut is empty is_bad =
         let same : line ≡ bad = cc in
@@ -53,12 +59,15 @@ bad_here grammar line lines number some h = found h.first.before h.first.line h.
         absurd (omega (arith, some, ap length same, ap length none))
 
 -- a line that writes a network is not
-pub not_good : (grammar : Grammar) (line : List ℕ) (lines : List (List ℕ)) (number : ℕ) (n : Network) → 0 < length line → IsNetworkText grammar line n
+pub not_good : (grammar : Grammar) (line : List ℕ) (lines : List (List ℕ)) (number : ℕ) (n : Network) → 0 < length line
+    → IsNetworkText grammar line n
     → StartsWithBadLine grammar (line ∷ lines) number → ⊥
-not_good grammar line lines number n some written h = let (bad, one) = bad_here grammar line lines number some h in bad.1 n written
+not_good grammar line lines number n some written h =
+    let (bad, one) = bad_here grammar line lines number some h in bad.1 n written
 
 -- a text with no byte has no line
-pub none_bad : (grammar : Grammar) (text : List ℕ) (number : ℕ) → length text ≡ 0 → StartsWithBadLine grammar (lines_of text) number → ⊥
+pub none_bad : (grammar : Grammar) (text : List ℕ) (number : ℕ) → length text ≡ 0
+    → StartsWithBadLine grammar (lines_of text) number → ⊥
 none_bad grammar [] number none h = found h.first.before h.first.line h.first.behind h.first.cut
   where
     found : (before : List (List ℕ)) (bad : List ℕ) (after : List (List ℕ)) → [] ≡ before ++ bad ∷ after → ⊥

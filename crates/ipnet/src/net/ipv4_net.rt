@@ -1,7 +1,8 @@
+//! IPv4 networks: their parts, blocks and subnets, in bit operations on one word.
 ghost use Rattle.std.specs.Prelude.{◌≡◌, ◌-◌, ◌*◌, ◌/◌, ◌%◌, ◌^◌, ◌<◌, ◌≤◌, ◌⊎◌, ◌↔◌, IsTrue, IsErr, IfOk, IsNone, IfSome};
-ghost use Rattle.ipnet_base.specs.Address.{IPv4, width, ipv4_address};
-ghost use Rattle.ipnet_base.specs.Network.{Network, IsLeastOf, IsGreatestOf, IsSubnetOf, InBlock, IsSupernetOf, AreSiblings, IsTruncationOf};
-ghost use Rattle.ipnet.specs.NetworkParts.{address_at, network_at, own_address, netmask, hostmask, HasAddressAndNetmask, AreSubnetsOfLength, IsBlockRange, IsHostRange};
+ghost use Rattle.ipnet_base.specs.Address.{IPv4, width, ipv4_address, address_at};
+ghost use Rattle.ipnet_base.specs.Network.{Network, IsLeastOf, IsGreatestOf, IsSubnetOf, InBlock, IsSupernetOf, AreSiblings, IsTruncationOf, last_of};
+ghost use Rattle.ipnet.specs.NetworkParts.{network_at, own_address, netmask, hostmask, HasAddressAndNetmask, AreSubnetsOfLength, IsBlockRange, IsHostRange};
 
 use super::{Contains, Net};
 use crate::subnets::Ipv4Subnets;
@@ -59,7 +60,6 @@ fn address_of(number: u32) -> Ipv4Addr
 }
 
 impl Ipv4Net {
-    ghost use Rattle.ipnet_base.proofs.BlockLaws.{last_of};
     ghost use Rattle.ipnet.specs.NetworkOf.{ipv4_network, ipv4_network_of};
     ghost use Rattle.ipnet_base.specs.RangeOf.{ipv4_range};
     ghost use Rattle.ipnet.specs.SubnetsLeft.{ipv4_subnet_range, ipv4_subnets_left};

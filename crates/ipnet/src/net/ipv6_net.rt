@@ -1,7 +1,8 @@
+//! IPv6 networks: their parts, blocks and subnets, in bit operations on the number and the length.
 ghost use Rattle.std.specs.Prelude.{◌≡◌, ◌-◌, ◌*◌, ◌/◌, ◌^◌, ◌<◌, ◌≤◌, ◌⊎◌, ◌↔◌, IsTrue, IsErr, IfOk, IsNone, IfSome};
-ghost use Rattle.ipnet_base.specs.Address.{IPv6, width, ipv6_address};
-ghost use Rattle.ipnet_base.specs.Network.{Network, IsLeastOf, IsGreatestOf, IsSubnetOf, InBlock, IsSupernetOf, AreSiblings, IsTruncationOf};
-ghost use Rattle.ipnet.specs.NetworkParts.{address_at, network_at, own_address, netmask, hostmask, HasAddressAndNetmask, AreSubnetsOfLength, IsBlockRange, IsHostRange};
+ghost use Rattle.ipnet_base.specs.Address.{IPv6, width, ipv6_address, address_at};
+ghost use Rattle.ipnet_base.specs.Network.{Network, IsLeastOf, IsGreatestOf, IsSubnetOf, InBlock, IsSupernetOf, AreSiblings, IsTruncationOf, last_of};
+ghost use Rattle.ipnet.specs.NetworkParts.{network_at, own_address, netmask, hostmask, HasAddressAndNetmask, AreSubnetsOfLength, IsBlockRange, IsHostRange};
 
 use super::{Contains, Net};
 use crate::subnets::Ipv6Subnets;
@@ -60,7 +61,6 @@ fn address_of(number: u128) -> Ipv6Addr
 }
 
 impl Ipv6Net {
-    ghost use Rattle.ipnet_base.proofs.BlockLaws.{last_of};
     ghost use Rattle.ipnet.specs.NetworkOf.{ipv6_network, ipv6_network_of};
     ghost use Rattle.ipnet_base.specs.RangeOf.{ipv6_range};
     ghost use Rattle.ipnet.specs.SubnetsLeft.{ipv6_subnet_range, ipv6_subnets_left};

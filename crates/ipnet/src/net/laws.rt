@@ -1,5 +1,9 @@
 //! What holds of all values of the network types at once: `==`, the order and the hash go by the network that a value
 //! stands for, host bits and all; the clone is the value; a network's netmask reads back as its prefix length.
+//!
+//! ```text
+//! 10.0.0.0/24 < 10.0.0.1/8 < 10.0.0.1/24 < ::/0, and no two of these are equal or hashed alike
+//! ```
 ghost use Rattle.std.specs.Prelude.{◌≡◌};
 ghost use Rattle.ipnet_base.specs.Network.{IsNetwork, IsBefore};
 ghost use Rattle.ipnet_base.specs.Values.{ComparesBy, HashesBy, ClonesExactly};

@@ -8,9 +8,11 @@ ghost use Rattle.ipnet_base.specs.Address.{width, ipv4_address, ipv6_address, ip
 ghost use Rattle.ipnet_base.specs.Network.{InBlock, IsSubnetOf};
 ghost use Rattle.ipnet.specs.NetworkOf.{ipv4_network, ipv4_network_of, ipv6_network, ipv6_network_of, ip_network};
 ghost use Rattle.ipnet.specs.NetworkParts.{network_at};
+ghost use Rattle.ipnet.specs.CanonicalTexts.{canonical_text};
 
 use super::{Contains, IpNet, Ipv4Net, Ipv6Net};
 use ipnet_base::{IpAddr, Ipv4Addr, Ipv6Addr};
+use std::fmt;
 
 /// An IPv4 network contains an address where that lies in its block, and a network where that one's block does.
 pub fn ipv4_net_contains_its_block<'a>(net: Ipv4Net, address: &'a Ipv4Addr, other: &'a Ipv4Net)
@@ -65,4 +67,17 @@ pub fn addresses_become_single_nets(
 pub fn nets_of_one_family_stay_the_same(v4: Ipv4Net, v6: Ipv6Net, net: IpNet)
     ensures of_ipv4 { ⟦<IpNet as From<Ipv4Net>>⟧.from_gives v4 net ↔ (ip_network net ≡ ipv4_network v4) }
     ensures of_ipv6 { ⟦<IpNet as From<Ipv6Net>>⟧.from_gives v6 net ↔ (ip_network net ≡ ipv6_network v6) }
+{}
+
+/// Networks print as canonical text: under `{}` and `{:?}`, and under every width, fill and flag.
+pub fn nets_print_canonical_text(v4: Ipv4Net, v6: Ipv6Net, net: IpNet)
+    ensures of_ipv4 { ⟦<Ipv4Net as fmt::Display>⟧.output v4 ≡ Some (canonical_text (ipv4_network v4)) }
+    ensures of_ipv6 { ⟦<Ipv6Net as fmt::Display>⟧.output v6 ≡ Some (canonical_text (ipv6_network v6)) }
+    ensures of_either { ⟦<IpNet as fmt::Display>⟧.output net ≡ Some (canonical_text (ip_network net)) }
+    ensures styled_ipv4 { ⟦<Ipv4Net as fmt::Display>⟧.styled_output v4 ≡ (λ _. Some (canonical_text (ipv4_network v4))) }
+    ensures styled_ipv6 { ⟦<Ipv6Net as fmt::Display>⟧.styled_output v6 ≡ (λ _. Some (canonical_text (ipv6_network v6))) }
+    ensures styled_either { ⟦<IpNet as fmt::Display>⟧.styled_output net ≡ (λ _. Some (canonical_text (ip_network net))) }
+    ensures debug_ipv4 { ⟦<Ipv4Net as fmt::Debug>⟧.debug_output v4 ≡ Some (canonical_text (ipv4_network v4)) }
+    ensures debug_ipv6 { ⟦<Ipv6Net as fmt::Debug>⟧.debug_output v6 ≡ Some (canonical_text (ipv6_network v6)) }
+    ensures debug_either { ⟦<IpNet as fmt::Debug>⟧.debug_output net ≡ Some (canonical_text (ip_network net)) }
 {}

@@ -1,5 +1,9 @@
 //! What holds of all walks at once: `==`, the order and the hash go by the stored ends and the minimum prefix length,
 //! and the clone is the value.
+//!
+//! ```text
+//! 0.0.0.0 to 0.0.0.6 at 0 < 0.0.0.0 to 0.0.0.6 at 31 < 0.0.0.0 to 0.0.0.7 at 0 < :: to ::6 at 0
+//! ```
 ghost use Rattle.std.specs.Prelude.{◌≤◌};
 ghost use Rattle.ipnet_base.specs.Address.{width};
 ghost use Rattle.ipnet_base.specs.Subnets.{IsWalkBefore};

@@ -1,5 +1,9 @@
 //! What holds of all addresses at once: `==` and the order go by the number of an address, that of `IpAddr` by the
 //! family first. Each law is a function with nothing to run, whose contract is the law.
+//!
+//! ```text
+//! 10.0.0.1 < 10.0.0.2 < ::ffff:10.0.0.1, and no two of these are equal
+//! ```
 ghost use Rattle.std.specs.Prelude.{◌<◌};
 ghost use Rattle.std.specs.Net.Addr.{ipv4_bits, ipv6_bits};
 ghost use Rattle.ipnet_base.specs.Address.{IsAddressBefore, ip_address};

@@ -1,7 +1,15 @@
-//! Laws of ranges that no single call carries. Each is a function with nothing to run, whose contract is the law.
-ghost use Rattle.std.specs.Prelude.{◌≡◌, ◌≢◌, ◌<◌, ◌↔◌, None, List, length, Contains, All, AllPairs, Any, IsPermutation};
+//! Laws of ranges that no single call carries: what they list, what a mix of calls gives, and `==`, the order, the hash
+//! and the clone. Each is a function with nothing to run, whose contract is the law.
+//!
+//! ```text
+//! 0.0.0.1 to 0.0.0.0 < 0.0.0.1 to 0.0.0.6 < 0.0.0.5 to 0.0.0.3 < :: to ::6
+//! the first and the third have no address, and are not equal
+//! ```
+ghost use Rattle.std.specs.Prelude.{◌≡◌, ◌≢◌, ◌<◌, ◌↔◌, None, List, length};
+ghost use Rattle.std.specs.Prelude.{Contains, All, AllPairs, Any, IsPermutation};
 ghost use Rattle.ipnet_base.specs.Address.{Address, IsBetween};
-ghost use Rattle.ipnet_base.specs.Ranges.{AddressRange, addresses_of, address_count, IsRangeBefore, Step, IsRun, SkipsNone, given};
+ghost use Rattle.ipnet_base.specs.Ranges.{AddressRange, addresses_of, address_count, IsRangeBefore};
+ghost use Rattle.ipnet_base.specs.Ranges.{Step, IsRun, SkipsNone, given};
 ghost use Rattle.ipnet_base.specs.RangeOf.{ipv4_range, ipv6_range, ip_range};
 ghost use Rattle.ipnet_base.specs.declared.ipext.ip_range.IpAddrRange.{IpAddrRange};
 ghost use Rattle.ipnet_base.specs.declared.ipext.ipv4_range.Ipv4AddrRange.{Ipv4AddrRange};

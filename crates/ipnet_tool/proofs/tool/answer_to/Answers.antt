@@ -9,7 +9,8 @@ use Rattle.ipnet_tool.proofs.tool.answer_to.Goals as goal
 
 pub returns-then-is_empty : goal.returns-then-is_empty
 returns-then-is_empty c =
-    nothing_for_nothing c.args.grammar c.args.text.now c.new.result (no_bytes (length c.args.text.now) c.if-is_empty.ensures) c.new.ensures.bytes
+    nothing_for_nothing c.args.grammar c.args.text.now c.new.result
+    (no_bytes (length c.args.text.now) c.if-is_empty.ensures) c.new.ensures.bytes
 
 -- what `?` hands on is the error itself
 pub returns-in_err-families : goal.returns-in_err-families
@@ -29,13 +30,15 @@ returns-in_err-families c =
 
 pub returns-in_default : goal.returns-in_default
 returns-in_default c =
-    not_answered c.args.grammar c.args.text.now ToolErrors.Memory (some_bytes (length c.args.text.now) c.if-is_empty.ensures)
+    not_answered c.args.grammar c.args.text.now ToolErrors.Memory
+    (some_bytes (length c.args.text.now) c.if-is_empty.ensures)
     (λ number e. absurd cc)
     (λ number h. let clash = c.in_ok-families.ensures.bad_at_once number h in absurd cc)
 
 pub returns-in_default-printed : goal.returns-in_default-printed
 returns-in_default-printed c =
-    not_answered c.args.grammar c.args.text.now ToolErrors.Memory (some_bytes (length c.args.text.now) c.if-is_empty.ensures)
+    not_answered c.args.grammar c.args.text.now ToolErrors.Memory
+    (some_bytes (length c.args.text.now) c.if-is_empty.ensures)
     (λ number e. absurd cc)
     (λ number h. let clash = c.in_ok-families.ensures.bad_at_once number h in absurd cc)
 
@@ -44,6 +47,7 @@ returns c =
     let grammar = c.args.grammar in
     let (networks, written, same) = c.in_ok-families.ensures.networks in
     answered grammar c.args.text.now c.in-Ok-printed.answer (some_bytes (length c.args.text.now) c.if-is_empty.ensures)
-    (answer_from grammar c.args.text.now (string_bytes c.in-Ok-printed.answer) networks (networks_of c.in_ok-families.families)
+    (answer_from grammar c.args.text.now (string_bytes c.in-Ok-printed.answer) networks
+    (networks_of c.in_ok-families.families)
     (networks_of c.in-Ok.blocks) written same c.in-Ok.ensures c.in-Ok-printed.ensures)
     (λ number h. let clash = c.in_ok-families.ensures.bad_at_once number h in absurd cc)

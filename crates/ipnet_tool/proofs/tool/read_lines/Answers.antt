@@ -1,4 +1,4 @@
-use Rattle.std.proofs.Common.{◌≡◌, ℕ, ◌+◌, ◌<◌, ◌∷◌, [], length, subst, arith, rules, append-nil, inl, inr}
+use Rattle.std.proofs.Common.{◌≡◌, ℕ, ◌+◌, ◌<◌, ◌∷◌, [], length, refl, subst, arith, rules, append-nil, inl, inr}
 use Rattle.ipnet.specs.Lines.{lines_of, IsFirstBadLine}
 use Rattle.ipnet.specs.NetworkOf.{ip_network}
 use Rattle.ipnet.proofs.LineLaws.{empty_line, network_line, bad_line, good_line, no_lines}
@@ -17,7 +17,9 @@ pub returns-in_default-clause-bad_line : goal.returns-in_default-clause-bad_line
 returns-in_default-clause-bad_line c = λ number e.
     let cut = c.first_line.ensures.lines in
     let first : IsFirstBadLine c.args.grammar (lines_of c.args.text.now) (c.lines.number + 1) =
-    c.lines.invariant.bad_line 1 (rw cut (bad_line c.args.grammar c.first_line.result.0.now (lines_of c.first_line.result.1.now) (some_bytes (length c.first_line.result.0.now) c.if-not-is_empty.ensures) c.in_default.ensures)) in
+    c.lines.invariant.bad_line 1
+    (rw cut (bad_line c.args.grammar c.first_line.result.0.now (lines_of c.first_line.result.1.now)
+    (some_bytes (length c.first_line.result.0.now) c.if-not-is_empty.ensures) (c.in_default.ensures.error.0 refl))) in
     let same : c.lines.number + 1 ≡ number = cc in
     subst (IsFirstBadLine c.args.grammar (lines_of c.args.text.now)) same first
 
@@ -26,19 +28,27 @@ lines-preserved-in-Ok-push c =
     let grammar = c.args.grammar in
     let cut = c.first_line.ensures.lines in
     let line = c.first_line.result.0.now in
-    let behind = lines_of c.first_line.result.1.now in
+    let after = lines_of c.first_line.result.1.now in
     let n = ip_network c.in-Ok.network in
     let some : 0 < length line = some_bytes (length line) c.if-not-is_empty.ensures in
     record {
       is_text = search rules;
       count = omega (arith, c.first_line.ensures.shorter);
       networks = λ more h.
-          let (whole, is, same) = c.lines.invariant.networks (n ∷ more) (rw cut (network_line grammar line behind n more some c.in-Ok.ensures h)) in
-          (whole, is, cover_moves_on whole (networks_of c.lines.families) (networks_of c.push.new.self) more n c.in-Ok-push.ensures same);
-      bad_line = λ later h. rw append_one (c.lines.invariant.bad_line (1 + later) (rw cut (good_line grammar line behind later (inr (n, c.in-Ok.ensures)) h)));
+          let (whole, is, same) = c.lines.invariant.networks (n ∷ more)
+          (rw cut (network_line grammar line after n more some ((c.in-Ok.ensures.ok c.in-Ok.network).0 refl) h)) in (
+            whole,
+            is,
+            cover_moves_on whole (networks_of c.lines.families)
+                (networks_of c.push.new.self) more n c.in-Ok-push.ensures same,
+          );
+      bad_line = λ later h. rw append_one
+          (c.lines.invariant.bad_line (1 + later)
+          (rw cut (good_line grammar line after later (inr (n, ((c.in-Ok.ensures.ok c.in-Ok.network).0 refl))) h)));
       at_once = λ number h.
           let (later, is, at) = c.lines.invariant.at_once number h in
-          absurd (not_good grammar line behind later n some c.in-Ok.ensures (subst (λ z. StartsWithBadLine grammar z later) cut at));
+          absurd (not_good grammar line after later n some ((c.in-Ok.ensures.ok c.in-Ok.network).0 refl)
+          (subst (λ z. StartsWithBadLine grammar z later) cut at));
     }
 
 pub returns-in_default-push-clause-bad_at_once : goal.returns-in_default-push-clause-bad_at_once
@@ -47,23 +57,27 @@ returns-in_default-push-clause-bad_at_once c = λ number h.
     let line = c.first_line.result.0.now in
     let (later, is, at) = c.lines.invariant.at_once number h in
     absurd (not_good grammar line (lines_of c.first_line.result.1.now) later (ip_network c.in-Ok.network)
-    (some_bytes (length line) c.if-not-is_empty.ensures) c.in-Ok.ensures (subst (λ z. StartsWithBadLine grammar z later) c.first_line.ensures.lines at))
+    (some_bytes (length line) c.if-not-is_empty.ensures) ((c.in-Ok.ensures.ok c.in-Ok.network).0 refl)
+    (subst (λ z. StartsWithBadLine grammar z later) c.first_line.ensures.lines at))
 
 pub lines-preserved : goal.lines-preserved
 lines-preserved c =
     let grammar = c.args.grammar in
     let cut = c.first_line.ensures.lines in
     let line = c.first_line.result.0.now in
-    let behind = lines_of c.first_line.result.1.now in
+    let after = lines_of c.first_line.result.1.now in
     let none : length line ≡ 0 = no_bytes (length line) c.if-not-is_empty.ensures in
     record {
       is_text = search rules;
       count = omega (arith, c.first_line.ensures.shorter);
-      networks = λ more h. c.lines.invariant.networks more (rw cut (empty_line grammar line behind more none h));
-      bad_line = λ later h. rw append_one (c.lines.invariant.bad_line (1 + later) (rw cut (good_line grammar line behind later (inl (empty_text line none)) h)));
+      networks = λ more h. c.lines.invariant.networks more (rw cut (empty_line grammar line after more none h));
+      bad_line = λ later h. rw append_one
+          (c.lines.invariant.bad_line (1 + later)
+          (rw cut (good_line grammar line after later (inl (empty_text line none)) h)));
       at_once = λ number h.
           let (later, is, at) = c.lines.invariant.at_once number h in
-          let (less, more, still) = after_empty grammar line behind later none (subst (λ z. StartsWithBadLine grammar z later) cut at) in
+          let (less, more, still) = after_empty grammar line after later none
+          (subst (λ z. StartsWithBadLine grammar z later) cut at) in
           (less, omega (arith, is, more), still);
     }
 
@@ -82,8 +96,9 @@ pub returns-in_default-clause-bad_at_once : goal.returns-in_default-clause-bad_a
 returns-in_default-clause-bad_at_once c = λ number h.
     let grammar = c.args.grammar in
     let line = c.first_line.result.0.now in
-    let behind = lines_of c.first_line.result.1.now in
+    let after = lines_of c.first_line.result.1.now in
     let (later, is, at) = c.lines.invariant.at_once number h in
-    let (bad, one) = bad_here grammar line behind later (some_bytes (length line) c.if-not-is_empty.ensures) (subst (λ z. StartsWithBadLine grammar z later) c.first_line.ensures.lines at) in
+    let (bad, one) = bad_here grammar line after later (some_bytes (length line) c.if-not-is_empty.ensures)
+    (subst (λ z. StartsWithBadLine grammar z later) c.first_line.ensures.lines at) in
     let same : c.lines.number + 1 ≡ number = omega (arith, is, one) in
     cc

@@ -1,7 +1,6 @@
 use Rattle.std.proofs.Common.{ap}
-use Rattle.ipnet_base.specs.Address.{IPv6}
+use Rattle.ipnet_base.specs.Address.{IPv6, address_at}
 use Rattle.ipnet_base.proofs.AddressLaws.{ipv6_bits_from_number}
-use Rattle.ipnet.specs.NetworkParts.{address_at}
 use Rattle.ipnet.proofs.net.ipv6_net.address_of.Goals as goal
 
 pub returns : goal.returns

@@ -1,4 +1,5 @@
-use Rattle.ipnet_base.proofs.RangeLaws.{between_from_contains, contains_from_between, addresses_ascend, length-addresses_of}
+use Rattle.ipnet_base.proofs.RangeLaws.{between_from_contains, contains_from_between}
+use Rattle.ipnet_base.proofs.RangeLaws.{addresses_ascend, length-addresses_of}
 use Rattle.ipnet_base.proofs.ipext.laws.range_lists_what_lies_between.Goals as goal
 
 pub returns-clause-members : goal.returns-clause-members

@@ -1,7 +1,7 @@
+use Rattle.ipnet_base.specs.Network.{first_of, last_of}
 use Rattle.std.proofs.Common.{◌≡◌, ℕ, ◌+◌, ◌-◌, ◌*◌, ◌/◌, ◌^◌, ◌<◌, ◌≤◌, ◌∙◌, refl, ap, arith}
 use Rattle.ipnet_base.specs.Address.{ipv4_address}
 use Rattle.ipnet_base.specs.RangeOf.{ipv4_range}
-use Rattle.ipnet_base.proofs.BlockLaws.{first_of, last_of}
 use Rattle.ipnet.specs.declared.net.ipv4_net.Ipv4Net.{Ipv4Net}
 use Rattle.ipnet.specs.NetworkOf.{ipv4_network}
 use Rattle.ipnet.specs.NetLaws.{ipv4_valid}

@@ -1,9 +1,8 @@
 use Rattle.std.proofs.Common.{subst, arith, IsTrue, ◌↔◌}
-use Rattle.ipnet_base.specs.Address.{IPv6}
+use Rattle.ipnet_base.specs.Address.{IPv6, address_at}
 use Rattle.ipnet_base.specs.Network.{InBlock, IsSubnetOf}
 use Rattle.ipnet_base.proofs.BlockLaws.{own, own_in}
 use Rattle.ipnet.specs.NetworkOf.{ipv6_network}
-use Rattle.ipnet.specs.NetworkParts.{address_at}
 use Rattle.ipnet.specs.NetLaws.{ipv6_valid}
 use Rattle.ipnet.proofs.NumberLaws.{longer_from_subnet, subnet_from_own, never}
 use Rattle.ipnet.proofs.net.ipv6_net.Ipv6NetContainsRefIpv6Net.contains.Goals as goal

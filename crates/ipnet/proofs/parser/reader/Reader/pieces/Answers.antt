@@ -1,6 +1,6 @@
 use Rattle.std.proofs.Common.{◌≡◌, ◌≢◌, ◌-◌, length, get_or, sym, ◌∙◌, arith, append_assoc}
-use Rattle.ipnet.specs.Reading.{read_pieces}
-use Rattle.ipnet.specs.Reader.{rest_of}
+use Rattle.ipnet.specs.ReaderSteps.{read_pieces}
+use Rattle.ipnet.specs.ReaderState.{rest_of}
 use Rattle.ipnet.proofs.ReaderTurns.{no_room, dotted, no_group, last_group, goes_on}
 use Rattle.ipnet.proofs.parser.reader.Reader.pieces.Goals as goal
 

@@ -1,8 +1,8 @@
 use Rattle.std.proofs.Common.{rules, ◌∙◌, sym, subst, ap, length}
 use Rattle.ipnet_base.specs.Subnets.{IsAdvancedPast}
 use Rattle.ipnet.specs.NetworkOf.{ipv6_network}
-use Rattle.ipnet.specs.SubnetsLeft.{ipv6_subnet_range, ipv6_subnets_left, ipv6_subnets_left-are_blocks}
-use Rattle.ipnet.proofs.SubnetsLaws.{ipv6_walk, nothing_left, left_advanced, greatest_is_last}
+use Rattle.ipnet.specs.SubnetsLeft.{ipv6_subnet_range, ipv6_subnets_left}
+use Rattle.ipnet.proofs.SubnetsLaws.{ipv6_subnets_left-are_blocks, nothing_left, left_advanced, greatest_is_last}
 use Rattle.ipnet.proofs.subnets.ipv6_subnets.Ipv6SubnetsIterator.next.Goals as goal
 
 pub returns-then-self-clause-steps : goal.returns-then-self-clause-steps
@@ -16,8 +16,6 @@ returns-then-self-clause-goes c = record {
   progress = search rules;
   largest = search rules;
   advanced = search rules;
-  walk = ipv6_walk c.args.self.now;
-  rest = ipv6_walk c.args.self.now;
   over = search rules;
   unchanged = search rules;
 }
@@ -38,8 +36,6 @@ returns-clause-goes c =
       largest = search rules;
       advanced = λ x greatest. subst (λ last. IsAdvancedPast last (ipv6_subnet_range c.args.self.now) (ipv6_subnet_range c.advance_past.new.self))
           (c.last_number.ensures ∙ sym (greatest_is_last (ipv6_network c.largest_subnet_at-network.result) x greatest)) c.advance_past.ensures;
-      walk = ipv6_walk c.args.self.now;
-      rest = ipv6_walk c.advance_past.new.self;
       over = search rules;
       unchanged = search rules;
     }
