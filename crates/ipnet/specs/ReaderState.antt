@@ -1,4 +1,5 @@
 -- What a clause sees of a `Reader`.
+-- Private contracts alone cite these.
 use Rattle.std.specs.Prelude.{◌≡◌, ℕ, ◌≤◌, Bool, List, drop, Option, Some, None, option_map, if◌then◌else◌}
 use Rattle.ipnet.specs.declared.parser.reader.Reader.{Reader}
 use Rattle.ipnet.specs.ReaderSteps.{Read}

@@ -1,4 +1,5 @@
 -- What the private steps of the reader compute, as functions on lists. `proofs/` shows that they read the grammar.
+-- Private contracts alone cite these.
 use Rattle.std.specs.Prelude.{ℕ, zero, suc, ◌-◌, Bool, true, false, not, ◌&&◌, List, [], ◌∷◌, ◌++◌, length, drop}
 use Rattle.std.specs.Prelude.{slice_index, Option, Some, None, option_map, option_and_then, ◌==◌, nat_lt, nat_le}
 use Rattle.std.specs.Prelude.{if◌then◌else◌}
