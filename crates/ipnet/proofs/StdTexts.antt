@@ -1,8 +1,10 @@
 -- The strict texts of addresses are exactly those of std's own grammar.
-use Rattle.std.proofs.Common.{◌≡◌, ℕ, ◌<◌, ◌↔◌, Bool, true, List, [], ◌∷◌, ◌++◌, decimal, refl, sym, ap, ◌∙◌, arith, inl, inr, append_assoc, append-nil}
+use Rattle.std.proofs.Common.{◌≡◌, ℕ, ◌<◌, ◌↔◌, Bool, true, List, [], ◌∷◌, ◌++◌, decimal, refl, sym, ap, ◌∙◌, arith}
+use Rattle.std.proofs.Common.{inl, inr, append_assoc, append-nil}
 use Rattle.std.proofs.lemmas.Str.Parse.{numerals_by_value, tells_digits}
 use Rattle.std.proofs.lemmas.Fmt.{decimal-digits_value}
-use Rattle.std.specs.Net.Grammar.{IsGroupsAfter, IsColonHex as StdColonHex, IsElided as StdElided, IsDotted as StdDotted, IsGroup as StdGroup}
+use Rattle.std.specs.Net.Grammar.{IsGroupsAfter, IsColonHex as StdColonHex, IsElided as StdElided}
+use Rattle.std.specs.Net.Grammar.{IsDotted as StdDotted, IsGroup as StdGroup}
 use Rattle.ipnet.specs.declared.parser.Grammar.TheVariants.{Strict}
 use Rattle.ipnet.specs.Numerals.{IsOctet, IsGroup}
 use Rattle.ipnet.specs.AddressTexts.{IsIpv4AddressText, IsGroups, EndsInIpv4, IsCompressed, IsIpv6AddressText}
@@ -13,7 +15,8 @@ use Rattle.ipnet.proofs.PrintedTexts.{IsIpv4AddressText-std, IsIpv6AddressText-s
 octet_decimal : (text : List ℕ) (n : ℕ) → IsOctet Strict text n → (n < 256) × (text ≡ decimal n)
 octet_decimal text n h = (
   omega (arith, h.small),
-  sym (decimal-digits_value (numerals_by_value _ tells_digits) text h.digits.1 h.digits.0 (h.plain refl) (omega (arith, h.value, h.small)))
+  sym (decimal-digits_value (numerals_by_value _ tells_digits) text h.digits.1 h.digits.0 (h.plain refl)
+      (omega (arith, h.value, h.small)))
       ∙ ap decimal h.value,
 )
 
@@ -40,25 +43,40 @@ ipv4_std text octets = (dotted text octets, IsIpv4AddressText-std text octets)
 group : (text : List ℕ) (n : ℕ) → IsGroup text n → StdGroup text n
 group text n h = ((h.digits, h.value), h.short)
 
-behind_lead : (lead text first rest : List ℕ) → text ≡ first ++ (58 ∷ []) ++ rest → lead ++ text ≡ lead ++ first ++ (58 ∷ rest)
+behind_lead : (lead text first rest : List ℕ) → text ≡ first ++ (58 ∷ []) ++ rest
+    → lead ++ text ≡ lead ++ first ++ (58 ∷ rest)
 behind_lead lead text first rest split = rw split (simp append_assoc)
 
 -- groups behind a lead, as std writes them
-groups_after : (ipv4 : Bool) (lead text : List ℕ) (g : ℕ) (groups : List ℕ) → IsGroups text (g ∷ groups) → IsGroupsAfter ipv4 lead (lead ++ text) (g ∷ groups)
+groups_after : (ipv4 : Bool) (lead text : List ℕ) (g : ℕ) (groups : List ℕ) → IsGroups text (g ∷ groups)
+    → IsGroupsAfter ipv4 lead (lead ++ text) (g ∷ groups)
 groups_after ipv4 lead text g [] h = inl (text, [], sym (append-nil (lead ++ text)), group text g h, refl)
 groups_after ipv4 lead text g (i ∷ groups) h =
-    inl (h.0, 58 ∷ h.1, behind_lead lead text h.0 h.1 h.2, group h.0 g h.3, groups_after ipv4 (58 ∷ []) h.1 i groups h.4)
+    inl (
+      h.0,
+      58 ∷ h.1,
+      behind_lead lead text h.0 h.1 h.2,
+      group h.0 g h.3,
+      groups_after ipv4 (58 ∷ []) h.1 i groups h.4,
+    )
 
 groups_std : (ipv4 : Bool) (text groups : List ℕ) → IsGroups text groups → IsGroupsAfter ipv4 [] text groups
 groups_std ipv4 text [] h = h
 groups_std ipv4 text (g ∷ groups) h = groups_after ipv4 [] text g groups h
 
-mixed_after : (lead text groups : List ℕ) → EndsInIpv4 Strict text groups → IsGroupsAfter true lead (lead ++ text) groups
+mixed_after : (lead text groups : List ℕ) → EndsInIpv4 Strict text groups
+    → IsGroupsAfter true lead (lead ++ text) groups
 mixed_after lead text [] h = absurd h
 mixed_after lead text (g ∷ []) h = absurd h
 mixed_after lead text (g ∷ i ∷ []) (octets, is, value) = inr (text, octets, refl, refl, dotted text octets is, value)
 mixed_after lead text (g ∷ i ∷ j ∷ groups) h =
-    inl (h.0, 58 ∷ h.1, behind_lead lead text h.0 h.1 h.2, group h.0 g h.3, mixed_after (58 ∷ []) h.1 (i ∷ j ∷ groups) h.4)
+    inl (
+      h.0,
+      58 ∷ h.1,
+      behind_lead lead text h.0 h.1 h.2,
+      group h.0 g h.3,
+      mixed_after (58 ∷ []) h.1 (i ∷ j ∷ groups) h.4,
+    )
 
 compressed_std : (text groups : List ℕ) → IsCompressed Strict text groups → StdElided text groups
 compressed_std text groups h = record {
@@ -68,7 +86,11 @@ compressed_std text groups h = record {
   tail = h.tail;
   spelled = h.spelled;
   head_groups = groups_std _ h.head_text h.head h.head_groups;
-  tail_groups = elim h.tail_groups [ inl plain ↦ groups_std true h.tail_text h.tail plain | inr mixed ↦ mixed_after [] h.tail_text h.tail mixed ];
+  tail_groups =
+      elim h.tail_groups [
+        | inl plain ↦ groups_std true h.tail_text h.tail plain
+        | inr mixed ↦ mixed_after [] h.tail_text h.tail mixed
+      ];
   room = omega (arith, h.room);
   value = h.value;
 }

@@ -13,11 +13,13 @@ use Rattle.ipnet.specs.declared.subnets.ipv6_subnets.Ipv6Subnets.{Ipv6Subnets}
 
 -- the IPv4 range from start to end, to be tiled by networks of at least this length
 abbrev pub ipv4_range_of : (start end min_prefix_len : ℕ) → SubnetRange
-ipv4_range_of start end min_prefix_len = record { family = IPv4; start = start; end = end; min_prefix_len = min_prefix_len }
+ipv4_range_of start end min_prefix_len =
+    record { family = IPv4; start = start; end = end; min_prefix_len = min_prefix_len }
 
 -- the IPv6 range from start to end, to be tiled by networks of at least this length
 abbrev pub ipv6_range_of : (start end min_prefix_len : ℕ) → SubnetRange
-ipv6_range_of start end min_prefix_len = record { family = IPv6; start = start; end = end; min_prefix_len = min_prefix_len }
+ipv6_range_of start end min_prefix_len =
+    record { family = IPv6; start = start; end = end; min_prefix_len = min_prefix_len }
 
 -- the addresses of the range
 abbrev pub IsInRange : SubnetRange → Address → Type 0
@@ -63,8 +65,8 @@ ip_subnet_range (Ip.V4 s) = ipv4_subnet_range s
 ip_subnet_range (Ip.V6 s) = ipv6_subnet_range s
 
 -- The networks that the walk still gives: the maximal blocks of what is left of its range. A proof that there is such a
--- list makes it; there is one alone, so it promises no more than that it is the walk of its range (`IsWalkOf`, which the
--- laws of walks say of each).
+-- list makes it; there is one alone, so it promises no more than that it is the walk of its range (`IsWalkOf`, which
+-- the laws of walks say of each).
 unfoldable pub ipv4_subnets_left : Ipv4Subnets → List Network
 ipv4_subnets_left s = (blocks_exist IPv4 s.start s.end s.min_prefix_len s.end_fits s.min_prefix_fits).0
 

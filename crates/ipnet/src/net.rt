@@ -310,8 +310,8 @@ impl IpNet {
     pub fn subnets(&self, new_prefix_len: u8) -> Result<IpSubnets, PrefixLenError>
         ensures range { IfOk result (λ s. IsBlockRange (ip_network self.now) new_prefix_len (ip_subnet_range s)) }
         ensures walk { IfOk result (λ s. AreSubnetsOfLength (ip_network self.now) new_prefix_len (ip_subnets_left s)) }
-        ensures refused { IsErr result ↔
-            ((new_prefix_len < (ip_network self.now).prefix_len) ⊎ (width (ip_network self.now).family < new_prefix_len)) }
+        ensures refused { IsErr result ↔ ((new_prefix_len < (ip_network self.now).prefix_len)
+            ⊎ (width (ip_network self.now).family < new_prefix_len)) }
     {
         match self {
             IpNet::V4(net) => Ok(IpSubnets::V4(net.subnets(new_prefix_len)?)),

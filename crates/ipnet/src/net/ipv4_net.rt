@@ -104,7 +104,8 @@ impl Ipv4Net {
     /// Ipv4Net::with_netmask(10.1.1.7, 255.255.0.0) is 10.1.1.7/16, with 255.0.255.0 an error
     /// ```
     pub fn with_netmask(ip: Ipv4Addr, netmask: Ipv4Addr) -> Result<Ipv4Net, PrefixLenError>
-        ensures made { IfOk result (λ n. HasAddressAndNetmask (ipv4_network n) (ipv4_address ip) (ipv4_address netmask)) }
+        ensures made { IfOk result (λ n. HasAddressAndNetmask (ipv4_network n) (ipv4_address ip)
+            (ipv4_address netmask)) }
         ensures refused { IsErr result ↔
             ((n : Network) → ¬ (HasAddressAndNetmask n (ipv4_address ip) (ipv4_address netmask))) }
     {

@@ -104,7 +104,8 @@ impl Ipv6Net {
     /// Ipv6Net::with_netmask(fd00::7, ffff:ff00::) is fd00::7/24, with ff00:ff:: an error
     /// ```
     pub fn with_netmask(ip: Ipv6Addr, netmask: Ipv6Addr) -> Result<Ipv6Net, PrefixLenError>
-        ensures made { IfOk result (λ n. HasAddressAndNetmask (ipv6_network n) (ipv6_address ip) (ipv6_address netmask)) }
+        ensures made { IfOk result (λ n. HasAddressAndNetmask (ipv6_network n) (ipv6_address ip)
+            (ipv6_address netmask)) }
         ensures refused { IsErr result ↔
             ((n : Network) → ¬ (HasAddressAndNetmask n (ipv6_address ip) (ipv6_address netmask))) }
     {

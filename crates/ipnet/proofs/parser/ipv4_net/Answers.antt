@@ -10,10 +10,13 @@ returns-in_default c = reads_ipv4 c.args.grammar c.args.text.now _ (λ n h. c.in
 -- the text writes one network alone, and that is of the other family
 pub returns-in-V6 : goal.returns-in-V6
 returns-in-V6 c = reads_ipv4 c.args.grammar c.args.text.now _ λ n h.
-    let same = one_network c.args.grammar c.args.text.now n (ipv6_network c.in-V6.field-0) (inl h) (rw c.in-V6.is at ((c.in-Ok.ensures.ok c.in-Ok.read).0 refl)) in
+    let same =
+    one_network c.args.grammar c.args.text.now n (ipv6_network c.in-V6.field-0) (inl h)
+    (rw c.in-V6.is at ((c.in-Ok.ensures.ok c.in-Ok.read).0 refl)) in
     let clash : IPv4 ≡ IPv6 = sym h.family ∙ ap (λ m. m.family) same in
     absurd cc
 
 pub returns-in-V4 : goal.returns-in-V4
 returns-in-V4 c = reads_ipv4 c.args.grammar c.args.text.now _
-    (of_ipv4 c.args.grammar c.args.text.now (ipv4_network c.in-V4.net) refl (rw c.in-V4.is at ((c.in-Ok.ensures.ok c.in-Ok.read).0 refl)))
+    (of_ipv4 c.args.grammar c.args.text.now (ipv4_network c.in-V4.net) refl
+    (rw c.in-V4.is at ((c.in-Ok.ensures.ok c.in-Ok.read).0 refl)))

@@ -10,11 +10,13 @@ use Rattle.ipnet.proofs.text_laws.ipv4_text_reads_back.Goals as goal
 pub returns-in-Strict : goal.returns-in-Strict
 returns-in-Strict c =
     let n = c.args.network.now in
-    read_back ipv4_network (IsIpv4NetworkText Strict) _ _ n _ c.parse.ensures.value (c.as_str.ensures.value ∙ c.to_text-text.ensures)
+    read_back ipv4_network (IsIpv4NetworkText Strict) _ _ n _ c.parse.ensures.value
+    (c.as_str.ensures.value ∙ c.to_text-text.ensures)
     (of_ipv4 Strict _ (ipv4_network n) refl (canonical_is_read Strict (ipv4_network n) (ipv4_valid n)))
 
 pub returns-in-Legacy : goal.returns-in-Legacy
 returns-in-Legacy c =
     let n = c.args.network.now in
-    read_back ipv4_network (IsIpv4NetworkText Legacy) _ _ n _ c.parse_legacy.ensures (c.as_str-in-Legacy.ensures.value ∙ c.to_text-text.ensures)
+    read_back ipv4_network (IsIpv4NetworkText Legacy) _ _ n _ c.parse_legacy.ensures
+    (c.as_str-in-Legacy.ensures.value ∙ c.to_text-text.ensures)
     (of_ipv4 Legacy _ (ipv4_network n) refl (canonical_is_read Legacy (ipv4_network n) (ipv4_valid n)))
