@@ -28,12 +28,10 @@ fn denial_stands_before_allowance(rt: HostRuntime) -> Result<(), Fail> {
 fn networks_and_their_aggregate(rt: HostRuntime) -> Result<(), Fail> {
     let office = "10.1.1.7/24".parse::<Ipv4Net>()?;
     assert_eq!(rt; office.network(), Ipv4Addr::new(10, 1, 1, 0));
-    assert_eq!(rt; office.broadcast(), Ipv4Addr::new(10, 1, 1, 255));
     assert_eq!(rt; office.contains(&Ipv4Addr::new(10, 1, 1, 200)), true);
     assert_eq!(rt; office.hosts().count(), 254);
     let subnets: Vec<Ipv4Net> = office.subnets(26)?.collect(rt.alloc())?;
     assert_eq!(rt; subnets.len(), 4);
-
     let mut networks = Vec::new(rt.alloc());
     for text in ["10.0.1.0/24", "fd00::/32", "10.0.0.7/24"] {
         networks.push(text.parse::<IpNet>()?)?;
