@@ -1,5 +1,5 @@
-//! Facts of texts that no call carries: the contract of each function is the fact. The first ones read back what they
-//! print; the others do nothing.
+//! Facts of texts that no call carries: the contract of each function is the fact. Three of them print a network and
+//! read it back; the others do nothing.
 ghost use Rattle.std.specs.Prelude.{◌≡◌, ℕ, List, ◌↔◌, ◌++◌, drop, codes, Ok};
 ghost use Rattle.std.specs.Net.Addr.{IsIpv4Mapped, octets_of};
 ghost use Rattle.std.specs.Net.Grammar.{IsDotted, IsColonHex};
