@@ -1,5 +1,6 @@
 -- `read_octet`, `read_dotted`, `read_length` and `read_ipv4_network` read their part of the grammar, and nothing else.
-use Rattle.std.proofs.Common.{◌≡◌, ℕ, ◌≤◌, true, ◌==◌, List, [], ◌∷◌, ◌++◌, length, Some, refl, sym, ap, ◌∙◌, subst, arith, append_assoc, append-nil, lit≤, le-leb, eqb-true}
+use Rattle.std.proofs.Common.{◌≡◌, ℕ, ◌≤◌, true, ◌==◌, List, [], ◌∷◌, ◌++◌, length, Some, refl, sym, ap, ◌∙◌, subst}
+use Rattle.std.proofs.Common.{arith, append_assoc, append-nil, lit≤, le-leb, eqb-true}
 use Rattle.std.proofs.lemmas.Bool.{and_parts, leb-true}
 use Rattle.std.proofs.lemmas.Option.{cond_some, option_and_then_some, some_pair_parts}
 use Rattle.std.proofs.NetLemmas.Numbers.{NoDigit}
@@ -11,23 +12,28 @@ use Rattle.std.specs.Int.{w32, from_be_bytes}
 use Rattle.ipnet_base.specs.Network.{Network}
 use Rattle.ipnet.specs.NetworkOf.{ipv4_network_of}
 use Rattle.ipnet.specs.NetworkTexts.{IsIpv4NetworkText}
-use Rattle.ipnet.specs.Reading.{read_byte, digit_run, octet_of, read_octet, read_dotted, read_length, read_ipv4_network}
+use Rattle.ipnet.specs.ReaderSteps.{read_byte, digit_run, octet_of, read_octet, read_dotted, read_length}
+use Rattle.ipnet.specs.ReaderSteps.{read_ipv4_network}
 use Rattle.ipnet.proofs.DigitTexts.{AllDigits_hex, digit_run-append, digit_run_sound, octet_of_complete, octet_of_sound}
 
 -- the run at the front of a decimal text that a byte other than a digit follows
-decimal_run : (grammar : Grammar) (most greatest : ℕ) (ds : List ℕ) (n : ℕ) (rest : List ℕ) → most ≤ 4 → IsDecimal grammar most greatest ds n → NoDigit 16 rest → digit_run 4 (ds ++ rest) ≡ (ds, rest)
+decimal_run : (grammar : Grammar) (most greatest : ℕ) (ds : List ℕ) (n : ℕ) (rest : List ℕ) → most ≤ 4
+    → IsDecimal grammar most greatest ds n → NoDigit 16 rest → digit_run 4 (ds ++ rest) ≡ (ds, rest)
 decimal_run grammar most greatest ds n rest few h stop =
     digit_run-append 4 ds rest (AllDigits_hex ds h.digits.1) (omega (arith, h.short)) stop
 
-pub octet_run : (grammar : Grammar) (ds : List ℕ) (n : ℕ) (rest : List ℕ) → IsOctet grammar ds n → NoDigit 16 rest → digit_run 4 (ds ++ rest) ≡ (ds, rest)
+pub octet_run : (grammar : Grammar) (ds : List ℕ) (n : ℕ) (rest : List ℕ) → IsOctet grammar ds n → NoDigit 16 rest
+    → digit_run 4 (ds ++ rest) ≡ (ds, rest)
 octet_run grammar ds n rest h stop = decimal_run grammar 3 255 ds n rest (lit≤ tt) h stop
 
-read_octet_complete : (grammar : Grammar) (ds : List ℕ) (n : ℕ) (rest : List ℕ) → IsOctet grammar ds n → NoDigit 16 rest → read_octet grammar (46 ∷ (ds ++ rest)) ≡ Some (n, rest)
+read_octet_complete : (grammar : Grammar) (ds : List ℕ) (n : ℕ) (rest : List ℕ) → IsOctet grammar ds n → NoDigit 16 rest
+    → read_octet grammar (46 ∷ (ds ++ rest)) ≡ Some (n, rest)
 unfolding read_octet
 read_octet_complete grammar ds n rest h stop =
     rw (octet_run grammar ds n rest h stop, octet_of_complete grammar ds n h)
 
-read_octet_sound : (grammar : Grammar) (text : List ℕ) (n : ℕ) (rest : List ℕ) → read_octet grammar text ≡ Some (n, rest) → (ds : List ℕ) × (text ≡ 46 ∷ (ds ++ rest)) × IsOctet grammar ds n
+read_octet_sound : (grammar : Grammar) (text : List ℕ) (n : ℕ) (rest : List ℕ)
+    → read_octet grammar text ≡ Some (n, rest) → (ds : List ℕ) × (text ≡ 46 ∷ (ds ++ rest)) × IsOctet grammar ds n
 unfolding read_octet
 read_octet_sound grammar text n rest e =
     option_and_then_some _ (read_byte 46 text) _ e λ digits dot e₁.
@@ -35,7 +41,8 @@ read_octet_sound grammar text n rest e =
     let (value_is, rest_is) = some_pair_parts o n (digit_run 4 digits).1 rest e₂ in
     let run = digit_run_sound 4 digits in (
       (digit_run 4 digits).0,
-      read_byte_sound 46 text digits dot ∙ ap (λ t. 46 ∷ t) (run.spelled ∙ ap (λ t. (digit_run 4 digits).0 ++ t) rest_is),
+      read_byte_sound 46 text digits dot ∙ ap (λ t. 46 ∷ t)
+          (run.spelled ∙ ap (λ t. (digit_run 4 digits).0 ++ t) rest_is),
       rw value_is at (octet_of_sound grammar _ o octet),
     )
 
@@ -56,7 +63,8 @@ pub record Dots (grammar : Grammar) (text octets : List ℕ) : Type 0 where
   pub value : octets ≡ a ∷ b ∷ c ∷ d ∷ []
   pub spelled : text ≡ t₁ ++ (46 ∷ (t₂ ++ (46 ∷ (t₃ ++ (46 ∷ t₄)))))
 
-pub Dots-from : (grammar : Grammar) (text octets : List ℕ) → IsIpv4AddressText grammar text octets → Dots grammar text octets
+pub Dots-from : (grammar : Grammar) (text octets : List ℕ) → IsIpv4AddressText grammar text octets
+    → Dots grammar text octets
 Dots-from grammar text [] h = absurd (omega (arith, h.1))
 Dots-from grammar text (a ∷ []) h = absurd (omega (arith, h.1))
 Dots-from grammar text (a ∷ b ∷ []) h = absurd (omega (arith, h.1))
@@ -80,10 +88,13 @@ Dots-from grammar text (a ∷ b ∷ c ∷ d ∷ []) ((t₁, r₁, s₁, h₁, (t
 }
 
 -- its text, with what follows it
-pub Dots-rest : (grammar : Grammar) (text octets rest : List ℕ) (h : Dots grammar text octets) → text ++ rest ≡ h.t₁ ++ (46 ∷ (h.t₂ ++ (46 ∷ (h.t₃ ++ (46 ∷ (h.t₄ ++ rest))))))
+pub Dots-rest : (grammar : Grammar) (text octets rest : List ℕ) (h : Dots grammar text octets)
+    → text ++ rest ≡ h.t₁ ++ (46 ∷ (h.t₂ ++ (46 ∷ (h.t₃ ++ (46 ∷ (h.t₄ ++ rest))))))
 Dots-rest grammar text octets rest h = rw h.spelled (simp append_assoc)
 
-pub read_dotted_complete : (grammar : Grammar) (text octets rest : List ℕ) (h : Dots grammar text octets) → NoDigit 16 rest → read_dotted grammar h.a (46 ∷ (h.t₂ ++ (46 ∷ (h.t₃ ++ (46 ∷ (h.t₄ ++ rest)))))) ≡ Some (octets, rest)
+pub read_dotted_complete : (grammar : Grammar) (text octets rest : List ℕ) (h : Dots grammar text octets)
+    → NoDigit 16 rest → read_dotted grammar h.a (46 ∷ (h.t₂ ++ (46 ∷ (h.t₃ ++ (46 ∷ (h.t₄ ++ rest))))))
+    ≡ Some (octets, rest)
 unfolding read_dotted
 read_dotted_complete grammar text octets rest h stop =
     rw (
@@ -94,10 +105,13 @@ read_dotted_complete grammar text octets rest h stop =
     )
 
 -- three more octets, one behind the other
-three_more : (x y z w t₂ t₃ t₄ rest : List ℕ) → x ≡ 46 ∷ (t₂ ++ y) → y ≡ 46 ∷ (t₃ ++ z) → z ≡ 46 ∷ (t₄ ++ w) → w ≡ rest → x ≡ (46 ∷ (t₂ ++ (46 ∷ (t₃ ++ (46 ∷ t₄))))) ++ rest
+three_more : (x y z w t₂ t₃ t₄ rest : List ℕ) → x ≡ 46 ∷ (t₂ ++ y) → y ≡ 46 ∷ (t₃ ++ z) → z ≡ 46 ∷ (t₄ ++ w) → w ≡ rest
+    → x ≡ (46 ∷ (t₂ ++ (46 ∷ (t₃ ++ (46 ∷ t₄))))) ++ rest
 three_more x y z w t₂ t₃ t₄ rest s₂ s₃ s₄ same = s₂ ∙ rw (s₃, s₄, same) (simp append_assoc)
 
-pub read_dotted_sound : (grammar : Grammar) (ds : List ℕ) (a : ℕ) (text octets rest : List ℕ) → octet_of grammar ds ≡ Some a → read_dotted grammar a text ≡ Some (octets, rest) → (front : List ℕ) × (text ≡ front ++ rest) × IsIpv4AddressText grammar (ds ++ front) octets
+pub read_dotted_sound : (grammar : Grammar) (ds : List ℕ) (a : ℕ) (text octets rest : List ℕ)
+    → octet_of grammar ds ≡ Some a → read_dotted grammar a text ≡ Some (octets, rest)
+    → (front : List ℕ) × (text ≡ front ++ rest) × IsIpv4AddressText grammar (ds ++ front) octets
 unfolding read_dotted
 read_dotted_sound grammar ds a text octets rest first e =
     option_and_then_some _ (read_octet grammar text) _ e λ b read_b e₁.
@@ -128,10 +142,12 @@ no_rest ds [] e = append-nil ds
 no_rest ds (c ∷ rest) e = absurd (omega (arith, eqb-true (length (c ∷ rest)) 0 e))
 
 -- a text is its first run, the rest of the address, and a length behind "/"
-both_parts : (text ds more front behind digits : List ℕ) → text ≡ ds ++ more → more ≡ front ++ behind → behind ≡ 47 ∷ digits → text ≡ ds ++ front ++ (47 ∷ []) ++ digits
+both_parts : (text ds more front behind digits : List ℕ) → text ≡ ds ++ more → more ≡ front ++ behind
+    → behind ≡ 47 ∷ digits → text ≡ ds ++ front ++ (47 ∷ []) ++ digits
 both_parts text ds more front behind digits e₁ e₂ e₃ = e₁ ∙ rw (e₂, e₃) (simp append_assoc)
 
-pub read_length_complete : (grammar : Grammar) (most greatest : ℕ) (text : List ℕ) (n : ℕ) → most ≤ 3 → greatest ≤ 255 → IsDecimal grammar most greatest text n → read_length grammar most greatest (47 ∷ text) ≡ Some n
+pub read_length_complete : (grammar : Grammar) (most greatest : ℕ) (text : List ℕ) (n : ℕ) → most ≤ 3 → greatest ≤ 255
+    → IsDecimal grammar most greatest text n → read_length grammar most greatest (47 ∷ text) ≡ Some n
 unfolding read_length
 read_length_complete grammar most greatest text n few low h =
     let run = rw append-nil at (decimal_run grammar most greatest text n [] (omega arith) h (lit≤ tt)) in
@@ -144,7 +160,9 @@ read_length_complete grammar most greatest text n few low h =
     } in
     rw (run, octet_of_complete grammar text n octet, le-leb n greatest h.small, le-leb (length text) most h.short)
 
-pub read_length_sound : (grammar : Grammar) (most greatest : ℕ) (text : List ℕ) (n : ℕ) → read_length grammar most greatest text ≡ Some n → (digits : List ℕ) × (text ≡ 47 ∷ digits) × IsDecimal grammar most greatest digits n
+pub read_length_sound : (grammar : Grammar) (most greatest : ℕ) (text : List ℕ) (n : ℕ)
+    → read_length grammar most greatest text ≡ Some n
+    → (digits : List ℕ) × (text ≡ 47 ∷ digits) × IsDecimal grammar most greatest digits n
 unfolding read_length
 read_length_sound grammar most greatest text n e =
     option_and_then_some _ (read_byte 47 text) _ e λ digits slash e₁.
@@ -166,12 +184,17 @@ read_length_sound grammar most greatest text n e =
 
 -- ---- the network
 
-pub read_ipv4_network_complete : (grammar : Grammar) (text : List ℕ) (network : Network) (h : IsIpv4NetworkText grammar text network) → read_ipv4_network grammar (octet_of grammar (digit_run 4 text).0) (digit_run 4 text).1 ≡ Some (h.octets, network.prefix_len)
+pub read_ipv4_network_complete : (grammar : Grammar) (text : List ℕ) (network : Network)
+    (h : IsIpv4NetworkText grammar text network)
+    → read_ipv4_network grammar (octet_of grammar (digit_run 4 text).0) (digit_run 4 text).1
+    ≡ Some (h.octets, network.prefix_len)
 unfolding read_ipv4_network
 read_ipv4_network_complete grammar text network h =
     let dots = Dots-from grammar h.address_text h.octets h.writes_address in
     let behind = 47 ∷ h.length_text in
-    let shown = h.spelled ∙ append_assoc h.address_text (47 ∷ []) h.length_text ∙ Dots-rest grammar h.address_text h.octets behind dots in
+    let shown =
+    h.spelled ∙ append_assoc h.address_text (47 ∷ []) h.length_text
+    ∙ Dots-rest grammar h.address_text h.octets behind dots in
     rw (
       shown,
       octet_run grammar dots.t₁ dots.a _ dots.is_a (lit≤ tt),
@@ -180,7 +203,9 @@ read_ipv4_network_complete grammar text network h =
       read_length_complete grammar 2 32 h.length_text network.prefix_len (lit≤ tt) (lit≤ tt) h.writes_length,
     )
 
-pub read_ipv4_network_sound : (grammar : Grammar) (text octets : List ℕ) (n : ℕ) → read_ipv4_network grammar (octet_of grammar (digit_run 4 text).0) (digit_run 4 text).1 ≡ Some (octets, n) → IsIpv4NetworkText grammar text (ipv4_network_of (from_be_bytes w32 octets) n)
+pub read_ipv4_network_sound : (grammar : Grammar) (text octets : List ℕ) (n : ℕ)
+    → read_ipv4_network grammar (octet_of grammar (digit_run 4 text).0) (digit_run 4 text).1 ≡ Some (octets, n)
+    → IsIpv4NetworkText grammar text (ipv4_network_of (from_be_bytes w32 octets) n)
 unfolding read_ipv4_network
 read_ipv4_network_sound grammar text octets n e =
     option_and_then_some _ (octet_of grammar (digit_run 4 text).0) _ e λ first octet e₁.
@@ -188,7 +213,8 @@ read_ipv4_network_sound grammar text octets n e =
     option_and_then_some _ (read_length grammar 2 32 address.1) _ e₂ λ m length_read e₃.
     let (octets_are, n_is) = some_pair_parts address.0 octets m n e₃ in
     let run = digit_run_sound 4 text in
-    let (front, split, dotted) = read_dotted_sound grammar (digit_run 4 text).0 first (digit_run 4 text).1 address.0 address.1 octet read in
+    let (front, split, dotted) =
+    read_dotted_sound grammar (digit_run 4 text).0 first (digit_run 4 text).1 address.0 address.1 octet read in
     let (digits, slash, decimal) = read_length_sound grammar 2 32 address.1 m length_read in
     record {
       address_text = (digit_run 4 text).0 ++ front;

@@ -14,6 +14,8 @@ pub mod Ipv4Texts
 pub mod Ipv6Texts
 pub mod WholeTexts
 pub mod StrictTexts
+pub mod StdTexts
+pub mod Ipv6Forms
 pub mod ValidTexts
 pub mod PrintedTexts
 pub mod PrintedDigits

@@ -1,5 +1,6 @@
 -- What a text writes is a network: its number and its length are in the range of its family.
-use Rattle.std.proofs.Common.{◌≡◌, ℕ, zero, suc, ◌+◌, ◌*◌, ◌-◌, ◌^◌, ◌<◌, ◌≤◌, ◌⊎◌, List, [], ◌∷◌, ◌++◌, length, get_or, replicate, sym, ap, ◌∙◌, subst, arith, inl, inr, lit<, length-append}
+use Rattle.std.proofs.Common.{◌≡◌, ℕ, zero, suc, ◌+◌, ◌*◌, ◌-◌, ◌^◌, ◌<◌, ◌≤◌, ◌⊎◌, List, [], ◌∷◌, ◌++◌, length, get_or}
+use Rattle.std.proofs.Common.{replicate, sym, ap, ◌∙◌, subst, arith, inl, inr, lit<, length-append}
 use Rattle.std.proofs.Math.Nat.{pow-le-pow_right}
 use Rattle.std.proofs.lemmas.List.{length-replicate}
 use Rattle.std.proofs.lemmas.Int.Digits.{digits_value-lt}
@@ -10,7 +11,8 @@ use Rattle.ipnet_base.specs.Network.{Network, IsNetwork}
 use Rattle.ipnet.specs.declared.parser.Grammar.{Grammar}
 use Rattle.ipnet.specs.declared.parser.Grammar.TheVariants.{Strict, Legacy}
 use Rattle.ipnet.specs.Numerals.{IsGroup}
-use Rattle.ipnet.specs.AddressTexts.{IsGroups, EndsInIpv4, IsIpv6AddressText, IsCompressed, most_written_groups, expanded}
+use Rattle.ipnet.specs.AddressTexts.{IsGroups, EndsInIpv4, IsIpv6AddressText, IsCompressed, most_written_groups}
+use Rattle.ipnet.specs.AddressTexts.{expanded}
 use Rattle.ipnet.specs.NetworkTexts.{IsIpv4NetworkText, IsIpv6NetworkText, IsNetworkText}
 use Rattle.ipnet.proofs.Ipv4Texts.{Dots, Dots-from}
 use Rattle.ipnet.proofs.NumberOctets.{eight_groups_below}
@@ -54,7 +56,8 @@ groups_below text (g ∷ i ∷ groups) h = (group_below h.0 g h.3, groups_below 
 dotted_below : (grammar : Grammar) (text octets : List ℕ) → Dots grammar text octets → AreGroups (segments_of octets)
 unfolding AreGroups
 dotted_below grammar text octets h =
-    let two : AreGroups ((h.a * 256 + h.b) ∷ (h.c * 256 + h.d) ∷ []) = (omega (arith, h.is_a.small, h.is_b.small), (omega (arith, h.is_c.small, h.is_d.small), tt)) in
+    let two : AreGroups ((h.a * 256 + h.b) ∷ (h.c * 256 + h.d) ∷ []) =
+    (omega (arith, h.is_a.small, h.is_b.small), (omega (arith, h.is_c.small, h.is_d.small), tt)) in
     subst (λ o. AreGroups (segments_of o)) (sym h.value) two
 
 mixed_below : (grammar : Grammar) (text groups : List ℕ) → EndsInIpv4 grammar text groups → AreGroups groups
@@ -75,18 +78,23 @@ at_most_eight : (grammar : Grammar) (n : ℕ) → n ≤ most_written_groups gram
 at_most_eight Strict n h = omega arith
 at_most_eight Legacy n h = h
 
-compressed_below : (grammar : Grammar) (text groups : List ℕ) → IsCompressed grammar text groups → (length groups ≡ 8) × AreGroups groups
+compressed_below : (grammar : Grammar) (text groups : List ℕ) → IsCompressed grammar text groups
+    → (length groups ≡ 8) × AreGroups groups
 compressed_below grammar text groups h =
     let n = 8 - length h.head - length h.tail in
-    let front = AreGroups-append h.head (replicate n 0) (groups_below h.head_text h.head h.head_groups) (AreGroups-zeros n) in
-    let all = AreGroups-append (h.head ++ replicate n 0) h.tail front (tail_below h.tail_groups) in
-    (ap length h.value ∙ compressed_eight h.head h.tail (at_most_eight grammar _ h.room), subst AreGroups (sym h.value) all)
+    let front =
+    AreGroups-append h.head (replicate n 0) (groups_below h.head_text h.head h.head_groups) (AreGroups-zeros n) in
+    let all = AreGroups-append (h.head ++ replicate n 0) h.tail front (tail_below h.tail_groups) in (
+      ap length h.value ∙ compressed_eight h.head h.tail (at_most_eight grammar _ h.room),
+      subst AreGroups (sym h.value) all,
+    )
   where
     tail_below : IsGroups h.tail_text h.tail ⊎ EndsInIpv4 grammar h.tail_text h.tail → AreGroups h.tail
     tail_below (inl k) = groups_below h.tail_text h.tail k
     tail_below (inr k) = mixed_below grammar h.tail_text h.tail k
 
-ipv6_groups : (grammar : Grammar) (text groups : List ℕ) → IsIpv6AddressText grammar text groups → (length groups ≡ 8) × AreGroups groups
+ipv6_groups : (grammar : Grammar) (text groups : List ℕ) → IsIpv6AddressText grammar text groups
+    → (length groups ≡ 8) × AreGroups groups
 ipv6_groups grammar text groups (inl h) = (h.0, groups_below text groups h.1)
 ipv6_groups grammar text groups (inr (inl h)) = (h.0, mixed_below grammar text groups h.1)
 ipv6_groups grammar text groups (inr (inr h)) = compressed_below grammar text groups h
@@ -97,7 +105,8 @@ ipv4_is_network : (grammar : Grammar) (text : List ℕ) (n : Network) → IsIpv4
 ipv4_is_network grammar text n h =
     let dots = Dots-from grammar h.address_text h.octets h.writes_address in
     let octets_are = ap (from_be_bytes w32) dots.value in
-    let low : n.number < 2 ^ 32 = omega (arith, h.number, octets_are, dots.is_a.small, dots.is_b.small, dots.is_c.small, dots.is_d.small) in
+    let low : n.number < 2 ^ 32 =
+    omega (arith, h.number, octets_are, dots.is_a.small, dots.is_b.small, dots.is_c.small, dots.is_d.small) in
     record {
       address_fits = subst (λ f. n.number < 2 ^ width f) (sym h.family) low;
       prefix_fits = subst (λ f. n.prefix_len ≤ width f) (sym h.family) h.writes_length.small;

@@ -10,8 +10,8 @@ pub mod Lines
 pub mod Results
 pub mod Bytes
 pub mod JsonTexts
-pub mod Reading
-pub mod Reader
+pub mod ReaderSteps
+pub mod ReaderState
 pub mod SubnetsLeft
 pub use Rattle.ipnet_base.specs.Address
 pub use Rattle.ipnet_base.specs.Network

@@ -1,6 +1,7 @@
 -- What the private trait `Net` asks of each type: its values stand for networks, one value for each network, and
 -- their order is the order of networks. These are proofs, and stand in specs/ because the members of an `impl Net` name
 -- them: a `ghost use` cannot name its own crate's proofs/.
+-- Private contracts alone cite these.
 use Rattle.std.proofs.Common.{◌≡◌, ℕ, ◌+◌, ◌*◌, ◌/◌, ◌%◌, ◌^◌, ◌<◌, ◌≤◌, ◌⊎◌, inl, inr, refl, sym, ap, ap₂, ◌∙◌}
 use Rattle.std.proofs.Common.{subst, arith, Less, nat_cmp, lt-ltb}
 use Rattle.std.specs.Coded.{le_prop}

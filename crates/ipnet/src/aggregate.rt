@@ -30,8 +30,8 @@ fn push_or_join<N: Net>(list: &mut Vec<N>, network: N) -> Result<(), AllocError>
     Ok(())
 }
 
-/// A list over the same addresses, without host bits and in the order of the input. Adjacent networks that follow
-/// each other are merged here already, so that less has to be sorted.
+/// A list over the same addresses, without host bits and in the order of the input. Two halves of one supernet that
+/// follow each other are joined here already, so that less has to be sorted.
 fn truncated_and_joined<N: Net>(alloc: Global, networks: &Vec<N>) -> Result<Vec<N>, AllocError>
     ensures empty { networks.now.items ≡ [] → IsOk result }
     ensures truncated { IfOk result (λ list. All IsTruncated (map N.network list.items)) }

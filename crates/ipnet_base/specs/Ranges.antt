@@ -30,13 +30,15 @@ with_ends r start end = record { family = r.family; start = start; end = end }
 
 -- `next`: from old it answers this and leaves new
 pub record IsNext (old : AddressRange) (answer : Option Address) (new : AddressRange) : Type 0 where
-  pub several : old.start < old.end → (answer ≡ Some (address_at old.family old.start)) × (new ≡ with_ends old (old.start + 1) old.end)
+  pub several : old.start < old.end → (answer ≡ Some (address_at old.family old.start))
+      × (new ≡ with_ends old (old.start + 1) old.end)
   pub one : old.start ≡ old.end → (answer ≡ Some (address_at old.family old.start)) × (new ≡ with_ends old 1 0)
   pub none : old.end < old.start → (answer ≡ None) × (new ≡ old)
 
 -- `next_back`
 pub record IsNextBack (old : AddressRange) (answer : Option Address) (new : AddressRange) : Type 0 where
-  pub several : old.start < old.end → (answer ≡ Some (address_at old.family old.end)) × (new ≡ with_ends old old.start (old.end - 1))
+  pub several : old.start < old.end → (answer ≡ Some (address_at old.family old.end))
+      × (new ≡ with_ends old old.start (old.end - 1))
   pub one : old.start ≡ old.end → (answer ≡ Some (address_at old.family old.start)) × (new ≡ with_ends old 1 0)
   pub none : old.end < old.start → (answer ≡ None) × (new ≡ old)
 
@@ -44,25 +46,29 @@ pub record IsNextBack (old : AddressRange) (answer : Option Address) (new : Addr
 pub record IsNth (n : ℕ) (old : AddressRange) (answer : Option Address) (new : AddressRange) : Type 0 where
   pub past : address_count old ≤ n → (answer ≡ None) × (new ≡ with_ends old 1 0)
   pub last : n + 1 ≡ address_count old → (answer ≡ Some (address_at old.family old.end)) × (new ≡ with_ends old 1 0)
-  pub before : n + 1 < address_count old → (answer ≡ Some (address_at old.family (old.start + n))) × (new ≡ with_ends old (old.start + n + 1) old.end)
+  pub before : n + 1 < address_count old → (answer ≡ Some (address_at old.family (old.start + n)))
+      × (new ≡ with_ends old (old.start + n + 1) old.end)
 
 -- `nth_back n`: past the start, at the first address, or behind it
 pub record IsNthBack (n : ℕ) (old : AddressRange) (answer : Option Address) (new : AddressRange) : Type 0 where
   pub past : address_count old ≤ n → (answer ≡ None) × (new ≡ with_ends old 1 0)
   pub first : n + 1 ≡ address_count old → (answer ≡ Some (address_at old.family old.start)) × (new ≡ with_ends old 1 0)
-  pub behind : n + 1 < address_count old → (answer ≡ Some (address_at old.family (old.end - n))) × (new ≡ with_ends old old.start (old.end - n - 1))
+  pub behind : n + 1 < address_count old → (answer ≡ Some (address_at old.family (old.end - n)))
+      × (new ≡ with_ends old old.start (old.end - n - 1))
 
 -- What `next` of a type of ranges does beside giving the first address that is left, where range_of is the range
 -- that a value keeps and address_of the address that an item stands for: it leaves the ends as above. It stands on
 -- `next` as the clause `goes` of the trait: a `for` reads `on`, `keeps` and `rests` there, which `progress` has.
-pub record IsRangeStep {R A : Type 0} (address_of : A → Address) (range_of : R → AddressRange) (old : R) (answer : Option A) (new : R) : Type 0 where
+pub record IsRangeStep {R A : Type 0} (address_of : A → Address) (range_of : R → AddressRange) (old : R)
+    (answer : Option A) (new : R) : Type 0 where
   -- what std wants of each call of `next`: fewer addresses are left
   pub progress : MakesProgress (λ _. ⊤) (λ r. at_most (address_count (range_of r))) old answer new
   pub open progress use *
   pub ends : IsNext (range_of old) (option_map address_of answer) (range_of new)
 
 -- what `next_back` does beside giving the last
-pub record IsRangeStepBack {R A : Type 0} (address_of : A → Address) (range_of : R → AddressRange) (old : R) (answer : Option A) (new : R) : Type 0 where
+pub record IsRangeStepBack {R A : Type 0} (address_of : A → Address) (range_of : R → AddressRange) (old : R)
+    (answer : Option A) (new : R) : Type 0 where
   pub progress : MakesProgress (λ _. ⊤) (λ r. at_most (address_count (range_of r))) old answer new
   pub open progress use *
   pub ends : IsNextBack (range_of old) (option_map address_of answer) (range_of new)

@@ -1,5 +1,6 @@
 -- What the private steps of `aggregate` keep: a list without host bits over the same addresses and then, once that
 -- list is sorted, a stack of networks in its front, in which nothing is left to join.
+-- Private contracts alone cite these.
 use Rattle.std.specs.Prelude.{◌≡◌, ℕ, ◌<◌, ◌≤◌, ◌↔◌, ◌⊎◌, List, length, get_or, take, All}
 use Rattle.std.specs.List.{AllAdjacentBelow}
 use Rattle.ipnet_base.specs.Address.{Address, family_index}

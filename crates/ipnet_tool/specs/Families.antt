@@ -1,4 +1,5 @@
 -- What the private contracts of the tool see of the networks of two lists as one.
+-- Private contracts alone cite these.
 use Rattle.std.specs.Prelude.{List, ◌++◌, map}
 use Rattle.ipnet.specs.Network.{Network}
 use Rattle.ipnet.specs.NetworkOf.{ipv4_network, ipv6_network}

@@ -74,9 +74,12 @@ pub fn nets_print_canonical_text(v4: Ipv4Net, v6: Ipv6Net, net: IpNet)
     ensures of_ipv4 { ⟦<Ipv4Net as fmt::Display>⟧.output v4 ≡ Some (canonical_text (ipv4_network v4)) }
     ensures of_ipv6 { ⟦<Ipv6Net as fmt::Display>⟧.output v6 ≡ Some (canonical_text (ipv6_network v6)) }
     ensures of_either { ⟦<IpNet as fmt::Display>⟧.output net ≡ Some (canonical_text (ip_network net)) }
-    ensures styled_ipv4 { ⟦<Ipv4Net as fmt::Display>⟧.styled_output v4 ≡ (λ _. Some (canonical_text (ipv4_network v4))) }
-    ensures styled_ipv6 { ⟦<Ipv6Net as fmt::Display>⟧.styled_output v6 ≡ (λ _. Some (canonical_text (ipv6_network v6))) }
-    ensures styled_either { ⟦<IpNet as fmt::Display>⟧.styled_output net ≡ (λ _. Some (canonical_text (ip_network net))) }
+    ensures styled_ipv4 { ⟦<Ipv4Net as fmt::Display>⟧.styled_output v4
+        ≡ (λ _. Some (canonical_text (ipv4_network v4))) }
+    ensures styled_ipv6 { ⟦<Ipv6Net as fmt::Display>⟧.styled_output v6
+        ≡ (λ _. Some (canonical_text (ipv6_network v6))) }
+    ensures styled_either { ⟦<IpNet as fmt::Display>⟧.styled_output net
+        ≡ (λ _. Some (canonical_text (ip_network net))) }
     ensures debug_ipv4 { ⟦<Ipv4Net as fmt::Debug>⟧.debug_output v4 ≡ Some (canonical_text (ipv4_network v4)) }
     ensures debug_ipv6 { ⟦<Ipv6Net as fmt::Debug>⟧.debug_output v6 ≡ Some (canonical_text (ipv6_network v6)) }
     ensures debug_either { ⟦<IpNet as fmt::Debug>⟧.debug_output net ≡ Some (canonical_text (ip_network net)) }

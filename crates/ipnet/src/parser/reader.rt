@@ -1,5 +1,6 @@
 //! Reading a text in one forward pass.
-ghost use Rattle.std.specs.Prelude.{◌≡◌, min, [], ◌∷◌, ◌+◌, ◌<◌, ◌≤◌, length, take, drop, slice_index, IfSome, IfNone, option_map, MatchOption, true};
+ghost use Rattle.std.specs.Prelude.{◌≡◌, min, [], ◌∷◌, ◌+◌, ◌<◌, ◌≤◌, length, take, drop, slice_index, IfSome};
+ghost use Rattle.std.specs.Prelude.{IfNone, option_map, MatchOption, true};
 ghost use Rattle.std.specs.Bool.{OnTrue, OnFalse};
 ghost use Rattle.std.specs.Char.{digit_value};
 ghost use Rattle.std.specs.Str.Parse.{digits_value};
@@ -8,7 +9,9 @@ ghost use Rattle.ipnet_base.specs.Network.{Network};
 ghost use Rattle.ipnet.specs.AddressTexts.{expanded};
 ghost use Rattle.ipnet.specs.NetworkOf.{ip_network};
 ghost use Rattle.ipnet.specs.NetworkTexts.{IsNetworkText};
-ghost use Rattle.ipnet.specs.Reading.{digit_run, all_decimal, run_of, octet_of, read_byte, read_octet, read_dotted, read_length, read_ipv4_network, read_last, read_pieces, read_tail, read_ipv6, read_ipv6_network, is_single_colon};
+ghost use Rattle.ipnet.specs.ReaderSteps.{digit_run, all_decimal, run_of, octet_of, read_byte, read_octet};
+ghost use Rattle.ipnet.specs.ReaderSteps.{read_dotted, read_length, read_ipv4_network, read_last, read_pieces};
+ghost use Rattle.ipnet.specs.ReaderSteps.{read_tail, read_ipv6, read_ipv6_network, is_single_colon};
 
 use crate::net::{IpNet, Ipv4Net, Ipv6Net};
 use crate::parser::Grammar;
@@ -99,7 +102,7 @@ fn first_digits(rest: &[u8]) -> Digits
 }
 
 /// The octet that the digits write, if they write one.
-#[tactic(auto, using(std::proofs::lemmas::Bool::Decides::nat_tests), unfolding(crate::specs::Reading::octet_of))]
+#[tactic(auto, using(std::proofs::lemmas::Bool::Decides::nat_tests), unfolding(crate::specs::ReaderSteps::octet_of))]
 fn octet(rest: &[u8], digits: Digits, grammar: Grammar) -> Option<u8>
     requires within { digits.count ≤ length rest.now }
     requires in_decimal { digits.in_decimal ≡ digits_value 10 (take digits.count rest.now) }
@@ -144,7 +147,7 @@ struct Reader<'a> {
 }
 
 impl<'a> Reader<'a> {
-    ghost use Rattle.ipnet.specs.Reader.{rest_of, IsForward, read_to, taken_to};
+    ghost use Rattle.ipnet.specs.ReaderState.{rest_of, IsForward, read_to, taken_to};
 
     /// Takes this byte, if it is next.
     fn byte(&mut self, byte: u8) -> bool
@@ -160,7 +163,7 @@ impl<'a> Reader<'a> {
     }
 
     /// The digits at the front, at most four.
-    #[tactic(auto, using(std::proofs::lemmas::Bool::Decides::nat_tests), unfolding(crate::specs::Reading::group_of))]
+    #[tactic(auto, using(std::proofs::lemmas::Bool::Decides::nat_tests), unfolding(crate::specs::ReaderSteps::group_of))]
     fn run(&mut self) -> Run
         ensures forward { IsForward self.old self.new }
         ensures run { result ≡ run_of self.old.grammar (digit_run 4 (rest_of self.old)).0 }
@@ -179,7 +182,7 @@ impl<'a> Reader<'a> {
     }
 
     /// A "." and an octet.
-    #[tactic(auto, unfolding(crate::specs::Reading::read_octet))]
+    #[tactic(auto, unfolding(crate::specs::ReaderSteps::read_octet))]
     fn next_octet(&mut self) -> Option<u8>
         ensures forward { IsForward self.old self.new }
         ensures value { read_to result self.new ≡ read_octet self.old.grammar (rest_of self.old) }
@@ -191,7 +194,7 @@ impl<'a> Reader<'a> {
     }
 
     /// The dotted address whose first octet has been read.
-    #[tactic(auto, unfolding(crate::specs::Reading::read_dotted))]
+    #[tactic(auto, unfolding(crate::specs::ReaderSteps::read_dotted))]
     fn dotted(&mut self, first: u8) -> Option<Ipv4Addr>
         ensures forward { IsForward self.old self.new }
         ensures value { option_map (λ a. (ipv4_octets a, rest_of self.new)) result
@@ -204,7 +207,7 @@ impl<'a> Reader<'a> {
     }
 
     /// A "/" and a length, which end the text.
-    #[tactic(auto, unfolding(crate::specs::Reading::read_length))]
+    #[tactic(auto, unfolding(crate::specs::ReaderSteps::read_length))]
     fn prefix_len(&mut self, most: usize, greatest: u8) -> Option<u8>
         ensures forward { IsForward self.old self.new }
         ensures value { result ≡ read_length self.old.grammar most greatest (rest_of self.old) }
@@ -223,7 +226,7 @@ impl<'a> Reader<'a> {
     }
 
     /// The address and the length of the IPv4 network whose first octet has been read, if the first run was one.
-    #[tactic(auto, unfolding(crate::specs::Reading::read_ipv4_network))]
+    #[tactic(auto, unfolding(crate::specs::ReaderSteps::read_ipv4_network))]
     fn ipv4_network(&mut self, first: Option<u8>) -> Option<(Ipv4Addr, u8)>
         ensures forward { IsForward self.old self.new }
         ensures value { option_map (λ n. (ipv4_octets n.0, n.1)) result
@@ -263,7 +266,7 @@ impl<'a> Reader<'a> {
     }
 
     /// The two groups of the dotted address whose first octet has been read, if the run before was one.
-    #[tactic(auto, unfolding(crate::specs::Reading::read_last))]
+    #[tactic(auto, unfolding(crate::specs::ReaderSteps::read_last))]
     fn last(&mut self, octet: Option<u8>) -> Option<(u16, u16)>
         ensures forward { IsForward self.old self.new }
         ensures value { option_map (λ g. (g.0 ∷ g.1 ∷ [], true, rest_of self.new)) result
@@ -317,7 +320,7 @@ impl<'a> Reader<'a> {
     }
 
     /// "::" and what stands behind it.
-    #[tactic(auto, unfolding(crate::specs::Reading::read_tail))]
+    #[tactic(auto, unfolding(crate::specs::ReaderSteps::read_tail))]
     fn tail(&mut self, head: &[u16]) -> Option<Ipv6Addr>
         requires { length head.now ≤ 7 }
         ensures forward { IsForward self.old self.new }
@@ -343,7 +346,7 @@ impl<'a> Reader<'a> {
     }
 
     /// The IPv6 address whose first run has been read.
-    #[tactic(auto, unfolding(crate::specs::Reading::read_ipv6))]
+    #[tactic(auto, unfolding(crate::specs::ReaderSteps::read_ipv6))]
     fn ipv6(&mut self, first: Run) -> Option<Ipv6Addr>
         ensures forward { IsForward self.old self.new }
         ensures value { option_map (λ a. (ipv6_segments a, rest_of self.new)) result
@@ -364,7 +367,7 @@ impl<'a> Reader<'a> {
     }
 
     /// The address and the length of the IPv6 network whose first run has been read.
-    #[tactic(auto, unfolding(crate::specs::Reading::read_ipv6_network))]
+    #[tactic(auto, unfolding(crate::specs::ReaderSteps::read_ipv6_network))]
     fn ipv6_network(&mut self, first: Run) -> Option<(Ipv6Addr, u8)>
         ensures forward { IsForward self.old self.new }
         ensures value { option_map (λ n. (ipv6_segments n.0, n.1)) result

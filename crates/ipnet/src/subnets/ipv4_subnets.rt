@@ -92,7 +92,8 @@ impl Ipv4Subnets {
     pub fn new(start: Ipv4Addr, end: Ipv4Addr, min_prefix_len: u8) -> Ipv4Subnets
         requires { min_prefix_len ≤ 32 }
         ensures range { ipv4_subnet_range result ≡ ipv4_range_of (ipv4_bits start) (ipv4_bits end) min_prefix_len }
-        ensures walk { IsWalkOf (ipv4_range_of (ipv4_bits start) (ipv4_bits end) min_prefix_len) (ipv4_subnets_left result) }
+        ensures walk { IsWalkOf (ipv4_range_of (ipv4_bits start) (ipv4_bits end) min_prefix_len)
+            (ipv4_subnets_left result) }
     {
         Ipv4Subnets {
             start: start.to_bits(),

@@ -14,8 +14,8 @@ use std::net::Ipv6Addr;
 /// together exactly the addresses of the range.
 ///
 /// ```text
-/// 2001:db8:: to 2001:db8::ef, least length 0:   2001:db8::/121, 2001:db8::80/122, 2001:db8::c0/123, 2001:db8::e0/124
-/// 2001:db8:: to 2001:db8::ef, least length 122: 2001:db8::/122, 2001:db8::40/122, 2001:db8::80/122, 2001:db8::c0/123, 2001:db8::e0/124
+/// fd00:: to fd00::ef, least length 0:   fd00::/121, fd00::80/122, fd00::c0/123, fd00::e0/124
+/// fd00:: to fd00::ef, least length 122: fd00::/122, fd00::40/122, fd00::80/122, fd00::c0/123, fd00::e0/124
 /// ```
 ///
 /// Walks compare by what they store, the start, then the end, then the least length of what is left, and not
@@ -92,7 +92,8 @@ impl Ipv6Subnets {
     pub fn new(start: Ipv6Addr, end: Ipv6Addr, min_prefix_len: u8) -> Ipv6Subnets
         requires { min_prefix_len ≤ 128 }
         ensures range { ipv6_subnet_range result ≡ ipv6_range_of (ipv6_bits start) (ipv6_bits end) min_prefix_len }
-        ensures walk { IsWalkOf (ipv6_range_of (ipv6_bits start) (ipv6_bits end) min_prefix_len) (ipv6_subnets_left result) }
+        ensures walk { IsWalkOf (ipv6_range_of (ipv6_bits start) (ipv6_bits end) min_prefix_len)
+            (ipv6_subnets_left result) }
     {
         Ipv6Subnets {
             start: start.to_bits(),

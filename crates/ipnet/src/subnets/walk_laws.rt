@@ -1,7 +1,8 @@
 //! What holds of each walk, whatever it stores.
 ghost use Rattle.std.specs.Prelude.{◌≡◌, ◌↔◌, Option, IsNone};
 ghost use Rattle.ipnet.specs.NetworkOf.{ipv4_network, ipv6_network, ip_network};
-ghost use Rattle.ipnet.specs.SubnetsLeft.{IsWalkOf, IsSubnetStep, ipv4_subnet_range, ipv4_subnets_left, ipv6_subnet_range, ipv6_subnets_left, ip_subnet_range, ip_subnets_left};
+ghost use Rattle.ipnet.specs.SubnetsLeft.{IsWalkOf, IsSubnetStep, ipv4_subnet_range, ipv4_subnets_left};
+ghost use Rattle.ipnet.specs.SubnetsLeft.{ipv6_subnet_range, ipv6_subnets_left, ip_subnet_range, ip_subnets_left};
 ghost use Rattle.ipnet.specs.declared.net.IpNet.{IpNet};
 ghost use Rattle.ipnet.specs.declared.net.ipv4_net.Ipv4Net.{Ipv4Net};
 ghost use Rattle.ipnet.specs.declared.net.ipv6_net.Ipv6Net.{Ipv6Net};

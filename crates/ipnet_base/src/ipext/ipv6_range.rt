@@ -1,5 +1,6 @@
 //! Ranges of IPv6 addresses.
-ghost use Rattle.std.specs.Prelude.{◌≡◌, ◌+◌, ◌-◌, ◌^◌, ◌<◌, ◌≤◌, ◌↔◌, IsTrue, option_map, slice_get, drop, take, reverse};
+ghost use Rattle.std.specs.Prelude.{◌≡◌, ◌+◌, ◌-◌, ◌^◌, ◌<◌, ◌≤◌, ◌↔◌, IsTrue, option_map, slice_get, drop, take};
+ghost use Rattle.std.specs.Prelude.{reverse};
 ghost use Rattle.std.specs.Option.{SomeIff};
 ghost use Rattle.std.specs.Net.Addr.{ipv6_bits};
 ghost use Rattle.ipnet_base.specs.Address.{ipv6_address, address_at};

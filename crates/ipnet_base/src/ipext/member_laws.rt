@@ -1,5 +1,5 @@
-//! What the members of public traits say of each implementation: the output of each arithmetic operation is the sum, the
-//! difference, or the operation bit by bit, of the addresses' numbers, and a range made from another is that range.
+//! What the members of public traits say of each implementation: the output of each arithmetic operation is the sum,
+//! the difference, or the operation bit by bit, of the addresses' numbers, and a range made from another is that range.
 //!
 //! A contract with a member in it, as `IpAdd::saturating_add` has it, says no more than the member does: here that is
 //! held to the definitions.

@@ -1,7 +1,7 @@
 //! Rows of the program.
 use crate::program::run;
 use crate::tests::devices::{ArrayWriter, ByteReader, NEVER, WHOLE};
-use crate::tool::aggregate_text;
+use crate::tool::{aggregate_text, aggregate_text_legacy};
 use std::alloc::Global;
 use std::io::ErrorKind;
 use std::process::Abort;
@@ -416,6 +416,12 @@ fn input_above_a_megabyte(rt: HostRuntime) -> Result<(), Fail> {
     let text = each_address(alloc)?;
     assert!(rt; text.len() > 1_000_000);
     let answer = aggregate_text(alloc, text.as_str())?;
+    assert_eq!(rt;
+        answer.as_str(),
+        "10.6.0.0/15\n",
+        "tool: input above a megabyte"
+    );
+    let answer = aggregate_text_legacy(alloc, text.as_str())?;
     assert_eq!(rt;
         answer.as_str(),
         "10.6.0.0/15\n",

@@ -1,4 +1,4 @@
-use Rattle.std.proofs.Common.{◌≡◌, ℕ, ◌+◌, ◌<◌, ◌∷◌, [], length, subst, arith, rules, append-nil, inl, inr}
+use Rattle.std.proofs.Common.{◌≡◌, ℕ, ◌+◌, ◌<◌, ◌∷◌, [], length, refl, subst, arith, rules, append-nil, inl, inr}
 use Rattle.ipnet.specs.Lines.{lines_of, IsFirstBadLine}
 use Rattle.ipnet.specs.NetworkOf.{ip_network}
 use Rattle.ipnet.proofs.LineLaws.{empty_line, network_line, bad_line, good_line, no_lines}
@@ -19,7 +19,7 @@ returns-in_default-clause-bad_line c = λ number e.
     let first : IsFirstBadLine c.args.grammar (lines_of c.args.text.now) (c.lines.number + 1) =
     c.lines.invariant.bad_line 1
     (rw cut (bad_line c.args.grammar c.first_line.result.0.now (lines_of c.first_line.result.1.now)
-    (some_bytes (length c.first_line.result.0.now) c.if-not-is_empty.ensures) c.in_default.ensures)) in
+    (some_bytes (length c.first_line.result.0.now) c.if-not-is_empty.ensures) (c.in_default.ensures.error.0 refl))) in
     let same : c.lines.number + 1 ≡ number = cc in
     subst (IsFirstBadLine c.args.grammar (lines_of c.args.text.now)) same first
 
@@ -36,7 +36,7 @@ lines-preserved-in-Ok-push c =
       count = omega (arith, c.first_line.ensures.shorter);
       networks = λ more h.
           let (whole, is, same) = c.lines.invariant.networks (n ∷ more)
-          (rw cut (network_line grammar line after n more some c.in-Ok.ensures h)) in (
+          (rw cut (network_line grammar line after n more some ((c.in-Ok.ensures.ok c.in-Ok.network).0 refl) h)) in (
             whole,
             is,
             cover_moves_on whole (networks_of c.lines.families)
@@ -44,10 +44,10 @@ lines-preserved-in-Ok-push c =
           );
       bad_line = λ later h. rw append_one
           (c.lines.invariant.bad_line (1 + later)
-          (rw cut (good_line grammar line after later (inr (n, c.in-Ok.ensures)) h)));
+          (rw cut (good_line grammar line after later (inr (n, ((c.in-Ok.ensures.ok c.in-Ok.network).0 refl))) h)));
       at_once = λ number h.
           let (later, is, at) = c.lines.invariant.at_once number h in
-          absurd (not_good grammar line after later n some c.in-Ok.ensures
+          absurd (not_good grammar line after later n some ((c.in-Ok.ensures.ok c.in-Ok.network).0 refl)
           (subst (λ z. StartsWithBadLine grammar z later) cut at));
     }
 
@@ -57,7 +57,7 @@ returns-in_default-push-clause-bad_at_once c = λ number h.
     let line = c.first_line.result.0.now in
     let (later, is, at) = c.lines.invariant.at_once number h in
     absurd (not_good grammar line (lines_of c.first_line.result.1.now) later (ip_network c.in-Ok.network)
-    (some_bytes (length line) c.if-not-is_empty.ensures) c.in-Ok.ensures
+    (some_bytes (length line) c.if-not-is_empty.ensures) ((c.in-Ok.ensures.ok c.in-Ok.network).0 refl)
     (subst (λ z. StartsWithBadLine grammar z later) c.first_line.ensures.lines at))
 
 pub lines-preserved : goal.lines-preserved
@@ -102,3 +102,14 @@ returns-in_default-clause-bad_at_once c = λ number h.
     (subst (λ z. StartsWithBadLine grammar z later) c.first_line.ensures.lines at) in
     let same : c.lines.number + 1 ≡ number = omega (arith, is, one) in
     cc
+
+pub returns-in_default-push-clause-bad_at_once : goal.returns-in_default-push-clause-bad_at_once
+returns-in_default-push-clause-bad_at_once c = λ number h.
+    let grammar = c.args.grammar in
+    let line = c.first_line.result.0.now in
+    let behind = lines_of c.first_line.result.1.now in
+    let (later, is, at) = c.lines.invariant.at_once number h in
+    let (bad, one) =
+    bad_here grammar line behind later (some_bytes (length line) c.if-not-is_empty.ensures)
+    (subst (λ z. IsBadAtOnce grammar z later) c.first_line.ensures.lines at) in
+    absurd (bad.1 (ip_network c.in-Ok.network) ((c.in-Ok.ensures.ok c.in-Ok.network).0 refl))

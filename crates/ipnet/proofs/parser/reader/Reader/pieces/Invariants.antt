@@ -1,6 +1,6 @@
 use Rattle.std.proofs.Common.{◌≡◌, ◌-◌, ◌≤◌, length}
-use Rattle.ipnet.specs.Reading.{read_pieces, behind}
-use Rattle.ipnet.specs.Reader.{rest_of, IsForward}
+use Rattle.ipnet.specs.ReaderSteps.{read_pieces, behind}
+use Rattle.ipnet.specs.ReaderState.{rest_of, IsForward}
 use Rattle.ipnet.proofs.parser.reader.Reader.pieces.Given as goal
 
 -- what is still to be read, behind the groups so far, is what was to be read

@@ -1,5 +1,8 @@
 -- What the private steps of the reader compute, as functions on lists. `proofs/` shows that they read the grammar.
-use Rattle.std.specs.Prelude.{ℕ, zero, suc, ◌-◌, Bool, true, false, not, ◌&&◌, List, [], ◌∷◌, ◌++◌, length, drop, slice_index, Option, Some, None, option_map, option_and_then, ◌==◌, nat_lt, nat_le, if◌then◌else◌}
+-- Private contracts alone cite these.
+use Rattle.std.specs.Prelude.{ℕ, zero, suc, ◌-◌, Bool, true, false, not, ◌&&◌, List, [], ◌∷◌, ◌++◌, length, drop}
+use Rattle.std.specs.Prelude.{slice_index, Option, Some, None, option_map, option_and_then, ◌==◌, nat_lt, nat_le}
+use Rattle.std.specs.Prelude.{if◌then◌else◌}
 use Rattle.std.specs.List.{list_all}
 use Rattle.std.specs.Char.{is_digit}
 use Rattle.std.specs.Str.Parse.{digits_value}
@@ -124,7 +127,8 @@ read_pieces grammar (suc room) first text =
     then (if nat_lt 0 room then read_last grammar first.octet text else None)
     else (first.group >>= λ g.
     if is_single_colon text
-    then behind (g ∷ []) (read_pieces grammar room (run_of grammar (digit_run 4 (drop 1 text)).0) (digit_run 4 (drop 1 text)).1)
+    then (let next = digit_run 4 (drop 1 text) in
+    behind (g ∷ []) (read_pieces grammar room (run_of grammar next.0) next.1))
     else Some (g ∷ [], false, text))
 
 -- "::" and what stands behind it

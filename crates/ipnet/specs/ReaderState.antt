@@ -1,7 +1,8 @@
 -- What a clause sees of a `Reader`.
+-- Private contracts alone cite these.
 use Rattle.std.specs.Prelude.{◌≡◌, ℕ, ◌≤◌, Bool, List, drop, Option, Some, None, option_map, if◌then◌else◌}
 use Rattle.ipnet.specs.declared.parser.reader.Reader.{Reader}
-use Rattle.ipnet.specs.Reading.{Read}
+use Rattle.ipnet.specs.ReaderSteps.{Read}
 
 -- the text that hasn't been read
 abbrev pub rest_of : Reader → List ℕ
