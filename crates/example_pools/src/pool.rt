@@ -72,7 +72,8 @@ impl Pool {
     /// What was handed out so far, in the order of the calls.
     pub fn assigned(&self) -> &[Ipv4Net]
         ensures all { map ipv4_network result.now ≡ assigned_of self.now }
-        ensures subnets { All (IsSubnetOfLength (block_of self.now) (length_of self.now)) (assigned_of self.now) }
+        ensures subnets { All (IsSubnetOfLength (block_of self.now) (length_of self.now))
+            (map ipv4_network result.now) }
         ensures disjoint { ArePairwiseDisjoint (map ipv4_network result.now) }
     {
         self.assigned.as_slice()

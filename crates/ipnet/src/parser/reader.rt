@@ -163,7 +163,7 @@ impl<'a> Reader<'a> {
     }
 
     /// The digits at the front, at most four.
-    #[tactic(auto, using(std::proofs::lemmas::Bool::Decides::nat_tests), unfolding(crate::specs::ReaderSteps::group_of))]
+    #[tactic(auto, unfolding(crate::specs::ReaderSteps::group_of))]
     fn run(&mut self) -> Run
         ensures forward { IsForward self.old self.new }
         ensures run { result ≡ run_of self.old.grammar (digit_run 4 (rest_of self.old)).0 }
