@@ -1,4 +1,3 @@
-use Rattle.example_access_list.specs.AccessLists.{IsAllowed}
 use Rattle.example_access_list.proofs.AccessList.new.Goals as goal
 
 -- each list covers what it covered before
