@@ -37,10 +37,13 @@ fn program(rt: HostRuntime) -> Result<(), Fail> {
     let mut out = Vec::<u8>::new(alloc);
     let mut faults = Vec::<u8>::new(alloc);
     assert_eq!(rt; run(alloc, &[], &mut input, &mut out, &mut faults), 0);
-    assert!(rt; out.as_slice() == b"10.0.0.0/24\nfd00::/32\n");
+    assert_eq!(rt; out.as_slice(), b"10.0.0.0/24\nfd00::/32\n".as_slice());
     assert!(rt; faults.is_empty());
     let mut bad = b"10.0.0.0/24\nx\n".as_slice();
     assert_eq!(rt; run(alloc, &[], &mut bad, &mut out, &mut faults), 1);
-    assert!(rt; faults.as_slice() == b"line 2: invalid IP address syntax\n");
+    assert_eq!(rt;
+        faults.as_slice(),
+        b"line 2: invalid IP address syntax\n".as_slice()
+    );
     Ok(())
 }
