@@ -1,12 +1,14 @@
-//! What holds of all errors of the text tool. No part of the crate's surface for users.
-ghost use Rattle.std.specs.Prelude.{◌≡◌, ◌↔◌, IsTrue};
+//! What holds of all errors of the text tool. Each law is a function with nothing to run, whose contract is the law.
+ghost use Rattle.ipnet.specs.Values.{EqualsExactly, ClonesExactly};
 
 use super::ToolError;
 
-/// Errors are equal where they are the same error, with the same line. A clone is the error itself, and is never
-/// refused.
-pub fn tool_errors_are_values(a: ToolError, b: ToolError)
-    ensures equality { IsTrue (⟦<ToolError as PartialEq>⟧.eq a b) ↔ (a ≡ b) }
-    ensures clone { ⟦<ToolError as Clone>⟧.is_clone a b → b ≡ a }
-    ensures sure { ⟦<ToolError as Clone>⟧.is_infallible a }
+/// `==` says whether two errors are one: the same error, with the same line.
+pub fn tool_errors_compare_by_value()
+    ensures { EqualsExactly ⟦<ToolError as PartialEq>⟧.eq }
+{}
+
+/// The clone of an error is the error, and is never refused.
+pub fn tool_errors_clone()
+    ensures { ClonesExactly ⟦<ToolError as Clone>⟧.is_clone ⟦<ToolError as Clone>⟧.is_infallible }
 {}
