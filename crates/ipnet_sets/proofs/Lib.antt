@@ -1,0 +1,7 @@
+-- Lemmas that the proofs of this crate share.
+pub mod InsideLaws
+pub mod TurnLaws
+pub mod SplitLaws
+pub mod ExtendLaws
+pub mod MemberLaws
+pub mod LoadLaws

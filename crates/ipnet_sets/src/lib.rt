@@ -1,0 +1,8 @@
+//! Sets of addresses, kept by the numbers at which they begin and end.
+#![tactic(auto)]
+
+mod number;
+mod set;
+mod turns;
+
+pub use set::IpSet;

@@ -1,0 +1,100 @@
+//! The numbers of addresses, as machine words of the width of their family.
+ghost use Rattle.std.specs.Prelude.{◌≡◌, ℕ, ◌+◌, ◌<◌, ◌↔◌, IsTrue};
+ghost use Rattle.ipnet_base.specs.Address.{Family, IPv4, IPv6, greatest_number, ip_address};
+
+use ipnet::{IpAddr, Ipv4Addr, Ipv6Addr};
+
+/// A machine word that holds the number of each address of one family.
+pub(crate) trait Number: Copy {
+    /// The family.
+    ghost family: { Family };
+
+    /// The number in the word.
+    ghost number: { Self → ℕ };
+
+    /// The number of the first address.
+    fn first() -> Self
+        ensures { number result ≡ 0 };
+
+    /// The number of the last address.
+    fn last() -> Self
+        ensures { number result ≡ greatest_number family };
+
+    /// The number after this one, which is not that of the last address.
+    fn next(self) -> Self
+        requires { number self < greatest_number family }
+        ensures { number result ≡ number self + 1 };
+
+    /// The number before this one, which is not that of the first address.
+    fn previous(self) -> Self
+        requires { 0 < number self }
+        ensures { number result + 1 ≡ number self };
+
+    /// Whether this number is below the other.
+    fn is_below(self, other: Self) -> bool
+        ensures { IsTrue result ↔ (number self < number other) };
+
+    /// The address of the number.
+    fn address(self) -> IpAddr
+        ensures { ip_address result ≡ record { family = family; number = number self } };
+}
+
+impl Number for u32 {
+    ghost family = { IPv4 };
+
+    ghost number = { λ n. n };
+
+    fn first() -> u32 {
+        0
+    }
+
+    fn last() -> u32 {
+        u32::MAX
+    }
+
+    fn next(self) -> u32 {
+        self + 1
+    }
+
+    fn previous(self) -> u32 {
+        self - 1
+    }
+
+    fn is_below(self, other: u32) -> bool {
+        self < other
+    }
+
+    fn address(self) -> IpAddr {
+        IpAddr::V4(Ipv4Addr::from_bits(self))
+    }
+}
+
+impl Number for u128 {
+    ghost family = { IPv6 };
+
+    ghost number = { λ n. n };
+
+    fn first() -> u128 {
+        0
+    }
+
+    fn last() -> u128 {
+        u128::MAX
+    }
+
+    fn next(self) -> u128 {
+        self + 1
+    }
+
+    fn previous(self) -> u128 {
+        self - 1
+    }
+
+    fn is_below(self, other: u128) -> bool {
+        self < other
+    }
+
+    fn address(self) -> IpAddr {
+        IpAddr::V6(Ipv6Addr::from_bits(self))
+    }
+}

@@ -1,0 +1,286 @@
+//! Sets of addresses of both families.
+ghost use Rattle.std.specs.Prelude.{◌≡◌, ◌⊎◌, ◌↔◌, IsTrue, false, map, IfOk, IsNone, IfSome};
+ghost use Rattle.ipnet_base.specs.Address.{IPv4, IPv6, Address, IsAddress, ip_address};
+ghost use Rattle.ipnet_base.specs.Network.{InBlock};
+ghost use Rattle.ipnet_base.specs.Blocks.{IsCoveredBy, AreAggregatedNeighbours};
+ghost use Rattle.ipnet.specs.NetworkOf.{ip_network};
+ghost use Rattle.ipnet_sets.specs.Turns.{AreTurns, combined};
+
+use crate::number::Number;
+use crate::turns::{self, Operation};
+use ipnet::{IpAddr, IpNet};
+use std::alloc::{AllocError, Global};
+
+/// A set of IPv4 and IPv6 addresses.
+///
+/// It is kept by the numbers at which it begins and ends, so a set that is a few ranges is small, however many
+/// addresses it has.
+#[derive(PartialEq, Eq, PartialOrd, Ord, Hash, Drop)]
+pub struct IpSet {
+    ipv4: Vec<u32>,
+    ipv6: Vec<u128>,
+    ghost ipv4_turns: { AreTurns IPv4 (map (λ n. n) ipv4.items) },
+    ghost ipv6_turns: { AreTurns IPv6 (map (λ n. n) ipv6.items) },
+}
+
+impl IpSet {
+    ghost use Rattle.ipnet_sets.specs.Members.{is_member, IsMember, IsFirstOf, IsLastOf, IsFromTo};
+
+    /// The set with no address.
+    pub fn new(alloc: Global) -> IpSet
+        ensures { (x : Address) → ¬ (IsMember result x) }
+    {
+        IpSet {
+            ipv4: Vec::new(alloc),
+            ipv6: Vec::new(alloc),
+        }
+    }
+
+    /// The set of the addresses from the first to the last, both of them in it.
+    ///
+    /// It is empty where the start is above the end, or the two are of different families. The error is want of
+    /// memory.
+    ///
+    /// ```text
+    /// from 10.0.0.3 to 10.0.0.8: 10.0.0.3, 10.0.0.4, 10.0.0.5, 10.0.0.6, 10.0.0.7, 10.0.0.8
+    /// from 10.0.0.8 to 10.0.0.3: no address
+    /// ```
+    pub fn from_range(alloc: Global, start: IpAddr, end: IpAddr) -> Result<IpSet, AllocError>
+        ensures { IfOk result (λ s. (x : Address) → IsAddress x
+            → IsMember s x ↔ IsFromTo (ip_address start) (ip_address end) x) }
+    {
+        let mut set = IpSet::new(alloc);
+        match (start, end) {
+            (IpAddr::V4(start), IpAddr::V4(end)) => {
+                set.ipv4 = turns::from_range(alloc, start.to_bits(), end.to_bits())?;
+            }
+            (IpAddr::V6(start), IpAddr::V6(end)) => {
+                set.ipv6 = turns::from_range(alloc, start.to_bits(), end.to_bits())?;
+            }
+            _ => {}
+        }
+        Ok(set)
+    }
+
+    /// The set of the addresses of the networks, which are an aggregate: each comes after those before.
+    fn from_aggregate(alloc: Global, networks: &[IpNet]) -> Result<IpSet, AllocError>
+        requires { AreAggregatedNeighbours (map ip_network networks.now) }
+        ensures { IfOk result (λ s. (x : Address) → IsMember s x ↔ IsCoveredBy (map ip_network networks.now) x) }
+    {
+        let mut ipv4 = Vec::new(alloc);
+        let mut ipv6 = Vec::new(alloc);
+        for network in networks {
+            match network {
+                IpNet::V4(network) => turns::add_range(
+                    &mut ipv4,
+                    network.network().to_bits(),
+                    network.broadcast().to_bits(),
+                )?,
+                IpNet::V6(network) => turns::add_range(
+                    &mut ipv6,
+                    network.network().to_bits(),
+                    network.broadcast().to_bits(),
+                )?,
+            }
+        }
+        Ok(IpSet { ipv4, ipv6 })
+    }
+
+    /// The set of the addresses that lie in the networks' blocks. Order, repeats, overlaps and host bits of the list
+    /// do not matter. The error is want of memory.
+    ///
+    /// ```text
+    /// 10.0.0.0/30, 10.0.0.4/31: 10.0.0.0-10.0.0.5
+    /// ```
+    pub fn from_networks(alloc: Global, networks: &Vec<IpNet>) -> Result<IpSet, AllocError>
+        ensures { IfOk result (λ s. (x : Address)
+            → IsMember s x ↔ IsCoveredBy (map ip_network networks.now.items) x) }
+    {
+        let list = IpNet::aggregate(alloc, networks)?;
+        IpSet::from_aggregate(alloc, list.as_slice())
+    }
+
+    /// The set that the operation makes of this one and the other.
+    fn combined(
+        &self,
+        alloc: Global,
+        operation: Operation,
+        other: &IpSet,
+    ) -> Result<IpSet, AllocError>
+        ensures { IfOk result (λ s. (x : Address)
+            → is_member s x ≡ combined operation (is_member self.now x) (is_member other.now x)) }
+    {
+        let ipv4 = turns::combine(
+            alloc,
+            operation,
+            self.ipv4.as_slice(),
+            other.ipv4.as_slice(),
+        )?;
+        let ipv6 = turns::combine(
+            alloc,
+            operation,
+            self.ipv6.as_slice(),
+            other.ipv6.as_slice(),
+        )?;
+        Ok(IpSet { ipv4, ipv6 })
+    }
+
+    /// The addresses that are in this set or in the other. The error is want of memory.
+    ///
+    /// ```text
+    /// 10.0.0.0-10.0.0.5 and 10.0.0.3-10.0.0.9: 10.0.0.0-10.0.0.9
+    /// ```
+    pub fn union(&self, alloc: Global, other: &IpSet) -> Result<IpSet, AllocError>
+        ensures { IfOk result (λ s. (x : Address) → IsMember s x ↔ (IsMember self.now x ⊎ IsMember other.now x)) }
+    {
+        self.combined(alloc, Operation::Union, other)
+    }
+
+    /// The addresses that are in this set and in the other. The error is want of memory.
+    ///
+    /// ```text
+    /// 10.0.0.0-10.0.0.5 and 10.0.0.3-10.0.0.9: 10.0.0.3-10.0.0.5
+    /// ```
+    pub fn intersection(&self, alloc: Global, other: &IpSet) -> Result<IpSet, AllocError>
+        ensures { IfOk result (λ s. (x : Address) → IsMember s x ↔ (IsMember self.now x × IsMember other.now x)) }
+    {
+        self.combined(alloc, Operation::Intersection, other)
+    }
+
+    /// The addresses that are in this set and not in the other. The error is want of memory.
+    ///
+    /// ```text
+    /// 10.0.0.0-10.0.0.5 and 10.0.0.3-10.0.0.9: 10.0.0.0-10.0.0.2
+    /// ```
+    pub fn difference(&self, alloc: Global, other: &IpSet) -> Result<IpSet, AllocError>
+        ensures { IfOk result (λ s. (x : Address) → IsMember s x ↔ (IsMember self.now x × ¬ (IsMember other.now x))) }
+    {
+        self.combined(alloc, Operation::Difference, other)
+    }
+
+    /// The addresses that are in one of the two sets alone. The error is want of memory.
+    ///
+    /// ```text
+    /// 10.0.0.0-10.0.0.5 and 10.0.0.3-10.0.0.9: 10.0.0.0-10.0.0.2 and 10.0.0.6-10.0.0.9
+    /// ```
+    pub fn symmetric_difference(&self, alloc: Global, other: &IpSet) -> Result<IpSet, AllocError>
+        ensures { IfOk result (λ s. (x : Address) → IsMember s x
+            ↔ ((IsMember self.now x × ¬ (IsMember other.now x)) ⊎ (IsMember other.now x × ¬ (IsMember self.now x)))) }
+    {
+        self.combined(alloc, Operation::SymmetricDifference, other)
+    }
+
+    /// The addresses of both families that are not in this set. The error is want of memory.
+    ///
+    /// ```text
+    /// of no address: 0.0.0.0-255.255.255.255 and ::-ffff:ffff:ffff:ffff:ffff:ffff:ffff:ffff
+    /// ```
+    pub fn complement(&self, alloc: Global) -> Result<IpSet, AllocError>
+        ensures { IfOk result (λ s. (x : Address) → IsAddress x → IsMember s x ↔ ¬ (IsMember self.now x)) }
+    {
+        let not_both = Operation::SymmetricDifference;
+        let ipv4 = turns::combine(alloc, not_both, self.ipv4.as_slice(), &[0])?;
+        let ipv6 = turns::combine(alloc, not_both, self.ipv6.as_slice(), &[0])?;
+        Ok(IpSet { ipv4, ipv6 })
+    }
+
+    /// Whether the address is in the set. Takes no memory; the time grows with the logarithm of the number of ranges.
+    pub fn contains(&self, ip: &IpAddr) -> bool
+        ensures { IsTrue result ↔ IsMember self.now (ip_address ip.now) }
+    {
+        match ip {
+            IpAddr::V4(ip) => turns::contains(self.ipv4.as_slice(), ip.to_bits()),
+            IpAddr::V6(ip) => turns::contains(self.ipv6.as_slice(), ip.to_bits()),
+        }
+    }
+
+    /// Whether every address of the network's block is in the set. Takes no memory; the time grows with the logarithm
+    /// of the number of ranges.
+    pub fn covers(&self, network: &IpNet) -> bool
+        ensures { IsTrue result ↔ ((x : Address) → InBlock (ip_network network.now) x → IsMember self.now x) }
+    {
+        match network {
+            IpNet::V4(network) => turns::covers(
+                self.ipv4.as_slice(),
+                network.network().to_bits(),
+                network.broadcast().to_bits(),
+            ),
+            IpNet::V6(network) => turns::covers(
+                self.ipv6.as_slice(),
+                network.network().to_bits(),
+                network.broadcast().to_bits(),
+            ),
+        }
+    }
+
+    /// Whether the operation makes the empty set of this one and the other.
+    fn makes_nothing(&self, operation: Operation, other: &IpSet) -> bool
+        ensures { IsTrue result ↔ ((x : Address) → IsAddress x
+            → combined operation (is_member self.now x) (is_member other.now x) ≡ false) }
+    {
+        turns::makes_nothing(operation, self.ipv4.as_slice(), other.ipv4.as_slice())
+            && turns::makes_nothing(operation, self.ipv6.as_slice(), other.ipv6.as_slice())
+    }
+
+    /// Whether every address of this set is in the other. Takes no memory.
+    pub fn is_subset(&self, other: &IpSet) -> bool
+        ensures { IsTrue result ↔ ((x : Address) → IsMember self.now x → IsMember other.now x) }
+    {
+        self.makes_nothing(Operation::Difference, other)
+    }
+
+    /// Whether no address is in both sets. Takes no memory.
+    pub fn is_disjoint(&self, other: &IpSet) -> bool
+        ensures { IsTrue result ↔ ((x : Address) → IsMember self.now x → ¬ (IsMember other.now x)) }
+    {
+        self.makes_nothing(Operation::Intersection, other)
+    }
+
+    /// Whether the set has no address.
+    pub fn is_empty(&self) -> bool
+        ensures { IsTrue result ↔ ((x : Address) → ¬ (IsMember self.now x)) }
+    {
+        self.first().is_none()
+    }
+
+    /// The first address of the set, IPv4 before IPv6, or `None` if it has none.
+    pub fn first(&self) -> Option<IpAddr>
+        ensures none { IsNone result ↔ ((x : Address) → ¬ (IsMember self.now x)) }
+        ensures some { IfSome result (λ a. IsFirstOf (IsMember self.now) (ip_address a)) }
+    {
+        match turns::first(self.ipv4.as_slice()) {
+            Some(number) => Some(number.address()),
+            None => {
+                let number = turns::first(self.ipv6.as_slice())?;
+                Some(number.address())
+            }
+        }
+    }
+
+    /// The last address of the set, IPv6 after IPv4, or `None` if it has none.
+    pub fn last(&self) -> Option<IpAddr>
+        ensures none { IsNone result ↔ ((x : Address) → ¬ (IsMember self.now x)) }
+        ensures some { IfSome result (λ a. IsLastOf (IsMember self.now) (ip_address a)) }
+    {
+        match turns::last(self.ipv6.as_slice()) {
+            Some(number) => Some(number.address()),
+            None => {
+                let number = turns::last(self.ipv4.as_slice())?;
+                Some(number.address())
+            }
+        }
+    }
+}
+
+impl Clone for IpSet {
+    ghost use Rattle.ipnet_sets.specs.Members.{IsMember};
+
+    ghost is_clone = { λ s t. (x : Address) → IsMember t x ↔ IsMember s x };
+
+    /// A set with the same addresses. The error is want of memory.
+    fn clone(&self) -> Result<IpSet, AllocError> {
+        let ipv4 = self.ipv4.clone()?;
+        let ipv6 = self.ipv6.clone()?;
+        Ok(IpSet { ipv4, ipv6 })
+    }
+}
