@@ -5,3 +5,5 @@ pub mod SplitLaws
 pub mod ExtendLaws
 pub mod MemberLaws
 pub mod LoadLaws
+pub mod SeparateLaws
+pub mod SetRangeLaws

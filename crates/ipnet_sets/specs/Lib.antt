@@ -1,3 +1,5 @@
 -- What the contracts of this crate cite.
 pub mod Turns
 pub mod Members
+pub mod SetRanges
+pub mod RangesLeft

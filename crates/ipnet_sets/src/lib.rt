@@ -3,6 +3,8 @@
 
 mod number;
 mod set;
+mod set_ranges;
 mod turns;
 
 pub use set::IpSet;
+pub use set_ranges::IpSetRanges;

@@ -1,8 +1,15 @@
 //! The numbers of addresses, as machine words of the width of their family.
 ghost use Rattle.std.specs.Prelude.{◌≡◌, ℕ, ◌+◌, ◌<◌, ◌↔◌, IsTrue};
 ghost use Rattle.ipnet_base.specs.Address.{Family, IPv4, IPv6, greatest_number, ip_address};
+ghost use Rattle.ipnet_base.specs.Blocks.{AreMaximalBlocks};
+ghost use Rattle.ipnet_base.specs.RangeOf.{ip_range};
+ghost use Rattle.ipnet.specs.SubnetsLeft.{ip_subnets_left};
+ghost use Rattle.ipnet_sets.specs.SetRanges.{range_of, IsInRange};
 
-use ipnet::{IpAddr, Ipv4Addr, Ipv6Addr};
+use ipnet::{
+    IpAddr, IpAddrRange, IpSubnets, Ipv4Addr, Ipv4AddrRange, Ipv4Subnets, Ipv6Addr, Ipv6AddrRange,
+    Ipv6Subnets,
+};
 
 /// A machine word that holds the number of each address of one family.
 pub(crate) trait Number: Copy {
@@ -37,6 +44,15 @@ pub(crate) trait Number: Copy {
     /// The address of the number.
     fn address(self) -> IpAddr
         ensures { ip_address result ≡ record { family = family; number = number self } };
+
+    /// The range of the addresses from this number to the last.
+    fn range_to(self, last: Self) -> IpAddrRange
+        ensures { ip_range result ≡ range_of family (number self) (number last) };
+
+    /// The walk over that range, by the fewest networks.
+    fn walk_to(self, last: Self) -> IpSubnets
+        ensures { AreMaximalBlocks (IsInRange (range_of family (number self) (number last))) 0
+            (ip_subnets_left result) };
 }
 
 impl Number for u32 {
@@ -67,6 +83,18 @@ impl Number for u32 {
     fn address(self) -> IpAddr {
         IpAddr::V4(Ipv4Addr::from_bits(self))
     }
+
+    fn range_to(self, last: u32) -> IpAddrRange {
+        let start = Ipv4Addr::from_bits(self);
+        let end = Ipv4Addr::from_bits(last);
+        IpAddrRange::V4(Ipv4AddrRange::new(start, end))
+    }
+
+    fn walk_to(self, last: u32) -> IpSubnets {
+        let start = Ipv4Addr::from_bits(self);
+        let end = Ipv4Addr::from_bits(last);
+        IpSubnets::V4(Ipv4Subnets::new(start, end, 0))
+    }
 }
 
 impl Number for u128 {
@@ -96,5 +124,17 @@ impl Number for u128 {
 
     fn address(self) -> IpAddr {
         IpAddr::V6(Ipv6Addr::from_bits(self))
+    }
+
+    fn range_to(self, last: u128) -> IpAddrRange {
+        let start = Ipv6Addr::from_bits(self);
+        let end = Ipv6Addr::from_bits(last);
+        IpAddrRange::V6(Ipv6AddrRange::new(start, end))
+    }
+
+    fn walk_to(self, last: u128) -> IpSubnets {
+        let start = Ipv6Addr::from_bits(self);
+        let end = Ipv6Addr::from_bits(last);
+        IpSubnets::V6(Ipv6Subnets::new(start, end, 0))
     }
 }

@@ -1,14 +1,17 @@
 //! Sets of addresses of both families.
-ghost use Rattle.std.specs.Prelude.{◌≡◌, ◌⊎◌, ◌↔◌, IsTrue, false, map, IfOk, IsNone, IfSome};
+ghost use Rattle.std.specs.Prelude.{◌≡◌, ◌⊎◌, ◌↔◌, IsTrue, false, map, ◌++◌, IfOk, OnOk, IsNone, IfSome};
 ghost use Rattle.ipnet_base.specs.Address.{IPv4, IPv6, Address, IsAddress, ip_address};
 ghost use Rattle.ipnet_base.specs.Network.{InBlock};
-ghost use Rattle.ipnet_base.specs.Blocks.{IsCoveredBy, AreAggregatedNeighbours};
+ghost use Rattle.ipnet_base.specs.Blocks.{IsCoveredBy, AreMaximalBlocks, AreAggregatedNeighbours};
 ghost use Rattle.ipnet.specs.NetworkOf.{ip_network};
+ghost use Rattle.ipnet.specs.SubnetsLeft.{ip_subnets_left};
+ghost use Rattle.ipnet_sets.specs.SetRanges.{ranges_of, AreRangesOf, HasBlocksAdded};
 ghost use Rattle.ipnet_sets.specs.Turns.{AreTurns, combined};
 
 use crate::number::Number;
+use crate::set_ranges::IpSetRanges;
 use crate::turns::{self, Operation};
-use ipnet::{IpAddr, IpNet};
+use ipnet::{IpAddr, IpNet, IpSubnets};
 use std::alloc::{AllocError, Global};
 
 /// A set of IPv4 and IPv6 addresses.
@@ -23,7 +26,33 @@ pub struct IpSet {
     ghost ipv6_turns: { AreTurns IPv6 (map (λ n. n) ipv6.items) },
 }
 
+/// Puts the networks of the ranges between the turns at the end of the list.
+fn push_networks<T: Number>(networks: &mut Vec<IpNet>, turns: &[T]) -> Result<(), AllocError>
+    requires { AreTurns T.family (map T.number turns.now) }
+    ensures { OnOk result (HasBlocksAdded (ranges_of T.family (map T.number turns.now))
+        (map ip_network networks.old.items) (map ip_network networks.new.items)) }
+{
+    let mut left = turns;
+    while let Some(range) = turns::first_range(left) {
+        push_walk(networks, range.first.walk_to(range.last))?;
+        left = turns::after_first_range(left);
+    }
+    Ok(())
+}
+
+/// Puts the networks of the walk at the end of the list.
+fn push_walk(networks: &mut Vec<IpNet>, walk: IpSubnets) -> Result<(), AllocError>
+    ensures { OnOk result (map ip_network networks.new.items
+        ≡ map ip_network networks.old.items ++ ip_subnets_left walk) }
+{
+    for network in walk {
+        networks.push(network)?;
+    }
+    Ok(())
+}
+
 impl IpSet {
+    ghost use Rattle.ipnet_sets.specs.RangesLeft.{ranges_left};
     ghost use Rattle.ipnet_sets.specs.Members.{is_member, IsMember, IsFirstOf, IsLastOf, IsFromTo};
 
     /// The set with no address.
@@ -241,6 +270,37 @@ impl IpSet {
         ensures { IsTrue result ↔ ((x : Address) → ¬ (IsMember self.now x)) }
     {
         self.first().is_none()
+    }
+
+    /// The ranges of the set: the fewest that have together its addresses, IPv4 before IPv6 and ascending, no two of
+    /// them touching. Takes no memory.
+    ///
+    /// ```text
+    /// of 10.0.0.0/30, 10.0.0.4/31, fd00::/126: 10.0.0.0 to 10.0.0.5, fd00:: to fd00::3
+    /// ```
+    pub fn ranges(&self) -> IpSetRanges<'_>
+        ensures { AreRangesOf (IsMember self.now) (ranges_left result) }
+    {
+        IpSetRanges {
+            ipv4: self.ipv4.as_slice(),
+            ipv6: self.ipv6.as_slice(),
+        }
+    }
+
+    /// The networks of the set: the maximal blocks that lie in it, which are the fewest networks that have together its
+    /// addresses, without host bits and in order. Sets with the same addresses give the same list, and the networks of
+    /// a set made from a list are its aggregate. The error is want of memory.
+    ///
+    /// ```text
+    /// of 10.0.0.0 to 10.0.0.5: 10.0.0.0/30, 10.0.0.4/31
+    /// ```
+    pub fn networks(&self, alloc: Global) -> Result<Vec<IpNet>, AllocError>
+        ensures { IfOk result (λ list. AreMaximalBlocks (IsMember self.now) 0 (map ip_network list.items)) }
+    {
+        let mut networks = Vec::new(alloc);
+        push_networks(&mut networks, self.ipv4.as_slice())?;
+        push_networks(&mut networks, self.ipv6.as_slice())?;
+        Ok(networks)
     }
 
     /// The first address of the set, IPv4 before IPv6, or `None` if it has none.

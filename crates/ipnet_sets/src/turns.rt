@@ -1,9 +1,10 @@
 //! Sets of the numbers of one family, each as its turns: the ascending list of the numbers at which it begins or ends.
 //! A number is inside where an odd number of the turns are at most it. An end at the family's last number is left out.
-ghost use Rattle.std.specs.Prelude.{◌≡◌, ℕ, ◌+◌, ◌<◌, ◌≤◌, ◌⊎◌, ◌↔◌, IsTrue, true, false, not, length, map, All};
-ghost use Rattle.std.specs.Prelude.{IfOk, OnOk, IsNone, IfSome};
+ghost use Rattle.std.specs.Prelude.{◌≡◌, ℕ, ◌+◌, ◌<◌, ◌≤◌, ◌⊎◌, ◌↔◌, IsTrue, true, false, not, List, [], ◌∷◌};
+ghost use Rattle.std.specs.Prelude.{length, map, drop, All, IfOk, OnOk, IsNone, IfSome};
 ghost use Rattle.ipnet_base.specs.Address.{greatest_number};
 ghost use Rattle.ipnet_sets.specs.Turns.{is_inside, combined, AreTurns, IsTurn, IsSplitAt, IsOpenedAt, IsExtended};
+ghost use Rattle.ipnet_sets.specs.SetRanges.{range_of, ranges_of};
 ghost use Rattle.ipnet_sets.specs.Turns.{EndsWith, IsLeastInside, IsGreatestInside};
 
 use crate::number::Number;
@@ -268,4 +269,42 @@ pub(crate) fn last<T: Number>(turns: &[T]) -> Option<T>
         return Some(T::last());
     }
     Some(turns[turns.len() - 1].previous())
+}
+
+/// The numbers from a first to a last one.
+#[derive(Clone, Copy)]
+pub(crate) struct NumberRange<T> {
+    pub(crate) first: T,
+    pub(crate) last: T,
+}
+
+/// The first range of the set.
+pub(crate) fn first_range<T: Number>(turns: &[T]) -> Option<NumberRange<T>>
+    requires { AreTurns T.family (map T.number turns.now) }
+    ensures none { IsNone result ↔ (turns.now ≡ []) }
+    ensures some { IfSome result (λ r. ranges_of T.family (map T.number turns.now)
+        ≡ range_of T.family (T.number r.first) (T.number r.last) ∷ ranges_of T.family (map T.number (drop 2 turns.now))) }
+{
+    if turns.is_empty() {
+        return None;
+    }
+    let first = turns[0];
+    if turns.len() == 1 {
+        return Some(NumberRange {
+            first,
+            last: T::last(),
+        });
+    }
+    let last = turns[1].previous();
+    Some(NumberRange { first, last })
+}
+
+/// The turns after those of the first range.
+pub(crate) fn after_first_range<T>(turns: &[T]) -> &[T]
+    ensures { result.now ≡ drop 2 turns.now }
+{
+    if turns.len() <= 2 {
+        return &[];
+    }
+    &turns[2..]
 }
