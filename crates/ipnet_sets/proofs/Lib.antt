@@ -7,3 +7,6 @@ pub mod MemberLaws
 pub mod LoadLaws
 pub mod SeparateLaws
 pub mod SetRangeLaws
+pub mod SetEqualLaws
+pub mod CountLaws
+pub mod SetAlgebra

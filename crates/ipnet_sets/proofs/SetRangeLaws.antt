@@ -1,52 +1,52 @@
 -- The ranges of a set that is kept by its turns, and their networks.
-use Rattle.std.proofs.Common.{◌≡◌, ℕ, zero, suc, ◌+◌, ◌-◌, ◌<◌, ◌≤◌, ◌⊎◌, ◌↔◌, Bool, true, false, not, cond, leb}
+use Rattle.std.proofs.Common.{◌≡◌, ℕ, suc, ◌+◌, ◌-◌, ◌<◌, ◌≤◌, ◌⊎◌, ◌↔◌, true, false, not}
 use Rattle.std.proofs.Common.{List, [], ◌∷◌, ◌++◌, length, drop, get_or, map, Contains, All, AllPairs, Any}
 use Rattle.std.proofs.Common.{refl, sym, ap, ◌∙◌, subst, arith, inl, inr, le-leb, append_assoc}
 use Rattle.std.proofs.lemmas.Bool.{cases_lt, lt-leb}
 use Rattle.std.proofs.lemmas.List.{append-nil, drop-map}
 use Rattle.std.proofs.lemmas.List.Elements.{Contains-append_left, Contains-append_right, Contains-append_cases}
-use Rattle.ipnet_base.specs.Address.{Family, IPv4, IPv6, Address, IsAddress, IsBetween, greatest_number, family_index}
+use Rattle.ipnet_base.specs.Address.{Family, IPv4, IPv6, Address, greatest_number, family_index}
 use Rattle.ipnet_base.specs.Network.{Network}
 use Rattle.ipnet_base.specs.Blocks.{AreMaximalBlocks}
 use Rattle.ipnet_base.specs.Ranges.{AddressRange}
-use Rattle.ipnet_base.proofs.ListLaws.{contains_nil, contains_here, contains_cases, any_from_contains, all_at}
+use Rattle.ipnet_base.proofs.ListLaws.{contains_nil, contains_here, contains_cases, any_from_contains}
 use Rattle.ipnet_base.proofs.ListLaws.{pairs_head, pairs_tail, pairs_cons, all_from_members}
 use Rattle.ipnet_base.proofs.FamilyLaws.{pairs_append}
 use Rattle.ipnet_base.proofs.SupernetLaws.{AreMaximalBlocks-same_set}
 use Rattle.ipnet_base.proofs.WalkLaws.{AreMaximalBlocks-nil}
 use Rattle.ipnet_sets.specs.declared.set.IpSet.{IpSet}
 use Rattle.ipnet_sets.specs.Turns.{is_inside, AreTurns}
-use Rattle.ipnet_sets.specs.Members.{turns_of, is_member, IsMember}
+use Rattle.ipnet_sets.specs.Members.{turns_of, IsMember}
 use Rattle.ipnet_sets.specs.SetRanges.{range_of, IsInRange, LiesApart, AreRangesOf, IsInTurns, ranges_of}
 use Rattle.ipnet_sets.specs.SetRanges.{AreBlocksOfRanges, HasBlocksAdded}
-use Rattle.ipnet_sets.proofs.InsideLaws.{AreAscending, not_twice, inside_before}
+use Rattle.ipnet_sets.proofs.InsideLaws.{not_twice, inside_before}
 use Rattle.ipnet_sets.proofs.SeparateLaws.{IsInEither, AreSeparatedAt, AreMaximalBlocks-append}
 use Rattle.ipnet_sets.proofs.MemberLaws.{fits_below, fits_to}
 
 -- some member of a list
-any_cases : {X : Type 0} (P : X → Type 0) (y : X) (xs : List X) → Any P (y ∷ xs) → P y ⊎ Any P xs
+pub any_cases : {X : Type 0} (P : X → Type 0) (y : X) (xs : List X) → Any P (y ∷ xs) → P y ⊎ Any P xs
 any_cases P y xs a = elim (contains_cases y xs a.1 (a.0, a.2, a.3)) [
   | inl e ↦ inl (subst P (sym e) a.4)
   | inr c ↦ inr (any_from_contains P xs a.1 c a.4)
 ]
 
-any_here : {X : Type 0} (P : X → Type 0) (y : X) (xs : List X) → P y → Any P (y ∷ xs)
+pub any_here : {X : Type 0} (P : X → Type 0) (y : X) (xs : List X) → P y → Any P (y ∷ xs)
 any_here P y xs p = any_from_contains P (y ∷ xs) y (contains_here y xs) p
 
-any_there : {X : Type 0} (P : X → Type 0) (y : X) (xs : List X) → Any P xs → Any P (y ∷ xs)
+pub any_there : {X : Type 0} (P : X → Type 0) (y : X) (xs : List X) → Any P xs → Any P (y ∷ xs)
 any_there P y xs a = (suc a.0, a.1, omega (arith, a.2), a.3, a.4)
 
 -- the addresses of the ranges of a list
 abbrev pub IsInRanges : List AddressRange → Address → Type 0
 IsInRanges ranges x = Any (λ r. IsInRange r x) ranges
 
-tail_turns : (f : Family) (t : ℕ) (ts : List ℕ) → AreTurns f (t ∷ ts) → AreTurns f ts
+pub tail_turns : (f : Family) (t : ℕ) (ts : List ℕ) → AreTurns f (t ∷ ts) → AreTurns f ts
 tail_turns f t ts h = record {
   ascending = λ i j d l m. h.ascending (suc i) (suc j) d (omega (arith, l)) (omega (arith, m));
   fits = λ k d l. h.fits (suc k) d (omega (arith, l));
 }
 
-later : (f : Family) (t : ℕ) (ts : List ℕ) → AreTurns f (t ∷ ts) → All (λ u. t < u) ts
+pub later : (f : Family) (t : ℕ) (ts : List ℕ) → AreTurns f (t ∷ ts) → All (λ u. t < u) ts
 later f t ts h k d l = h.ascending 0 (suc k) d (omega arith) (omega (arith, l))
 
 -- inside between two turns, and after them as the rest says
@@ -55,7 +55,7 @@ between_turns : (s u : ℕ) (ts : List ℕ) (x : ℕ) → s ≤ x → x < u → 
 between_turns s u ts x le lt h =
     rw (le-leb s x le) (rw (lt-leb u x lt) (ap not (inside_before ts x (λ k d l. omega (arith, h k d l, lt)))))
 
-after_turns : (s u : ℕ) (ts : List ℕ) (x : ℕ) → s ≤ x → u ≤ x → is_inside (s ∷ u ∷ ts) x ≡ is_inside ts x
+pub after_turns : (s u : ℕ) (ts : List ℕ) (x : ℕ) → s ≤ x → u ≤ x → is_inside (s ∷ u ∷ ts) x ≡ is_inside ts x
 after_turns s u ts x le lf = rw (le-leb s x le) (rw (le-leb u x lf) (not_twice (is_inside ts x)))
 
 -- what is inside comes after all numbers before the first turn
@@ -154,7 +154,7 @@ range_facts f (s ∷ u ∷ ts) b h up r c =
           (λ k e l. up (suc (suc k)) e (omega (arith, l))) r d
     ]
 
-ranges_some : (f : Family) (ts : List ℕ) → AreTurns f ts → (r : AddressRange) → Contains (ranges_of f ts) r
+pub ranges_some : (f : Family) (ts : List ℕ) → AreTurns f ts → (r : AddressRange) → Contains (ranges_of f ts) r
     → (r.family ≡ f) × (r.start ≤ r.end)
 ranges_some f [] h r c = absurd (contains_nil r c)
 ranges_some f (s ∷ []) h r c = elim (contains_cases (range_of f s (greatest_number f)) [] r c) [
@@ -182,7 +182,7 @@ ranges_apart f (s ∷ u ∷ ts) h =
     (ranges_apart f ts rest)
 
 -- the members of a set are those of its two families
-members_of_family : (s : IpSet) (x : Address) → IsMember s x ↔ IsInTurns x.family (turns_of s x.family) x
+pub members_of_family : (s : IpSet) (x : Address) → IsMember s x ↔ IsInTurns x.family (turns_of s x.family) x
 members_of_family s x = (
   λ m. record { of_family = refl; fits = fits_to x.family x.number m.fits; inside = m.inside },
   λ i. record { fits = fits_below x.family x.number i.fits; inside = i.inside },

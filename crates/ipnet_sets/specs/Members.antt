@@ -1,5 +1,6 @@
 -- The addresses that a value of the set type has: all that contracts see of it.
-use Rattle.std.specs.Prelude.{◌≡◌, ◌<◌, ◌≤◌, ◌⊎◌, ℕ, Bool, true, List, map}
+use Rattle.std.specs.Prelude.{◌≡◌, ◌≢◌, ◌<◌, ◌≤◌, ◌⊎◌, ◌↔◌, ℕ, Bool, true, List, map, length}
+use Rattle.std.specs.Prelude.{Contains, AllPairs}
 use Rattle.ipnet_base.specs.Address.{Family, Address, IsAddress, family_index}
 use Rattle.ipnet_sets.specs.declared.set.IpSet.{IpSet}
 use Rattle.ipnet_sets.specs.Turns.{is_inside, by_family}
@@ -16,6 +17,21 @@ is_member s x = is_inside (turns_of s x.family) x.number
 pub record IsMember (s : IpSet) (x : Address) : Type 0 where
   pub fits : IsAddress x
   pub inside : is_member s x ≡ true
+
+-- the two sets have the same addresses
+abbrev pub HaveSameAddresses : IpSet → IpSet → Type 0
+HaveSameAddresses s t = (x : Address) → IsMember s x ↔ IsMember t x
+
+-- the addresses of the set that are of the family
+abbrev pub IsMemberOf : Family → IpSet → Address → Type 0
+IsMemberOf f s x = (x.family ≡ f) × IsMember s x
+
+-- the set of addresses has as many as n: a list of n has each of them once, and no other
+pub record IsCountOf (InSet : Address → Type 0) (n : ℕ) : Type 0 where
+  pub addresses : List Address
+  pub once : AllPairs (λ x y. x ≢ y) addresses
+  pub members : (x : Address) → Contains addresses x ↔ InSet x
+  pub count : length addresses ≡ n
 
 -- The order of addresses: IPv4 before IPv6, then the number; x comes before y, or is y.
 abbrev pub IsAtMost : Address → Address → Type 0

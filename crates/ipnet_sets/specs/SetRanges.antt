@@ -1,9 +1,9 @@
 -- The ranges of a set of addresses, and the networks of each of them.
-use Rattle.std.specs.Prelude.{◌≡◌, ℕ, ◌+◌, ◌-◌, ◌<◌, ◌≤◌, ◌⊎◌, ◌↔◌, true, List, [], ◌∷◌, ◌++◌, map, All, AllPairs, Any}
-use Rattle.ipnet_base.specs.Address.{Family, IPv4, IPv6, Address, IsBetween, family_index, greatest_number}
+use Rattle.std.specs.Prelude.{◌≡◌, ℕ, ◌+◌, ◌-◌, ◌<◌, ◌≤◌, ◌⊎◌, ◌↔◌, true, List, [], ◌∷◌, ◌++◌, All, AllPairs, Any}
+use Rattle.ipnet_base.specs.Address.{Family, Address, IsBetween, family_index, greatest_number}
 use Rattle.ipnet_base.specs.Network.{Network}
 use Rattle.ipnet_base.specs.Blocks.{AreMaximalBlocks}
-use Rattle.ipnet_base.specs.Ranges.{AddressRange}
+use Rattle.ipnet_base.specs.Ranges.{AddressRange, address_count}
 use Rattle.ipnet_sets.specs.Turns.{is_inside}
 
 -- the range of the family with these ends
@@ -36,6 +36,11 @@ abbrev pub ranges_of : Family → List ℕ → List AddressRange
 ranges_of f [] = []
 ranges_of f (start ∷ []) = range_of f start (greatest_number f) ∷ []
 ranges_of f (start ∷ end ∷ turns) = range_of f start (end - 1) ∷ ranges_of f turns
+
+-- how many addresses the ranges have together
+abbrev pub count_of : List AddressRange → ℕ
+count_of [] = 0
+count_of (r ∷ ranges) = address_count r + count_of ranges
 
 -- the maximal blocks of each of the ranges, one range after the other
 abbrev pub AreBlocksOfRanges : List AddressRange → List Network → Type 0

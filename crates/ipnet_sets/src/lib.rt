@@ -2,7 +2,7 @@
 #![tactic(auto)]
 
 mod number;
-mod set;
+pub mod set;
 mod set_ranges;
 mod turns;
 

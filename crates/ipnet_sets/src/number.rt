@@ -1,5 +1,5 @@
 //! The numbers of addresses, as machine words of the width of their family.
-ghost use Rattle.std.specs.Prelude.{◌≡◌, ℕ, ◌+◌, ◌<◌, ◌↔◌, IsTrue};
+ghost use Rattle.std.specs.Prelude.{◌≡◌, ℕ, ◌+◌, ◌<◌, ◌≤◌, ◌↔◌, IsTrue};
 ghost use Rattle.ipnet_base.specs.Address.{Family, IPv4, IPv6, greatest_number, ip_address};
 ghost use Rattle.ipnet_base.specs.Blocks.{AreMaximalBlocks};
 ghost use Rattle.ipnet_base.specs.RangeOf.{ip_range};
@@ -41,6 +41,11 @@ pub(crate) trait Number: Copy {
     fn is_below(self, other: Self) -> bool
         ensures { IsTrue result ↔ (number self < number other) };
 
+    /// How far the last number, which is not below this one, lies after it.
+    fn distance_to(self, last: Self) -> u128
+        requires { number self ≤ number last }
+        ensures { result + number self ≡ number last };
+
     /// The address of the number.
     fn address(self) -> IpAddr
         ensures { ip_address result ≡ record { family = family; number = number self } };
@@ -78,6 +83,10 @@ impl Number for u32 {
 
     fn is_below(self, other: u32) -> bool {
         self < other
+    }
+
+    fn distance_to(self, last: u32) -> u128 {
+        u128::from(last - self)
     }
 
     fn address(self) -> IpAddr {
@@ -120,6 +129,10 @@ impl Number for u128 {
 
     fn is_below(self, other: u128) -> bool {
         self < other
+    }
+
+    fn distance_to(self, last: u128) -> u128 {
+        last - self
     }
 
     fn address(self) -> IpAddr {

@@ -14,6 +14,8 @@ use crate::turns::{self, Operation};
 use ipnet::{IpAddr, IpNet, IpSubnets};
 use std::alloc::{AllocError, Global};
 
+pub mod laws;
+
 /// A set of IPv4 and IPv6 addresses.
 ///
 /// It is kept by the numbers at which it begins and ends, so a set that is a few ranges is small, however many
@@ -53,7 +55,8 @@ fn push_walk(networks: &mut Vec<IpNet>, walk: IpSubnets) -> Result<(), AllocErro
 
 impl IpSet {
     ghost use Rattle.ipnet_sets.specs.RangesLeft.{ranges_left};
-    ghost use Rattle.ipnet_sets.specs.Members.{is_member, IsMember, IsFirstOf, IsLastOf, IsFromTo};
+    ghost use Rattle.ipnet_sets.specs.Members.{is_member, IsMember, IsMemberOf, IsCountOf};
+    ghost use Rattle.ipnet_sets.specs.Members.{IsFirstOf, IsLastOf, IsFromTo};
 
     /// The set with no address.
     pub fn new(alloc: Global) -> IpSet
@@ -301,6 +304,24 @@ impl IpSet {
         push_networks(&mut networks, self.ipv4.as_slice())?;
         push_networks(&mut networks, self.ipv6.as_slice())?;
         Ok(networks)
+    }
+
+    /// How many IPv4 addresses the set has: 0 to 2^32.
+    pub fn ipv4_count(&self) -> u64
+        ensures { IsCountOf (IsMemberOf IPv4 self.now) result }
+    {
+        turns::count(self.ipv4.as_slice()) as u64
+    }
+
+    /// How many IPv6 addresses the set has: 0 to 2^128 - 1, or `None` where it has all of them, 2^128.
+    pub fn ipv6_count(&self) -> Option<u128>
+        ensures none { IsNone result ↔ ((x : Address) → IsAddress x → x.family ≡ IPv6 → IsMember self.now x) }
+        ensures some { IfSome result (IsCountOf (IsMemberOf IPv6 self.now)) }
+    {
+        if turns::is_whole(self.ipv6.as_slice()) {
+            return None;
+        }
+        Some(turns::count(self.ipv6.as_slice()))
     }
 
     /// The first address of the set, IPv4 before IPv6, or `None` if it has none.

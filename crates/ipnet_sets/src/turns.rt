@@ -1,10 +1,10 @@
 //! Sets of the numbers of one family, each as its turns: the ascending list of the numbers at which it begins or ends.
 //! A number is inside where an odd number of the turns are at most it. An end at the family's last number is left out.
-ghost use Rattle.std.specs.Prelude.{◌≡◌, ℕ, ◌+◌, ◌<◌, ◌≤◌, ◌⊎◌, ◌↔◌, IsTrue, true, false, not, List, [], ◌∷◌};
+ghost use Rattle.std.specs.Prelude.{◌≡◌, ℕ, ◌+◌, ◌^◌, ◌<◌, ◌≤◌, ◌⊎◌, ◌↔◌, IsTrue, true, false, not, List, [], ◌∷◌};
 ghost use Rattle.std.specs.Prelude.{length, map, drop, All, IfOk, OnOk, IsNone, IfSome};
 ghost use Rattle.ipnet_base.specs.Address.{greatest_number};
 ghost use Rattle.ipnet_sets.specs.Turns.{is_inside, combined, AreTurns, IsTurn, IsSplitAt, IsOpenedAt, IsExtended};
-ghost use Rattle.ipnet_sets.specs.SetRanges.{range_of, ranges_of};
+ghost use Rattle.ipnet_sets.specs.SetRanges.{range_of, ranges_of, count_of};
 ghost use Rattle.ipnet_sets.specs.Turns.{EndsWith, IsLeastInside, IsGreatestInside};
 
 use crate::number::Number;
@@ -283,7 +283,8 @@ pub(crate) fn first_range<T: Number>(turns: &[T]) -> Option<NumberRange<T>>
     requires { AreTurns T.family (map T.number turns.now) }
     ensures none { IsNone result ↔ (turns.now ≡ []) }
     ensures some { IfSome result (λ r. ranges_of T.family (map T.number turns.now)
-        ≡ range_of T.family (T.number r.first) (T.number r.last) ∷ ranges_of T.family (map T.number (drop 2 turns.now))) }
+        ≡ range_of T.family (T.number r.first) (T.number r.last)
+        ∷ ranges_of T.family (map T.number (drop 2 turns.now))) }
 {
     if turns.is_empty() {
         return None;
@@ -307,4 +308,27 @@ pub(crate) fn after_first_range<T>(turns: &[T]) -> &[T]
         return &[];
     }
     &turns[2..]
+}
+
+/// Whether every number of the family is in the set.
+pub(crate) fn is_whole<T: Number>(turns: &[T]) -> bool
+    requires { AreTurns T.family (map T.number turns.now) }
+    ensures { IsTrue result ↔ (count_of (ranges_of T.family (map T.number turns.now)) ≡ greatest_number T.family + 1) }
+{
+    turns.len() == 1 && !T::first().is_below(turns[0])
+}
+
+/// How many numbers are in the set.
+pub(crate) fn count<T: Number>(turns: &[T]) -> u128
+    requires turns { AreTurns T.family (map T.number turns.now) }
+    requires fits { count_of (ranges_of T.family (map T.number turns.now)) < 2 ^ 128 }
+    ensures { result ≡ count_of (ranges_of T.family (map T.number turns.now)) }
+{
+    let mut total = 0;
+    let mut left = turns;
+    while let Some(range) = first_range(left) {
+        total += range.first.distance_to(range.last) + 1;
+        left = after_first_range(left);
+    }
+    total
 }
