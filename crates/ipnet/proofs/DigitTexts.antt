@@ -1,5 +1,7 @@
 -- The run of digits at the front of a text, and what it writes.
-use Rattle.std.proofs.Common.{take, drop, lit<, add-one, add-zero, length-take-le, get_or-drop, take-append-drop, ◌≡◌, ℕ, zero, suc, ◌+◌, ◌*◌, ◌^◌, ◌<◌, ◌≤◌, Bool, true, false, not, ◌&&◌, ◌==◌, nat_lt, List, [], ◌∷◌, ◌++◌, length, get_or, Some, refl, ap, arith, inl, inr, lt-ltb, le-ltb, le-leb, ne_eqb, eq-eqb}
+use Rattle.std.proofs.Common.{take, drop, lit<, add-one, add-zero, length-take-le, get_or-drop, take-append-drop, ◌≡◌}
+use Rattle.std.proofs.Common.{ℕ, zero, suc, ◌+◌, ◌*◌, ◌^◌, ◌<◌, ◌≤◌, true, false, List, [], ◌∷◌, ◌++◌, length, get_or}
+use Rattle.std.proofs.Common.{Some, refl, ap, arith, inl, inr, lt-ltb, le-ltb, le-leb, ne_eqb, eq-eqb}
 use Rattle.std.proofs.lemmas.Bool.{cases_lt, cases_eq, and_from, and_parts, ltb-true, leb-true}
 use Rattle.std.proofs.Math.Nat.{pow-le-pow_right, pow-suc}
 use Rattle.std.proofs.lemmas.Option.{cond_some}
@@ -7,14 +9,16 @@ use Rattle.std.specs.Char.{digit_value, is_digit}
 use Rattle.std.specs.List.{list_all}
 use Rattle.std.specs.Str.Parse.{AllDigits, digits_value}
 use Rattle.std.proofs.NetLemmas.Numbers.{NoDigit}
-use Rattle.ipnet.specs.Grammar.{Strict, grammar_of}
+use Rattle.ipnet.specs.declared.parser.Grammar.{Grammar}
+use Rattle.ipnet.specs.declared.parser.Grammar.TheVariants.{Strict, Legacy}
 use Rattle.ipnet.specs.Numerals.{IsOctet, IsGroup}
-use Rattle.ipnet.specs.Reading.{digit_run, octet_of, group_of}
+use Rattle.ipnet.specs.ReaderSteps.{digit_run, octet_of, group_of, is_plain}
 
 -- ---- the run
 
 -- at most `room` digits, and then none where there is room, are the run
-pub digit_run_stop : (room : ℕ) (ds rest : List ℕ) → AllDigits 16 ds → length ds ≤ room → (length ds < room → NoDigit 16 rest) → digit_run room (ds ++ rest) ≡ (ds, rest)
+pub digit_run_stop : (room : ℕ) (ds rest : List ℕ) → AllDigits 16 ds → length ds ≤ room
+    → (length ds < room → NoDigit 16 rest) → digit_run room (ds ++ rest) ≡ (ds, rest)
 unfolding digit_run
 digit_run_stop zero [] rest all fits stop = refl
 digit_run_stop zero (d ∷ ds) rest all fits stop = absurd (omega arith)
@@ -23,7 +27,8 @@ digit_run_stop (suc room) [] (c ∷ rest) all fits stop = rw (le-ltb (digit_valu
 digit_run_stop (suc room) (d ∷ ds) rest all fits stop =
     rw (lt-ltb (digit_value d) 16 all.0, digit_run_stop room ds rest all.1 (omega arith) (λ less. stop (omega arith)))
 
-pub digit_run-append : (room : ℕ) (ds rest : List ℕ) → AllDigits 16 ds → length ds ≤ room → NoDigit 16 rest → digit_run room (ds ++ rest) ≡ (ds, rest)
+pub digit_run-append : (room : ℕ) (ds rest : List ℕ) → AllDigits 16 ds → length ds ≤ room → NoDigit 16 rest
+    → digit_run room (ds ++ rest) ≡ (ds, rest)
 digit_run-append room ds rest all fits stop = digit_run_stop room ds rest all fits (λ _. stop)
 
 -- what the run is
@@ -39,7 +44,8 @@ digit_run_sound (suc room) [] = record { spelled = refl; all = tt; fits = omega 
 digit_run_sound (suc room) (c ∷ text) =
     let more = digit_run_sound room text in
     elim (cases_lt (digit_value c) 16) [
-      | inl digit ↦ rw (lt-ltb (digit_value c) 16 digit) (record { spelled = ap (λ t. c ∷ t) more.spelled; all = (digit, more.all); fits = omega (arith, more.fits) })
+      | inl digit ↦ rw (lt-ltb (digit_value c) 16 digit)
+          (record { spelled = ap (λ t. c ∷ t) more.spelled; all = (digit, more.all); fits = omega (arith, more.fits) })
       | inr other ↦ rw (le-ltb (digit_value c) 16 other) (record { spelled = refl; all = tt; fits = omega arith })
     ]
 
@@ -58,38 +64,40 @@ decimal_all [] h = tt
 decimal_all (d ∷ ds) h = let (one, more) = and_parts _ _ h in (ltb-true (digit_value d) 10 one, decimal_all ds more)
 
 -- no leading zero, as the test says it
-is_plain : (strict : Bool) (ds : List ℕ) → (grammar_of strict ≡ Strict → get_or ds 0 0 ≡ 48 → length ds ≡ 1) → not (strict && (get_or ds 0 0 == 48) && nat_lt 1 (length ds)) ≡ true
-is_plain false ds h = refl
-is_plain true ds h =
+plain_from : (grammar : Grammar) (ds : List ℕ) → (grammar ≡ Strict → get_or ds 0 0 ≡ 48 → length ds ≡ 1)
+    → is_plain grammar ds ≡ true
+plain_from Legacy ds h = refl
+plain_from Strict ds h =
     elim (cases_eq (get_or ds 0 0) 48) [
       | inl zero_first ↦ rw (eq-eqb _ 48 zero_first, le-ltb 1 (length ds) (omega (arith, h refl zero_first)))
       | inr other ↦ rw (ne_eqb _ 48 other)
     ]
 
-plain_is : (strict : Bool) (ds : List ℕ) → 0 < length ds → not (strict && (get_or ds 0 0 == 48) && nat_lt 1 (length ds)) ≡ true → grammar_of strict ≡ Strict → get_or ds 0 0 ≡ 48 → length ds ≡ 1
-plain_is false ds some h strict zero_first = cc
-plain_is true ds some h strict zero_first =
+plain_is : (grammar : Grammar) (ds : List ℕ) → 0 < length ds → is_plain grammar ds ≡ true → grammar ≡ Strict
+    → get_or ds 0 0 ≡ 48 → length ds ≡ 1
+plain_is Legacy ds some h strict zero_first = cc
+plain_is Strict ds some h strict zero_first =
     elim (cases_lt 1 (length ds)) [
       | inl more ↦ let e : false ≡ true = rw (eq-eqb _ 48 zero_first, lt-ltb 1 (length ds) more) at h in cc
       | inr one ↦ omega arith
     ]
 
-pub octet_of_complete : (strict : Bool) (ds : List ℕ) (n : ℕ) → IsOctet (grammar_of strict) ds n → octet_of strict ds ≡ Some n
+pub octet_of_complete : (grammar : Grammar) (ds : List ℕ) (n : ℕ) → IsOctet grammar ds n → octet_of grammar ds ≡ Some n
 unfolding octet_of
-octet_of_complete strict ds n h =
+octet_of_complete grammar ds n h =
     let fits : digits_value 10 ds ≤ 255 = omega (arith, h.value, h.small) in
     rw (
       lt-ltb 0 (length ds) h.digits.0,
       le-leb (length ds) 3 h.short,
       all_decimal ds h.digits.1,
       le-leb _ 255 fits,
-      is_plain strict ds h.plain,
+      plain_from grammar ds h.plain,
       h.value,
     )
 
-pub octet_of_sound : (strict : Bool) (ds : List ℕ) (n : ℕ) → octet_of strict ds ≡ Some n → IsOctet (grammar_of strict) ds n
+pub octet_of_sound : (grammar : Grammar) (ds : List ℕ) (n : ℕ) → octet_of grammar ds ≡ Some n → IsOctet grammar ds n
 unfolding octet_of
-octet_of_sound strict ds n e =
+octet_of_sound grammar ds n e =
     let (tests, value) = cond_some _ _ _ e in
     let (front, plain) = and_parts _ _ tests in
     let (front₁, small) = and_parts _ _ front in
@@ -101,7 +109,7 @@ octet_of_sound strict ds n e =
       value = value;
       short = leb-true _ 3 short;
       small = omega (arith, value, leb-true _ 255 small);
-      plain = plain_is strict ds some_digit plain;
+      plain = plain_is grammar ds some_digit plain;
     }
 
 pub group_of_complete : (ds : List ℕ) (n : ℕ) → IsGroup ds n → group_of ds ≡ Some n
@@ -127,8 +135,10 @@ pub one_below : (i n d : ℕ) → n < 16 ^ i → d < 16 → n * 16 + d < 16 ^ (i
 one_below i n d below digit = rw (add-one, pow-suc) (omega arith)
 
 -- the run is the first i bytes, where i are read or the next is no digit
-pub digit_run_at : (i : ℕ) (text : List ℕ) → i ≤ 4 → i ≤ length text → AllDigits 16 (take i text) → (i < 4 → 16 ≤ digit_value (get_or text i 0)) → digit_run 4 text ≡ (take i text, drop i text)
+pub digit_run_at : (i : ℕ) (text : List ℕ) → i ≤ 4 → i ≤ length text → AllDigits 16 (take i text)
+    → (i < 4 → 16 ≤ digit_value (get_or text i 0)) → digit_run 4 text ≡ (take i text, drop i text)
 digit_run_at i text few within all stop =
     let len = length-take-le i text within in
-    let next : length (take i text) < 4 → NoDigit 16 (drop i text) = λ less. rw (get_or-drop i text 0 0, add-zero) (stop (omega arith)) in
+    let next : length (take i text) < 4 → NoDigit 16 (drop i text) =
+    λ less. rw (get_or-drop i text 0 0, add-zero) (stop (omega arith)) in
     rw (take-append-drop i text) at (digit_run_stop 4 (take i text) (drop i text) all (omega arith) next)

@@ -1,5 +1,6 @@
 -- What the derived `==` of two lists of networks tells.
-use Rattle.std.proofs.Common.{◌≡◌, ℕ, ◌*◌, ◌+◌, ◌/◌, ◌%◌, ◌^◌, ◌&&◌, ◌↔◌, Bool, true, false, IsTrue, eqb, List, [], ◌∷◌, map, refl, sym, ap, ap₂, ◌∙◌, arith, eq-eqb}
+use Rattle.std.proofs.Common.{◌≡◌, ℕ, ◌*◌, ◌+◌, ◌/◌, ◌%◌, ◌^◌, ◌&&◌, ◌↔◌, Bool, true, false, IsTrue, eqb, List, []}
+use Rattle.std.proofs.Common.{◌∷◌, map, refl, sym, ap, ap₂, ◌∙◌, arith, eq-eqb}
 use Rattle.std.proofs.lemmas.Bool.{eqb-true}
 use Rattle.std.proofs.lemmas.Bool.Decides.{nat_tests}
 use Rattle.ipnet_base.specs.Network.{IsNetwork}
@@ -10,14 +11,17 @@ use Rattle.ipnet.specs.declared.net.IpNet.TheVariants.{V4, V6}
 use Rattle.ipnet.specs.contracts.net.IpNetPartialEq.TheImpl.{eq-value}
 use Rattle.ipnet.specs.NetworkOf.{ipv4_network_of, ipv6_network, ip_network}
 use Rattle.ipnet.specs.NetLaws.{ip_valid, ip_one_to_one}
-use Rattle.ipnet.proofs.AnswerLaws.{All-read}
+use Rattle.ipnet.proofs.JoinedLaws.{All-read}
 use lib.Pointwise.{pointwise}
 
 three_equal : (a b c d p q : ℕ) → (eqb a b && (eqb c d && eqb p q) ≡ true) ↔ ((a ≡ b) × ((c ≡ d) × (p ≡ q)))
-three_equal a b c d p q = (λ h. (grind (arith, nat_tests), (grind (arith, nat_tests), grind (arith, nat_tests))), λ e. grind (arith, nat_tests))
+three_equal a b c d p q = (
+  λ h. (grind (arith, nat_tests), (grind (arith, nat_tests), grind (arith, nat_tests))),
+  λ e. grind (arith, nat_tests),
+)
 
 -- two networks are equal exactly where `==` says so
-pub ip_equal : (x y : IpNet) → (eq-value.it x y ≡ true) ↔ (x ≡ y)
+ip_equal : (x y : IpNet) → (eq-value.it x y ≡ true) ↔ (x ≡ y)
 ip_equal (V4 x) (V4 y) = (
   λ h. let same : x.word ≡ y.word = eqb-true x.word y.word h in
       ip_one_to_one (V4 x) (V4 y) (ap (λ w. ipv4_network_of (w / 2 ^ 32) (w % 2 ^ 32)) same),
@@ -27,10 +31,13 @@ ip_equal (V4 x) (V6 y) = (λ h. cc, λ e. cc)
 ip_equal (V6 x) (V4 y) = (λ h. cc, λ e. cc)
 ip_equal (V6 x) (V6 y) = (
   λ h. let e = (three_equal x.high y.high x.low y.low x.prefix_len y.prefix_len).0 h in
-      ip_one_to_one (V6 x) (V6 y) (λ i. record (ipv6_network x) { number = e.0 i * 2 ^ 64 + e.1.0 i; prefix_len = e.1.1 i }),
+      ip_one_to_one (V6 x) (V6 y)
+      (λ i. record (ipv6_network x) { number = e.0 i * 2 ^ 64 + e.1.0 i; prefix_len = e.1.1 i }),
   λ e. let number : x.high * 2 ^ 64 + x.low ≡ y.high * 2 ^ 64 + y.low = ap (λ n. (ip_network n).number) e in
-      (three_equal x.high y.high x.low y.low x.prefix_len y.prefix_len).1
-      (omega (arith, x.low_fits, y.low_fits), (omega (arith, x.low_fits, y.low_fits), ap (λ n. (ip_network n).prefix_len) e)),
+      (three_equal x.high y.high x.low y.low x.prefix_len y.prefix_len).1 (
+        omega (arith, x.low_fits, y.low_fits),
+        (omega (arith, x.low_fits, y.low_fits), ap (λ n. (ip_network n).prefix_len) e),
+      ),
 )
 
 both_true : (a b : Bool) → (a && b ≡ true) ↔ ((a ≡ true) × (b ≡ true))
@@ -38,7 +45,8 @@ both_true true b = (λ e. (refl, e), λ e. e.1)
 both_true false b = (λ e. cc, λ e. cc)
 
 -- so are two lists
-pub lists_equal : {X : Type 0} (E : X → X → Bool) → ((x y : X) → (E x y ≡ true) ↔ (x ≡ y)) → (xs ys : List X) → (pointwise E xs ys ≡ true) ↔ (xs ≡ ys)
+lists_equal : {X : Type 0} (E : X → X → Bool) → ((x y : X) → (E x y ≡ true) ↔ (x ≡ y)) → (xs ys : List X)
+    → (pointwise E xs ys ≡ true) ↔ (xs ≡ ys)
 lists_equal E h [] [] = (λ e. refl, λ e. refl)
 lists_equal E h [] (y ∷ ys) = (λ e. cc, λ e. cc)
 lists_equal E h (x ∷ xs) [] = (λ e. cc, λ e. cc)
@@ -50,7 +58,8 @@ lists_equal E h (x ∷ xs) (y ∷ ys) = (
 )
 
 -- lists of values that stand for the same networks are one
-pub read_one_to_one : {X Y : Type 0} (f : X → Y) → ((x y : X) → f x ≡ f y → x ≡ y) → (xs ys : List X) → map f xs ≡ map f ys → xs ≡ ys
+read_one_to_one : {X Y : Type 0} (f : X → Y) → ((x y : X) → f x ≡ f y → x ≡ y) → (xs ys : List X)
+    → map f xs ≡ map f ys → xs ≡ ys
 read_one_to_one f h [] [] e = refl
 read_one_to_one f h [] (y ∷ ys) e = cc
 read_one_to_one f h (x ∷ xs) [] e = cc
@@ -60,11 +69,14 @@ read_one_to_one f h (x ∷ xs) (y ∷ ys) e =
     ap₂ (λ z zs. z ∷ zs) (h x y heads) (read_one_to_one f h xs ys tails)
 
 -- the aggregates of two lists are equal exactly where the lists cover the same addresses
-pub equal_tells_cover : (networks others answer other : List IpNet) (result : Bool) → result ≡ pointwise eq-value.it answer other
-    → IsAggregateOf (map ip_network answer) (map ip_network networks) → IsAggregateOf (map ip_network other) (map ip_network others)
+pub equal_tells_cover : (networks others answer other : List IpNet) (result : Bool)
+    → result ≡ pointwise eq-value.it answer other
+    → IsAggregateOf (map ip_network answer) (map ip_network networks)
+    → IsAggregateOf (map ip_network other) (map ip_network others)
     → IsTrue result ↔ HaveSameCover (map ip_network networks) (map ip_network others)
 equal_tells_cover networks others answer other result e h k =
-    let cover = same_aggregate_iff_same_cover (map ip_network networks) (map ip_network others) (map ip_network answer) (map ip_network other)
+    let cover = same_aggregate_iff_same_cover (map ip_network networks) (map ip_network others)
+    (map ip_network answer) (map ip_network other)
     (All-read IsNetwork ip_network ip_valid networks) (All-read IsNetwork ip_network ip_valid others) h k in
     let lists = lists_equal eq-value.it ip_equal answer other in (
       λ t. cover.0 (ap (map ip_network) (lists.0 (sym e ∙ t))),

@@ -1,46 +1,53 @@
 -- `read_octet`, `read_dotted`, `read_length` and `read_ipv4_network` read their part of the grammar, and nothing else.
-use Rattle.std.proofs.Common.{◌≡◌, ℕ, ◌≤◌, Bool, true, ◌==◌, List, [], ◌∷◌, ◌++◌, length, Some, refl, sym, ap, ◌∙◌, subst, arith, append_assoc, append-nil, lit≤, le-leb, eqb-true}
+use Rattle.std.proofs.Common.{◌≡◌, ℕ, ◌≤◌, true, ◌==◌, List, [], ◌∷◌, ◌++◌, length, Some, refl, sym, ap, ◌∙◌, subst}
+use Rattle.std.proofs.Common.{arith, append_assoc, append-nil, lit≤, le-leb, eqb-true}
 use Rattle.std.proofs.lemmas.Bool.{and_parts, leb-true}
 use Rattle.std.proofs.lemmas.Option.{cond_some, option_and_then_some, some_pair_parts}
 use Rattle.std.proofs.NetLemmas.Numbers.{NoDigit}
 use Rattle.std.proofs.NetLemmas.Ipv4.{read_byte_sound}
-use Rattle.ipnet.specs.Grammar.{grammar_of}
+use Rattle.ipnet.specs.declared.parser.Grammar.{Grammar}
 use Rattle.ipnet.specs.Numerals.{IsDecimal, IsOctet}
 use Rattle.ipnet.specs.AddressTexts.{IsIpv4AddressText}
 use Rattle.std.specs.Int.{w32, from_be_bytes}
 use Rattle.ipnet_base.specs.Network.{Network}
 use Rattle.ipnet.specs.NetworkOf.{ipv4_network_of}
 use Rattle.ipnet.specs.NetworkTexts.{IsIpv4NetworkText}
-use Rattle.ipnet.specs.Reading.{read_byte, digit_run, octet_of, read_octet, read_dotted, read_length, read_ipv4_network}
+use Rattle.ipnet.specs.ReaderSteps.{read_byte, digit_run, octet_of, read_octet, read_dotted, read_length}
+use Rattle.ipnet.specs.ReaderSteps.{read_ipv4_network}
 use Rattle.ipnet.proofs.DigitTexts.{AllDigits_hex, digit_run-append, digit_run_sound, octet_of_complete, octet_of_sound}
 
 -- the run at the front of a decimal text that a byte other than a digit follows
-decimal_run : (strict : Bool) (most greatest : ℕ) (ds : List ℕ) (n : ℕ) (rest : List ℕ) → most ≤ 4 → IsDecimal (grammar_of strict) most greatest ds n → NoDigit 16 rest → digit_run 4 (ds ++ rest) ≡ (ds, rest)
-decimal_run strict most greatest ds n rest few h stop =
+decimal_run : (grammar : Grammar) (most greatest : ℕ) (ds : List ℕ) (n : ℕ) (rest : List ℕ) → most ≤ 4
+    → IsDecimal grammar most greatest ds n → NoDigit 16 rest → digit_run 4 (ds ++ rest) ≡ (ds, rest)
+decimal_run grammar most greatest ds n rest few h stop =
     digit_run-append 4 ds rest (AllDigits_hex ds h.digits.1) (omega (arith, h.short)) stop
 
-pub octet_run : (strict : Bool) (ds : List ℕ) (n : ℕ) (rest : List ℕ) → IsOctet (grammar_of strict) ds n → NoDigit 16 rest → digit_run 4 (ds ++ rest) ≡ (ds, rest)
-octet_run strict ds n rest h stop = decimal_run strict 3 255 ds n rest (lit≤ tt) h stop
+pub octet_run : (grammar : Grammar) (ds : List ℕ) (n : ℕ) (rest : List ℕ) → IsOctet grammar ds n → NoDigit 16 rest
+    → digit_run 4 (ds ++ rest) ≡ (ds, rest)
+octet_run grammar ds n rest h stop = decimal_run grammar 3 255 ds n rest (lit≤ tt) h stop
 
-read_octet_complete : (strict : Bool) (ds : List ℕ) (n : ℕ) (rest : List ℕ) → IsOctet (grammar_of strict) ds n → NoDigit 16 rest → read_octet strict (46 ∷ (ds ++ rest)) ≡ Some (n, rest)
+read_octet_complete : (grammar : Grammar) (ds : List ℕ) (n : ℕ) (rest : List ℕ) → IsOctet grammar ds n → NoDigit 16 rest
+    → read_octet grammar (46 ∷ (ds ++ rest)) ≡ Some (n, rest)
 unfolding read_octet
-read_octet_complete strict ds n rest h stop =
-    rw (octet_run strict ds n rest h stop, octet_of_complete strict ds n h)
+read_octet_complete grammar ds n rest h stop =
+    rw (octet_run grammar ds n rest h stop, octet_of_complete grammar ds n h)
 
-read_octet_sound : (strict : Bool) (text : List ℕ) (n : ℕ) (rest : List ℕ) → read_octet strict text ≡ Some (n, rest) → (ds : List ℕ) × (text ≡ 46 ∷ (ds ++ rest)) × IsOctet (grammar_of strict) ds n
+read_octet_sound : (grammar : Grammar) (text : List ℕ) (n : ℕ) (rest : List ℕ)
+    → read_octet grammar text ≡ Some (n, rest) → (ds : List ℕ) × (text ≡ 46 ∷ (ds ++ rest)) × IsOctet grammar ds n
 unfolding read_octet
-read_octet_sound strict text n rest e =
+read_octet_sound grammar text n rest e =
     option_and_then_some _ (read_byte 46 text) _ e λ digits dot e₁.
-    option_and_then_some _ (octet_of strict (digit_run 4 digits).0) _ e₁ λ o octet e₂.
+    option_and_then_some _ (octet_of grammar (digit_run 4 digits).0) _ e₁ λ o octet e₂.
     let (value_is, rest_is) = some_pair_parts o n (digit_run 4 digits).1 rest e₂ in
     let run = digit_run_sound 4 digits in (
       (digit_run 4 digits).0,
-      read_byte_sound 46 text digits dot ∙ ap (λ t. 46 ∷ t) (run.spelled ∙ ap (λ t. (digit_run 4 digits).0 ++ t) rest_is),
-      rw value_is at (octet_of_sound strict _ o octet),
+      read_byte_sound 46 text digits dot ∙ ap (λ t. 46 ∷ t)
+          (run.spelled ∙ ap (λ t. (digit_run 4 digits).0 ++ t) rest_is),
+      rw value_is at (octet_of_sound grammar _ o octet),
     )
 
 -- a dotted address by its parts
-pub record Dots (strict : Bool) (text octets : List ℕ) : Type 0 where
+pub record Dots (grammar : Grammar) (text octets : List ℕ) : Type 0 where
   pub t₁ : List ℕ
   pub t₂ : List ℕ
   pub t₃ : List ℕ
@@ -49,20 +56,21 @@ pub record Dots (strict : Bool) (text octets : List ℕ) : Type 0 where
   pub b : ℕ
   pub c : ℕ
   pub d : ℕ
-  pub is_a : IsOctet (grammar_of strict) t₁ a
-  pub is_b : IsOctet (grammar_of strict) t₂ b
-  pub is_c : IsOctet (grammar_of strict) t₃ c
-  pub is_d : IsOctet (grammar_of strict) t₄ d
+  pub is_a : IsOctet grammar t₁ a
+  pub is_b : IsOctet grammar t₂ b
+  pub is_c : IsOctet grammar t₃ c
+  pub is_d : IsOctet grammar t₄ d
   pub value : octets ≡ a ∷ b ∷ c ∷ d ∷ []
   pub spelled : text ≡ t₁ ++ (46 ∷ (t₂ ++ (46 ∷ (t₃ ++ (46 ∷ t₄)))))
 
-pub Dots-from : (strict : Bool) (text octets : List ℕ) → IsIpv4AddressText (grammar_of strict) text octets → Dots strict text octets
-Dots-from strict text [] h = absurd (omega (arith, h.1))
-Dots-from strict text (a ∷ []) h = absurd (omega (arith, h.1))
-Dots-from strict text (a ∷ b ∷ []) h = absurd (omega (arith, h.1))
-Dots-from strict text (a ∷ b ∷ c ∷ []) h = absurd (omega (arith, h.1))
-Dots-from strict text (a ∷ b ∷ c ∷ d ∷ e ∷ more) h = absurd (omega (arith, h.1))
-Dots-from strict text (a ∷ b ∷ c ∷ d ∷ []) ((t₁, r₁, s₁, h₁, (t₂, r₂, s₂, h₂, (t₃, t₄, s₃, h₃, h₄))), four) = record {
+pub Dots-from : (grammar : Grammar) (text octets : List ℕ) → IsIpv4AddressText grammar text octets
+    → Dots grammar text octets
+Dots-from grammar text [] h = absurd (omega (arith, h.1))
+Dots-from grammar text (a ∷ []) h = absurd (omega (arith, h.1))
+Dots-from grammar text (a ∷ b ∷ []) h = absurd (omega (arith, h.1))
+Dots-from grammar text (a ∷ b ∷ c ∷ []) h = absurd (omega (arith, h.1))
+Dots-from grammar text (a ∷ b ∷ c ∷ d ∷ e ∷ more) h = absurd (omega (arith, h.1))
+Dots-from grammar text (a ∷ b ∷ c ∷ d ∷ []) ((t₁, r₁, s₁, h₁, (t₂, r₂, s₂, h₂, (t₃, t₄, s₃, h₃, h₄))), four) = record {
   t₁ = t₁;
   t₂ = t₂;
   t₃ = t₃;
@@ -80,46 +88,52 @@ Dots-from strict text (a ∷ b ∷ c ∷ d ∷ []) ((t₁, r₁, s₁, h₁, (t�
 }
 
 -- its text, with what follows it
-pub Dots-rest : (strict : Bool) (text octets rest : List ℕ) (h : Dots strict text octets) → text ++ rest ≡ h.t₁ ++ (46 ∷ (h.t₂ ++ (46 ∷ (h.t₃ ++ (46 ∷ (h.t₄ ++ rest))))))
-Dots-rest strict text octets rest h = rw h.spelled (simp append_assoc)
+pub Dots-rest : (grammar : Grammar) (text octets rest : List ℕ) (h : Dots grammar text octets)
+    → text ++ rest ≡ h.t₁ ++ (46 ∷ (h.t₂ ++ (46 ∷ (h.t₃ ++ (46 ∷ (h.t₄ ++ rest))))))
+Dots-rest grammar text octets rest h = rw h.spelled (simp append_assoc)
 
-pub read_dotted_complete : (strict : Bool) (text octets rest : List ℕ) (h : Dots strict text octets) → NoDigit 16 rest → read_dotted strict h.a (46 ∷ (h.t₂ ++ (46 ∷ (h.t₃ ++ (46 ∷ (h.t₄ ++ rest)))))) ≡ Some (octets, rest)
+pub read_dotted_complete : (grammar : Grammar) (text octets rest : List ℕ) (h : Dots grammar text octets)
+    → NoDigit 16 rest → read_dotted grammar h.a (46 ∷ (h.t₂ ++ (46 ∷ (h.t₃ ++ (46 ∷ (h.t₄ ++ rest))))))
+    ≡ Some (octets, rest)
 unfolding read_dotted
-read_dotted_complete strict text octets rest h stop =
+read_dotted_complete grammar text octets rest h stop =
     rw (
-      read_octet_complete strict h.t₂ h.b _ h.is_b (lit≤ tt),
-      read_octet_complete strict h.t₃ h.c _ h.is_c (lit≤ tt),
-      read_octet_complete strict h.t₄ h.d rest h.is_d stop,
+      read_octet_complete grammar h.t₂ h.b _ h.is_b (lit≤ tt),
+      read_octet_complete grammar h.t₃ h.c _ h.is_c (lit≤ tt),
+      read_octet_complete grammar h.t₄ h.d rest h.is_d stop,
       h.value,
     )
 
 -- three more octets, one behind the other
-three_more : (x y z w t₂ t₃ t₄ rest : List ℕ) → x ≡ 46 ∷ (t₂ ++ y) → y ≡ 46 ∷ (t₃ ++ z) → z ≡ 46 ∷ (t₄ ++ w) → w ≡ rest → x ≡ (46 ∷ (t₂ ++ (46 ∷ (t₃ ++ (46 ∷ t₄))))) ++ rest
+three_more : (x y z w t₂ t₃ t₄ rest : List ℕ) → x ≡ 46 ∷ (t₂ ++ y) → y ≡ 46 ∷ (t₃ ++ z) → z ≡ 46 ∷ (t₄ ++ w) → w ≡ rest
+    → x ≡ (46 ∷ (t₂ ++ (46 ∷ (t₃ ++ (46 ∷ t₄))))) ++ rest
 three_more x y z w t₂ t₃ t₄ rest s₂ s₃ s₄ same = s₂ ∙ rw (s₃, s₄, same) (simp append_assoc)
 
-pub read_dotted_sound : (strict : Bool) (ds : List ℕ) (a : ℕ) (text octets rest : List ℕ) → octet_of strict ds ≡ Some a → read_dotted strict a text ≡ Some (octets, rest) → (front : List ℕ) × (text ≡ front ++ rest) × IsIpv4AddressText (grammar_of strict) (ds ++ front) octets
+pub read_dotted_sound : (grammar : Grammar) (ds : List ℕ) (a : ℕ) (text octets rest : List ℕ)
+    → octet_of grammar ds ≡ Some a → read_dotted grammar a text ≡ Some (octets, rest)
+    → (front : List ℕ) × (text ≡ front ++ rest) × IsIpv4AddressText grammar (ds ++ front) octets
 unfolding read_dotted
-read_dotted_sound strict ds a text octets rest first e =
-    option_and_then_some _ (read_octet strict text) _ e λ b read_b e₁.
-    option_and_then_some _ (read_octet strict b.1) _ e₁ λ c read_c e₂.
-    option_and_then_some _ (read_octet strict c.1) _ e₂ λ d read_d e₃.
+read_dotted_sound grammar ds a text octets rest first e =
+    option_and_then_some _ (read_octet grammar text) _ e λ b read_b e₁.
+    option_and_then_some _ (read_octet grammar b.1) _ e₁ λ c read_c e₂.
+    option_and_then_some _ (read_octet grammar c.1) _ e₂ λ d read_d e₃.
     let (value_is, rest_is) = some_pair_parts (a ∷ b.0 ∷ c.0 ∷ d.0 ∷ []) octets d.1 rest e₃ in
-    let (t₂, s₂, is_b) = read_octet_sound strict text b.0 b.1 read_b in
-    let (t₃, s₃, is_c) = read_octet_sound strict b.1 c.0 c.1 read_c in
-    let (t₄, s₄, is_d) = read_octet_sound strict c.1 d.0 d.1 read_d in
+    let (t₂, s₂, is_b) = read_octet_sound grammar text b.0 b.1 read_b in
+    let (t₃, s₃, is_c) = read_octet_sound grammar b.1 c.0 c.1 read_c in
+    let (t₄, s₄, is_d) = read_octet_sound grammar c.1 d.0 d.1 read_d in
     let front = 46 ∷ (t₂ ++ (46 ∷ (t₃ ++ (46 ∷ t₄)))) in
     let split : text ≡ front ++ rest = three_more text b.1 c.1 d.1 t₂ t₃ t₄ rest s₂ s₃ s₄ rest_is in
-    let dotted : IsIpv4AddressText (grammar_of strict) (ds ++ front) (a ∷ b.0 ∷ c.0 ∷ d.0 ∷ []) = (
+    let dotted : IsIpv4AddressText grammar (ds ++ front) (a ∷ b.0 ∷ c.0 ∷ d.0 ∷ []) = (
       (
         ds,
         t₂ ++ (46 ∷ (t₃ ++ (46 ∷ t₄))),
         simp append_assoc,
-        octet_of_sound strict ds a first,
+        octet_of_sound grammar ds a first,
         (t₂, t₃ ++ (46 ∷ t₄), simp append_assoc, is_b, (t₃, t₄, simp append_assoc, is_c, is_d)),
       ),
       refl,
     ) in
-    (front, split, subst (λ o. IsIpv4AddressText (grammar_of strict) (ds ++ front) o) value_is dotted)
+    (front, split, subst (λ o. IsIpv4AddressText grammar (ds ++ front) o) value_is dotted)
 
 -- ---- the length, which ends the text
 
@@ -128,75 +142,87 @@ no_rest ds [] e = append-nil ds
 no_rest ds (c ∷ rest) e = absurd (omega (arith, eqb-true (length (c ∷ rest)) 0 e))
 
 -- a text is its first run, the rest of the address, and a length behind "/"
-both_parts : (text ds more front behind digits : List ℕ) → text ≡ ds ++ more → more ≡ front ++ behind → behind ≡ 47 ∷ digits → text ≡ ds ++ front ++ (47 ∷ []) ++ digits
+both_parts : (text ds more front behind digits : List ℕ) → text ≡ ds ++ more → more ≡ front ++ behind
+    → behind ≡ 47 ∷ digits → text ≡ ds ++ front ++ (47 ∷ []) ++ digits
 both_parts text ds more front behind digits e₁ e₂ e₃ = e₁ ∙ rw (e₂, e₃) (simp append_assoc)
 
-pub read_length_complete : (strict : Bool) (most greatest : ℕ) (text : List ℕ) (n : ℕ) → most ≤ 3 → greatest ≤ 255 → IsDecimal (grammar_of strict) most greatest text n → read_length strict most greatest (47 ∷ text) ≡ Some n
+pub read_length_complete : (grammar : Grammar) (most greatest : ℕ) (text : List ℕ) (n : ℕ) → most ≤ 3 → greatest ≤ 255
+    → IsDecimal grammar most greatest text n → read_length grammar most greatest (47 ∷ text) ≡ Some n
 unfolding read_length
-read_length_complete strict most greatest text n few low h =
-    let run = rw append-nil at (decimal_run strict most greatest text n [] (omega arith) h (lit≤ tt)) in
-    let octet : IsOctet (grammar_of strict) text n = record {
+read_length_complete grammar most greatest text n few low h =
+    let run = rw append-nil at (decimal_run grammar most greatest text n [] (omega arith) h (lit≤ tt)) in
+    let octet : IsOctet grammar text n = record {
       digits = h.digits;
       value = h.value;
       short = omega (arith, h.short);
       small = omega (arith, h.small);
       plain = h.plain;
     } in
-    rw (run, octet_of_complete strict text n octet, le-leb n greatest h.small, le-leb (length text) most h.short)
+    rw (run, octet_of_complete grammar text n octet, le-leb n greatest h.small, le-leb (length text) most h.short)
 
-pub read_length_sound : (strict : Bool) (most greatest : ℕ) (text : List ℕ) (n : ℕ) → read_length strict most greatest text ≡ Some n → (digits : List ℕ) × (text ≡ 47 ∷ digits) × IsDecimal (grammar_of strict) most greatest digits n
+pub read_length_sound : (grammar : Grammar) (most greatest : ℕ) (text : List ℕ) (n : ℕ)
+    → read_length grammar most greatest text ≡ Some n
+    → (digits : List ℕ) × (text ≡ 47 ∷ digits) × IsDecimal grammar most greatest digits n
 unfolding read_length
-read_length_sound strict most greatest text n e =
+read_length_sound grammar most greatest text n e =
     option_and_then_some _ (read_byte 47 text) _ e λ digits slash e₁.
-    option_and_then_some _ (octet_of strict (digit_run 4 digits).0) _ e₁ λ o octet e₂.
+    option_and_then_some _ (octet_of grammar (digit_run 4 digits).0) _ e₁ λ o octet e₂.
     let (tests, value) = cond_some _ _ _ e₂ in
     let (front, none_left) = and_parts _ _ tests in
     let (small, short) = and_parts _ _ front in
-    let is = octet_of_sound strict (digit_run 4 digits).0 o octet in
+    let is = octet_of_sound grammar (digit_run 4 digits).0 o octet in
     let run = digit_run_sound 4 digits in
     let whole : digits ≡ (digit_run 4 digits).0 = run.spelled ∙ no_rest _ _ none_left in
-    let decimal : IsDecimal (grammar_of strict) most greatest (digit_run 4 digits).0 n = record {
+    let decimal : IsDecimal grammar most greatest (digit_run 4 digits).0 n = record {
       digits = is.digits;
       value = is.value ∙ value;
       short = leb-true _ most short;
       small = subst (λ m. m ≤ greatest) value (leb-true o greatest small);
       plain = is.plain;
     } in
-    (digits, read_byte_sound 47 text digits slash, subst (λ t. IsDecimal (grammar_of strict) most greatest t n) (sym whole) decimal)
+    (digits, read_byte_sound 47 text digits slash, subst (λ t. IsDecimal grammar most greatest t n) (sym whole) decimal)
 
 -- ---- the network
 
-pub read_ipv4_network_complete : (strict : Bool) (text : List ℕ) (network : Network) (h : IsIpv4NetworkText (grammar_of strict) text network) → read_ipv4_network strict (octet_of strict (digit_run 4 text).0) (digit_run 4 text).1 ≡ Some (h.octets, network.prefix_len)
+pub read_ipv4_network_complete : (grammar : Grammar) (text : List ℕ) (network : Network)
+    (h : IsIpv4NetworkText grammar text network)
+    → read_ipv4_network grammar (octet_of grammar (digit_run 4 text).0) (digit_run 4 text).1
+    ≡ Some (h.octets, network.prefix_len)
 unfolding read_ipv4_network
-read_ipv4_network_complete strict text network h =
-    let dots = Dots-from strict h.address_text h.octets h.writes_address in
+read_ipv4_network_complete grammar text network h =
+    let dots = Dots-from grammar h.address_text h.octets h.writes_address in
     let behind = 47 ∷ h.length_text in
-    let shown = h.spelled ∙ append_assoc h.address_text (47 ∷ []) h.length_text ∙ Dots-rest strict h.address_text h.octets behind dots in
+    let shown =
+    h.spelled ∙ append_assoc h.address_text (47 ∷ []) h.length_text
+    ∙ Dots-rest grammar h.address_text h.octets behind dots in
     rw (
       shown,
-      octet_run strict dots.t₁ dots.a _ dots.is_a (lit≤ tt),
-      octet_of_complete strict dots.t₁ dots.a dots.is_a,
-      read_dotted_complete strict h.address_text h.octets behind dots (lit≤ tt),
-      read_length_complete strict 2 32 h.length_text network.prefix_len (lit≤ tt) (lit≤ tt) h.writes_length,
+      octet_run grammar dots.t₁ dots.a _ dots.is_a (lit≤ tt),
+      octet_of_complete grammar dots.t₁ dots.a dots.is_a,
+      read_dotted_complete grammar h.address_text h.octets behind dots (lit≤ tt),
+      read_length_complete grammar 2 32 h.length_text network.prefix_len (lit≤ tt) (lit≤ tt) h.writes_length,
     )
 
-pub read_ipv4_network_sound : (strict : Bool) (text octets : List ℕ) (n : ℕ) → read_ipv4_network strict (octet_of strict (digit_run 4 text).0) (digit_run 4 text).1 ≡ Some (octets, n) → IsIpv4NetworkText (grammar_of strict) text (ipv4_network_of (from_be_bytes w32 octets) n)
+pub read_ipv4_network_sound : (grammar : Grammar) (text octets : List ℕ) (n : ℕ)
+    → read_ipv4_network grammar (octet_of grammar (digit_run 4 text).0) (digit_run 4 text).1 ≡ Some (octets, n)
+    → IsIpv4NetworkText grammar text (ipv4_network_of (from_be_bytes w32 octets) n)
 unfolding read_ipv4_network
-read_ipv4_network_sound strict text octets n e =
-    option_and_then_some _ (octet_of strict (digit_run 4 text).0) _ e λ first octet e₁.
-    option_and_then_some _ (read_dotted strict first (digit_run 4 text).1) _ e₁ λ address read e₂.
-    option_and_then_some _ (read_length strict 2 32 address.1) _ e₂ λ m length_read e₃.
+read_ipv4_network_sound grammar text octets n e =
+    option_and_then_some _ (octet_of grammar (digit_run 4 text).0) _ e λ first octet e₁.
+    option_and_then_some _ (read_dotted grammar first (digit_run 4 text).1) _ e₁ λ address read e₂.
+    option_and_then_some _ (read_length grammar 2 32 address.1) _ e₂ λ m length_read e₃.
     let (octets_are, n_is) = some_pair_parts address.0 octets m n e₃ in
     let run = digit_run_sound 4 text in
-    let (front, split, dotted) = read_dotted_sound strict (digit_run 4 text).0 first (digit_run 4 text).1 address.0 address.1 octet read in
-    let (digits, slash, decimal) = read_length_sound strict 2 32 address.1 m length_read in
+    let (front, split, dotted) =
+    read_dotted_sound grammar (digit_run 4 text).0 first (digit_run 4 text).1 address.0 address.1 octet read in
+    let (digits, slash, decimal) = read_length_sound grammar 2 32 address.1 m length_read in
     record {
       address_text = (digit_run 4 text).0 ++ front;
       length_text = digits;
       octets = octets;
       spelled = both_parts text _ _ front address.1 digits run.spelled split slash;
-      writes_address = subst (λ o. IsIpv4AddressText (grammar_of strict) ((digit_run 4 text).0 ++ front) o) octets_are dotted;
-      writes_length = subst (λ m. IsDecimal (grammar_of strict) 2 32 digits m) n_is decimal;
+      writes_address = subst (λ o. IsIpv4AddressText grammar ((digit_run 4 text).0 ++ front) o) octets_are dotted;
+      writes_length = subst (λ m. IsDecimal grammar 2 32 digits m) n_is decimal;
       family = refl;
       number = refl;
     }

@@ -1,11 +1,12 @@
 -- Lemmas that the proofs of this crate share.
 pub mod FrontLaws
-pub mod AnswerLaws
+pub mod JoinedLaws
 pub mod EqualLaws
 pub mod SubnetsLaws
 pub mod SubnetCountLaws
 pub mod NumberLaws
 pub mod NetOrderLaws
+pub mod WalkValueLaws
 pub use Rattle.ipnet_base.proofs.BlockLaws
 pub mod NumberOctets
 pub mod DigitTexts
@@ -13,6 +14,8 @@ pub mod Ipv4Texts
 pub mod Ipv6Texts
 pub mod WholeTexts
 pub mod StrictTexts
+pub mod StdTexts
+pub mod Ipv6Forms
 pub mod ValidTexts
 pub mod PrintedTexts
 pub mod PrintedDigits
@@ -21,6 +24,7 @@ pub mod LineLaws
 pub mod CompactLaws
 pub mod JsonLaws
 pub mod ReaderTurns
+pub use Rattle.ipnet_base.proofs.CoverLaws
 pub use Rattle.ipnet_base.proofs.FamilyLaws
 pub use Rattle.ipnet_base.proofs.AggregateLaws
 pub use Rattle.ipnet_base.proofs.WalkLaws

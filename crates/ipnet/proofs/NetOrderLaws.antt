@@ -1,13 +1,13 @@
 -- The network types are ordered as networks, and feed a hasher all that tells two networks apart.
-use Rattle.std.proofs.Common.{◌≡◌, ℕ, ◌+◌, ◌*◌, ◌/◌, ◌%◌, ◌^◌, ◌<◌, ◌⊎◌, ◌↔◌, List, [], ◌∷◌, inl, inr, refl, ap, sym, ◌∙◌, arith, Ordering, Less, Equal, Greater, nat_cmp}
+use Rattle.std.proofs.Common.{◌≡◌, ℕ, ◌+◌, ◌*◌, ◌/◌, ◌%◌, ◌^◌, ◌<◌, ◌⊎◌, ◌↔◌, List, [], ◌∷◌, inl, inr}
+use Rattle.std.proofs.Common.{refl, ap, sym, ◌∙◌, arith, Ordering, Less, Equal, Greater, nat_cmp}
 use Rattle.std.specs.Cmp.{ranks}
 use Rattle.std.proofs.lemmas.Bool.{cases_order}
 use Rattle.std.specs.Ordering.{MatchOrdering, ordering_then}
 use Rattle.std.specs.Hash.{le_bytes}
-use Rattle.std.specs.Int.{w64, from_le_bytes}
-use Rattle.std.proofs.lemmas.Nat.{from_le_bytes-to_le_bytes_8}
 use Rattle.ipnet_base.specs.Network.{Network, IsBefore}
 use Rattle.ipnet_base.proofs.BlockLaws.{same_network}
+use Rattle.ipnet_base.proofs.ValueLaws.{same_by_bytes, families_fed_apart}
 use Rattle.ipnet.specs.declared.net.IpNet.{IpNet}
 use Rattle.ipnet.specs.declared.net.IpNet.TheVariants as Ip
 use Rattle.ipnet.specs.declared.net.ipv4_net.Ipv4Net.{Ipv4Net}
@@ -25,73 +25,89 @@ then_ranks Equal Greater P Q R P' Q' R' h k = inr (h, k)
 then_ranks Greater s P Q R P' Q' R' h k = inl h
 
 -- the same of what follows from each
-ranks_along : (r : Ordering) (P Q R P' Q' R' : Type 0) → (P → P') → (Q → Q') → (R → R') → MatchOrdering r P Q R → MatchOrdering r P' Q' R'
+ranks_along : (r : Ordering) (P Q R P' Q' R' : Type 0) → (P → P') → (Q → Q') → (R → R')
+    → MatchOrdering r P Q R → MatchOrdering r P' Q' R'
 ranks_along Less P Q R P' Q' R' f g h k = f k
 ranks_along Equal P Q R P' Q' R' f g h k = g k
 ranks_along Greater P Q R P' Q' R' f g h k = h k
 
+-- r says how the two networks are ordered
+abbrev Ranks : Ordering → Network → Network → Type 0
+Ranks r n k = MatchOrdering r (IsBefore n k) (n ≡ k) (IsBefore k n)
+
+-- the first numbers are below one another, or equal and the second ones below
+abbrev IsLess : ℕ → ℕ → ℕ → ℕ → Type 0
+IsLess a b c d = (a < c) ⊎ ((a ≡ c) × (b < d))
+
 -- networks of one family by number and length
-before : (n k : Network) → n.family ≡ k.family → (n.number < k.number) ⊎ ((n.number ≡ k.number) × (n.prefix_len < k.prefix_len)) → IsBefore n k
+before : (n k : Network) → n.family ≡ k.family → IsLess n.number n.prefix_len k.number k.prefix_len → IsBefore n k
 before n k same h = inr (same, h)
 
 -- words are compared as the numbers in their upper halves, and where these are equal as the lengths in the lower ones
-halves_of_less : (v w : ℕ) → v < w → (v / 2 ^ 32 < w / 2 ^ 32) ⊎ ((v / 2 ^ 32 ≡ w / 2 ^ 32) × (v % 2 ^ 32 < w % 2 ^ 32))
+halves_of_less : (v w : ℕ) → v < w → IsLess (v / 2 ^ 32) (v % 2 ^ 32) (w / 2 ^ 32) (w % 2 ^ 32)
 halves_of_less v w lt = elim (cases_order (v / 2 ^ 32) (w / 2 ^ 32)) [
   | inl same ↦ inr (same, omega (arith, same, lt))
   | inr (inl less) ↦ inl less
   | inr (inr more) ↦ absurd (omega (arith, more, lt))
 ]
 
-pub ipv4_ranks : (x y : Ipv4Net) → MatchOrdering (nat_cmp x.word y.word)
-    (IsBefore (ipv4_network x) (ipv4_network y)) (ipv4_network x ≡ ipv4_network y) (IsBefore (ipv4_network y) (ipv4_network x))
-ipv4_ranks x y = ranks_along (nat_cmp x.word y.word) (x.word < y.word) (x.word ≡ y.word) (y.word < x.word)
-    (IsBefore (ipv4_network x) (ipv4_network y)) (ipv4_network x ≡ ipv4_network y) (IsBefore (ipv4_network y) (ipv4_network x))
-    (λ h. before (ipv4_network x) (ipv4_network y) refl (halves_of_less x.word y.word h))
-    (λ e. same_network (ipv4_network x) (ipv4_network y) refl (ap (λ w. w / 2 ^ 32) e) (ap (λ w. w % 2 ^ 32) e))
-    (λ h. before (ipv4_network y) (ipv4_network x) refl (halves_of_less y.word x.word h))
+pub ipv4_ranks : (x y : Ipv4Net) → Ranks (nat_cmp x.word y.word) (ipv4_network x) (ipv4_network y)
+ipv4_ranks x y =
+    let n = ipv4_network x in
+    let k = ipv4_network y in
+    ranks_along (nat_cmp x.word y.word) (x.word < y.word) (x.word ≡ y.word) (y.word < x.word)
+    (IsBefore n k) (n ≡ k) (IsBefore k n)
+    (λ h. before n k refl (halves_of_less x.word y.word h))
+    (λ e. same_network n k refl (ap (λ w. w / 2 ^ 32) e) (ap (λ w. w % 2 ^ 32) e))
+    (λ h. before k n refl (halves_of_less y.word x.word h))
     (ranks x.word y.word)
 
 -- numbers in two halves are compared by the high halves and then by the low ones
-halves_below : (a b c d p q : ℕ) → b < 2 ^ 64 → d < 2 ^ 64 → (a < c) ⊎ ((a ≡ c) × ((b < d) ⊎ ((b ≡ d) × (p < q))))
-    → (a * 2 ^ 64 + b < c * 2 ^ 64 + d) ⊎ ((a * 2 ^ 64 + b ≡ c * 2 ^ 64 + d) × (p < q))
+halves_below : (a b c d p q : ℕ) → b < 2 ^ 64 → d < 2 ^ 64 → (a < c) ⊎ ((a ≡ c) × IsLess b p d q)
+    → IsLess (a * 2 ^ 64 + b) p (c * 2 ^ 64 + d) q
 halves_below a b c d p q l m (inl lt) = inl (omega arith)
 halves_below a b c d p q l m (inr h) = elim h.1 [
   | inl lt ↦ inl (omega (arith, h.0))
   | inr k ↦ inr (omega (arith, h.0, k.0), k.1)
 ]
 
-pub ipv6_ranks : (x y : Ipv6Net) → MatchOrdering (ordering_then (nat_cmp x.high y.high) (ordering_then (nat_cmp x.low y.low) (nat_cmp x.prefix_len y.prefix_len)))
-    (IsBefore (ipv6_network x) (ipv6_network y)) (ipv6_network x ≡ ipv6_network y) (IsBefore (ipv6_network y) (ipv6_network x))
+-- the equations of a comparison, read from the other side
+turned : (a b c d p q : ℕ) → (c < a) ⊎ ((a ≡ c) × ((d < b) ⊎ ((b ≡ d) × (q < p))))
+    → (c < a) ⊎ ((c ≡ a) × IsLess d q b p)
+turned a b c d p q (inl lt) = inl lt
+turned a b c d p q (inr (e, inl lt)) = inr (sym e, inl lt)
+turned a b c d p q (inr (e, inr (f, lt))) = inr (sym e, inr (sym f, lt))
+
+-- what the derived comparison of an IPv6 network and another answers
+abbrev ipv6_cmp : Ipv6Net → Ipv6Net → Ordering
+ipv6_cmp x y =
+    ordering_then (nat_cmp x.high y.high) (ordering_then (nat_cmp x.low y.low) (nat_cmp x.prefix_len y.prefix_len))
+
+pub ipv6_ranks : (x y : Ipv6Net) → Ranks (ipv6_cmp x y) (ipv6_network x) (ipv6_network y)
 ipv6_ranks x y =
-    let low : MatchOrdering (ordering_then (nat_cmp x.low y.low) (nat_cmp x.prefix_len y.prefix_len))
-    ((x.low < y.low) ⊎ ((x.low ≡ y.low) × (x.prefix_len < y.prefix_len)))
-    ((x.low ≡ y.low) × (x.prefix_len ≡ y.prefix_len))
-    ((y.low < x.low) ⊎ ((x.low ≡ y.low) × (y.prefix_len < x.prefix_len))) =
-    then_ranks (nat_cmp x.low y.low) (nat_cmp x.prefix_len y.prefix_len)
-    (x.low < y.low) (x.low ≡ y.low) (y.low < x.low)
-    (x.prefix_len < y.prefix_len) (x.prefix_len ≡ y.prefix_len) (y.prefix_len < x.prefix_len)
-    (ranks x.low y.low) (ranks x.prefix_len y.prefix_len) in
-    ranks_along (ordering_then (nat_cmp x.high y.high) (ordering_then (nat_cmp x.low y.low) (nat_cmp x.prefix_len y.prefix_len)))
-    ((x.high < y.high) ⊎ ((x.high ≡ y.high) × ((x.low < y.low) ⊎ ((x.low ≡ y.low) × (x.prefix_len < y.prefix_len)))))
+    let n = ipv6_network x in
+    let k = ipv6_network y in
+    ranks_along (ipv6_cmp x y)
+    ((x.high < y.high) ⊎ ((x.high ≡ y.high) × IsLess x.low x.prefix_len y.low y.prefix_len))
     ((x.high ≡ y.high) × ((x.low ≡ y.low) × (x.prefix_len ≡ y.prefix_len)))
     ((y.high < x.high) ⊎ ((x.high ≡ y.high) × ((y.low < x.low) ⊎ ((x.low ≡ y.low) × (y.prefix_len < x.prefix_len)))))
-    (IsBefore (ipv6_network x) (ipv6_network y)) (ipv6_network x ≡ ipv6_network y) (IsBefore (ipv6_network y) (ipv6_network x))
-    (λ h. before (ipv6_network x) (ipv6_network y) refl (halves_below x.high x.low y.high y.low x.prefix_len y.prefix_len x.low_fits y.low_fits h))
-    (λ h. same_network (ipv6_network x) (ipv6_network y) refl (omega (arith, h.0, h.1.0)) h.1.1)
-    (λ h. before (ipv6_network y) (ipv6_network x) refl (halves_below y.high y.low x.high x.low y.prefix_len x.prefix_len y.low_fits x.low_fits
-    (elim h [ inl lt ↦ inl lt | inr k ↦ inr (sym k.0, elim k.1 [ inl lt ↦ inl lt | inr m ↦ inr (sym m.0, m.1) ]) ])))
+    (IsBefore n k) (n ≡ k) (IsBefore k n)
+    (λ h. before n k refl (halves_below x.high x.low y.high y.low x.prefix_len y.prefix_len x.low_fits y.low_fits h))
+    (λ h. same_network n k refl (omega (arith, h.0, h.1.0)) h.1.1)
+    (λ h. before k n refl (halves_below y.high y.low x.high x.low y.prefix_len x.prefix_len y.low_fits x.low_fits
+    (turned x.high x.low y.high y.low x.prefix_len y.prefix_len h)))
     (then_ranks (nat_cmp x.high y.high) (ordering_then (nat_cmp x.low y.low) (nat_cmp x.prefix_len y.prefix_len))
     (x.high < y.high) (x.high ≡ y.high) (y.high < x.high)
-    ((x.low < y.low) ⊎ ((x.low ≡ y.low) × (x.prefix_len < y.prefix_len)))
+    (IsLess x.low x.prefix_len y.low y.prefix_len)
     ((x.low ≡ y.low) × (x.prefix_len ≡ y.prefix_len))
     ((y.low < x.low) ⊎ ((x.low ≡ y.low) × (y.prefix_len < x.prefix_len)))
-    (ranks x.high y.high) low)
+    (ranks x.high y.high)
+    (then_ranks (nat_cmp x.low y.low) (nat_cmp x.prefix_len y.prefix_len)
+    (x.low < y.low) (x.low ≡ y.low) (y.low < x.low)
+    (x.prefix_len < y.prefix_len) (x.prefix_len ≡ y.prefix_len) (y.prefix_len < x.prefix_len)
+    (ranks x.low y.low) (ranks x.prefix_len y.prefix_len)))
 
--- numbers are told by the bytes that a hasher is fed
-pub eight_bytes : (x y : ℕ) → x < 2 ^ 64 → y < 2 ^ 64 → le_bytes 8 x ≡ le_bytes 8 y → x ≡ y
-unfolding le_bytes
-eight_bytes x y h k e = sym (from_le_bytes-to_le_bytes_8 x h) ∙ ap (from_le_bytes w64) e ∙ from_le_bytes-to_le_bytes_8 y k
-
+-- what a hasher is fed of a network
 abbrev pub ipv4_fed : Ipv4Net → List (List ℕ)
 ipv4_fed n = le_bytes 8 n.word ∷ []
 
@@ -101,7 +117,7 @@ ipv4_hash x y = (to, λ e. ap ipv4_fed (ipv4_one_to_one x y e))
     to : ipv4_fed x ≡ ipv4_fed y → ipv4_network x ≡ ipv4_network y
     to e =
         let word : le_bytes 8 x.word ≡ le_bytes 8 y.word = cc in
-        let same : x.word ≡ y.word = eight_bytes x.word y.word x.word_fits y.word_fits word in
+        let same : x.word ≡ y.word = same_by_bytes 8 x.word y.word x.word_fits y.word_fits word in
         same_network (ipv4_network x) (ipv4_network y) refl (ap (λ w. w / 2 ^ 32) same) (ap (λ w. w % 2 ^ 32) same)
 
 abbrev pub ipv6_fed : Ipv6Net → List (List ℕ)
@@ -115,23 +131,21 @@ ipv6_hash x y = (to, λ e. ap ipv6_fed (ipv6_one_to_one x y e))
         let high : le_bytes 8 x.high ≡ le_bytes 8 y.high = cc in
         let low : le_bytes 8 x.low ≡ le_bytes 8 y.low = cc in
         let len : le_bytes 8 x.prefix_len ≡ le_bytes 8 y.prefix_len = cc in
-        let same_high : x.high ≡ y.high = eight_bytes x.high y.high x.high_fits y.high_fits high in
-        let same_low : x.low ≡ y.low = eight_bytes x.low y.low x.low_fits y.low_fits low in
+        let same_high : x.high ≡ y.high = same_by_bytes 8 x.high y.high x.high_fits y.high_fits high in
+        let same_low : x.low ≡ y.low = same_by_bytes 8 x.low y.low x.low_fits y.low_fits low in
         same_network (ipv6_network x) (ipv6_network y) refl (omega arith)
-        (eight_bytes x.prefix_len y.prefix_len (omega (arith, x.prefix_fits)) (omega (arith, y.prefix_fits)) len)
+        (same_by_bytes 8 x.prefix_len y.prefix_len (omega (arith, x.prefix_fits)) (omega (arith, y.prefix_fits)) len)
 
 -- Of either family a hasher is fed the family's place first.
-pub ip_hash : (fed : IpNet → List (List ℕ)) → ((n : Ipv4Net) → fed (Ip.V4 n) ≡ le_bytes 8 0 ∷ ipv4_fed n) → ((n : Ipv6Net) → fed (Ip.V6 n) ≡ le_bytes 8 1 ∷ ipv6_fed n)
+pub ip_hash : (fed : IpNet → List (List ℕ)) → ((n : Ipv4Net) → fed (Ip.V4 n) ≡ le_bytes 8 0 ∷ ipv4_fed n)
+    → ((n : Ipv6Net) → fed (Ip.V6 n) ≡ le_bytes 8 1 ∷ ipv6_fed n)
     → (x y : IpNet) → (fed x ≡ fed y) ↔ (ip_network x ≡ ip_network y)
 ip_hash fed four six x y = (to x y, λ e. ap fed (ip_one_to_one x y e))
   where
-    apart : (xs ys : List (List ℕ)) → le_bytes 8 0 ∷ xs ≡ le_bytes 8 1 ∷ ys → ⊥
-    apart xs ys e =
-        let first : le_bytes 8 0 ≡ le_bytes 8 1 = cc in
-        omega (arith, eight_bytes 0 1 (omega arith) (omega arith) first)
-
     to : (x y : IpNet) → fed x ≡ fed y → ip_network x ≡ ip_network y
-    to (Ip.V4 m) (Ip.V4 n) e = let both = sym (four m) ∙ e ∙ four n in let rest : ipv4_fed m ≡ ipv4_fed n = cc in (ipv4_hash m n).0 rest
-    to (Ip.V4 m) (Ip.V6 n) e = absurd (apart (ipv4_fed m) (ipv6_fed n) (sym (four m) ∙ e ∙ six n))
-    to (Ip.V6 m) (Ip.V4 n) e = absurd (apart (ipv4_fed n) (ipv6_fed m) (sym (four n) ∙ sym e ∙ six m))
-    to (Ip.V6 m) (Ip.V6 n) e = let both = sym (six m) ∙ e ∙ six n in let rest : ipv6_fed m ≡ ipv6_fed n = cc in (ipv6_hash m n).0 rest
+    to (Ip.V4 m) (Ip.V4 n) e =
+        let both = sym (four m) ∙ e ∙ four n in let rest : ipv4_fed m ≡ ipv4_fed n = cc in (ipv4_hash m n).0 rest
+    to (Ip.V4 m) (Ip.V6 n) e = absurd (families_fed_apart (ipv4_fed m) (ipv6_fed n) (sym (four m) ∙ e ∙ six n))
+    to (Ip.V6 m) (Ip.V4 n) e = absurd (families_fed_apart (ipv4_fed n) (ipv6_fed m) (sym (four n) ∙ sym e ∙ six m))
+    to (Ip.V6 m) (Ip.V6 n) e =
+        let both = sym (six m) ∙ e ∙ six n in let rest : ipv6_fed m ≡ ipv6_fed n = cc in (ipv6_hash m n).0 rest

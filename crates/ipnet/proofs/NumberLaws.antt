@@ -1,25 +1,30 @@
 -- What the functions on numbers behind the network types compute, at the width of either family.
-use Rattle.std.proofs.Common.{◌≡◌, ◌≢◌, ℕ, ◌+◌, ◌-◌, ◌*◌, ◌/◌, ◌^◌, ◌<◌, ◌≤◌, ◌↔◌, refl, sym, ap, ◌∙◌, subst, arith, inl, inr, IsTrue, true, false, eqb, eqb-true, eq-eqb, bit_xor, shr-shr, List, Contains}
+use Rattle.std.proofs.Common.{◌≡◌, ◌≢◌, ℕ, ◌+◌, ◌-◌, ◌*◌, ◌/◌, ◌^◌, ◌<◌, ◌≤◌, ◌↔◌, refl, sym, ap, ◌∙◌, subst, arith}
+use Rattle.std.proofs.Common.{inl, inr, IsTrue, true, false, eqb, eqb-true, eq-eqb, bit_xor, shr-shr, List, Contains}
 use Rattle.std.proofs.Math.Nat.{div-eq_of_lt}
 use Rattle.std.proofs.lemmas.Nat.{pow_below, xor_shr}
 use Rattle.std.specs.Int.Bits.{xor_self, xor_zero_l, xor_zero_r, xor_assoc}
 use Rattle.std.proofs.lemmas.Bool.{cases_eq}
-use Rattle.ipnet_base.specs.Address.{Address, width, IsBetween}
-use Rattle.ipnet_base.specs.Network.{Network, IsNetwork, host_bits, InBlock, IsSubnetOf, AreHalves, IsLeastOf, IsGreatestOf, IsTruncationOf, IsSupernetOf, truncation}
+use Rattle.ipnet_base.specs.Address.{Address, width, IsBetween, address_at}
+use Rattle.ipnet_base.specs.Network.{Network, IsNetwork, host_bits, InBlock, IsSubnetOf, AreHalves, IsLeastOf}
+use Rattle.ipnet_base.specs.Network.{IsGreatestOf, IsTruncationOf, IsSupernetOf, truncation, first_of, last_of}
 use Rattle.ipnet_base.specs.Blocks.{IsMaximal, AreMaximalBlocks}
 use Rattle.ipnet_base.specs.Subnets.{SubnetRange}
 use Rattle.ipnet_base.specs.Ranges.{AddressRange}
-use Rattle.ipnet_base.proofs.BlockLaws.{own, own_in, first_of, last_of, last_fits, first_from_least, last_from_greatest, nested, bits_from_subnet, same_network, same_from_block}
+use Rattle.ipnet_base.proofs.BlockLaws.{own, own_in, last_fits, first_from_least, last_from_greatest, nested}
+use Rattle.ipnet_base.proofs.BlockLaws.{bits_from_subnet, same_network, same_from_block}
+use Rattle.ipnet_base.proofs.ExactCoverLaws.{maximal_blocks_apart}
 use Rattle.ipnet_base.proofs.ListLaws.{all_at}
 use Rattle.ipnet_base.proofs.NetworkLaws.{IsTruncationOf-truncation}
 use Rattle.ipnet_base.proofs.SupernetLaws.{supernet, IsSupernetOf-supernet}
-use Rattle.ipnet.specs.NetworkParts.{address_at, IsSubnetOfLength, AreSubnetsOfLength, IsBlockRange, HasReservedEnds, IsHostRange}
+use Rattle.ipnet.specs.NetworkParts.{IsSubnetOfLength, AreSubnetsOfLength, IsBlockRange, HasReservedEnds, IsHostRange}
 use Rattle.ipnet.proofs.SubnetCountLaws.{AreOfLength, subnets_of_length}
 
 -- Numbers are equal where no bit tells them apart.
 xor_none : (a b : ℕ) → (bit_xor a b ≡ 0) ↔ (a ≡ b)
 xor_none a b = (
-  λ e. sym (xor_zero_r a) ∙ ap (bit_xor a) (sym (xor_self b)) ∙ sym (xor_assoc a b b) ∙ ap (λ x. bit_xor x b) e ∙ xor_zero_l b,
+  λ e. sym (xor_zero_r a) ∙ ap (bit_xor a) (sym (xor_self b)) ∙ sym (xor_assoc a b b) ∙ ap (λ x. bit_xor x b) e
+      ∙ xor_zero_l b,
   λ e. ap (bit_xor a) (sym e) ∙ xor_self a,
 )
 
@@ -32,34 +37,47 @@ xor_last a b = (
   ),
   λ h.
       let upper : bit_xor a b / 2 ≡ 0 = xor_shr a b 1 ∙ (xor_none (a / 2) (b / 2)).1 h.1 in
-      elim (cases_eq (bit_xor a b) 0) [ inl none ↦ absurd (h.0 ((xor_none a b).0 none)) | inr some ↦ omega (arith, upper, some) ],
+      elim (cases_eq (bit_xor a b) 0) [
+        | inl none ↦ absurd (h.0 ((xor_none a b).0 none))
+        | inr some ↦ omega (arith, upper, some)
+      ],
 )
 
 -- What is asked of the leading bits that tell a number from a network's: whether the block has that number.
-pub in_block_test : (n : Network) (number len a : ℕ) → len ≡ n.prefix_len → a ≡ bit_xor number n.number / 2 ^ (width n.family - len)
+pub in_block_test : (n : Network) (number len a : ℕ) → len ≡ n.prefix_len
+    → a ≡ bit_xor number n.number / 2 ^ (width n.family - len)
     → IsTrue (eqb a 0) ↔ InBlock n (address_at n.family number)
 in_block_test n number len a same a_is = (
-  λ t. record { same_family = refl; same_prefix = (xor_none (number / 2 ^ host_bits n) (n.number / 2 ^ host_bits n)).0 (sym leading ∙ eqb-true a 0 t) },
+  λ t. record {
+    same_family = refl;
+    same_prefix =
+        (xor_none (number / 2 ^ host_bits n) (n.number / 2 ^ host_bits n)).0 (sym leading ∙ eqb-true a 0 t);
+  },
   λ h. eq-eqb a 0 (leading ∙ (xor_none (number / 2 ^ host_bits n) (n.number / 2 ^ host_bits n)).1 h.same_prefix),
 )
   where
     leading : a ≡ bit_xor (number / 2 ^ host_bits n) (n.number / 2 ^ host_bits n)
-    leading = a_is ∙ ap (λ p. bit_xor number n.number / 2 ^ (width n.family - p)) same ∙ xor_shr number n.number (host_bits n)
+    leading =
+        a_is ∙ ap (λ p. bit_xor number n.number / 2 ^ (width n.family - p)) same ∙ xor_shr number n.number (host_bits n)
 
 -- A block lies in another exactly where its prefix is no shorter and its own address is in the other.
 pub longer_from_subnet : (n k : Network) → IsNetwork n → IsNetwork k → IsSubnetOf n k → k.prefix_len ≤ n.prefix_len
-longer_from_subnet n k u v s = omega (arith, bits_from_subnet n k s, ap width (s (own n) (own_in n)).same_family, u.prefix_fits, v.prefix_fits)
+longer_from_subnet n k u v s =
+    omega (arith, bits_from_subnet n k s, ap width (s (own n) (own_in n)).same_family, u.prefix_fits, v.prefix_fits)
 
 pub subnet_from_own : (n k : Network) → k.prefix_len ≤ n.prefix_len → InBlock k (own n) → IsSubnetOf n k
 subnet_from_own n k le h = nested n k (own n) (own_in n) h (omega (arith, le, ap width h.same_family))
 
 -- Networks of one length are different halves exactly where their leading bits differ in the last alone.
-pub halves_test : (n k : Network) (len a : ℕ) → IsNetwork n → IsNetwork k → n.family ≡ k.family → len ≡ n.prefix_len → len ≡ k.prefix_len
+pub halves_test : (n k : Network) (len a : ℕ) → IsNetwork n → IsNetwork k → n.family ≡ k.family → len ≡ n.prefix_len
+    → len ≡ k.prefix_len
     → a ≡ bit_xor n.number k.number / 2 ^ (width n.family - len) → IsTrue (eqb a 1) ↔ AreHalves n k
 halves_test n k len a u v f same same' a_is = (to, from)
   where
     leading : a ≡ bit_xor (n.number / 2 ^ host_bits n) (k.number / 2 ^ host_bits n)
-    leading = a_is ∙ ap (λ p. bit_xor n.number k.number / 2 ^ (width n.family - p)) same ∙ xor_shr n.number k.number (host_bits n)
+    leading =
+        a_is ∙ ap (λ p. bit_xor n.number k.number / 2 ^ (width n.family - p)) same
+        ∙ xor_shr n.number k.number (host_bits n)
 
     halved : (x : ℕ) → x / 2 ^ host_bits n / 2 ≡ x / 2 ^ (host_bits n + 1)
     halved x = shr-shr x (host_bits n) 1
@@ -69,16 +87,22 @@ halves_test n k len a u v f same same' a_is = (to, from)
     one_at_zero none =
         let all : host_bits n ≡ width n.family = omega (arith, none) in
         let small : k.number < 2 ^ width n.family = subst (λ g. k.number < 2 ^ width g) (sym f) v.address_fits in
-        ap (λ c. n.number / 2 ^ c) all ∙ div-eq_of_lt u.address_fits ∙ sym (ap (λ c. k.number / 2 ^ c) all ∙ div-eq_of_lt small)
+        ap (λ c. n.number / 2 ^ c) all ∙ div-eq_of_lt u.address_fits
+        ∙ sym (ap (λ c. k.number / 2 ^ c) all ∙ div-eq_of_lt small)
 
     to : IsTrue (eqb a 1) → AreHalves n k
     to t =
-        let differ = (xor_last (n.number / 2 ^ host_bits n) (k.number / 2 ^ host_bits n)).0 (sym leading ∙ eqb-true a 1 t) in
+        let differ =
+        (xor_last (n.number / 2 ^ host_bits n) (k.number / 2 ^ host_bits n)).0 (sym leading ∙ eqb-true a 1 t) in
         record {
           siblings = record {
             same_family = f;
             same_len = sym same ∙ same';
-            has_supernet = elim (cases_eq n.prefix_len 0) [ inl none ↦ absurd (differ.0 (one_at_zero none)) | inr some ↦ omega (arith, some) ];
+            has_supernet =
+                elim (cases_eq n.prefix_len 0) [
+                  | inl none ↦ absurd (differ.0 (one_at_zero none))
+                  | inr some ↦ omega (arith, some)
+                ];
             same_supernet = sym (halved n.number) ∙ differ.1 ∙ halved k.number;
           };
           differ = differ.0;
@@ -90,11 +114,15 @@ halves_test n k len a u v f same same' a_is = (to, from)
 
 -- The leading bits but the last, and the length less one, make the supernet.
 pub supernet_from_numbers : (s n : Network) (len number : ℕ) → IsNetwork n → len + 1 ≡ n.prefix_len
-    → number ≡ n.number / 2 ^ (width n.family - len) * 2 ^ (width n.family - len) → s ≡ record { family = n.family; number = number; prefix_len = len } → IsSupernetOf s n
+    → number ≡ n.number / 2 ^ (width n.family - len) * 2 ^ (width n.family - len)
+    → s ≡ record { family = n.family; number = number; prefix_len = len } → IsSupernetOf s n
 supernet_from_numbers s n len number u shorter number_is s_is =
     let bits : width n.family - len ≡ host_bits n + 1 = omega (arith, u.prefix_fits, shorter) in
-    let kept : number ≡ n.number / 2 ^ (host_bits n + 1) * 2 ^ (host_bits n + 1) = number_is ∙ ap (λ b. n.number / 2 ^ b * 2 ^ b) bits in
-    let same : s ≡ supernet n = s_is ∙ same_network (record { family = n.family; number = number; prefix_len = len }) (supernet n) refl kept (omega arith) in
+    let kept : number ≡ n.number / 2 ^ (host_bits n + 1) * 2 ^ (host_bits n + 1) =
+    number_is ∙ ap (λ b. n.number / 2 ^ b * 2 ^ b) bits in
+    let same : s ≡ supernet n =
+    s_is ∙ same_network (record { family = n.family; number = number; prefix_len = len }) (supernet n) refl kept
+    (omega arith) in
     subst (λ t. IsSupernetOf t n) (sym same) (IsSupernetOf-supernet n u (omega arith))
 
 -- what is never so is answered by no
@@ -107,51 +135,78 @@ families_apart n k other s = other (s (own n) (own_in n)).same_family
 
 -- The leading bits and the length make the truncation.
 pub truncation_from_numbers : (t n : Network) (len number : ℕ) → IsNetwork n → len ≡ n.prefix_len
-    → number ≡ n.number / 2 ^ (width n.family - len) * 2 ^ (width n.family - len) → t ≡ record { family = n.family; number = number; prefix_len = len } → IsTruncationOf t n
+    → number ≡ n.number / 2 ^ (width n.family - len) * 2 ^ (width n.family - len)
+    → t ≡ record { family = n.family; number = number; prefix_len = len } → IsTruncationOf t n
 truncation_from_numbers t n len number u same number_is t_is =
-    let kept : number ≡ n.number / 2 ^ host_bits n * 2 ^ host_bits n = number_is ∙ ap (λ p. n.number / 2 ^ (width n.family - p) * 2 ^ (width n.family - p)) same in
-    let whole : t ≡ truncation n = t_is ∙ same_network (record { family = n.family; number = number; prefix_len = len }) (truncation n) refl kept same in
+    let kept : number ≡ n.number / 2 ^ host_bits n * 2 ^ host_bits n =
+    number_is ∙ ap (λ p. n.number / 2 ^ (width n.family - p) * 2 ^ (width n.family - p)) same in
+    let whole : t ≡ truncation n =
+    t_is ∙ same_network (record { family = n.family; number = number; prefix_len = len }) (truncation n) refl kept
+    same in
     subst (λ m. IsTruncationOf m n) (sym whole) (IsTruncationOf-truncation n u)
 
 -- The walk from the least address of a network to the greatest, under a least length from the network's own on, is
 -- all networks of that length inside.
-pub AreSubnetsOfLength-from_walk : (n : Network) (q : ℕ) (networks : List Network) (low high : Address) → IsNetwork n → n.prefix_len ≤ q → q ≤ width n.family
-    → IsLeastOf n low → IsGreatestOf n high → AreMaximalBlocks (IsBetween n.family low.number high.number) q networks → AreSubnetsOfLength n q networks
+pub AreSubnetsOfLength-from_walk : (n : Network) (q : ℕ) (networks : List Network) (low high : Address) → IsNetwork n
+    → n.prefix_len ≤ q → q ≤ width n.family
+    → IsLeastOf n low → IsGreatestOf n high → AreMaximalBlocks (IsBetween n.family low.number high.number) q networks
+    → AreSubnetsOfLength n q networks
 AreSubnetsOfLength-from_walk n q networks low high u longer fits least greatest walk = record {
   ascending = walk.ascending;
   members = λ k. (to k, from k);
+  disjoint = maximal_blocks_apart (InBlock n) q networks counted.0;
   count = counted.1.1;
   blocks = counted.0;
 }
   where
     counted : AreMaximalBlocks (InBlock n) q networks × AreOfLength q (2 ^ (q - n.prefix_len)) networks
     counted = subnets_of_length n q networks u longer fits
-        (subst (λ z. AreMaximalBlocks (IsBetween n.family (first_of n) z) q networks) (last_from_greatest n high greatest)
-        (subst (λ z. AreMaximalBlocks (IsBetween n.family z high.number) q networks) (first_from_least n low least) walk))
+        (subst (λ z. AreMaximalBlocks (IsBetween n.family (first_of n) z) q networks)
+        (last_from_greatest n high greatest)
+        (subst (λ z. AreMaximalBlocks (IsBetween n.family z high.number) q networks) (first_from_least n low least)
+        walk))
 
     to : (k : Network) → Contains networks k → IsSubnetOfLength n q k
     to k c =
         let m : IsMaximal (InBlock n) q k = (counted.0.members k).0 c in
-        record { network = m.inside.network; truncated = m.inside.truncated; of_length = all_at (λ k. k.prefix_len ≡ q) networks counted.1.0 k c; within = m.inside.within }
+        record {
+          network = m.inside.network;
+          truncated = m.inside.truncated;
+          of_length =
+              all_at (λ k. k.prefix_len ≡ q) networks counted.1.0 k c;
+          within = m.inside.within;
+        }
 
     from : (k : Network) → IsSubnetOfLength n q k → Contains networks k
     from k h = (counted.0.members k).1 (record {
-      inside = record { network = h.network; truncated = h.truncated; long_enough = omega (arith, h.of_length); within = h.within };
+      inside =
+          record {
+            network = h.network;
+            truncated = h.truncated;
+            long_enough = omega (arith, h.of_length);
+            within =
+                h.within;
+          };
       largest = λ m i s.
           let shared : InBlock m (own k) = s (own k) (own_in k) in
-          let bits : host_bits m ≤ host_bits k = omega (arith, i.long_enough, h.of_length, ap width shared.same_family) in
-          same_from_block m k i.network h.network i.truncated h.truncated (nested m k (own k) shared (own_in k) bits, s);
+          let bits : host_bits m ≤ host_bits k =
+          omega (arith, i.long_enough, h.of_length, ap width shared.same_family) in
+          same_from_block m k i.network h.network i.truncated h.truncated
+          (nested m k (own k) shared (own_in k) bits, s);
     })
 
-pub IsBlockRange-from_ends : (n : Network) (q : ℕ) (range : SubnetRange) (low high : Address) → IsLeastOf n low → IsGreatestOf n high
-    → range ≡ record { family = n.family; start = low.number; end = high.number; min_prefix_len = q } → IsBlockRange n q range
+pub IsBlockRange-from_ends : (n : Network) (q : ℕ) (range : SubnetRange) (low high : Address) → IsLeastOf n low
+    → IsGreatestOf n high
+    → range ≡ record { family = n.family; start = low.number; end = high.number; min_prefix_len = q }
+    → IsBlockRange n q range
 IsBlockRange-from_ends n q range low high l g e x y p r =
     let start : low.number ≡ x.number = first_from_least n low l ∙ sym (first_from_least n x p) in
     let end : high.number ≡ y.number = last_from_greatest n high g ∙ sym (last_from_greatest n y r) in
     e ∙ (λ i. record { family = n.family; start = start i; end = end i; min_prefix_len = q })
 
 -- The hosts of a network: from its least to its greatest address, or between these two.
-pub IsHostRange-whole : (n : Network) (hosts : AddressRange) (low high : Address) → hosts.family ≡ n.family → ¬ (HasReservedEnds n)
+pub IsHostRange-whole : (n : Network) (hosts : AddressRange) (low high : Address) → hosts.family ≡ n.family
+    → ¬ (HasReservedEnds n)
     → IsLeastOf n low → IsGreatestOf n high → hosts.start ≡ low.number → hosts.end ≡ high.number → IsHostRange n hosts
 IsHostRange-whole n hosts low high f none l g start end = record {
   family = f;
@@ -171,7 +226,8 @@ IsHostRange-inner n hosts f reserved start end = record {
 }
 
 -- a block below length 31 has two addresses between its ends
-pub reserved_ends_are_apart : (n : Network) → IsNetwork n → HasReservedEnds n → (first_of n + 2 ≤ last_of n) × (last_of n < 2 ^ width n.family)
+pub reserved_ends_are_apart : (n : Network) → IsNetwork n → HasReservedEnds n
+    → (first_of n + 2 ≤ last_of n) × (last_of n < 2 ^ width n.family)
 reserved_ends_are_apart n u reserved =
     let bits : 1 < host_bits n = omega (arith, reserved.1, ap width reserved.0) in
     (omega (arith, pow_below 1 (host_bits n) bits), last_fits n u)

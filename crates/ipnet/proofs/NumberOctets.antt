@@ -1,11 +1,13 @@
 -- The octets of a number, its groups, and the number again.
-use Rattle.std.proofs.Common.{◌≡◌, ℕ, zero, suc, ◌+◌, ◌*◌, ◌/◌, ◌%◌, ◌^◌, ◌<◌, List, [], ◌∷◌, length, get_or, refl, sym, ap, ◌∙◌, arith, lit<}
+use Rattle.std.proofs.Common.{◌≡◌, ℕ, zero, suc, ◌+◌, ◌*◌, ◌/◌, ◌%◌, ◌^◌, ◌<◌, List, [], ◌∷◌, length, get_or, refl, sym}
+use Rattle.std.proofs.Common.{ap, ◌∙◌, arith, lit<}
 use Rattle.std.proofs.Math.Nat.{mod-eq_of_lt, mul_comm, pow-zero, pow-succ'}
 use Rattle.std.proofs.lemmas.Nat.{div-mul-add, mod-mul-add, mul-add-lt, mod_below, be_bytes_4}
 use Rattle.std.specs.Int.{w32, w128, to_be_bytes, from_be_bytes, bytes_high_first}
 use Rattle.std.specs.declared.net.ipv4_addr.Ipv4Addr.{Ipv4Addr}
 use Rattle.std.specs.declared.net.ipv6_addr.Ipv6Addr.{Ipv6Addr}
-use Rattle.std.specs.Net.Addr.{segments_of, octets_of, ipv4_octets, ipv6_segments, ipv4_bits, ipv6_bits, IsIpv4Addr, IsIpv6Addr}
+use Rattle.std.specs.Net.Addr.{segments_of, octets_of, ipv4_octets, ipv6_segments, ipv4_bits, ipv6_bits, IsIpv4Addr}
+use Rattle.std.specs.Net.Addr.{IsIpv6Addr}
 use Rattle.ipnet_base.proofs.DigitLaws.{value, byte_at_below, pairs, halves, value-bytes_high_first}
 
 -- the octets of a number are bytes
@@ -17,7 +19,8 @@ octet_fits (suc len) n (suc k) = octet_fits len n k
 pairs_are_groups : (len n k : ℕ) → get_or (segments_of (bytes_high_first (pairs len) n)) k 0 < 2 ^ 16
 unfolding pairs
 pairs_are_groups zero n k = lit< tt
-pairs_are_groups (suc len) n zero = let high = byte_at_below (suc (pairs len)) n in let low = byte_at_below (pairs len) n in omega arith
+pairs_are_groups (suc len) n zero = let high = byte_at_below (suc (pairs len)) n in let low =
+    byte_at_below (pairs len) n in omega arith
 pairs_are_groups (suc len) n (suc k) = pairs_are_groups len n k
 
 -- its groups have 16 bits
@@ -34,13 +37,15 @@ number_below : (bytes : List ℕ) → AreOctets bytes → value 256 bytes < 256 
 unfolding AreOctets
 number_below [] fit = rw (pow-zero 256) (omega arith)
 number_below (b ∷ bytes) fit =
-    let below = mul-add-lt b (256 ^ length bytes) (value 256 bytes) 256 (fit 0) (number_below bytes (λ k. fit (suc k))) in
+    let below =
+    mul-add-lt b (256 ^ length bytes) (value 256 bytes) 256 (fit 0) (number_below bytes (λ k. fit (suc k))) in
     let p : 256 ^ suc (length bytes) ≡ 256 * 256 ^ length bytes = pow-succ' 256 (length bytes) in
     let turned = mul_comm 256 (256 ^ length bytes) in
     omega (arith, below, p, turned)
 
 -- octets that write one number are the same
-same_octets : (xs ys : List ℕ) → length xs ≡ length ys → AreOctets xs → AreOctets ys → value 256 xs ≡ value 256 ys → xs ≡ ys
+same_octets : (xs ys : List ℕ) → length xs ≡ length ys → AreOctets xs → AreOctets ys → value 256 xs ≡ value 256 ys
+    → xs ≡ ys
 unfolding AreOctets
 same_octets [] [] len fit fit' e = refl
 same_octets [] (y ∷ ys) len fit fit' e = absurd (omega arith)
@@ -49,22 +54,30 @@ same_octets (x ∷ xs) (y ∷ ys) len fit fit' e =
     let same : length xs ≡ length ys = omega arith in
     let low = number_below xs (λ k. fit (suc k)) in
     let low' : value 256 ys < 256 ^ length xs = rw (sym same) at (number_below ys (λ k. fit' (suc k))) in
-    let one : x * 256 ^ length xs + value 256 xs ≡ y * 256 ^ length xs + value 256 ys = e ∙ ap (λ (n : ℕ). y * 256 ^ n + value 256 ys) (sym same) in
-    let first : x ≡ y = sym (div-mul-add x (256 ^ length xs) (value 256 xs) low) ∙ ap (λ (n : ℕ). n / 256 ^ length xs) one ∙ div-mul-add y (256 ^ length xs) (value 256 ys) low' in
-    let rest : value 256 xs ≡ value 256 ys = sym (mod-mul-add x (256 ^ length xs) (value 256 xs) low) ∙ ap (λ (n : ℕ). n % 256 ^ length xs) one ∙ mod-mul-add y (256 ^ length xs) (value 256 ys) low' in
+    let one : x * 256 ^ length xs + value 256 xs ≡ y * 256 ^ length xs + value 256 ys =
+    e ∙ ap (λ (n : ℕ). y * 256 ^ n + value 256 ys) (sym same) in
+    let first : x ≡ y =
+    sym (div-mul-add x (256 ^ length xs) (value 256 xs) low) ∙ ap (λ (n : ℕ). n / 256 ^ length xs) one
+    ∙ div-mul-add y (256 ^ length xs) (value 256 ys) low' in
+    let rest : value 256 xs ≡ value 256 ys =
+    sym (mod-mul-add x (256 ^ length xs) (value 256 xs) low) ∙ ap (λ (n : ℕ). n % 256 ^ length xs) one
+    ∙ mod-mul-add y (256 ^ length xs) (value 256 ys) low' in
     let later = same_octets xs ys same (λ k. fit (suc k)) (λ k. fit' (suc k)) rest in
     cc
 
-octets_again : (bytes : List ℕ) → length bytes ≡ 16 → AreOctets bytes → from_be_bytes w128 bytes ≡ value 256 bytes → to_be_bytes w128 (from_be_bytes w128 bytes) ≡ bytes
+octets_again : (bytes : List ℕ) → length bytes ≡ 16 → AreOctets bytes → from_be_bytes w128 bytes ≡ value 256 bytes
+    → to_be_bytes w128 (from_be_bytes w128 bytes) ≡ bytes
 unfolding AreOctets
 octets_again bytes sixteen fit whole =
     let low : value 256 bytes < 256 ^ 16 = rw sixteen at (number_below bytes fit) in
     let e : value 256 (to_be_bytes w128 (from_be_bytes w128 bytes)) ≡ value 256 bytes =
     ap (λ n. value 256 (to_be_bytes w128 n)) whole ∙ value-bytes_high_first 16 (value 256 bytes) ∙ mod-eq_of_lt low in
-    same_octets (to_be_bytes w128 (from_be_bytes w128 bytes)) bytes (sym sixteen) (octet_fits 16 (from_be_bytes w128 bytes)) fit e
+    same_octets (to_be_bytes w128 (from_be_bytes w128 bytes)) bytes (sym sixteen)
+    (octet_fits 16 (from_be_bytes w128 bytes)) fit e
 
 -- sixteen octets are those of the number that they write
-pub sixteen_again : (bytes : List ℕ) → length bytes ≡ 16 → ((k : ℕ) → get_or bytes k 0 < 2 ^ 8) → to_be_bytes w128 (from_be_bytes w128 bytes) ≡ bytes
+pub sixteen_again : (bytes : List ℕ) → length bytes ≡ 16 → ((k : ℕ) → get_or bytes k 0 < 2 ^ 8)
+    → to_be_bytes w128 (from_be_bytes w128 bytes) ≡ bytes
 unfolding AreOctets
 sixteen_again [] sixteen fit = absurd (omega arith)
 sixteen_again (a ∷ []) sixteen fit = absurd (omega arith)
@@ -82,8 +95,10 @@ sixteen_again (a ∷ b ∷ c ∷ d ∷ e ∷ f ∷ g ∷ h ∷ i ∷ j ∷ k ∷
 sixteen_again (a ∷ b ∷ c ∷ d ∷ e ∷ f ∷ g ∷ h ∷ i ∷ j ∷ k ∷ l ∷ m ∷ []) sixteen fit = absurd (omega arith)
 sixteen_again (a ∷ b ∷ c ∷ d ∷ e ∷ f ∷ g ∷ h ∷ i ∷ j ∷ k ∷ l ∷ m ∷ n ∷ []) sixteen fit = absurd (omega arith)
 sixteen_again (a ∷ b ∷ c ∷ d ∷ e ∷ f ∷ g ∷ h ∷ i ∷ j ∷ k ∷ l ∷ m ∷ n ∷ o ∷ []) sixteen fit = absurd (omega arith)
-sixteen_again (a ∷ b ∷ c ∷ d ∷ e ∷ f ∷ g ∷ h ∷ i ∷ j ∷ k ∷ l ∷ m ∷ n ∷ o ∷ p ∷ []) sixteen fit = octets_again (a ∷ b ∷ c ∷ d ∷ e ∷ f ∷ g ∷ h ∷ i ∷ j ∷ k ∷ l ∷ m ∷ n ∷ o ∷ p ∷ []) refl fit (omega arith)
-sixteen_again (a ∷ b ∷ c ∷ d ∷ e ∷ f ∷ g ∷ h ∷ i ∷ j ∷ k ∷ l ∷ m ∷ n ∷ o ∷ p ∷ q ∷ more) sixteen fit = absurd (omega arith)
+sixteen_again (a ∷ b ∷ c ∷ d ∷ e ∷ f ∷ g ∷ h ∷ i ∷ j ∷ k ∷ l ∷ m ∷ n ∷ o ∷ p ∷ []) sixteen fit =
+    octets_again (a ∷ b ∷ c ∷ d ∷ e ∷ f ∷ g ∷ h ∷ i ∷ j ∷ k ∷ l ∷ m ∷ n ∷ o ∷ p ∷ []) refl fit (omega arith)
+sixteen_again (a ∷ b ∷ c ∷ d ∷ e ∷ f ∷ g ∷ h ∷ i ∷ j ∷ k ∷ l ∷ m ∷ n ∷ o ∷ p ∷ q ∷ more) sixteen fit =
+    absurd (omega arith)
 
 segments_of-octets_of : (groups : List ℕ) → segments_of (octets_of groups) ≡ groups
 segments_of-octets_of [] = refl
@@ -101,7 +116,8 @@ length-octets_of [] = refl
 length-octets_of (g ∷ groups) = let later = length-octets_of groups in omega (arith, later)
 
 -- std's number of eight groups, by their octets
-eight_groups : (groups : List ℕ) → length groups ≡ 8 → from_be_bytes w128 (octets_of groups) ≡ value 256 (octets_of groups)
+eight_groups : (groups : List ℕ) → length groups ≡ 8
+    → from_be_bytes w128 (octets_of groups) ≡ value 256 (octets_of groups)
 eight_groups [] eight = absurd (omega arith)
 eight_groups (a ∷ []) eight = absurd (omega arith)
 eight_groups (a ∷ b ∷ []) eight = absurd (omega arith)
@@ -114,17 +130,21 @@ eight_groups (a ∷ b ∷ c ∷ d ∷ e ∷ f ∷ g ∷ h ∷ []) eight = omega 
 eight_groups (a ∷ b ∷ c ∷ d ∷ e ∷ f ∷ g ∷ h ∷ i ∷ more) eight = absurd (omega arith)
 
 -- eight groups write a number of 128 bits
-pub eight_groups_below : (groups : List ℕ) → length groups ≡ 8 → ((k : ℕ) → get_or groups k 0 < 2 ^ 16) → from_be_bytes w128 (octets_of groups) < 2 ^ 128
+pub eight_groups_below : (groups : List ℕ) → length groups ≡ 8 → ((k : ℕ) → get_or groups k 0 < 2 ^ 16)
+    → from_be_bytes w128 (octets_of groups) < 2 ^ 128
 eight_groups_below groups eight fit =
     let sixteen : length (octets_of groups) ≡ 16 = omega (arith, length-octets_of groups) in
-    let low : value 256 (octets_of groups) < 256 ^ 16 = rw sixteen at (number_below (octets_of groups) (octets_of-octets groups fit)) in
+    let low : value 256 (octets_of groups) < 256 ^ 16 =
+    rw sixteen at (number_below (octets_of groups) (octets_of-octets groups fit)) in
     rw (eight_groups groups eight) low
 
 -- and are the groups of that number
-pub groups_again : (groups : List ℕ) → length groups ≡ 8 → ((k : ℕ) → get_or groups k 0 < 2 ^ 16) → segments_of (to_be_bytes w128 (from_be_bytes w128 (octets_of groups))) ≡ groups
+pub groups_again : (groups : List ℕ) → length groups ≡ 8 → ((k : ℕ) → get_or groups k 0 < 2 ^ 16)
+    → segments_of (to_be_bytes w128 (from_be_bytes w128 (octets_of groups))) ≡ groups
 groups_again groups eight fit =
     let sixteen : length (octets_of groups) ≡ 16 = omega (arith, length-octets_of groups) in
-    ap segments_of (octets_again (octets_of groups) sixteen (octets_of-octets groups fit) (eight_groups groups eight)) ∙ segments_of-octets_of groups
+    ap segments_of (octets_again (octets_of groups) sixteen (octets_of-octets groups fit) (eight_groups groups eight))
+    ∙ segments_of-octets_of groups
 
 -- the octets and groups of std's addresses are those of their bits
 pub ipv4_octets_of_bits : (a : Ipv4Addr) → IsIpv4Addr a → to_be_bytes w32 (ipv4_bits a) ≡ ipv4_octets a

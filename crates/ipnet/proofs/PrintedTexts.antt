@@ -1,17 +1,21 @@
 -- The canonical text of a network writes that network, in either grammar.
-use Rattle.std.proofs.Common.{◌≡◌, ℕ, ◌^◌, ◌<◌, ◌≤◌, ◌⊎◌, ◌↔◌, true, false, List, [], ◌∷◌, ◌++◌, length, get_or, decimal, refl, sym, ap, ◌∙◌, subst, arith, inl, inr, append_assoc, append-nil, lit<}
+use Rattle.std.proofs.Common.{◌≡◌, ℕ, ◌^◌, ◌<◌, ◌≤◌, ◌⊎◌, ◌↔◌, true, false, List, [], ◌∷◌, ◌++◌, length, get_or}
+use Rattle.std.proofs.Common.{decimal, refl, sym, ap, ◌∙◌, subst, arith, inl, inr, append_assoc, append-nil, lit<}
 use Rattle.std.proofs.lemmas.Bool.{cases_eq}
 use Rattle.std.proofs.lemmas.Nat.{from_be_bytes-to_be_bytes_4}
 use Rattle.std.proofs.lemmas.Fmt.{decimal_is_IsNumeral, decimal_digit, first_decimal, length-decimal-le}
 use Rattle.std.specs.Int.{w32, w128, to_be_bytes}
 use Rattle.std.specs.Net.Addr.{segments_of}
 use Rattle.std.specs.Net.Text.{ipv4_text, ipv6_text}
-use Rattle.std.specs.Net.Grammar.{IsGroupsAfter, IsColonHex as StdColonHex, IsElided as StdElided, IsDotted as StdDotted, IsGroup as StdGroup}
-use Rattle.std.proofs.NetLemmas.Texts.{IsColonHex-ipv6_text as StdColonHex-ipv6_text, IsDotted-ipv4_text as StdDotted-ipv4_text}
+use Rattle.std.specs.Net.Grammar.{IsGroupsAfter, IsColonHex as StdColonHex, IsElided as StdElided}
+use Rattle.std.specs.Net.Grammar.{IsDotted as StdDotted, IsGroup as StdGroup}
+use Rattle.std.proofs.NetLemmas.Texts.{IsColonHex-ipv6_text as StdColonHex-ipv6_text}
+use Rattle.std.proofs.NetLemmas.Texts.{IsDotted-ipv4_text as StdDotted-ipv4_text}
 use Rattle.ipnet_base.specs.Address.{Family, IPv4, IPv6, width}
 use Rattle.ipnet_base.specs.Network.{Network, IsNetwork}
 use Rattle.ipnet.specs.NetworkOf.{ipv4_network_of, ipv6_network_of}
-use Rattle.ipnet.specs.Grammar.{Grammar, Strict, Legacy}
+use Rattle.ipnet.specs.declared.parser.Grammar.{Grammar}
+use Rattle.ipnet.specs.declared.parser.Grammar.TheVariants.{Strict, Legacy}
 use Rattle.ipnet.specs.Numerals.{IsDecimal, IsOctet, IsGroup}
 use Rattle.ipnet.specs.AddressTexts.{IsJoined, IsIpv4AddressText, IsGroups, EndsInIpv4, IsCompressed, IsIpv6AddressText}
 use Rattle.ipnet.specs.NetworkTexts.{IsIpv4NetworkText, IsIpv6NetworkText, IsNetworkText}
@@ -22,7 +26,8 @@ use Rattle.ipnet.proofs.StrictTexts.{strict_is_legacy}
 use Rattle.ipnet.proofs.WholeTexts.{one_network}
 
 -- the decimal of a number is its strict text
-pub IsDecimal-decimal : (most greatest n : ℕ) → 0 < most → n < 10 ^ most → n ≤ greatest → n < 2 ^ 64 → IsDecimal Strict most greatest (decimal n) n
+pub IsDecimal-decimal : (most greatest n : ℕ) → 0 < most → n < 10 ^ most → n ≤ greatest → n < 2 ^ 64
+    → IsDecimal Strict most greatest (decimal n) n
 IsDecimal-decimal most greatest n some fits small wide =
     let (numeral, value) = decimal_is_IsNumeral n wide in
     record {
@@ -58,18 +63,21 @@ group text n h = record { digits = h.0.0; value = h.0.1; short = h.1 }
 abbrev IsPieces : List ℕ → List ℕ → Type 0
 IsPieces text groups = IsGroups text groups ⊎ EndsInIpv4 Strict text groups
 
-more_pieces : (text first rest groups : List ℕ) (g h : ℕ) → text ≡ first ++ (58 ∷ []) ++ rest → IsGroup first g → IsPieces rest (h ∷ groups) → IsPieces text (g ∷ h ∷ groups)
+more_pieces : (text first rest groups : List ℕ) (g h : ℕ) → text ≡ first ++ (58 ∷ []) ++ rest → IsGroup first g
+    → IsPieces rest (h ∷ groups) → IsPieces text (g ∷ h ∷ groups)
 more_pieces text first rest groups g h split is (inl plain) = inl (first, rest, split, is, plain)
 more_pieces text first rest [] g h split is (inr mixed) = absurd mixed
 more_pieces text first rest (i ∷ groups) g h split is (inr mixed) = inr (first, rest, split, is, mixed)
 
-last_dotted : (text octets : List ℕ) (g : ℕ) (groups : List ℕ) → StdDotted text octets → g ∷ groups ≡ segments_of octets → IsPieces text (g ∷ groups)
+last_dotted : (text octets : List ℕ) (g : ℕ) (groups : List ℕ) → StdDotted text octets → g ∷ groups ≡ segments_of octets
+    → IsPieces text (g ∷ groups)
 last_dotted text octets g groups h value =
     let two = value ∙ ap segments_of h.value in
     subst (IsPieces text) (sym two) (inr (octets, IsIpv4AddressText-std text octets h, ap segments_of (sym h.value)))
 
 -- what std writes behind a lead
-pieces_after : (lead text : List ℕ) (g : ℕ) (groups : List ℕ) → IsGroupsAfter true lead text (g ∷ groups) → (rest : List ℕ) × (text ≡ lead ++ rest) × IsPieces rest (g ∷ groups)
+pieces_after : (lead text : List ℕ) (g : ℕ) (groups : List ℕ) → IsGroupsAfter true lead text (g ∷ groups)
+    → (rest : List ℕ) × (text ≡ lead ++ rest) × IsPieces rest (g ∷ groups)
 pieces_after lead text g groups (inr h) = (h.0, h.3, last_dotted h.0 h.1 g groups h.4 h.5)
 pieces_after lead text g [] (inl h) = (h.0, rw h.4 at h.2 ∙ simp (append_assoc, append-nil), inl (group h.0 g h.3))
 pieces_after lead text g (i ∷ groups) (inl h) =
@@ -85,7 +93,8 @@ pieces text (g ∷ groups) h =
     let (rest, split, is) = pieces_after [] text g groups h in
     rw split is
 
-plain_after : (lead text : List ℕ) (g : ℕ) (groups : List ℕ) → IsGroupsAfter false lead text (g ∷ groups) → (rest : List ℕ) × (text ≡ lead ++ rest) × IsGroups rest (g ∷ groups)
+plain_after : (lead text : List ℕ) (g : ℕ) (groups : List ℕ) → IsGroupsAfter false lead text (g ∷ groups)
+    → (rest : List ℕ) × (text ≡ lead ++ rest) × IsGroups rest (g ∷ groups)
 plain_after lead text g groups (inr h) = let never : false ≡ true = h.2 in cc
 plain_after lead text g [] (inl h) = (h.0, rw h.4 at h.2 ∙ simp (append_assoc, append-nil), group h.0 g h.3)
 plain_after lead text g (i ∷ groups) (inl h) =
@@ -127,16 +136,20 @@ either : (P : Grammar → Type 0) (grammar : Grammar) → (P Strict → P Legacy
 either P Strict weaker h = h
 either P Legacy weaker h = weaker h
 
-IsIpv4AddressText-ipv4_text : (octets : List ℕ) → length octets ≡ 4 → ((k : ℕ) → get_or octets k 0 < 2 ^ 8) → IsIpv4AddressText Strict (ipv4_text octets) octets
+IsIpv4AddressText-ipv4_text : (octets : List ℕ) → length octets ≡ 4 → ((k : ℕ) → get_or octets k 0 < 2 ^ 8)
+    → IsIpv4AddressText Strict (ipv4_text octets) octets
 IsIpv4AddressText-ipv4_text octets four fits = IsIpv4AddressText-std _ octets (StdDotted-ipv4_text octets four fits)
 
-IsIpv6AddressText-ipv6_text : (groups : List ℕ) → length groups ≡ 8 → ((k : ℕ) → get_or groups k 0 < 2 ^ 16) → IsIpv6AddressText Strict (ipv6_text groups) groups
+IsIpv6AddressText-ipv6_text : (groups : List ℕ) → length groups ≡ 8 → ((k : ℕ) → get_or groups k 0 < 2 ^ 16)
+    → IsIpv6AddressText Strict (ipv6_text groups) groups
 IsIpv6AddressText-ipv6_text groups eight fits = IsIpv6AddressText-std _ groups (StdColonHex-ipv6_text groups eight fits)
 
-prefix_len : (most greatest n : ℕ) → 0 < most → n < 10 ^ most → n ≤ greatest → n < 2 ^ 64 → IsDecimal Strict most greatest (decimal n) n
+prefix_len : (most greatest n : ℕ) → 0 < most → n < 10 ^ most → n ≤ greatest → n < 2 ^ 64
+    → IsDecimal Strict most greatest (decimal n) n
 prefix_len most greatest n some fits small wide = IsDecimal-decimal most greatest n some fits small wide
 
-ipv4_printed : (number n : ℕ) → number < 2 ^ 32 → n ≤ 32 → IsIpv4NetworkText Strict (canonical_text (ipv4_network_of number n)) (ipv4_network_of number n)
+ipv4_printed : (number n : ℕ) → number < 2 ^ 32 → n ≤ 32
+    → IsIpv4NetworkText Strict (canonical_text (ipv4_network_of number n)) (ipv4_network_of number n)
 ipv4_printed number n fits small = record {
   address_text = _;
   length_text = _;
@@ -148,7 +161,8 @@ ipv4_printed number n fits small = record {
   number = sym (from_be_bytes-to_be_bytes_4 number fits);
 }
 
-ipv6_printed : (number n : ℕ) → number < 2 ^ 128 → n ≤ 128 → IsIpv6NetworkText Strict (canonical_text (ipv6_network_of number n)) (ipv6_network_of number n)
+ipv6_printed : (number n : ℕ) → number < 2 ^ 128 → n ≤ 128
+    → IsIpv6NetworkText Strict (canonical_text (ipv6_network_of number n)) (ipv6_network_of number n)
 ipv6_printed number n fits small = record {
   address_text = _;
   length_text = _;
@@ -164,16 +178,19 @@ ipv6_printed number n fits small = record {
 printed : (n : Network) → IsNetwork n → IsNetworkText Strict (canonical_text n) n
 printed n h = by_family n.family n.number n.prefix_len h.address_fits h.prefix_fits
   where
-    by_family : (family : Family) (number len : ℕ) → number < 2 ^ width family → len ≤ width family → let n : Network = record { family = family; number = number; prefix_len = len } in IsNetworkText Strict (canonical_text n) n
+    by_family : (family : Family) (number len : ℕ) → number < 2 ^ width family → len ≤ width family → let n : Network =
+        record { family = family; number = number; prefix_len = len } in IsNetworkText Strict (canonical_text n) n
     by_family IPv4 number len fits small = inl (ipv4_printed number len fits small)
     by_family IPv6 number len fits small = inr (ipv6_printed number len fits small)
 
 -- and a legacy one
 pub canonical_is_read : (grammar : Grammar) (n : Network) → IsNetwork n → IsNetworkText grammar (canonical_text n) n
-canonical_is_read grammar n h = either (λ g. IsNetworkText g (canonical_text n) n) grammar (strict_is_legacy _ n) (printed n h)
+canonical_is_read grammar n h =
+    either (λ g. IsNetworkText g (canonical_text n) n) grammar (strict_is_legacy _ n) (printed n h)
 
 pub prints_apart : (m n : Network) → IsNetwork m → IsNetwork n → (canonical_text m ≡ canonical_text n) ↔ (m ≡ n)
 prints_apart m n h k = (
-  λ same. one_network Strict (canonical_text n) m n (subst (λ t. IsNetworkText Strict t m) same (printed m h)) (printed n k),
+  λ same. one_network Strict (canonical_text n) m n (subst (λ t. IsNetworkText Strict t m) same (printed m h))
+      (printed n k),
   λ same. ap canonical_text same,
 )

@@ -1,13 +1,16 @@
 -- One turn of the loop that reads groups: what is read in all, by what it meets.
-use Rattle.std.proofs.Common.{◌≡◌, ◌≢◌, ℕ, suc, ◌+◌, ◌-◌, ◌<◌, Bool, true, false, List, [], ◌∷◌, ◌++◌, drop, get_or, Some, None, refl, sym, ◌∙◌, arith, append_assoc, eq-eqb, ne_eqb, lt-ltb, le-ltb}
+use Rattle.std.proofs.Common.{◌≡◌, ◌≢◌, ℕ, suc, ◌+◌, ◌-◌, ◌<◌, true, false, List, [], ◌∷◌, ◌++◌, drop, get_or, Some}
+use Rattle.std.proofs.Common.{None, refl, sym, ◌∙◌, arith, append_assoc, eq-eqb, ne_eqb, lt-ltb, le-ltb}
 use Rattle.ipnet.specs.declared.parser.reader.Run.{Run}
-use Rattle.ipnet.specs.Reading.{Pieces, behind, run_of, digit_run, is_single_colon, read_last, read_pieces}
+use Rattle.ipnet.specs.declared.parser.Grammar.{Grammar}
+use Rattle.ipnet.specs.ReaderSteps.{Pieces, behind, run_of, digit_run, is_single_colon, read_last, read_pieces}
 
 behind-behind : (front more : List ℕ) (found : Pieces) → behind front (behind more found) ≡ behind (front ++ more) found
 behind-behind front more None = refl
 behind-behind front more (Some p) = rw append_assoc
 
-module _ (strict : Bool) (room n : ℕ) (front text : List ℕ) (run : Run) (whole : Pieces) (within : n < room) (so_far : whole ≡ behind front (read_pieces strict (room - n) run text)) where
+module _ (grammar : Grammar) (room n : ℕ) (front text : List ℕ) (run : Run) (whole : Pieces) (within : n < room)
+    (so_far : whole ≡ behind front (read_pieces grammar (room - n) run text)) where
   one_more : room - n ≡ suc (room - (n + 1))
   one_more = omega arith
 
@@ -15,7 +18,7 @@ module _ (strict : Bool) (room n : ℕ) (front text : List ℕ) (run : Run) (who
   unfolding read_pieces
   no_room dot full = so_far ∙ rw (one_more, eq-eqb _ 46 dot, le-ltb 0 (room - (n + 1)) (omega arith))
 
-  pub dotted : get_or text 0 0 ≡ 46 → n + 1 ≢ room → whole ≡ behind front (read_last strict run.octet text)
+  pub dotted : get_or text 0 0 ≡ 46 → n + 1 ≢ room → whole ≡ behind front (read_last grammar run.octet text)
   unfolding read_pieces
   dotted dot some = so_far ∙ rw (one_more, eq-eqb _ 46 dot, lt-ltb 0 (room - (n + 1)) (omega arith))
 
@@ -23,15 +26,21 @@ module _ (strict : Bool) (room n : ℕ) (front text : List ℕ) (run : Run) (who
   unfolding read_pieces
   no_group other none = so_far ∙ rw (one_more, ne_eqb _ 46 other, none)
 
-  pub last_group : (g : ℕ) → get_or text 0 0 ≢ 46 → run.group ≡ Some g → is_single_colon text ≡ false → whole ≡ Some (front ++ g ∷ [], false, text)
+  pub last_group : (g : ℕ) → get_or text 0 0 ≢ 46 → run.group ≡ Some g → is_single_colon text ≡ false
+      → whole ≡ Some (front ++ g ∷ [], false, text)
   unfolding read_pieces
   last_group g other some end = so_far ∙ rw (one_more, ne_eqb _ 46 other, some, end)
 
-  pub next_group : (g : ℕ) → get_or text 0 0 ≢ 46 → run.group ≡ Some g → is_single_colon text ≡ true → whole ≡ behind (front ++ g ∷ []) (read_pieces strict (room - (n + 1)) (run_of strict (digit_run 4 (drop 1 text)).0) (digit_run 4 (drop 1 text)).1)
+  pub next_group : (g : ℕ) → get_or text 0 0 ≢ 46 → run.group ≡ Some g → is_single_colon text ≡ true
+      → whole ≡ behind (front ++ g ∷ []) (read_pieces grammar (room - (n + 1))
+      (run_of grammar (digit_run 4 (drop 1 text)).0) (digit_run 4 (drop 1 text)).1)
   unfolding read_pieces
   next_group g other some more = so_far ∙ rw (one_more, ne_eqb _ 46 other, some, more) (behind-behind front (g ∷ []) _)
 
   -- the same, as the loop goes on
-  pub goes_on : (g m : ℕ) (front' text' rest' : List ℕ) (run' : Run) (strict' : Bool) → get_or text 0 0 ≢ 46 → run.group ≡ Some g → true ≡ is_single_colon text → m ≡ n + 1 → front' ≡ front ++ g ∷ [] → text' ≡ drop 1 text → strict' ≡ strict → run' ≡ run_of strict' (digit_run 4 text').0 → rest' ≡ (digit_run 4 text').1 → whole ≡ behind front' (read_pieces strict (room - m) run' rest')
-  goes_on g m front' text' rest' run' strict' other some more count front_is text_is strict_is run_is rest_is =
-      rw (count, front_is, run_is, rest_is, strict_is, text_is) (next_group g other some (sym more))
+  pub goes_on : (g m : ℕ) (front' text' rest' : List ℕ) (run' : Run) (grammar' : Grammar) → get_or text 0 0 ≢ 46
+      → run.group ≡ Some g → true ≡ is_single_colon text → m ≡ n + 1 → front' ≡ front ++ g ∷ [] → text' ≡ drop 1 text
+      → grammar' ≡ grammar → run' ≡ run_of grammar' (digit_run 4 text').0 → rest' ≡ (digit_run 4 text').1
+      → whole ≡ behind front' (read_pieces grammar (room - m) run' rest')
+  goes_on g m front' text' rest' run' grammar' other some more count front_is text_is grammar_is run_is rest_is =
+      rw (count, front_is, run_is, rest_is, grammar_is, text_is) (next_group g other some (sym more))

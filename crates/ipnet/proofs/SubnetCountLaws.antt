@@ -1,12 +1,13 @@
 -- The walk over a network's own block: with a least length from the network's on, it gives exactly the blocks
 -- of that length.
-use Rattle.std.proofs.Common.{◌≡◌, ℕ, zero, suc, ◌+◌, ◌-◌, ◌*◌, ◌/◌, ◌^◌, ◌<◌, ◌≤◌, List, [], ◌∷◌, length, All, refl, sym, ap, ◌∙◌, subst, arith, inl, inr, pow_pos, pow-add, add-one}
+use Rattle.std.proofs.Common.{◌≡◌, ℕ, zero, suc, ◌+◌, ◌-◌, ◌*◌, ◌/◌, ◌^◌, ◌<◌, ◌≤◌, List, [], ◌∷◌, length, All, refl}
+use Rattle.std.proofs.Common.{sym, ap, ◌∙◌, subst, arith, inl, inr, pow_pos, pow-add, add-one}
 use Rattle.std.proofs.Math.Nat.{mul_assoc, mul-div_cancel}
 use Rattle.ipnet_base.specs.Address.{Family, width, IsBetween}
-use Rattle.ipnet_base.specs.Network.{Network, IsNetwork, InBlock, host_bits}
+use Rattle.ipnet_base.specs.Network.{Network, IsNetwork, InBlock, host_bits, first_of, last_of}
 use Rattle.ipnet_base.specs.Blocks.{AreMaximalBlocks}
 use Rattle.ipnet_base.specs.Subnets.{IsLargestSubnetAt}
-use Rattle.ipnet_base.proofs.BlockLaws.{first_of, last_of, last_fits, between_from_block, block_from_between}
+use Rattle.ipnet_base.proofs.BlockLaws.{last_fits, between_from_block, block_from_between}
 use Rattle.ipnet_base.proofs.ListLaws.{contains_nil, contains_cases, all_from_members, all_at}
 use Rattle.ipnet_base.proofs.SupernetLaws.{AreMaximalBlocks-same_set}
 use Rattle.ipnet_base.proofs.UniqueLaws.{AreMaximalBlocks-unique}
@@ -16,7 +17,8 @@ use Rattle.ipnet_base.proofs.WalkLaws.{AreMaximalBlocks-nil, AreMaximalBlocks-un
 abbrev pub AreOfLength : (prefix_len count : ℕ) → List Network → Type 0
 AreOfLength prefix_len count networks = All (λ k. k.prefix_len ≡ prefix_len) networks × (length networks ≡ count)
 
-of_length_cons : (q count : ℕ) (n : Network) (rest : List Network) → n.prefix_len ≡ q → AreOfLength q count rest → AreOfLength q (count + 1) (n ∷ rest)
+of_length_cons : (q count : ℕ) (n : Network) (rest : List Network) → n.prefix_len ≡ q → AreOfLength q count rest
+    → AreOfLength q (count + 1) (n ∷ rest)
 of_length_cons q count n rest same others = (
   all_from_members (λ k. k.prefix_len ≡ q) (n ∷ rest)
       (λ k c. elim (contains_cases n rest k c) [
@@ -32,8 +34,10 @@ walk_of_length : (f : Family) (q e : ℕ) → q ≤ width f → e < 2 ^ width f 
     → AreOfLength q count networks
 walk_of_length f q e q_fits fits zero a networks ends blocks =
     let none : networks ≡ [] = AreMaximalBlocks-unique (IsBetween f (a * 2 ^ (width f - q)) e) q networks [] blocks
-    (AreMaximalBlocks-nil (IsBetween f (a * 2 ^ (width f - q)) e) q (λ x b. omega (arith, ends, b.from_start, b.to_end))) in
-    subst (AreOfLength q zero) (sym none) (all_from_members (λ k. k.prefix_len ≡ q) [] (λ k c. absurd (contains_nil k c)), refl)
+    (AreMaximalBlocks-nil (IsBetween f (a * 2 ^ (width f - q)) e) q
+    (λ x b. omega (arith, ends, b.from_start, b.to_end))) in
+    subst (AreOfLength q zero) (sym none)
+    (all_from_members (λ k. k.prefix_len ≡ q) [] (λ k c. absurd (contains_nil k c)), refl)
 walk_of_length f q e q_fits fits (suc count) a networks ends blocks =
     let (rest, split, behind) = AreMaximalBlocks-uncons f s e q n networks fits q_fits step blocks in
     subst (AreOfLength q (suc count)) (sym split)
@@ -54,15 +58,19 @@ walk_of_length f q e q_fits fits (suc count) a networks ends blocks =
     ends_behind : e + 1 ≡ a * 2 ^ (width f - q) + 2 ^ (width f - q) + count * 2 ^ (width f - q)
     ends_behind = omega (arith, ends)
 
-    next_start : a * 2 ^ (width f - q) / 2 ^ (width f - q) * 2 ^ (width f - q) + (2 ^ (width f - q) - 1) + 1 ≡ (a + 1) * 2 ^ (width f - q)
+    next_start : a * 2 ^ (width f - q) / 2 ^ (width f - q) * 2 ^ (width f - q) + (2 ^ (width f - q) - 1) + 1
+        ≡ (a + 1) * 2 ^ (width f - q)
     next_start = omega (arith, aligned, pow_pos (width f - q))
 
     step : IsLargestSubnetAt f s e q n
-    step = step_from_bits f (a * 2 ^ (width f - q)) e q (width f - q) (omega (arith, ends_behind, pow_pos (width f - q))) fits q_fits (omega arith)
+    step =
+        step_from_bits f (a * 2 ^ (width f - q)) e q (width f - q) (omega (arith, ends_behind, pow_pos (width f - q)))
+        fits q_fits (omega arith)
         (aligned, omega (arith, ends_behind)) (λ c c_fits good. c_fits) q (omega (arith, q_fits))
 
 -- the walk over the block of a network, by networks of a length from its own on
-pub subnets_of_length : (n : Network) (q : ℕ) (networks : List Network) → IsNetwork n → n.prefix_len ≤ q → q ≤ width n.family
+pub subnets_of_length : (n : Network) (q : ℕ) (networks : List Network) → IsNetwork n → n.prefix_len ≤ q
+    → q ≤ width n.family
     → AreMaximalBlocks (IsBetween n.family (first_of n) (last_of n)) q networks
     → AreMaximalBlocks (InBlock n) q networks × AreOfLength q (2 ^ (q - n.prefix_len)) networks
 subnets_of_length n q networks valid longer q_fits blocks = (

@@ -1,5 +1,6 @@
 -- What a text writes is a network: its number and its length are in the range of its family.
-use Rattle.std.proofs.Common.{◌≡◌, ℕ, zero, suc, ◌+◌, ◌*◌, ◌-◌, ◌^◌, ◌<◌, ◌≤◌, ◌⊎◌, Bool, true, false, List, [], ◌∷◌, ◌++◌, length, get_or, replicate, sym, ap, ◌∙◌, subst, arith, inl, inr, lit<, length-append}
+use Rattle.std.proofs.Common.{◌≡◌, ℕ, zero, suc, ◌+◌, ◌*◌, ◌-◌, ◌^◌, ◌<◌, ◌≤◌, ◌⊎◌, List, [], ◌∷◌, ◌++◌, length, get_or}
+use Rattle.std.proofs.Common.{replicate, sym, ap, ◌∙◌, subst, arith, inl, inr, lit<, length-append}
 use Rattle.std.proofs.Math.Nat.{pow-le-pow_right}
 use Rattle.std.proofs.lemmas.List.{length-replicate}
 use Rattle.std.proofs.lemmas.Int.Digits.{digits_value-lt}
@@ -7,9 +8,11 @@ use Rattle.std.specs.Int.{w32, from_be_bytes}
 use Rattle.std.specs.Net.Addr.{segments_of}
 use Rattle.ipnet_base.specs.Address.{width}
 use Rattle.ipnet_base.specs.Network.{Network, IsNetwork}
-use Rattle.ipnet.specs.Grammar.{Grammar, Strict, Legacy, grammar_of}
+use Rattle.ipnet.specs.declared.parser.Grammar.{Grammar}
+use Rattle.ipnet.specs.declared.parser.Grammar.TheVariants.{Strict, Legacy}
 use Rattle.ipnet.specs.Numerals.{IsGroup}
-use Rattle.ipnet.specs.AddressTexts.{IsGroups, EndsInIpv4, IsIpv6AddressText, IsCompressed, most_written_groups, expanded}
+use Rattle.ipnet.specs.AddressTexts.{IsGroups, EndsInIpv4, IsIpv6AddressText, IsCompressed, most_written_groups}
+use Rattle.ipnet.specs.AddressTexts.{expanded}
 use Rattle.ipnet.specs.NetworkTexts.{IsIpv4NetworkText, IsIpv6NetworkText, IsNetworkText}
 use Rattle.ipnet.proofs.Ipv4Texts.{Dots, Dots-from}
 use Rattle.ipnet.proofs.NumberOctets.{eight_groups_below}
@@ -50,19 +53,20 @@ groups_below text (g ∷ []) h = (group_below text g h, tt)
 groups_below text (g ∷ i ∷ groups) h = (group_below h.0 g h.3, groups_below h.1 (i ∷ groups) h.4)
 
 -- the two groups of a dotted address
-dotted_below : (strict : Bool) (text octets : List ℕ) → Dots strict text octets → AreGroups (segments_of octets)
+dotted_below : (grammar : Grammar) (text octets : List ℕ) → Dots grammar text octets → AreGroups (segments_of octets)
 unfolding AreGroups
-dotted_below strict text octets h =
-    let two : AreGroups ((h.a * 256 + h.b) ∷ (h.c * 256 + h.d) ∷ []) = (omega (arith, h.is_a.small, h.is_b.small), (omega (arith, h.is_c.small, h.is_d.small), tt)) in
+dotted_below grammar text octets h =
+    let two : AreGroups ((h.a * 256 + h.b) ∷ (h.c * 256 + h.d) ∷ []) =
+    (omega (arith, h.is_a.small, h.is_b.small), (omega (arith, h.is_c.small, h.is_d.small), tt)) in
     subst (λ o. AreGroups (segments_of o)) (sym h.value) two
 
-mixed_below : (strict : Bool) (text groups : List ℕ) → EndsInIpv4 (grammar_of strict) text groups → AreGroups groups
+mixed_below : (grammar : Grammar) (text groups : List ℕ) → EndsInIpv4 grammar text groups → AreGroups groups
 unfolding AreGroups
-mixed_below strict text [] h = absurd h
-mixed_below strict text (g ∷ []) h = absurd h
-mixed_below strict text (g ∷ i ∷ []) (octets, dotted, value) =
-    subst AreGroups (sym value) (dotted_below strict text octets (Dots-from strict text octets dotted))
-mixed_below strict text (g ∷ i ∷ j ∷ groups) h = (group_below h.0 g h.3, mixed_below strict h.1 (i ∷ j ∷ groups) h.4)
+mixed_below grammar text [] h = absurd h
+mixed_below grammar text (g ∷ []) h = absurd h
+mixed_below grammar text (g ∷ i ∷ []) (octets, dotted, value) =
+    subst AreGroups (sym value) (dotted_below grammar text octets (Dots-from grammar text octets dotted))
+mixed_below grammar text (g ∷ i ∷ j ∷ groups) h = (group_below h.0 g h.3, mixed_below grammar h.1 (i ∷ j ∷ groups) h.4)
 
 compressed_eight : (head tail : List ℕ) → length head + length tail ≤ 8 → length (expanded head tail) ≡ 8
 compressed_eight head tail room =
@@ -70,51 +74,53 @@ compressed_eight head tail room =
     let zeros : List ℕ = replicate n 0 in
     omega (arith, length-append (head ++ zeros) tail, length-append head zeros, length-replicate {A = ℕ} n 0)
 
-at_most_eight : (strict : Bool) (n : ℕ) → n ≤ most_written_groups (grammar_of strict) → n ≤ 8
-at_most_eight true n h = omega arith
-at_most_eight false n h = h
+at_most_eight : (grammar : Grammar) (n : ℕ) → n ≤ most_written_groups grammar → n ≤ 8
+at_most_eight Strict n h = omega arith
+at_most_eight Legacy n h = h
 
-compressed_below : (strict : Bool) (text groups : List ℕ) → IsCompressed (grammar_of strict) text groups → (length groups ≡ 8) × AreGroups groups
-compressed_below strict text groups h =
+compressed_below : (grammar : Grammar) (text groups : List ℕ) → IsCompressed grammar text groups
+    → (length groups ≡ 8) × AreGroups groups
+compressed_below grammar text groups h =
     let n = 8 - length h.head - length h.tail in
-    let front = AreGroups-append h.head (replicate n 0) (groups_below h.head_text h.head h.head_groups) (AreGroups-zeros n) in
-    let all = AreGroups-append (h.head ++ replicate n 0) h.tail front (tail_below h.tail_groups) in
-    (ap length h.value ∙ compressed_eight h.head h.tail (at_most_eight strict _ h.room), subst AreGroups (sym h.value) all)
+    let front =
+    AreGroups-append h.head (replicate n 0) (groups_below h.head_text h.head h.head_groups) (AreGroups-zeros n) in
+    let all = AreGroups-append (h.head ++ replicate n 0) h.tail front (tail_below h.tail_groups) in (
+      ap length h.value ∙ compressed_eight h.head h.tail (at_most_eight grammar _ h.room),
+      subst AreGroups (sym h.value) all,
+    )
   where
-    tail_below : IsGroups h.tail_text h.tail ⊎ EndsInIpv4 (grammar_of strict) h.tail_text h.tail → AreGroups h.tail
+    tail_below : IsGroups h.tail_text h.tail ⊎ EndsInIpv4 grammar h.tail_text h.tail → AreGroups h.tail
     tail_below (inl k) = groups_below h.tail_text h.tail k
-    tail_below (inr k) = mixed_below strict h.tail_text h.tail k
+    tail_below (inr k) = mixed_below grammar h.tail_text h.tail k
 
-ipv6_groups : (strict : Bool) (text groups : List ℕ) → IsIpv6AddressText (grammar_of strict) text groups → (length groups ≡ 8) × AreGroups groups
-ipv6_groups strict text groups (inl h) = (h.0, groups_below text groups h.1)
-ipv6_groups strict text groups (inr (inl h)) = (h.0, mixed_below strict text groups h.1)
-ipv6_groups strict text groups (inr (inr h)) = compressed_below strict text groups h
+ipv6_groups : (grammar : Grammar) (text groups : List ℕ) → IsIpv6AddressText grammar text groups
+    → (length groups ≡ 8) × AreGroups groups
+ipv6_groups grammar text groups (inl h) = (h.0, groups_below text groups h.1)
+ipv6_groups grammar text groups (inr (inl h)) = (h.0, mixed_below grammar text groups h.1)
+ipv6_groups grammar text groups (inr (inr h)) = compressed_below grammar text groups h
 
 -- ---- networks
 
-ipv4_is_network : (strict : Bool) (text : List ℕ) (n : Network) → IsIpv4NetworkText (grammar_of strict) text n → IsNetwork n
-ipv4_is_network strict text n h =
-    let dots = Dots-from strict h.address_text h.octets h.writes_address in
+ipv4_is_network : (grammar : Grammar) (text : List ℕ) (n : Network) → IsIpv4NetworkText grammar text n → IsNetwork n
+ipv4_is_network grammar text n h =
+    let dots = Dots-from grammar h.address_text h.octets h.writes_address in
     let octets_are = ap (from_be_bytes w32) dots.value in
-    let low : n.number < 2 ^ 32 = omega (arith, h.number, octets_are, dots.is_a.small, dots.is_b.small, dots.is_c.small, dots.is_d.small) in
+    let low : n.number < 2 ^ 32 =
+    omega (arith, h.number, octets_are, dots.is_a.small, dots.is_b.small, dots.is_c.small, dots.is_d.small) in
     record {
       address_fits = subst (λ f. n.number < 2 ^ width f) (sym h.family) low;
       prefix_fits = subst (λ f. n.prefix_len ≤ width f) (sym h.family) h.writes_length.small;
     }
 
-ipv6_is_network : (strict : Bool) (text : List ℕ) (n : Network) → IsIpv6NetworkText (grammar_of strict) text n → IsNetwork n
-ipv6_is_network strict text n h =
-    let (eight, fit) = ipv6_groups strict h.address_text h.groups h.writes_address in
+ipv6_is_network : (grammar : Grammar) (text : List ℕ) (n : Network) → IsIpv6NetworkText grammar text n → IsNetwork n
+ipv6_is_network grammar text n h =
+    let (eight, fit) = ipv6_groups grammar h.address_text h.groups h.writes_address in
     let low : n.number < 2 ^ 128 = rw h.number (eight_groups_below h.groups eight (AreGroups-get_or h.groups fit)) in
     record {
       address_fits = subst (λ f. n.number < 2 ^ width f) (sym h.family) low;
       prefix_fits = subst (λ f. n.prefix_len ≤ width f) (sym h.family) h.writes_length.small;
     }
 
-is_network : (strict : Bool) (text : List ℕ) (n : Network) → IsNetworkText (grammar_of strict) text n → IsNetwork n
-is_network strict text n (inl h) = ipv4_is_network strict text n h
-is_network strict text n (inr h) = ipv6_is_network strict text n h
-
 pub text_is_network : (grammar : Grammar) (text : List ℕ) (n : Network) → IsNetworkText grammar text n → IsNetwork n
-text_is_network Strict text n h = is_network true text n h
-text_is_network Legacy text n h = is_network false text n h
+text_is_network grammar text n (inl h) = ipv4_is_network grammar text n h
+text_is_network grammar text n (inr h) = ipv6_is_network grammar text n h

@@ -1,7 +1,8 @@
 -- The texts of addresses: relations between a whole text and the octets or groups that it writes.
 use Rattle.std.specs.Prelude.{◌≡◌, ℕ, ◌+◌, ◌-◌, ◌≤◌, ◌⊎◌, List, [], ◌∷◌, ◌++◌, length, replicate, codes}
 use Rattle.std.specs.Net.Addr.{segments_of}
-use Rattle.ipnet.specs.Grammar.{Grammar, Strict, Legacy}
+use Rattle.ipnet.specs.declared.parser.Grammar.{Grammar}
+use Rattle.ipnet.specs.declared.parser.Grammar.TheVariants.{Strict, Legacy}
 use Rattle.ipnet.specs.Numerals.{IsOctet, IsGroup}
 
 -- Texts joined by a separator, each of which writes its number. No numbers are the empty text.

@@ -13,8 +13,8 @@ abbrev pub octet_count : Family → ℕ
 octet_count family = width family / 8
 
 -- there are fewer bytes, or more, than the octets and the length: 5 for IPv4, 17 for IPv6
-abbrev pub HasOtherLen : Family → List ℕ → Type 0
-HasOtherLen family bytes = length bytes ≢ octet_count family + 1
+abbrev pub HasWrongLen : Family → List ℕ → Type 0
+HasWrongLen family bytes = length bytes ≢ octet_count family + 1
 
 -- there are as many, and the last, the length, is above the width
 pub record HasLongPrefix (family : Family) (bytes : List ℕ) : Type 0 where
@@ -30,13 +30,13 @@ abbrev pub IsTagged : List ℕ → Family → List ℕ → Type 0
 IsTagged bytes family rest = bytes ≡ family_index family ∷ rest
 
 -- there is no byte, or one for a family with too few or too many behind it
-abbrev pub HasOtherTaggedLen : List ℕ → Type 0
-HasOtherTaggedLen bytes =
-    (bytes ≡ []) ⊎ ((family : Family) × (rest : List ℕ) × IsTagged bytes family rest × HasOtherLen family rest)
+abbrev pub HasWrongTaggedLen : List ℕ → Type 0
+HasWrongTaggedLen bytes =
+    (bytes ≡ []) ⊎ ((family : Family) × (rest : List ℕ) × IsTagged bytes family rest × HasWrongLen family rest)
 
 -- there is a first byte, and it stands for no family
-abbrev pub HasOtherTag : List ℕ → Type 0
-HasOtherTag bytes =
+abbrev pub HasUnknownVariant : List ℕ → Type 0
+HasUnknownVariant bytes =
     (tag : ℕ) × (rest : List ℕ) × (bytes ≡ tag ∷ rest) × ((family : Family) → tag ≢ family_index family)
 
 -- there is a byte for a family, and behind it as many as there should be, with a length above the width

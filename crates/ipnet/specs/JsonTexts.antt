@@ -3,6 +3,7 @@ use Rattle.std.specs.Prelude.{◌≡◌, ℕ, List}
 use Rattle.serde_json.specs.Data.{Data, string}
 use Rattle.ipnet_base.specs.Network.{Network}
 use Rattle.ipnet.specs.CanonicalTexts.{canonical_text}
+use Rattle.ipnet.specs.NetworkTexts.{WritesNone}
 
 -- the JSON string of the canonical text
 abbrev pub network_json : Network → Data
@@ -16,11 +17,10 @@ IsJsonString value text = value ≡ string text
 abbrev pub IsNetworkJson : (List ℕ → Network → Type 0) → Data → Network → Type 0
 IsNetworkJson Writes value network = (text : List ℕ) × IsJsonString value text × Writes text network
 
--- the value is no JSON string
-abbrev pub IsNoJsonString : Data → Type 0
-IsNoJsonString value = (text : List ℕ) → ¬ (IsJsonString value text)
+-- the value is not a JSON string
+abbrev pub IsNotJsonString : Data → Type 0
+IsNotJsonString value = (text : List ℕ) → ¬ (IsJsonString value text)
 
 -- the value is the JSON string of a text that writes no network
-abbrev pub IsOtherJsonString : (List ℕ → Network → Type 0) → Data → Type 0
-IsOtherJsonString Writes value =
-    (text : List ℕ) × IsJsonString value text × ((network : Network) → ¬ (Writes text network))
+abbrev pub IsJsonStringOfNoNetwork : (List ℕ → Network → Type 0) → Data → Type 0
+IsJsonStringOfNoNetwork Writes value = (text : List ℕ) × IsJsonString value text × WritesNone Writes text

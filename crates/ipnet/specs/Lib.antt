@@ -2,7 +2,6 @@
 pub mod NetworkOf
 pub mod NetworkParts
 pub mod NetLaws
-pub mod Grammar
 pub mod Numerals
 pub mod AddressTexts
 pub mod NetworkTexts
@@ -11,8 +10,8 @@ pub mod Lines
 pub mod Results
 pub mod Bytes
 pub mod JsonTexts
-pub mod Reading
-pub mod Reader
+pub mod ReaderSteps
+pub mod ReaderState
 pub mod SubnetsLeft
 pub use Rattle.ipnet_base.specs.Address
 pub use Rattle.ipnet_base.specs.Network
@@ -22,3 +21,4 @@ pub use Rattle.ipnet_base.specs.Masks
 pub use Rattle.ipnet_base.specs.Ranges
 pub use Rattle.ipnet_base.specs.RangeOf
 pub use Rattle.ipnet_base.specs.Arithmetic
+pub use Rattle.ipnet_base.specs.Values

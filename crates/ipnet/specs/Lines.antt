@@ -1,8 +1,8 @@
 -- The lines of a text, and the networks that they write.
 use Rattle.std.specs.Prelude.{◌≡◌, ◌≢◌, ℕ, ◌+◌, ◌⊎◌, List, [], ◌∷◌, ◌++◌, ◌==◌, length, All, if◌then◌else◌}
 use Rattle.ipnet_base.specs.Network.{Network}
-use Rattle.ipnet.specs.Grammar.{Grammar}
-use Rattle.ipnet.specs.NetworkTexts.{IsNetworkText}
+use Rattle.ipnet.specs.declared.parser.Grammar.{Grammar}
+use Rattle.ipnet.specs.NetworkTexts.{IsNetworkText, WritesNone}
 
 -- the byte before the first line
 abbrev pub onto_first_line : ℕ → List (List ℕ) → List (List ℕ)
@@ -20,7 +20,7 @@ IsGoodLine grammar line = (line ≡ []) ⊎ ((network : Network) × IsNetworkTex
 
 -- a line that isn't empty and writes no network
 abbrev pub IsBadLine : Grammar → List ℕ → Type 0
-IsBadLine grammar line = (line ≢ []) × ((network : Network) → ¬ (IsNetworkText grammar line network))
+IsBadLine grammar line = (line ≢ []) × WritesNone (IsNetworkText grammar) line
 
 -- the networks that the lines write, in order; the empty lines are left out
 abbrev pub AreNetworksOf : Grammar → List (List ℕ) → List Network → Type 0

@@ -1,6 +1,9 @@
 -- What the private trait `Net` asks of each type: its values stand for networks, one value for each network, and
--- their order is the order of networks.
-use Rattle.std.proofs.Common.{◌≡◌, ℕ, ◌+◌, ◌*◌, ◌/◌, ◌%◌, ◌^◌, ◌<◌, ◌≤◌, ◌⊎◌, inl, inr, refl, sym, ap, ap₂, ◌∙◌, subst, arith, Less, nat_cmp, lt-ltb}
+-- their order is the order of networks. These are proofs, and stand in specs/ because the members of an `impl Net` name
+-- them: a `ghost use` cannot name its own crate's proofs/.
+-- Private contracts alone cite these.
+use Rattle.std.proofs.Common.{◌≡◌, ℕ, ◌+◌, ◌*◌, ◌/◌, ◌%◌, ◌^◌, ◌<◌, ◌≤◌, ◌⊎◌, inl, inr, refl, sym, ap, ap₂, ◌∙◌}
+use Rattle.std.proofs.Common.{subst, arith, Less, nat_cmp, lt-ltb}
 use Rattle.std.specs.Coded.{le_prop}
 use Rattle.std.specs.Ordering.{ordering_then}
 use Rattle.std.proofs.Math.Nat.{div-add-mod}
@@ -27,9 +30,11 @@ ip_valid (Ip.V6 n) = ipv6_valid n
 abbrev ipv4_of : (w : ℕ) → w < 2 ^ 64 → w % 2 ^ 32 ≤ 32 → Ipv4Net
 ipv4_of w h k = record { word = w; word_fits = h; prefix_fits = k }
 
-ipv4_same : (v w : ℕ) → v ≡ w → (h : v < 2 ^ 64) (k : v % 2 ^ 32 ≤ 32) (h' : w < 2 ^ 64) (k' : w % 2 ^ 32 ≤ 32) → ipv4_of v h k ≡ ipv4_of w h' k'
+ipv4_same : (v w : ℕ) → v ≡ w → (h : v < 2 ^ 64) (k : v % 2 ^ 32 ≤ 32) (h' : w < 2 ^ 64) (k' : w % 2 ^ 32 ≤ 32)
+    → ipv4_of v h k ≡ ipv4_of w h' k'
 ipv4_same v w e h k =
-    let at : (h' : v < 2 ^ 64) (k' : v % 2 ^ 32 ≤ 32) → ipv4_of v h k ≡ ipv4_of v h' k' = λ h' k' i. ipv4_of v (le_prop h h' i) (le_prop k k' i) in
+    let at : (h' : v < 2 ^ 64) (k' : v % 2 ^ 32 ≤ 32) → ipv4_of v h k ≡ ipv4_of v h' k' =
+    λ h' k' i. ipv4_of v (le_prop h h' i) (le_prop k k' i) in
     subst (λ m. (h' : m < 2 ^ 64) (k' : m % 2 ^ 32 ≤ 32) → ipv4_of v h k ≡ ipv4_of m h' k') e at
 
 -- a word is told by its two halves
@@ -38,18 +43,26 @@ same_word v w e f = sym (div-add-mod v (2 ^ 32)) ∙ ap₂ (λ a b. 2 ^ 32 * a +
 
 pub ipv4_one_to_one : (x y : Ipv4Net) → ipv4_network x ≡ ipv4_network y → x ≡ y
 ipv4_one_to_one x y e =
-    ipv4_same x.word y.word (same_word x.word y.word (ap (λ n. n.number) e) (ap (λ n. n.prefix_len) e)) x.word_fits x.prefix_fits y.word_fits y.prefix_fits
+    ipv4_same x.word y.word (same_word x.word y.word (ap (λ n. n.number) e) (ap (λ n. n.prefix_len) e)) x.word_fits
+    x.prefix_fits y.word_fits y.prefix_fits
 
 abbrev ipv6_of : (a b p : ℕ) → a < 2 ^ 64 → b < 2 ^ 64 → p ≤ 128 → Ipv6Net
 ipv6_of a b p h l k = record { high = a; low = b; prefix_len = p; high_fits = h; low_fits = l; prefix_fits = k }
 
-ipv6_same : (a b c d p q : ℕ) → a ≡ c → b ≡ d → p ≡ q → (h : a < 2 ^ 64) (l : b < 2 ^ 64) (k : p ≤ 128) (h' : c < 2 ^ 64) (l' : d < 2 ^ 64) (k' : q ≤ 128)
+ipv6_same : (a b c d p q : ℕ) → a ≡ c → b ≡ d → p ≡ q
+    → (h : a < 2 ^ 64) (l : b < 2 ^ 64) (k : p ≤ 128) (h' : c < 2 ^ 64) (l' : d < 2 ^ 64) (k' : q ≤ 128)
     → ipv6_of a b p h l k ≡ ipv6_of c d q h' l' k'
 ipv6_same a b c d p q e f g h l k =
-    let at : (h' : a < 2 ^ 64) (l' : b < 2 ^ 64) (k' : p ≤ 128) → ipv6_of a b p h l k ≡ ipv6_of a b p h' l' k' = λ h' l' k' i. ipv6_of a b p (le_prop h h' i) (le_prop l l' i) (le_prop k k' i) in
-    let at_c : (h' : c < 2 ^ 64) (l' : b < 2 ^ 64) (k' : p ≤ 128) → ipv6_of a b p h l k ≡ ipv6_of c b p h' l' k' = subst (λ m. (h' : m < 2 ^ 64) (l' : b < 2 ^ 64) (k' : p ≤ 128) → ipv6_of a b p h l k ≡ ipv6_of m b p h' l' k') e at in
-    let at_d : (h' : c < 2 ^ 64) (l' : d < 2 ^ 64) (k' : p ≤ 128) → ipv6_of a b p h l k ≡ ipv6_of c d p h' l' k' = subst (λ m. (h' : c < 2 ^ 64) (l' : m < 2 ^ 64) (k' : p ≤ 128) → ipv6_of a b p h l k ≡ ipv6_of c m p h' l' k') f at_c in
-    subst (λ m. (h' : c < 2 ^ 64) (l' : d < 2 ^ 64) (k' : m ≤ 128) → ipv6_of a b p h l k ≡ ipv6_of c d m h' l' k') g at_d
+    let at : (h' : a < 2 ^ 64) (l' : b < 2 ^ 64) (k' : p ≤ 128) → ipv6_of a b p h l k ≡ ipv6_of a b p h' l' k' =
+    λ h' l' k' i. ipv6_of a b p (le_prop h h' i) (le_prop l l' i) (le_prop k k' i) in
+    let at_c : (h' : c < 2 ^ 64) (l' : b < 2 ^ 64) (k' : p ≤ 128) → ipv6_of a b p h l k ≡ ipv6_of c b p h' l' k' =
+    subst (λ m. (h' : m < 2 ^ 64) (l' : b < 2 ^ 64) (k' : p ≤ 128) → ipv6_of a b p h l k ≡ ipv6_of m b p h' l' k')
+    e at in
+    let at_d : (h' : c < 2 ^ 64) (l' : d < 2 ^ 64) (k' : p ≤ 128) → ipv6_of a b p h l k ≡ ipv6_of c d p h' l' k' =
+    subst (λ m. (h' : c < 2 ^ 64) (l' : m < 2 ^ 64) (k' : p ≤ 128) → ipv6_of a b p h l k ≡ ipv6_of c m p h' l' k')
+    f at_c in
+    subst (λ m. (h' : c < 2 ^ 64) (l' : d < 2 ^ 64) (k' : m ≤ 128) → ipv6_of a b p h l k ≡ ipv6_of c d m h' l' k') g
+    at_d
 
 pub ipv6_one_to_one : (x y : Ipv6Net) → ipv6_network x ≡ ipv6_network y → x ≡ y
 ipv6_one_to_one x y e =
@@ -70,10 +83,12 @@ cmp_less a b p q (inl h) = rw (lt-ltb a b h) refl
 cmp_less a b p q (inr h) = grind (arith, nat_tests)
 
 -- a number in two halves is compared by its halves, the high one first
-halves_less : (a b c d p q : ℕ) → b < 2 ^ 64 → d < 2 ^ 64 → (a * 2 ^ 64 + b < c * 2 ^ 64 + d) ⊎ ((a * 2 ^ 64 + b ≡ c * 2 ^ 64 + d) × (p < q))
+halves_less : (a b c d p q : ℕ) → b < 2 ^ 64 → d < 2 ^ 64 → (a * 2 ^ 64 + b < c * 2 ^ 64 + d)
+    ⊎ ((a * 2 ^ 64 + b ≡ c * 2 ^ 64 + d) × (p < q))
     → ordering_then (nat_cmp a c) (ordering_then (nat_cmp b d) (nat_cmp p q)) ≡ Less
 halves_less a b c d p q l m h = elim (cases_order a c) [
-  | inl same ↦ let low : (b < d) ⊎ ((b ≡ d) × (p < q)) = elim h [ inl lt ↦ inl (omega arith) | inr k ↦ inr (omega (arith, k.0), k.1) ] in
+  | inl same ↦ let low : (b < d) ⊎ ((b ≡ d) × (p < q)) =
+      elim h [ inl lt ↦ inl (omega arith) | inr k ↦ inr (omega (arith, k.0), k.1) ] in
       let rest : ordering_then (nat_cmp b d) (nat_cmp p q) ≡ Less = cmp_less b d p q low in
       grind (arith, nat_tests)
   | inr (inl lt) ↦ rw (lt-ltb a c lt) refl
@@ -90,7 +105,8 @@ ipv4_in_order x y (inl h) = absurd (omega (arith, h))
 ipv4_in_order x y (inr h) = rw (lt-ltb x.word y.word (word_less x.word y.word h.1)) refl
 
 pub ipv6_in_order : (x y : Ipv6Net) → IsBefore (ipv6_network x) (ipv6_network y)
-    → ordering_then (nat_cmp x.high y.high) (ordering_then (nat_cmp x.low y.low) (nat_cmp x.prefix_len y.prefix_len)) ≡ Less
+    → ordering_then (nat_cmp x.high y.high)
+    (ordering_then (nat_cmp x.low y.low) (nat_cmp x.prefix_len y.prefix_len)) ≡ Less
 ipv6_in_order x y (inl h) = absurd (omega (arith, h))
 ipv6_in_order x y (inr h) = halves_less x.high x.low y.high y.low x.prefix_len y.prefix_len x.low_fits y.low_fits h.1
 

@@ -1,15 +1,11 @@
 -- What a network is made from, and the addresses that belong to it (RFC 4632, section 3.1).
 use Rattle.std.specs.Prelude.{◌≡◌, ℕ, ◌+◌, ◌-◌, ◌^◌, ◌<◌, ◌↔◌, List, length, Contains}
-use Rattle.ipnet_base.specs.Address.{Family, IPv4, Address}
+use Rattle.ipnet_base.specs.Address.{IPv4, Address}
 use Rattle.ipnet_base.specs.Network.{Network, IsNetwork, InBlock, IsSubnetOf, IsTruncated, IsLeastOf, IsGreatestOf}
-use Rattle.ipnet_base.specs.Blocks.{IsAscending, AreMaximalBlocks}
+use Rattle.ipnet_base.specs.Blocks.{IsAscending, ArePairwiseDisjoint, AreMaximalBlocks}
 use Rattle.ipnet_base.specs.Subnets.{SubnetRange}
 use Rattle.ipnet_base.specs.Ranges.{AddressRange}
 use Rattle.ipnet_base.specs.Masks as masks
-
--- the address of this family and number
-abbrev pub address_at : Family → ℕ → Address
-address_at family number = record { family = family; number = number }
 
 -- the network of this address, host bits and all, and this length
 abbrev pub network_at : Address → ℕ → Network
@@ -40,10 +36,12 @@ pub record IsSubnetOfLength (n : Network) (prefix_len : ℕ) (k : Network) : Typ
   pub of_length : k.prefix_len ≡ prefix_len
   pub within : IsSubnetOf k n
 
--- All networks of this length in n, ascending: they are the maximal blocks of n under that least length.
+-- All networks of this length in n, ascending, no two of which share an address: they are the maximal blocks of n under
+-- that minimum prefix length.
 pub record AreSubnetsOfLength (n : Network) (prefix_len : ℕ) (networks : List Network) : Type 0 where
   pub ascending : IsAscending networks
   pub members : (k : Network) → Contains networks k ↔ IsSubnetOfLength n prefix_len k
+  pub disjoint : ArePairwiseDisjoint networks
   pub count : length networks ≡ 2 ^ (prefix_len - n.prefix_len)
   pub blocks : AreMaximalBlocks (InBlock n) prefix_len networks
 

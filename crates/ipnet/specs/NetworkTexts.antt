@@ -1,12 +1,13 @@
 -- The texts of networks: a relation between a whole text and the network that it writes, in either grammar.
-use Rattle.std.specs.Prelude.{◌≡◌, ◌⊎◌, List, ◌++◌, codes, ℕ, Result, MatchResult}
+use Rattle.std.specs.Prelude.{◌≡◌, ◌⊎◌, ◌↔◌, List, ◌++◌, codes, ℕ, Result, IsErr}
 use Rattle.std.specs.Int.{w32, w128, from_be_bytes}
 use Rattle.std.specs.Net.Addr.{octets_of}
 use Rattle.ipnet_base.specs.Address.{IPv4, IPv6}
 use Rattle.ipnet_base.specs.Network.{Network}
-use Rattle.ipnet.specs.Grammar.{Grammar}
+use Rattle.ipnet.specs.declared.parser.Grammar.{Grammar}
 use Rattle.ipnet.specs.Numerals.{IsDecimal}
 use Rattle.ipnet.specs.AddressTexts.{IsIpv4AddressText, IsIpv6AddressText}
+use Rattle.ipnet.specs.Results.{IsOkExactlyAt}
 
 -- The text writes this IPv4 network: an IPv4 address, "/" and a length of at most two digits (RFC 4632, section
 -- 3.1). The network's number is the octets, the most significant first, host bits and all.
@@ -37,8 +38,13 @@ abbrev pub IsNetworkText : Grammar → List ℕ → Network → Type 0
 IsNetworkText grammar text network =
     IsIpv4NetworkText grammar text network ⊎ IsIpv6NetworkText grammar text network
 
--- Reading a text into a type whose values stand for networks by `network_of`: the value whose network the text
--- writes, or a refusal where the text writes no network.
-abbrev pub ReadsNetwork : {N E : Type 0} → (N → Network) → (List ℕ → Network → Type 0) → List ℕ → Result N E → Type 0
-ReadsNetwork network_of Writes text result =
-    MatchResult result (λ n. Writes text (network_of n)) (λ _. (network : Network) → ¬ (Writes text network))
+-- the text writes no network
+abbrev pub WritesNone : (List ℕ → Network → Type 0) → List ℕ → Type 0
+WritesNone Writes text = (network : Network) → ¬ (Writes text network)
+
+-- Reading a text into a type whose values stand for networks by `network_of`: `Ok` of a value exactly where the text
+-- writes its network, and an error exactly where the text writes none.
+pub record ReadsNetwork {N E : Type 0} (network_of : N → Network) (Writes : List ℕ → Network → Type 0) (text : List ℕ)
+    (result : Result N E) : Type 0 where
+  pub ok : IsOkExactlyAt result (λ n. Writes text (network_of n))
+  pub error : IsErr result ↔ WritesNone Writes text

@@ -1,7 +1,8 @@
 -- The numbers that stand in an address text, each beside its value.
 use Rattle.std.specs.Prelude.{◌≡◌, ℕ, ◌≤◌, List, length, slice_index}
 use Rattle.std.specs.Str.Parse.{IsNumeral, digits_value}
-use Rattle.ipnet.specs.Grammar.{Grammar, Strict}
+use Rattle.ipnet.specs.declared.parser.Grammar.{Grammar}
+use Rattle.ipnet.specs.declared.parser.Grammar.TheVariants.{Strict}
 
 -- A decimal text: one digit or more, at most `most` of them, with a value of at most `greatest`. Leading
 -- zeros count as digits. A strict text has none: it begins with "0" (48) only where it is "0".

@@ -13,11 +13,13 @@ use Rattle.ipnet.specs.declared.subnets.ipv6_subnets.Ipv6Subnets.{Ipv6Subnets}
 
 -- the IPv4 range from start to end, to be tiled by networks of at least this length
 abbrev pub ipv4_range_of : (start end min_prefix_len : ℕ) → SubnetRange
-ipv4_range_of start end min_prefix_len = record { family = IPv4; start = start; end = end; min_prefix_len = min_prefix_len }
+ipv4_range_of start end min_prefix_len =
+    record { family = IPv4; start = start; end = end; min_prefix_len = min_prefix_len }
 
 -- the IPv6 range from start to end, to be tiled by networks of at least this length
 abbrev pub ipv6_range_of : (start end min_prefix_len : ℕ) → SubnetRange
-ipv6_range_of start end min_prefix_len = record { family = IPv6; start = start; end = end; min_prefix_len = min_prefix_len }
+ipv6_range_of start end min_prefix_len =
+    record { family = IPv6; start = start; end = end; min_prefix_len = min_prefix_len }
 
 -- the addresses of the range
 abbrev pub IsInRange : SubnetRange → Address → Type 0
@@ -36,17 +38,17 @@ pub record IsWalkOf (range : SubnetRange) (networks : List Network) : Type 0 whe
 -- What `next` of a type of walks does beside giving the first of its list, where network_of is the network that an
 -- item stands for, range_of the range that a walk has left, and left the networks that it still gives. It stands on
 -- `next` as the clause `goes` of the trait: a `for` reads `on`, `keeps` and `rests` there, which `progress` has.
-pub record IsSubnetStep {S A : Type 0} (network_of : A → Network) (range_of : S → SubnetRange) (left : S → List Network) (old : S) (answer : Option A) (new : S) : Type 0 where
+pub record IsSubnetStep {S A : Type 0} (network_of : A → Network) (range_of : S → SubnetRange) (left : S → List Network)
+    (old : S) (answer : Option A) (new : S) : Type 0 where
   -- what std wants of each call of `next`: the list gets shorter
   pub progress : MakesProgress (λ _. ⊤) (item_count left) old answer new
   pub open progress use *
   -- the largest network that starts at the start, ends at or before the end and has at least the least length
-  pub largest : IfSome answer (λ n. IsLargestSubnetAt (range_of old).family (range_of old).start (range_of old).end (range_of old).min_prefix_len (network_of n))
+  pub largest : IfSome answer (λ n. IsLargestSubnetAt (range_of old).family (range_of old).start (range_of old).end
+      (range_of old).min_prefix_len (network_of n))
   -- the stored ends that it leaves
-  pub advanced : IfSome answer (λ n. (x : Address) → IsGreatestOf (network_of n) x → IsAdvancedPast x.number (range_of old) (range_of new))
-  -- the list before the call is the walk over the range before, and so behind the call
-  pub walk : IsWalkOf (range_of old) (left old)
-  pub rest : IsWalkOf (range_of new) (left new)
+  pub advanced : IfSome answer (λ n. (x : Address) → IsGreatestOf (network_of n) x
+      → IsAdvancedPast x.number (range_of old) (range_of new))
   -- `None` comes exactly where the start lies above the end, and changes nothing
   pub over : IsNone answer ↔ ((range_of old).end < (range_of old).start)
   pub unchanged : IfNone answer (new ≡ old)
@@ -62,21 +64,14 @@ abbrev pub ip_subnet_range : IpSubnets → SubnetRange
 ip_subnet_range (Ip.V4 s) = ipv4_subnet_range s
 ip_subnet_range (Ip.V6 s) = ipv6_subnet_range s
 
--- The networks that the walk still gives: the maximal blocks of what is left of its range. There is one such
--- list, so that is all that contracts say of it.
-pub ipv4_subnets_left : Ipv4Subnets → List Network
+-- The networks that the walk still gives: the maximal blocks of what is left of its range. A proof that there is such a
+-- list makes it; there is one alone, so it promises no more than that it is the walk of its range (`IsWalkOf`, which
+-- the laws of walks say of each).
+unfoldable pub ipv4_subnets_left : Ipv4Subnets → List Network
 ipv4_subnets_left s = (blocks_exist IPv4 s.start s.end s.min_prefix_len s.end_fits s.min_prefix_fits).0
 
-pub ipv4_subnets_left-are_blocks : (s : Ipv4Subnets) → AreMaximalBlocks (IsBetween IPv4 s.start s.end) s.min_prefix_len (ipv4_subnets_left s)
-unfolding ipv4_subnets_left
-ipv4_subnets_left-are_blocks s = (blocks_exist IPv4 s.start s.end s.min_prefix_len s.end_fits s.min_prefix_fits).1
-
-pub ipv6_subnets_left : Ipv6Subnets → List Network
+unfoldable pub ipv6_subnets_left : Ipv6Subnets → List Network
 ipv6_subnets_left s = (blocks_exist IPv6 s.start s.end s.min_prefix_len s.end_fits s.min_prefix_fits).0
-
-pub ipv6_subnets_left-are_blocks : (s : Ipv6Subnets) → AreMaximalBlocks (IsBetween IPv6 s.start s.end) s.min_prefix_len (ipv6_subnets_left s)
-unfolding ipv6_subnets_left
-ipv6_subnets_left-are_blocks s = (blocks_exist IPv6 s.start s.end s.min_prefix_len s.end_fits s.min_prefix_fits).1
 
 abbrev pub ip_subnets_left : IpSubnets → List Network
 ip_subnets_left (Ip.V4 s) = ipv4_subnets_left s

@@ -1,20 +1,23 @@
 //! Aggregates: the shortest list of networks over the addresses of a list, and lists compared by what they cover.
-ghost use Rattle.std.specs.Prelude.{◌≡◌, ◌↔◌, ◌+◌, ◌<◌, ◌≤◌, List, [], map, take, drop, length, All, Contains, IfOk, OnOk, IsOk, IsOkAnd, IsTrue};
-ghost use Rattle.ipnet_base.specs.Network.{Network, IsNetwork, IsTruncated, truncation};
-ghost use Rattle.ipnet_base.specs.Blocks.{IsCoveredBy, HaveSameCover, IsAggregateOf, IsShortestCover, ArePairwiseDisjoint, AreAggregatedNeighbours};
-ghost use Rattle.ipnet_base.proofs.NeighbourLaws.{AreSettled, LiesBefore};
-ghost use Rattle.ipnet_base.proofs.StackLaws.{IsAtMost, IsInOrder, IsGathered, IsPushed, IsSwept};
+ghost use Rattle.std.specs.Prelude.{◌≡◌, ◌↔◌, ◌+◌, ◌<◌, ◌≤◌, [], map, take, drop, length, All};
+ghost use Rattle.std.specs.Prelude.{IfOk, OnOk, IsOk, IsOkAnd, IsTrue};
+ghost use Rattle.ipnet_base.specs.Network.{IsTruncated};
+ghost use Rattle.ipnet_base.specs.Blocks.{HaveSameCover, IsAggregateOf, IsCanonicalAggregateOf};
+ghost use Rattle.ipnet_base.specs.Blocks.{AreAggregatedNeighbours};
+ghost use Rattle.ipnet_base.specs.Stack.{IsBeforeOrEqual, IsInOrder, LiesBefore, AreJoined};
+ghost use Rattle.ipnet_base.specs.Stack.{IsListWith, IsStackWith, IsStackOfFirst};
 ghost use Rattle.ipnet.specs.NetworkOf.{ipv4_network, ipv6_network, ip_network};
 
 use crate::net::{IpNet, Ipv4Net, Ipv6Net, Net};
 use std::alloc::{AllocError, Global};
 
-/// Puts one network more at the end of the list, in whatever order they come: as long as the last one is its other
-/// half both are replaced by their supernet.
-fn gather<N: Net>(list: &mut Vec<N>, network: N) -> Result<(), AllocError>
+/// Appends a network. While it and the last one are the two halves of one supernet, both are replaced by that
+/// supernet. The list need not be sorted.
+fn push_or_join<N: Net>(list: &mut Vec<N>, network: N) -> Result<(), AllocError>
     requires list { All IsTruncated (map N.network list.old.items) }
     requires network { IsTruncated (N.network network) }
-    ensures { OnOk result (IsGathered (map N.network list.old.items) (N.network network) (map N.network list.new.items)) }
+    ensures { OnOk result
+        (IsListWith (map N.network list.old.items) (N.network network) (map N.network list.new.items)) }
 {
     let mut next = network;
     while let Some(last) = list.last()
@@ -27,30 +30,32 @@ fn gather<N: Net>(list: &mut Vec<N>, network: N) -> Result<(), AllocError>
     Ok(())
 }
 
-/// A list over the same addresses, without host bits: the networks in the order that they came in, but for those that
-/// joined the one before. Runs of neighbours come out short, so less is left to sort.
-fn gathered<N: Net>(alloc: Global, networks: &Vec<N>) -> Result<Vec<N>, AllocError>
+/// A list over the same addresses, without host bits and in the order of the input. Two halves of one supernet that
+/// follow each other are joined here already, so that less has to be sorted.
+fn truncated_and_joined<N: Net>(alloc: Global, networks: &Vec<N>) -> Result<Vec<N>, AllocError>
     ensures empty { networks.now.items ≡ [] → IsOk result }
     ensures truncated { IfOk result (λ list. All IsTruncated (map N.network list.items)) }
-    ensures addresses { IfOk result (λ list. HaveSameCover (map N.network list.items) (map N.network networks.now.items)) }
+    ensures addresses { IfOk result (λ list.
+        HaveSameCover (map N.network list.items) (map N.network networks.now.items)) }
 {
     let mut list = Vec::with_capacity(alloc, networks.len())?;
     for network in networks {
-        gather(&mut list, network.truncated())?;
+        push_or_join(&mut list, network.truncated())?;
     }
     Ok(list)
 }
 
-/// Puts one network more on the stack that stands in the front of the list: a network that the topmost covers is
-/// left out, and as long as the topmost is its other half both are replaced by their supernet. Answers how many
-/// networks the stack has then.
-fn push_joined<N: Net>(list: &mut [N], stacked: usize, network: N) -> usize
+/// Pushes a network on the stack in the front of the list, where none of the stack stands after it. A network that the
+/// topmost covers is left out. While it and the topmost are the two halves of one supernet, both are replaced by that
+/// supernet. Answers how many networks the stack has then.
+fn push_on_stack<N: Net>(list: &mut [N], stacked: usize, network: N) -> usize
     requires room { stacked < length list.old }
-    requires settled { AreSettled (map N.network (take stacked list.old)) }
+    requires joined { AreJoined (map N.network (take stacked list.old)) }
     requires truncated { IsTruncated (N.network network) }
-    requires order { All (λ m. IsAtMost m (N.network network)) (map N.network (take stacked list.old)) }
+    requires order { All (λ m. IsBeforeOrEqual m (N.network network)) (map N.network (take stacked list.old)) }
     ensures at_most { result ≤ stacked + 1 }
-    ensures pushed { IsPushed (map N.network (take stacked list.old)) (N.network network) (map N.network (take result list.new)) }
+    ensures stack { IsStackWith (map N.network (take stacked list.old)) (N.network network)
+        (map N.network (take result list.new)) }
     ensures rest { drop (stacked + 1) list.new ≡ drop (stacked + 1) list.old }
 {
     if stacked > 0 && list[stacked - 1].covers(&network) {
@@ -66,38 +71,30 @@ fn push_joined<N: Net>(list: &mut [N], stacked: usize, network: N) -> usize
     top + 1
 }
 
-/// Sweeps the networks of the list, which stand in order, onto a stack in its front. Answers how many networks the
-/// stack has at the end.
+/// Pushes the networks of a sorted list, one after the other, on a stack in its own front: the stack never has more
+/// networks than were read, so nothing unread is overwritten. Answers how many networks the stack has at the end.
 fn sweep<N: Net>(list: &mut [N]) -> usize
     requires truncated { All IsTruncated (map N.network list.old) }
     requires order { IsInOrder (map N.network list.old) }
     ensures at_most { result ≤ length list.old }
-    ensures swept { IsSwept (map N.network list.old) (length list.old) (map N.network (take result list.new)) }
+    ensures stack { IsStackOfFirst (map N.network list.old) (length list.old) (map N.network (take result list.new)) }
 {
     let mut stacked = 0;
     for index in 0..list.len() {
         let network = list[index];
-        stacked = push_joined(list, stacked, network);
+        stacked = push_on_stack(list, stacked, network);
     }
     stacked
 }
 
-/// The aggregate, in the one list that is made for it.
+/// The aggregate, in the one list that is made for it. Sorting takes most of the time, so what can be joined in the
+/// order of the input is joined before. Afterwards each network has to be compared with the top of the stack alone.
 fn aggregated<N: Net>(alloc: Global, networks: &Vec<N>) -> Result<Vec<N>, AllocError>
     ensures empty { networks.now.items ≡ [] → IsOkAnd result (λ answer. answer.items ≡ []) }
-    ensures aggregate { IfOk result (λ answer. IsAggregateOf (map N.network answer.items) (map N.network networks.now.items)) }
-    ensures addresses { IfOk result (λ answer. HaveSameCover (map N.network answer.items) (map N.network networks.now.items)) }
-    ensures disjoint { IfOk result (λ answer. ArePairwiseDisjoint (map N.network answer.items)) }
-    ensures shortest { IfOk result (λ answer. IsShortestCover (IsCoveredBy (map N.network networks.now.items)) 0 (map N.network answer.items)) }
-    ensures no_longer { IfOk result (λ answer. length answer.items ≤ length networks.now.items) }
-    ensures only { IfOk result (λ answer. (other : List Network) → IsAggregateOf other (map N.network networks.now.items) → other ≡ map N.network answer.items) }
-    ensures canonical { IfOk result (λ answer. (others : List Network) → All IsNetwork others
-        → IsAggregateOf (map N.network answer.items) others ↔ HaveSameCover others (map N.network networks.now.items)) }
-    ensures unordered { IfOk result (λ answer. (others : List Network)
-        → ((n : Network) → Contains (map truncation others) n ↔ Contains (map truncation (map N.network networks.now.items)) n) → IsAggregateOf (map N.network answer.items) others) }
-    ensures again { IfOk result (λ answer. IsAggregateOf (map N.network answer.items) (map N.network answer.items)) }
+    ensures aggregate { IfOk result (λ answer.
+        IsCanonicalAggregateOf (map N.network answer.items) (map N.network networks.now.items)) }
 {
-    let mut list = gathered(alloc, networks)?;
+    let mut list = truncated_and_joined(alloc, networks)?;
     list.sort_unstable();
     let stacked = sweep(list.as_mut_slice());
     list.truncate(stacked);
@@ -120,17 +117,8 @@ impl Ipv4Net {
     /// ```
     pub fn aggregate(alloc: Global, networks: &Vec<Ipv4Net>) -> Result<Vec<Ipv4Net>, AllocError>
         ensures empty { networks.now.items ≡ [] → IsOkAnd result (λ answer. answer.items ≡ []) }
-        ensures aggregate { IfOk result (λ answer. IsAggregateOf (map ipv4_network answer.items) (map ipv4_network networks.now.items)) }
-        ensures addresses { IfOk result (λ answer. HaveSameCover (map ipv4_network answer.items) (map ipv4_network networks.now.items)) }
-        ensures disjoint { IfOk result (λ answer. ArePairwiseDisjoint (map ipv4_network answer.items)) }
-        ensures shortest { IfOk result (λ answer. IsShortestCover (IsCoveredBy (map ipv4_network networks.now.items)) 0 (map ipv4_network answer.items)) }
-        ensures no_longer { IfOk result (λ answer. length answer.items ≤ length networks.now.items) }
-        ensures only { IfOk result (λ answer. (other : List Network) → IsAggregateOf other (map ipv4_network networks.now.items) → other ≡ map ipv4_network answer.items) }
-        ensures canonical { IfOk result (λ answer. (others : List Network) → All IsNetwork others
-            → IsAggregateOf (map ipv4_network answer.items) others ↔ HaveSameCover others (map ipv4_network networks.now.items)) }
-        ensures unordered { IfOk result (λ answer. (others : List Network)
-            → ((n : Network) → Contains (map truncation others) n ↔ Contains (map truncation (map ipv4_network networks.now.items)) n) → IsAggregateOf (map ipv4_network answer.items) others) }
-        ensures again { IfOk result (λ answer. IsAggregateOf (map ipv4_network answer.items) (map ipv4_network answer.items)) }
+        ensures aggregate { IfOk result (λ answer.
+            IsCanonicalAggregateOf (map ipv4_network answer.items) (map ipv4_network networks.now.items)) }
     {
         aggregated::<Ipv4Net>(alloc, networks)
     }
@@ -152,17 +140,8 @@ impl Ipv6Net {
     /// ```
     pub fn aggregate(alloc: Global, networks: &Vec<Ipv6Net>) -> Result<Vec<Ipv6Net>, AllocError>
         ensures empty { networks.now.items ≡ [] → IsOkAnd result (λ answer. answer.items ≡ []) }
-        ensures aggregate { IfOk result (λ answer. IsAggregateOf (map ipv6_network answer.items) (map ipv6_network networks.now.items)) }
-        ensures addresses { IfOk result (λ answer. HaveSameCover (map ipv6_network answer.items) (map ipv6_network networks.now.items)) }
-        ensures disjoint { IfOk result (λ answer. ArePairwiseDisjoint (map ipv6_network answer.items)) }
-        ensures shortest { IfOk result (λ answer. IsShortestCover (IsCoveredBy (map ipv6_network networks.now.items)) 0 (map ipv6_network answer.items)) }
-        ensures no_longer { IfOk result (λ answer. length answer.items ≤ length networks.now.items) }
-        ensures only { IfOk result (λ answer. (other : List Network) → IsAggregateOf other (map ipv6_network networks.now.items) → other ≡ map ipv6_network answer.items) }
-        ensures canonical { IfOk result (λ answer. (others : List Network) → All IsNetwork others
-            → IsAggregateOf (map ipv6_network answer.items) others ↔ HaveSameCover others (map ipv6_network networks.now.items)) }
-        ensures unordered { IfOk result (λ answer. (others : List Network)
-            → ((n : Network) → Contains (map truncation others) n ↔ Contains (map truncation (map ipv6_network networks.now.items)) n) → IsAggregateOf (map ipv6_network answer.items) others) }
-        ensures again { IfOk result (λ answer. IsAggregateOf (map ipv6_network answer.items) (map ipv6_network answer.items)) }
+        ensures aggregate { IfOk result (λ answer.
+            IsCanonicalAggregateOf (map ipv6_network answer.items) (map ipv6_network networks.now.items)) }
     {
         aggregated::<Ipv6Net>(alloc, networks)
     }
@@ -184,17 +163,8 @@ impl IpNet {
     /// ```
     pub fn aggregate(alloc: Global, networks: &Vec<IpNet>) -> Result<Vec<IpNet>, AllocError>
         ensures empty { networks.now.items ≡ [] → IsOkAnd result (λ answer. answer.items ≡ []) }
-        ensures aggregate { IfOk result (λ answer. IsAggregateOf (map ip_network answer.items) (map ip_network networks.now.items)) }
-        ensures addresses { IfOk result (λ answer. HaveSameCover (map ip_network answer.items) (map ip_network networks.now.items)) }
-        ensures disjoint { IfOk result (λ answer. ArePairwiseDisjoint (map ip_network answer.items)) }
-        ensures shortest { IfOk result (λ answer. IsShortestCover (IsCoveredBy (map ip_network networks.now.items)) 0 (map ip_network answer.items)) }
-        ensures no_longer { IfOk result (λ answer. length answer.items ≤ length networks.now.items) }
-        ensures only { IfOk result (λ answer. (other : List Network) → IsAggregateOf other (map ip_network networks.now.items) → other ≡ map ip_network answer.items) }
-        ensures canonical { IfOk result (λ answer. (others : List Network) → All IsNetwork others
-            → IsAggregateOf (map ip_network answer.items) others ↔ HaveSameCover others (map ip_network networks.now.items)) }
-        ensures unordered { IfOk result (λ answer. (others : List Network)
-            → ((n : Network) → Contains (map truncation others) n ↔ Contains (map truncation (map ip_network networks.now.items)) n) → IsAggregateOf (map ip_network answer.items) others) }
-        ensures again { IfOk result (λ answer. IsAggregateOf (map ip_network answer.items) (map ip_network answer.items)) }
+        ensures aggregate { IfOk result (λ answer.
+            IsCanonicalAggregateOf (map ip_network answer.items) (map ip_network networks.now.items)) }
     {
         aggregated::<IpNet>(alloc, networks)
     }
@@ -211,7 +181,7 @@ fn is_truncated(network: &IpNet) -> bool
 }
 
 /// Whether every address of the first network comes before the second: the first is an IPv4 network and the second
-/// an IPv6 one, or the second starts behind the last address of the first.
+/// an IPv6 one, or the second starts after the last address of the first.
 fn lies_before(first: &IpNet, second: &IpNet) -> bool
     ensures { IsTrue result ↔ LiesBefore (ip_network first.now) (ip_network second.now) }
 {
@@ -226,7 +196,7 @@ fn lies_before(first: &IpNet, second: &IpNet) -> bool
 /// Whether the list is its own aggregate: what `IpNet::aggregate` answers for it is the list as it stands.
 ///
 /// That is so exactly where its neighbours show it: each network has no host bit, IPv4 stands before IPv6, in a family
-/// each network starts behind the last address of the one before, and no two neighbours are the two halves of one
+/// each network starts after the last address of the one before, and no two neighbours are the two halves of one
 /// supernet. Takes no memory. The empty list is its own aggregate.
 ///
 /// ```text
@@ -268,7 +238,8 @@ pub fn same_addresses(
     others: &Vec<IpNet>,
 ) -> Result<bool, AllocError>
     ensures empty { networks.now.items ≡ [] → others.now.items ≡ [] → IsOkAnd result (λ same. IsTrue same) }
-    ensures addresses { IfOk result (λ same. IsTrue same ↔ HaveSameCover (map ip_network networks.now.items) (map ip_network others.now.items)) }
+    ensures addresses { IfOk result (λ same.
+        IsTrue same ↔ HaveSameCover (map ip_network networks.now.items) (map ip_network others.now.items)) }
 {
     let first = aggregated(alloc, networks)?;
     let second = aggregated(alloc, others)?;

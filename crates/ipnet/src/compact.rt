@@ -3,7 +3,10 @@ ghost use Rattle.std.specs.Prelude.{◌≡◌, ◌≢◌, ◌+◌, ◌≤◌, �
 ghost use Rattle.ipnet_base.specs.Address.{IPv4, IPv6};
 ghost use Rattle.ipnet.specs.NetworkOf.{ipv4_network, ipv6_network, ip_network};
 ghost use Rattle.ipnet.specs.Results.{IsOkExactlyAt};
-ghost use Rattle.ipnet.specs.Bytes.{network_bytes, tagged_network_bytes, HasOtherLen, HasLongPrefix, HasOtherTaggedLen, HasOtherTag, HasLongTaggedPrefix};
+ghost use Rattle.ipnet.specs.Bytes.{network_bytes, tagged_network_bytes, HasWrongLen, HasLongPrefix};
+ghost use Rattle.ipnet.specs.Bytes.{HasWrongTaggedLen, HasUnknownVariant, HasLongTaggedPrefix};
+
+pub mod laws;
 
 use crate::net::{IpNet, Ipv4Net, Ipv6Net};
 use arrayvec::ArrayVec;
@@ -75,7 +78,7 @@ impl Ipv4Net {
     /// ```
     pub fn from_bytes(bytes: &[u8]) -> Result<Ipv4Net, CompactError>
         ensures ok { IsOkExactlyAt result (λ n. bytes.now ≡ network_bytes (ipv4_network n)) }
-        ensures length { (result ≡ Err CompactError.Length) ↔ HasOtherLen IPv4 bytes.now }
+        ensures length { (result ≡ Err CompactError.Length) ↔ HasWrongLen IPv4 bytes.now }
         ensures variant { result ≢ Err CompactError.Variant }
         ensures prefix { (result ≡ Err CompactError.Prefix) ↔ HasLongPrefix IPv4 bytes.now }
     {
@@ -111,7 +114,7 @@ impl Ipv6Net {
     /// ```
     pub fn from_bytes(bytes: &[u8]) -> Result<Ipv6Net, CompactError>
         ensures ok { IsOkExactlyAt result (λ n. bytes.now ≡ network_bytes (ipv6_network n)) }
-        ensures length { (result ≡ Err CompactError.Length) ↔ HasOtherLen IPv6 bytes.now }
+        ensures length { (result ≡ Err CompactError.Length) ↔ HasWrongLen IPv6 bytes.now }
         ensures variant { result ≢ Err CompactError.Variant }
         ensures prefix { (result ≡ Err CompactError.Prefix) ↔ HasLongPrefix IPv6 bytes.now }
     {
@@ -151,8 +154,8 @@ impl IpNet {
     /// ```
     pub fn from_bytes(bytes: &[u8]) -> Result<IpNet, CompactError>
         ensures ok { IsOkExactlyAt result (λ n. bytes.now ≡ tagged_network_bytes (ip_network n)) }
-        ensures length { (result ≡ Err CompactError.Length) ↔ HasOtherTaggedLen bytes.now }
-        ensures variant { (result ≡ Err CompactError.Variant) ↔ HasOtherTag bytes.now }
+        ensures length { (result ≡ Err CompactError.Length) ↔ HasWrongTaggedLen bytes.now }
+        ensures variant { (result ≡ Err CompactError.Variant) ↔ HasUnknownVariant bytes.now }
         ensures prefix { (result ≡ Err CompactError.Prefix) ↔ HasLongTaggedPrefix bytes.now }
     {
         let Some((tag, rest)) = bytes.split_first() else {

@@ -3,10 +3,12 @@ ghost use Rattle.std.specs.Prelude.{◌≡◌, ◌↔◌, IfOk};
 ghost use Rattle.serde_json.specs.Data.{string};
 ghost use Rattle.serde_json.specs.View.{view};
 ghost use Rattle.ipnet.specs.NetworkOf.{ipv4_network, ipv6_network, ip_network};
-ghost use Rattle.ipnet.specs.Grammar.{Strict};
+ghost use Rattle.ipnet.specs.declared.parser.Grammar.TheVariants.{Strict};
 ghost use Rattle.ipnet.specs.NetworkTexts.{IsNetworkText, IsIpv4NetworkText, IsIpv6NetworkText};
 ghost use Rattle.ipnet.specs.Results.{IsOkExactlyAt};
-ghost use Rattle.ipnet.specs.JsonTexts.{network_json, IsNetworkJson, IsNoJsonString, IsOtherJsonString};
+ghost use Rattle.ipnet.specs.JsonTexts.{network_json, IsNetworkJson, IsNotJsonString, IsJsonStringOfNoNetwork};
+
+pub mod laws;
 
 use crate::net::{IpNet, Ipv4Net, Ipv6Net};
 use serde_json::Value;
@@ -59,9 +61,9 @@ impl Ipv4Net {
     pub fn from_json(value: &Value) -> Result<Ipv4Net, JsonError>
         ensures ok { IsOkExactlyAt result
             (λ n. IsNetworkJson (IsIpv4NetworkText Strict) (view value.now) (ipv4_network n)) }
-        ensures not_string { (result ≡ Err JsonError.NotString) ↔ IsNoJsonString (view value.now) }
+        ensures not_string { (result ≡ Err JsonError.NotString) ↔ IsNotJsonString (view value.now) }
         ensures syntax { (result ≡ Err JsonError.Syntax)
-            ↔ IsOtherJsonString (IsIpv4NetworkText Strict) (view value.now) }
+            ↔ IsJsonStringOfNoNetwork (IsIpv4NetworkText Strict) (view value.now) }
     {
         let text = value.as_str().ok_or(JsonError::NotString)?;
         text.parse::<Ipv4Net>().map_err(|_| JsonError::Syntax)
@@ -92,9 +94,9 @@ impl Ipv6Net {
     pub fn from_json(value: &Value) -> Result<Ipv6Net, JsonError>
         ensures ok { IsOkExactlyAt result
             (λ n. IsNetworkJson (IsIpv6NetworkText Strict) (view value.now) (ipv6_network n)) }
-        ensures not_string { (result ≡ Err JsonError.NotString) ↔ IsNoJsonString (view value.now) }
+        ensures not_string { (result ≡ Err JsonError.NotString) ↔ IsNotJsonString (view value.now) }
         ensures syntax { (result ≡ Err JsonError.Syntax)
-            ↔ IsOtherJsonString (IsIpv6NetworkText Strict) (view value.now) }
+            ↔ IsJsonStringOfNoNetwork (IsIpv6NetworkText Strict) (view value.now) }
     {
         let text = value.as_str().ok_or(JsonError::NotString)?;
         text.parse::<Ipv6Net>().map_err(|_| JsonError::Syntax)
@@ -125,9 +127,9 @@ impl IpNet {
     pub fn from_json(value: &Value) -> Result<IpNet, JsonError>
         ensures ok { IsOkExactlyAt result
             (λ n. IsNetworkJson (IsNetworkText Strict) (view value.now) (ip_network n)) }
-        ensures not_string { (result ≡ Err JsonError.NotString) ↔ IsNoJsonString (view value.now) }
+        ensures not_string { (result ≡ Err JsonError.NotString) ↔ IsNotJsonString (view value.now) }
         ensures syntax { (result ≡ Err JsonError.Syntax)
-            ↔ IsOtherJsonString (IsNetworkText Strict) (view value.now) }
+            ↔ IsJsonStringOfNoNetwork (IsNetworkText Strict) (view value.now) }
     {
         let text = value.as_str().ok_or(JsonError::NotString)?;
         text.parse::<IpNet>().map_err(|_| JsonError::Syntax)
@@ -137,7 +139,7 @@ impl IpNet {
 #[cfg(test)]
 mod tests {
     use super::*;
-    use crate::memory::{RUNS, outcomes};
+    use out_of_memory::{RUNS, outcomes};
     use std::test::Fail;
 
     #[test]

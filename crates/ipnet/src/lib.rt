@@ -21,6 +21,6 @@ pub use ipnet_base::{
 };
 pub use json::JsonError;
 pub use net::{Contains, IpNet, Ipv4Net, Ipv6Net};
-pub use parser::AddrParseError;
+pub use parser::{AddrParseError, Grammar};
 pub use print::{ipv4_addr_text, ipv6_addr_text};
 pub use subnets::{IpSubnets, Ipv4Subnets, Ipv6Subnets};

@@ -2,12 +2,16 @@
 ghost use Rattle.std.specs.Prelude.{◌≡◌, ◌<◌, ◌≤◌, ◌⊎◌, ◌↔◌, IsTrue, IsErr, IfOk, IsNone, IfSome, refl};
 ghost use Rattle.std.specs.declared.cmp.Ordering.TheVariants.{Less};
 ghost use Rattle.ipnet_base.specs.Address.{width, ip_address};
-ghost use Rattle.ipnet_base.specs.Network.{Network, IsNetwork, InBlock, IsSubnetOf, IsLeastOf, IsGreatestOf, AreSiblings, AreHalves, IsBefore, IsTruncationOf, IsSupernetOf, truncation};
-ghost use Rattle.ipnet.specs.NetworkParts.{network_at, own_address, netmask, hostmask, HasAddressAndNetmask, AreSubnetsOfLength, IsBlockRange, IsHostRange};
+ghost use Rattle.ipnet_base.specs.Network.{Network, IsNetwork, InBlock, IsSubnetOf, IsLeastOf, IsGreatestOf};
+ghost use Rattle.ipnet_base.specs.Network.{AreSiblings, AreHalves, IsBefore, IsTruncationOf, IsSupernetOf};
+ghost use Rattle.ipnet_base.specs.Network.{truncation};
+ghost use Rattle.ipnet.specs.NetworkParts.{network_at, own_address, netmask, hostmask, HasAddressAndNetmask};
+ghost use Rattle.ipnet.specs.NetworkParts.{AreSubnetsOfLength, IsBlockRange, IsHostRange};
 
 mod ipv4_net;
 mod ipv6_net;
 pub mod laws;
+pub mod member_laws;
 
 use crate::subnets::IpSubnets;
 use ipnet_base::{IpAddr, IpAddrRange, PrefixLenError, ip_mask_to_prefix};
@@ -129,7 +133,8 @@ impl IpNet {
     /// ```
     pub fn with_netmask(ip: IpAddr, netmask: IpAddr) -> Result<IpNet, PrefixLenError>
         ensures made { IfOk result (λ n. HasAddressAndNetmask (ip_network n) (ip_address ip) (ip_address netmask)) }
-        ensures refused { IsErr result ↔ ((n : Network) → ¬ (HasAddressAndNetmask n (ip_address ip) (ip_address netmask))) }
+        ensures refused { IsErr result ↔
+            ((n : Network) → ¬ (HasAddressAndNetmask n (ip_address ip) (ip_address netmask))) }
     {
         let prefix_len = ip_mask_to_prefix(netmask)?;
         IpNet::new(ip, prefix_len)
@@ -305,7 +310,8 @@ impl IpNet {
     pub fn subnets(&self, new_prefix_len: u8) -> Result<IpSubnets, PrefixLenError>
         ensures range { IfOk result (λ s. IsBlockRange (ip_network self.now) new_prefix_len (ip_subnet_range s)) }
         ensures walk { IfOk result (λ s. AreSubnetsOfLength (ip_network self.now) new_prefix_len (ip_subnets_left s)) }
-        ensures refused { IsErr result ↔ ((new_prefix_len < (ip_network self.now).prefix_len) ⊎ (width (ip_network self.now).family < new_prefix_len)) }
+        ensures refused { IsErr result ↔ ((new_prefix_len < (ip_network self.now).prefix_len)
+            ⊎ (width (ip_network self.now).family < new_prefix_len)) }
     {
         match self {
             IpNet::V4(net) => Ok(IpSubnets::V4(net.subnets(new_prefix_len)?)),

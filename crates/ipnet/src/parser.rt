@@ -27,7 +27,7 @@
 //! 1:2:3:4:5:6:7::8/64        an error             1:2:3:4:5:6:7:8/64
 //! 1:2:3:4:5:6:7:8::/64       an error             an error
 //! ```
-ghost use Rattle.ipnet.specs.Grammar.{Strict, Legacy, grammar_of};
+ghost use Rattle.ipnet.specs.declared.parser.Grammar.TheVariants.{Strict, Legacy};
 ghost use Rattle.ipnet.specs.NetworkOf.{ip_network, ipv4_network, ipv6_network};
 ghost use Rattle.ipnet.specs.NetworkTexts.{IsNetworkText, IsIpv4NetworkText, IsIpv6NetworkText, ReadsNetwork};
 
@@ -35,6 +35,7 @@ use crate::net::{IpNet, Ipv4Net, Ipv6Net};
 use std::str::FromStr;
 use thiserror::Error;
 
+pub mod laws;
 mod reader;
 
 /// The refusal of a text that writes no network of the type that was asked for.
@@ -50,18 +51,35 @@ mod reader;
 #[error("invalid IP address syntax")]
 pub struct AddrParseError(());
 
-/// The network of either family that the whole text writes in the strict grammar, or in the legacy one.
-fn ip_net(text: &str, strict: bool) -> Result<IpNet, AddrParseError>
-    ensures { ReadsNetwork ip_network (IsNetworkText (grammar_of strict)) text.now result }
+/// The two grammars of network texts, described in the module `parser`: of what `from_str` reads and of what
+/// `parse_legacy` does. Each strict text is a legacy text of the same network.
+///
+/// ```text
+/// 10.0.0.1/8          is a strict text, and a legacy one
+/// 010.0.0.1/08        is a legacy text alone
+/// 1:2:3:4:5:6:7::8/64 is a legacy text alone
+/// 10.0.0.1            is no text of either
+/// ```
+#[derive(Clone, Copy, Debug, PartialEq, Eq)]
+pub enum Grammar {
+    /// No leading zeros in octets and lengths, and a "::" stands for one group at least.
+    Strict,
+    /// Octets and lengths may have leading zeros, and a "::" may stand for no group.
+    Legacy,
+}
+
+/// The network of either family that the whole text writes in this grammar.
+fn ip_net(text: &str, grammar: Grammar) -> Result<IpNet, AddrParseError>
+    ensures { ReadsNetwork ip_network (IsNetworkText grammar) text.now result }
 {
-    reader::read_network(text.as_bytes(), strict).ok_or(AddrParseError(()))
+    reader::read_network(text.as_bytes(), grammar).ok_or(AddrParseError(()))
 }
 
 /// The same, of IPv4 alone: no text of an IPv6 network is one of an IPv4 network too.
-fn ipv4_net(text: &str, strict: bool) -> Result<Ipv4Net, AddrParseError>
-    ensures { ReadsNetwork ipv4_network (IsIpv4NetworkText (grammar_of strict)) text.now result }
+fn ipv4_net(text: &str, grammar: Grammar) -> Result<Ipv4Net, AddrParseError>
+    ensures { ReadsNetwork ipv4_network (IsIpv4NetworkText grammar) text.now result }
 {
-    let Ok(read) = ip_net(text, strict) else {
+    let Ok(read) = ip_net(text, grammar) else {
         return Err(AddrParseError(()));
     };
     match read {
@@ -71,10 +89,10 @@ fn ipv4_net(text: &str, strict: bool) -> Result<Ipv4Net, AddrParseError>
 }
 
 /// The same, of IPv6 alone.
-fn ipv6_net(text: &str, strict: bool) -> Result<Ipv6Net, AddrParseError>
-    ensures { ReadsNetwork ipv6_network (IsIpv6NetworkText (grammar_of strict)) text.now result }
+fn ipv6_net(text: &str, grammar: Grammar) -> Result<Ipv6Net, AddrParseError>
+    ensures { ReadsNetwork ipv6_network (IsIpv6NetworkText grammar) text.now result }
 {
-    let Ok(read) = ip_net(text, strict) else {
+    let Ok(read) = ip_net(text, grammar) else {
         return Err(AddrParseError(()));
     };
     match read {
@@ -98,7 +116,7 @@ impl FromStr for Ipv4Net {
     /// fd00::9/32     Err(AddrParseError)
     /// ```
     fn from_str(text: &str) -> Result<Ipv4Net, AddrParseError> {
-        ipv4_net(text, true)
+        ipv4_net(text, Grammar::Strict)
     }
 }
 
@@ -120,7 +138,7 @@ impl Ipv4Net {
     pub fn parse_legacy(text: &str) -> Result<Ipv4Net, AddrParseError>
         ensures { ReadsNetwork ipv4_network (IsIpv4NetworkText Legacy) text.now result }
     {
-        ipv4_net(text, false)
+        ipv4_net(text, Grammar::Legacy)
     }
 }
 
@@ -140,7 +158,7 @@ impl FromStr for Ipv6Net {
     /// 10.1.1.9/24           Err(AddrParseError)
     /// ```
     fn from_str(text: &str) -> Result<Ipv6Net, AddrParseError> {
-        ipv6_net(text, true)
+        ipv6_net(text, Grammar::Strict)
     }
 }
 
@@ -165,7 +183,7 @@ impl Ipv6Net {
     pub fn parse_legacy(text: &str) -> Result<Ipv6Net, AddrParseError>
         ensures { ReadsNetwork ipv6_network (IsIpv6NetworkText Legacy) text.now result }
     {
-        ipv6_net(text, false)
+        ipv6_net(text, Grammar::Legacy)
     }
 }
 
@@ -182,7 +200,7 @@ impl FromStr for IpNet {
     /// 010.0.0.1/08   Err(AddrParseError)
     /// ```
     fn from_str(text: &str) -> Result<IpNet, AddrParseError> {
-        ip_net(text, true)
+        ip_net(text, Grammar::Strict)
     }
 }
 
@@ -199,6 +217,6 @@ impl IpNet {
     pub fn parse_legacy(text: &str) -> Result<IpNet, AddrParseError>
         ensures { ReadsNetwork ip_network (IsNetworkText Legacy) text.now result }
     {
-        ip_net(text, false)
+        ip_net(text, Grammar::Legacy)
     }
 }

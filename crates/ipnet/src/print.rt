@@ -3,6 +3,7 @@
 //! Every text is made in a buffer of fixed capacity, so printing takes no memory.
 ghost use Rattle.std.specs.Prelude.{◌≡◌, ◌+◌, ◌-◌, ◌*◌, ◌≤◌, ◌<◌, [], ◌∷◌, ◌++◌, length, codes, decimal, Some};
 ghost use Rattle.std.specs.Char.{digit_char};
+ghost use Rattle.std.specs.Fmt.{DisplaysOnOk, DisplaysStyledOnOk};
 ghost use Rattle.std.specs.Net.Addr.{ipv4_octets, ipv4_bits, ipv6_segments, ipv6_bits};
 ghost use Rattle.std.specs.Net.Text.{ipv4_text, ipv6_text, hex, groups_text};
 ghost use Rattle.std.specs.Net.Text as text;
@@ -27,6 +28,10 @@ pub const IPV4_NETWORK_LEN: usize = "255.255.255.255/32".len();
 
 /// The length of the longest IPv6 network text, and so of the longest network text of all.
 pub const IPV6_NETWORK_LEN: usize = "ffff:ffff:ffff:ffff:ffff:ffff:ffff:ffff/128".len();
+
+/// The room that the groups of an address are given: four digits and a ":" for each of the eight. The first has no ":"
+/// before it, so their longest text is one byte shorter; counted like this the bound goes from group to group.
+const GROUPS_ROOM: usize = 8 * "ffff:".len();
 
 /// The buffer that a text is written into, piece by piece: it has room for the longest of all.
 type Buffer = ArrayString<IPV6_NETWORK_LEN>;
@@ -156,7 +161,7 @@ fn longest_zero_run(groups: &[u16]) -> (usize, usize)
 #[tactic(auto, unfolding(std::specs::Net::Text::hex_groups_text))]
 fn push_shortened(out: &mut Buffer, groups: &[u16])
     requires eight { length groups.now ≡ 8 }
-    requires room { array_string_len out.old + 40 ≤ IPV6_NETWORK_LEN }
+    requires room { array_string_len out.old + GROUPS_ROOM ≤ IPV6_NETWORK_LEN }
     ensures bytes { out.new.bytes ≡ out.old.bytes ++ text.hex_groups_text groups.now }
     ensures short { array_string_len out.new ≤ array_string_len out.old + IPV6_ADDR_LEN }
 {
@@ -173,7 +178,7 @@ fn push_shortened(out: &mut Buffer, groups: &[u16])
 /// Appends the address: a mapped one in dotted form, and any other in groups.
 #[tactic(auto, unfolding(std::specs::Net::Text::ipv6_text))]
 fn push_ipv6(out: &mut Buffer, addr: Ipv6Addr)
-    requires { array_string_len out.old + 40 ≤ IPV6_NETWORK_LEN }
+    requires { array_string_len out.old + GROUPS_ROOM ≤ IPV6_NETWORK_LEN }
     ensures bytes { out.new.bytes ≡ out.old.bytes ++ ipv6_text (ipv6_segments addr) }
     ensures short { array_string_len out.new ≤ array_string_len out.old + IPV6_ADDR_LEN }
 {
@@ -324,29 +329,44 @@ impl fmt::Display for IpNet {
     }
 }
 
-/// Writes the canonical text, as `Display` does.
+/// Writes the canonical text, as `Display` does, also under `{:#?}`, a width or another flag, which are ignored.
 impl fmt::Debug for Ipv4Net {
     ghost debug_output = { λ n. Some (canonical_text (ipv4_network n)) };
 
-    fn fmt<W: fmt::Write>(&self, f: &mut fmt::Formatter<W>) -> fmt::Result {
+    fn fmt<W: fmt::Write>(&self, f: &mut fmt::Formatter<W>) -> fmt::Result
+        ensures writes { DisplaysOnOk W.write_str_gives f.old result
+            (Some (canonical_text (ipv4_network self.now))) f.new }
+        ensures styled { DisplaysStyledOnOk W.write_str_gives f.old result
+            (Some (canonical_text (ipv4_network self.now))) f.new }
+    {
         <Ipv4Net as fmt::Display>::fmt(self, f)
     }
 }
 
-/// Writes the canonical text, as `Display` does.
+/// Writes the canonical text, as `Display` does, also under `{:#?}`, a width or another flag, which are ignored.
 impl fmt::Debug for Ipv6Net {
     ghost debug_output = { λ n. Some (canonical_text (ipv6_network n)) };
 
-    fn fmt<W: fmt::Write>(&self, f: &mut fmt::Formatter<W>) -> fmt::Result {
+    fn fmt<W: fmt::Write>(&self, f: &mut fmt::Formatter<W>) -> fmt::Result
+        ensures writes { DisplaysOnOk W.write_str_gives f.old result
+            (Some (canonical_text (ipv6_network self.now))) f.new }
+        ensures styled { DisplaysStyledOnOk W.write_str_gives f.old result
+            (Some (canonical_text (ipv6_network self.now))) f.new }
+    {
         <Ipv6Net as fmt::Display>::fmt(self, f)
     }
 }
 
-/// Writes the canonical text, as `Display` does.
+/// Writes the canonical text, as `Display` does, also under `{:#?}`, a width or another flag, which are ignored.
 impl fmt::Debug for IpNet {
     ghost debug_output = { λ n. Some (canonical_text (ip_network n)) };
 
-    fn fmt<W: fmt::Write>(&self, f: &mut fmt::Formatter<W>) -> fmt::Result {
+    fn fmt<W: fmt::Write>(&self, f: &mut fmt::Formatter<W>) -> fmt::Result
+        ensures writes { DisplaysOnOk W.write_str_gives f.old result
+            (Some (canonical_text (ip_network self.now))) f.new }
+        ensures styled { DisplaysStyledOnOk W.write_str_gives f.old result
+            (Some (canonical_text (ip_network self.now))) f.new }
+    {
         <IpNet as fmt::Display>::fmt(self, f)
     }
 }

@@ -11,6 +11,7 @@ use std::iter::FusedIterator;
 mod ipv4_subnets;
 mod ipv6_subnets;
 pub mod laws;
+pub mod walk_laws;
 
 pub use ipv4_subnets::Ipv4Subnets;
 pub use ipv6_subnets::Ipv6Subnets;

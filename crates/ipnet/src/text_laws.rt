@@ -1,12 +1,18 @@
-//! Facts of the definitions of texts that no call carries: each function does nothing, and its contract is the fact.
-ghost use Rattle.std.specs.Prelude.{◌≡◌, ℕ, List, ◌↔◌, ◌++◌, drop, codes};
+//! Facts of texts that no call carries: the contract of each function is the fact. Three of them print a network and
+//! read it back; the others do nothing.
+ghost use Rattle.std.specs.Prelude.{◌≡◌, ℕ, List, ◌↔◌, ◌++◌, drop, codes, Ok};
 ghost use Rattle.std.specs.Net.Addr.{IsIpv4Mapped, octets_of};
+ghost use Rattle.std.specs.Net.Grammar.{IsDotted, IsColonHex};
 ghost use Rattle.std.specs.Net.Text.{ipv4_text, ipv6_text};
 ghost use Rattle.ipnet_base.specs.Network.{Network, IsNetwork};
-ghost use Rattle.ipnet.specs.Grammar.{Grammar, Strict, Legacy};
+ghost use Rattle.ipnet.specs.declared.parser.Grammar.TheVariants.{Strict, Legacy};
+ghost use Rattle.ipnet.specs.AddressTexts.{IsIpv4AddressText, IsIpv6AddressText, IsGroups, EndsInIpv4, IsCompressed};
 ghost use Rattle.ipnet.specs.NetworkTexts.{IsNetworkText, IsIpv4NetworkText, IsIpv6NetworkText};
 ghost use Rattle.ipnet.specs.CanonicalTexts.{canonical_text, IsShortened};
 ghost use Rattle.ipnet.specs.Lines.{AreNetworksOf, IsFirstBadLine};
+
+use crate::net::{IpNet, Ipv4Net, Ipv6Net};
+use crate::parser::{AddrParseError, Grammar};
 
 /// In either grammar a text writes one network at most, whose number and length are in the range of its family.
 pub fn one_network()
@@ -22,6 +28,27 @@ pub fn families_apart()
         → IsIpv4NetworkText grammar text m → ¬ (IsIpv6NetworkText grammar text n) }
 {}
 
+/// The text of an IPv6 address has one of the three forms alone (RFC 4291, section 2.2): groups, groups with an IPv4
+/// address at the end, or groups with "::".
+pub fn ipv6_forms_apart()
+    ensures groups_or_ipv4 { (grammar : Grammar) (text groups others : List ℕ)
+        → IsGroups text groups → ¬ (EndsInIpv4 grammar text others) }
+    ensures groups_or_compressed { (grammar : Grammar) (text groups others : List ℕ)
+        → IsGroups text groups → ¬ (IsCompressed grammar text others) }
+    ensures ipv4_or_compressed { (grammar : Grammar) (text groups others : List ℕ)
+        → EndsInIpv4 grammar text groups → ¬ (IsCompressed grammar text others) }
+{}
+
+/// The strict texts of IPv4 addresses are those of std's own grammar of addresses, and no others.
+pub fn ipv4_strict_is_std()
+    ensures { (text octets : List ℕ) → IsIpv4AddressText Strict text octets ↔ IsDotted text octets }
+{}
+
+/// The strict texts of IPv6 addresses are those of std's own grammar of addresses, and no others.
+pub fn ipv6_strict_is_std()
+    ensures { (text groups : List ℕ) → IsIpv6AddressText Strict text groups ↔ IsColonHex text groups }
+{}
+
 /// Each strict text is a legacy text of the same network.
 pub fn strict_is_legacy()
     ensures { (text : List ℕ) (n : Network) → IsNetworkText Strict text n → IsNetworkText Legacy text n }
@@ -31,6 +58,39 @@ pub fn strict_is_legacy()
 pub fn canonical_is_read()
     ensures { (grammar : Grammar) (n : Network) → IsNetwork n → IsNetworkText grammar (canonical_text n) n }
 {}
+
+/// The canonical text of an IPv4 network reads back as that network, by the reader of either grammar.
+pub fn ipv4_text_reads_back(network: &Ipv4Net, grammar: Grammar) -> Result<Ipv4Net, AddrParseError>
+    ensures { result ≡ Ok network.now }
+{
+    let text = network.to_text();
+    match grammar {
+        Grammar::Strict => text.as_str().parse(),
+        Grammar::Legacy => Ipv4Net::parse_legacy(text.as_str()),
+    }
+}
+
+/// The canonical text of an IPv6 network reads back as that network, by the reader of either grammar.
+pub fn ipv6_text_reads_back(network: &Ipv6Net, grammar: Grammar) -> Result<Ipv6Net, AddrParseError>
+    ensures { result ≡ Ok network.now }
+{
+    let text = network.to_text();
+    match grammar {
+        Grammar::Strict => text.as_str().parse(),
+        Grammar::Legacy => Ipv6Net::parse_legacy(text.as_str()),
+    }
+}
+
+/// The canonical text of a network of either family reads back as that network, by the reader of either grammar.
+pub fn ip_text_reads_back(network: &IpNet, grammar: Grammar) -> Result<IpNet, AddrParseError>
+    ensures { result ≡ Ok network.now }
+{
+    let text = network.to_text();
+    match grammar {
+        Grammar::Strict => text.as_str().parse(),
+        Grammar::Legacy => IpNet::parse_legacy(text.as_str()),
+    }
+}
 
 /// Two networks have the same canonical text exactly when they are equal.
 pub fn prints_apart()

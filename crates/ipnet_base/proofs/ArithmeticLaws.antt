@@ -12,7 +12,8 @@ and_is_bitwise family a b n e fits =
       bits = λ i _. bit_at_and a b i;
     })
 
-pub or_is_bitwise : (family : Family) (a b n : ℕ) → n ≡ bit_or a b → a < 2 ^ width family → b < 2 ^ width family → IsBitwiseOr family a b n
+pub or_is_bitwise : (family : Family) (a b n : ℕ) → n ≡ bit_or a b → a < 2 ^ width family → b < 2 ^ width family
+    → IsBitwiseOr family a b n
 or_is_bitwise family a b n e fits fits' =
     subst (IsBitwiseOr family a b) (sym e) (record {
       fits = or_lt (width family) a b fits fits';

@@ -1,107 +1,171 @@
--- Maximal blocks as exact and shortest covers, for every set of addresses that can be decided; and ranges.
-use Rattle.std.proofs.Common.{◌≡◌, ℕ, ◌-◌, ◌/◌, ◌^◌, ◌<◌, ◌≤◌, ◌⊎◌, ◌↔◌, List, Bool, true, false, IsTrue, refl, sym, ap, ◌∙◌, subst, arith, inl, inr}
-use Rattle.std.proofs.Math.Nat.{div-one}
-use Rattle.std.proofs.lemmas.Bool.{cases_lt}
-use Rattle.ipnet_base.specs.Address.{Family, Address, IsAddress, IsAcceptedBy, width, IsBetween}
-use Rattle.ipnet_base.specs.Network.{Network, IsNetwork, InBlock, AreDisjoint, IsBefore}
-use Rattle.ipnet_base.specs.Blocks.{IsCoveredBy, IsInside, AreMaximalBlocks, IsExactCover, IsShortestCover, ArePairwiseDisjoint}
-use Rattle.ipnet_base.proofs.BlockLaws.{own_in, cases_family}
-use Rattle.ipnet_base.proofs.ListLaws.{any_from_contains, all_from_members, pairs_from_members}
-use Rattle.ipnet_base.proofs.UniqueLaws.{IsBefore-asymmetric}
-use Rattle.ipnet_base.proofs.ShortestLaws.{one_maximal, shortest, one_as_short}
-use Rattle.ipnet_base.proofs.SupernetLaws.{IsDecided, maximal_above}
+-- What lists of networks cover: the empty list, one network more, two lists joined; and what keeps a cover.
+use Rattle.std.proofs.Common.{◌⊎◌, ◌↔◌, List, [], ◌∷◌, ◌++◌, map, Contains, IsPermutation, sym, subst, inl, inr}
+use Rattle.std.proofs.lemmas.List.Elements.{Contains-append_left, Contains-append_right, Contains-append_cases}
+use Rattle.std.proofs.lemmas.List.Sorted.{Contains-permutation, IsPermutation-sym}
+use Rattle.ipnet_base.specs.Address.{Address}
+use Rattle.ipnet_base.specs.Network.{Network, IsNetwork, InBlock, IsSubnetOf, AreHalves, IsSupernetOf, truncation}
+use Rattle.ipnet_base.specs.Blocks.{IsCoveredBy, HaveSameCover}
+use Rattle.ipnet_base.proofs.BlockLaws.{truncation_in, in_truncation, supernet_to_halves, halves_to_supernet}
+use Rattle.ipnet_base.proofs.ListLaws.{contains_nil, contains_here, contains_there, contains_cases, any_from_contains}
 
--- maximal blocks that cover their set are its shortest cover
-pub IsShortestCover-of_maximal : (InSet : Address → Type 0) (least : ℕ) (networks : List Network) → AreMaximalBlocks InSet least networks → IsExactCover InSet least networks
-    → IsShortestCover InSet least networks
-IsShortestCover-of_maximal InSet least networks blocks exact = record {
-  exact = exact;
-  shortest = λ cover other. shortest InSet least networks cover blocks other;
-  only = λ cover other same. one_as_short InSet least networks cover blocks other same;
-}
+-- an address in the block of a member is covered
+pub cover_member : (networks : List Network) (n : Network) (x : Address) → Contains networks n → InBlock n x
+    → IsCoveredBy networks x
+cover_member networks n x c a = any_from_contains (λ m. InBlock m x) networks n c a
 
--- maximal blocks share no address
-pub maximal_blocks_apart : (InSet : Address → Type 0) (least : ℕ) (networks : List Network) → AreMaximalBlocks InSet least networks → ArePairwiseDisjoint networks
-maximal_blocks_apart InSet least networks blocks = pairs_from_members IsBefore AreDisjoint networks
-    (λ n k c e before x a b.
-    let one : n ≡ k = one_maximal InSet least n k ((blocks.members n).0 c) ((blocks.members k).0 e) x a b in
-    IsBefore-asymmetric n n (subst (IsBefore n) (sym one) before) (subst (IsBefore n) (sym one) before))
-    blocks.ascending
+-- the member whose block holds a covered address
+abbrev pub covering_member : (networks : List Network) (x : Address) (a : IsCoveredBy networks x)
+    → Contains networks a.1
+covering_member networks x a = (a.0, a.2, a.3)
 
--- the network of one address
-abbrev pub single : Address → Network
-single x = record { family = x.family; number = x.number; prefix_len = width x.family }
+-- the empty list covers nothing
+pub cover_nil : (x : Address) → IsCoveredBy [] x → ⊥
+cover_nil x a = contains_nil a.1 (covering_member [] x a)
 
-pub single_has_one : (x y : Address) → InBlock (single x) y → y ≡ x
-single_has_one x y a = λ i. record { family = a.same_family i; number = same i }
+-- one network more in front
+pub cover_cons : (n : Network) (networks : List Network) (x : Address)
+    → IsCoveredBy (n ∷ networks) x ↔ (InBlock n x ⊎ IsCoveredBy networks x)
+cover_cons n networks x = (to, from)
   where
-    closed : width x.family - width x.family ≡ 0
-    closed = omega arith
+    to : IsCoveredBy (n ∷ networks) x → InBlock n x ⊎ IsCoveredBy networks x
+    to a = elim (contains_cases n networks a.1 (covering_member (n ∷ networks) x a)) [
+      | inl e ↦ inl (subst (λ m. InBlock m x) (sym e) a.4)
+      | inr c ↦ inr (cover_member networks a.1 x c a.4)
+    ]
 
-    same : y.number ≡ x.number
-    same = sym (div-one y.number) ∙ subst (λ b. y.number / 2 ^ b ≡ x.number / 2 ^ b) closed a.same_prefix ∙ div-one x.number
+    from : InBlock n x ⊎ IsCoveredBy networks x → IsCoveredBy (n ∷ networks) x
+    from (inl a) = cover_member (n ∷ networks) n x (contains_here n networks) a
+    from (inr a) =
+        cover_member (n ∷ networks) a.1 x (contains_there n networks a.1 (covering_member networks x a)) a.4
 
-pub IsInside-single : (InSet : Address → Type 0) (least : ℕ) (x : Address) → IsAddress x → least ≤ width x.family → InSet x → IsInside InSet least (single x)
-IsInside-single InSet least x fits short inside = record {
-  network = record { address_fits = fits; prefix_fits = omega arith };
-  truncated = λ y a. omega (arith, ap (λ z. z.number) (single_has_one x y a));
-  long_enough = short;
-  within = λ y a. subst InSet (sym (single_has_one x y a)) inside;
-}
+-- one network alone
+pub cover_one : (n : Network) (x : Address) → IsCoveredBy (n ∷ []) x ↔ InBlock n x
+cover_one n x = (
+  λ a. elim ((cover_cons n [] x).0 a) [ inl b ↦ b | inr c ↦ absurd (cover_nil x c) ],
+  λ a. (cover_cons n [] x).1 (inl a),
+)
 
--- the maximal blocks cover a set of addresses whose families are wide enough
-pub IsExactCover-of_maximal : (InSet : Address → Type 0) (least : ℕ) (networks : List Network) → IsDecided InSet
-    → ((x : Address) → InSet x → IsAddress x × (least ≤ width x.family)) → AreMaximalBlocks InSet least networks → IsExactCover InSet least networks
-IsExactCover-of_maximal InSet least networks decided fits blocks = record {
-  valid = all_from_members IsNetwork networks (λ n c. ((blocks.members n).0 c).inside.network);
-  long_enough = all_from_members (λ n. least ≤ n.prefix_len) networks (λ n c. ((blocks.members n).0 c).inside.long_enough);
-  covers = λ x. (to x, from x);
-}
+-- two lists, one after the other
+pub cover_append_left : (networks others : List Network) (x : Address) → IsCoveredBy networks x
+    → IsCoveredBy (networks ++ others) x
+cover_append_left networks others x a =
+    cover_member (networks ++ others) a.1 x
+    (Contains-append_left networks others a.1 (covering_member networks x a)) a.4
+
+pub cover_append_right : (networks others : List Network) (x : Address) → IsCoveredBy others x
+    → IsCoveredBy (networks ++ others) x
+cover_append_right networks others x a =
+    cover_member (networks ++ others) a.1 x
+    (Contains-append_right networks others a.1 (covering_member others x a)) a.4
+
+pub cover_append_cases : (networks others : List Network) (x : Address) → IsCoveredBy (networks ++ others) x
+    → IsCoveredBy networks x ⊎ IsCoveredBy others x
+cover_append_cases networks others x a =
+    elim (Contains-append_cases networks others a.1 (covering_member (networks ++ others) x a)) [
+      | inl c ↦ inl (cover_member networks a.1 x c a.4)
+      | inr c ↦ inr (cover_member others a.1 x c a.4)
+    ]
+
+pub cover_append : (networks others : List Network) (x : Address)
+    → IsCoveredBy (networks ++ others) x ↔ (IsCoveredBy networks x ⊎ IsCoveredBy others x)
+cover_append networks others x = (
+  cover_append_cases networks others x,
+  λ a. elim a [ inl b ↦ cover_append_left networks others x b | inr b ↦ cover_append_right networks others x b ],
+)
+
+-- one network more at the end
+pub cover_push : (networks : List Network) (n : Network) (x : Address)
+    → IsCoveredBy (networks ++ n ∷ []) x ↔ (IsCoveredBy networks x ⊎ InBlock n x)
+cover_push networks n x = (
+  λ a. elim (cover_append_cases networks (n ∷ []) x a) [ inl b ↦ inl b | inr b ↦ inr ((cover_one n x).0 b) ],
+  λ a. elim a [
+    | inl b ↦ cover_append_left networks (n ∷ []) x b
+    | inr b ↦ cover_append_right networks (n ∷ []) x ((cover_one n x).1 b)
+  ],
+)
+
+-- to cover the same is symmetric and transitive, and is kept where lists are joined
+pub HaveSameCover-sym : (networks others : List Network) → HaveSameCover networks others → HaveSameCover others networks
+HaveSameCover-sym networks others h x = ((h x).1, (h x).0)
+
+pub HaveSameCover-trans : (a b c : List Network) → HaveSameCover a b → HaveSameCover b c → HaveSameCover a c
+HaveSameCover-trans a b c h k x = (λ y. (k x).0 ((h x).0 y), λ y. (h x).1 ((k x).1 y))
+
+pub HaveSameCover-append : (a b c d : List Network) → HaveSameCover a c → HaveSameCover b d
+    → HaveSameCover (a ++ b) (c ++ d)
+HaveSameCover-append a b c d h i x = (
+  λ p. elim (cover_append_cases a b x p) [
+    | inl l ↦ cover_append_left c d x ((h x).0 l)
+    | inr r ↦ cover_append_right c d x ((i x).0 r)
+  ],
+  λ p. elim (cover_append_cases c d x p) [
+    | inl l ↦ cover_append_left a b x ((h x).1 l)
+    | inr r ↦ cover_append_right a b x ((i x).1 r)
+  ],
+)
+
+-- lists with the same members, in whatever order and however often, cover the same
+pub cover_same_members : (networks others : List Network)
+    → ((n : Network) → Contains networks n ↔ Contains others n) → HaveSameCover networks others
+cover_same_members networks others same x = (
+  λ a. cover_member others a.1 x ((same a.1).0 (covering_member networks x a)) a.4,
+  λ a. cover_member networks a.1 x ((same a.1).1 (covering_member others x a)) a.4,
+)
+
+-- so do a list in another order, and one without host bits
+pub cover_permutation : (networks sorted : List Network) → IsPermutation networks sorted → HaveSameCover sorted networks
+cover_permutation networks sorted h =
+    cover_same_members sorted networks
+    (λ n. (
+      Contains-permutation sorted networks n (IsPermutation-sym networks sorted h),
+      Contains-permutation networks sorted n h,
+    ))
+
+pub cover_truncation : (networks : List Network) → HaveSameCover (map truncation networks) networks
+cover_truncation [] x = (λ a. a, λ a. a)
+cover_truncation (n ∷ ns) x = (to (cover_truncation ns x), from (cover_truncation ns x))
   where
-    to : (x : Address) → IsCoveredBy networks x → InSet x
-    to x a = ((blocks.members a.1).0 (a.0, a.2, a.3)).inside.within x a.4
+    to : IsCoveredBy (map truncation ns) x ↔ IsCoveredBy ns x → IsCoveredBy (map truncation (n ∷ ns)) x
+        → IsCoveredBy (n ∷ ns) x
+    to rest a = elim ((cover_cons (truncation n) (map truncation ns) x).0 a) [
+      | inl b ↦ (cover_cons n ns x).1 (inl (truncation_in n x b))
+      | inr b ↦ (cover_cons n ns x).1 (inr (rest.0 b))
+    ]
 
-    from : (x : Address) → InSet x → IsCoveredBy networks x
-    from x inside =
-        let (n, max, sub) = maximal_above InSet least decided (single x) (IsInside-single InSet least x (fits x inside).0 (fits x inside).1 inside) in
-        any_from_contains (λ k. InBlock k x) networks n ((blocks.members n).1 max) (sub x (own_in (single x)))
+    from : IsCoveredBy (map truncation ns) x ↔ IsCoveredBy ns x → IsCoveredBy (n ∷ ns) x
+        → IsCoveredBy (map truncation (n ∷ ns)) x
+    from rest a = elim ((cover_cons n ns x).0 a) [
+      | inl b ↦ (cover_cons (truncation n) (map truncation ns) x).1 (inl (in_truncation n x b))
+      | inr b ↦ (cover_cons (truncation n) (map truncation ns) x).1 (inr (rest.1 b))
+    ]
 
--- whether an address lies in a range
-pub IsDecided-between : (f : Family) (s e : ℕ) → IsDecided (IsBetween f s e)
-IsDecided-between f s e x =
-    elim (cases_family x.family f) [
-      | inr other ↦ inr (λ b. other b.of_family)
-      | inl same ↦ elim (cases_lt x.number s) [
-        | inl early ↦ inr (λ b. omega (arith, early, b.from_start))
-        | inr from_start ↦ elim (cases_lt e x.number) [
-          | inl late ↦ inr (λ b. omega (arith, late, b.to_end))
-          | inr to_end ↦ inl (record { of_family = same; from_start = from_start; to_end = to_end })
-        ]
+-- a network that lies in a member can be dropped
+pub cover_without_nested : (n k : Network) (networks : List Network) → Contains networks k → IsSubnetOf n k
+    → HaveSameCover (n ∷ networks) networks
+cover_without_nested n k networks c sub x = (
+  λ a. elim ((cover_cons n networks x).0 a) [ inl b ↦ cover_member networks k x c (sub x b) | inr b ↦ b ],
+  λ a. (cover_cons n networks x).1 (inr a),
+)
+
+-- the two halves of a supernet can be joined
+pub cover_of_joined : (s n k : Network) (networks : List Network) → IsNetwork n → IsSupernetOf s n → AreHalves n k
+    → HaveSameCover (n ∷ k ∷ networks) (s ∷ networks)
+cover_of_joined s n k networks u p halves x = (to, from)
+  where
+    to : IsCoveredBy (n ∷ k ∷ networks) x → IsCoveredBy (s ∷ networks) x
+    to a = elim ((cover_cons n (k ∷ networks) x).0 a) [
+      | inl b ↦ (cover_cons s networks x).1 (inl (halves_to_supernet s n k u p halves x (inl b)))
+      | inr b ↦ elim ((cover_cons k networks x).0 b) [
+        | inl c ↦ (cover_cons s networks x).1 (inl (halves_to_supernet s n k u p halves x (inr c)))
+        | inr c ↦ (cover_cons s networks x).1 (inr c)
       ]
     ]
 
--- the maximal blocks of a range cover it, and no list of networks as long as they must be covers it by fewer
-pub IsExactCover-of_range : (f : Family) (s e m : ℕ) (networks : List Network) → e < 2 ^ width f → m ≤ width f
-    → AreMaximalBlocks (IsBetween f s e) m networks → IsExactCover (IsBetween f s e) m networks
-IsExactCover-of_range f s e m networks fits short blocks =
-    IsExactCover-of_maximal (IsBetween f s e) m networks (IsDecided-between f s e)
-    (λ x b. let same : width x.family ≡ width f = ap width b.of_family in (omega (arith, fits, b.to_end, ap (λ w. 2 ^ w) same), omega (arith, short, same)))
-    blocks
-
-pub IsShortestCover-of_range : (f : Family) (s e m : ℕ) (networks : List Network) → e < 2 ^ width f → m ≤ width f
-    → AreMaximalBlocks (IsBetween f s e) m networks → IsShortestCover (IsBetween f s e) m networks
-IsShortestCover-of_range f s e m networks fits short blocks =
-    IsShortestCover-of_maximal (IsBetween f s e) m networks blocks (IsExactCover-of_range f s e m networks fits short blocks)
-
--- a set that can be decided is told by a test
-answer_of : {P : Type 0} → P ⊎ (P → ⊥) → Bool
-answer_of (inl holds) = true
-answer_of (inr fails) = false
-
-answer_is : {P : Type 0} (decided : P ⊎ (P → ⊥)) → P ↔ IsTrue (answer_of decided)
-unfolding answer_of
-answer_is (inl holds) = (λ p. refl, λ t. holds)
-answer_is (inr fails) = (λ p. absurd (fails p), λ t. cc)
-
-pub test_of_decided : (InSet : Address → Type 0) → IsDecided InSet → (test : Address → Bool) × ((x : Address) → InSet x ↔ IsAcceptedBy test x)
-test_of_decided InSet decided = (λ x. answer_of (decided x), λ x. answer_is (decided x))
+    from : IsCoveredBy (s ∷ networks) x → IsCoveredBy (n ∷ k ∷ networks) x
+    from a = elim ((cover_cons s networks x).0 a) [
+      | inr b ↦ (cover_cons n (k ∷ networks) x).1 (inr ((cover_cons k networks x).1 (inr b)))
+      | inl b ↦ elim (supernet_to_halves s n k u p halves x b) [
+        | inl c ↦ (cover_cons n (k ∷ networks) x).1 (inl c)
+        | inr c ↦ (cover_cons n (k ∷ networks) x).1 (inr ((cover_cons k networks x).1 (inl c)))
+      ]
+    ]

@@ -1,5 +1,6 @@
 -- Numbers and their digits, the highest first: the order of digits is the order of the number that they write.
-use Rattle.std.proofs.Common.{◌≡◌, ℕ, ◌+◌, ◌*◌, ◌/◌, ◌%◌, ◌^◌, ◌<◌, ◌≤◌, List, [], ◌∷◌, length, slice_index, refl, sym, ap, ◌∙◌, arith, zero, suc, inl, inr}
+use Rattle.std.proofs.Common.{◌≡◌, ℕ, ◌+◌, ◌*◌, ◌/◌, ◌%◌, ◌^◌, ◌<◌, ◌≤◌, List, [], ◌∷◌, length, slice_index, refl, sym}
+use Rattle.std.proofs.Common.{ap, ◌∙◌, arith, zero, suc, inl, inr}
 use Rattle.std.specs.Bool.{⊤}
 use Rattle.std.specs.Int.{w32, w128, byte_at, bytes_high_first, to_be_bytes, from_be_bytes}
 use Rattle.std.specs.Net.Addr.{octets_of, segments_of}
@@ -30,7 +31,8 @@ value_below r (x ∷ xs) h =
     omega (arith, lower, p, turned)
 
 -- the first digit decides, and where it is the same the others do
-cmp_first : (x y p u v : ℕ) → u < p → v < p → ordering_then (nat_cmp x y) (nat_cmp u v) ≡ nat_cmp (x * p + u) (y * p + v)
+cmp_first : (x y p u v : ℕ) → u < p → v < p
+    → ordering_then (nat_cmp x y) (nat_cmp u v) ≡ nat_cmp (x * p + u) (y * p + v)
 cmp_first x y p u v hu hv = elim (cases_lt x y) [
   | inl lt ↦
       let low = mul-add-lt x p u y lt hu in
@@ -49,7 +51,8 @@ cmp_first x y p u v hu hv = elim (cases_lt x y) [
   ]
 ]
 
-cmp_value : (r : ℕ) (xs ys : List ℕ) → length xs ≡ length ys → Below r xs → Below r ys → slice_cmp nat_cmp xs ys ≡ nat_cmp (value r xs) (value r ys)
+cmp_value : (r : ℕ) (xs ys : List ℕ) → length xs ≡ length ys → Below r xs → Below r ys
+    → slice_cmp nat_cmp xs ys ≡ nat_cmp (value r xs) (value r ys)
 cmp_value r [] [] e h k = refl
 cmp_value r [] (y ∷ ys) e h k = absurd (omega arith)
 cmp_value r (x ∷ xs) [] e h k = absurd (omega arith)
@@ -121,7 +124,8 @@ unfoldable pub pairs : ℕ → ℕ
 pairs zero = 0
 pairs (suc k) = suc (suc (pairs k))
 
-octets_of-segments_of : (k n : ℕ) → octets_of (segments_of (bytes_high_first (pairs k) n)) ≡ bytes_high_first (pairs k) n
+octets_of-segments_of : (k n : ℕ) → octets_of (segments_of (bytes_high_first (pairs k) n))
+    ≡ bytes_high_first (pairs k) n
 unfolding pairs
 octets_of-segments_of zero n = refl
 octets_of-segments_of (suc k) n =

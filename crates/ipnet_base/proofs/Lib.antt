@@ -3,12 +3,13 @@ pub mod PrefixLaws
 pub mod BlockLaws
 pub mod NetworkLaws
 pub mod ListLaws
+pub mod CoverLaws
 pub mod UniqueLaws
 pub mod NeighbourLaws
 pub mod WalkLaws
 pub mod ShortestLaws
 pub mod SupernetLaws
-pub mod CoverLaws
+pub mod ExactCoverLaws
 pub mod MaskLaws
 pub mod AddressLaws
 pub mod StepLaws
@@ -19,4 +20,6 @@ pub mod DigitLaws
 pub mod ArithmeticLaws
 pub mod RangeLaws
 pub mod CallLaws
+pub mod SeparationLaws
 pub mod FamilyLaws
+pub mod ValueLaws

@@ -1,38 +1,33 @@
 -- The neighbour lemma: truncated networks, each ending before the next, of which no two neighbours are the
 -- halves of one supernet, are all the maximal blocks of what they cover.
-use Rattle.std.proofs.Common.{◌≡◌, ℕ, zero, suc, ◌+◌, ◌*◌, ◌/◌, ◌^◌, ◌<◌, ◌≤◌, ◌⊎◌, List, length, get_or, Contains, All, AllPairs, refl, sym, ap, ap₂, ◌∙◌, subst, arith, inl, inr, add-one, mul-one, pow_pos, pow-add, shr-shr}
-use Rattle.std.specs.List.{AllAdjacentBelow}
+use Rattle.std.proofs.Common.{◌≡◌, ℕ, zero, suc, ◌+◌, ◌*◌, ◌/◌, ◌^◌, ◌<◌, ◌≤◌, ◌⊎◌, List, length, get_or, Contains}
+use Rattle.std.proofs.Common.{All, AllPairs, refl, sym, ap, ap₂, ◌∙◌, subst, arith, inl, inr, add-one, mul-one}
+use Rattle.std.proofs.Common.{pow_pos, pow-add, shr-shr}
 use Rattle.std.proofs.lemmas.Bool.{cases_lt, cases_order}
 use Rattle.std.proofs.lemmas.Nat.{div-mul-add, pow_below}
 use Rattle.std.proofs.Math.Nat.{mul-div_cancel, div-one}
 use Rattle.ipnet_base.specs.Address.{Family, Address, width, family_index}
-use Rattle.ipnet_base.specs.Network.{Network, IsNetwork, host_bits, InBlock, IsSubnetOf, IsTruncated, AreHalves, IsBefore}
+use Rattle.ipnet_base.specs.Network.{Network, IsNetwork, host_bits, InBlock, IsSubnetOf, IsTruncated, AreHalves}
+use Rattle.ipnet_base.specs.Network.{IsBefore, first_of, last_of}
 use Rattle.ipnet_base.specs.Blocks.{IsCoveredBy, IsInside, IsMaximal, AreMaximalBlocks}
+use Rattle.ipnet_base.specs.Stack.{LiesBefore, AreJoined}
 use Rattle.ipnet_base.proofs.PrefixLaws.{coarser}
-use Rattle.ipnet_base.proofs.BlockLaws.{at, own, own_in, first_of, last_of, first_in, last_in, between_from_block, number_from_truncated, nested, same_len_from_bits, same_from_block}
-use Rattle.ipnet_base.proofs.ListLaws.{at_place, pair_at, one_place, adjacent_at, pairs_from_adjacent, pairs_weaker, any_from_contains, all_at}
-
--- every address of n comes before k: n is of an earlier family, or k starts behind n's last address
-abbrev pub LiesBefore : Network → Network → Type 0
-LiesBefore n k = (family_index n.family < family_index k.family)
-    ⊎ ((n.family ≡ k.family) × ((x : Address) → InBlock n x → x.number < k.number))
-
--- The four conditions on neighbours in the form that lemmas take: family and place as one condition.
-pub record AreSettled (networks : List Network) : Type 0 where
-  pub truncated : All IsTruncated networks
-  pub apart : AllAdjacentBelow LiesBefore networks (length networks)
-  pub unjoined : AllAdjacentBelow (λ n k. ¬ (AreHalves n k)) networks (length networks)
+use Rattle.ipnet_base.proofs.BlockLaws.{at, own, own_in, first_in, last_in, between_from_block}
+use Rattle.ipnet_base.proofs.BlockLaws.{number_from_truncated, nested, same_len_from_bits, same_from_block}
+use Rattle.ipnet_base.proofs.ListLaws.{at_place, pair_at, one_place, adjacent_at, pairs_from_adjacent, pairs_weaker}
+use Rattle.ipnet_base.proofs.ListLaws.{any_from_contains, all_at}
 
 -- `LiesBefore` by numbers alone
 abbrev pub EndsBelow : (f g last number : ℕ) → Type 0
 EndsBelow f g last number = (f < g) ⊎ ((f ≡ g) × (last < number))
 
-pub ends_by_numbers : (n k : Network) → LiesBefore n k → EndsBelow (family_index n.family) (family_index k.family) (last_of n) k.number
+pub ends_by_numbers : (n k : Network) → LiesBefore n k
+    → EndsBelow (family_index n.family) (family_index k.family) (last_of n) k.number
 ends_by_numbers n k (inl h) = inl h
 ends_by_numbers n k (inr h) = inr (ap family_index h.0, h.1 (at n (last_of n)) (last_in n))
 
 -- a network's own number is at most the last of its block
-pub own_to_last : (n : Network) → n.number ≤ last_of n
+own_to_last : (n : Network) → n.number ≤ last_of n
 own_to_last n = (between_from_block n (own n) (own_in n)).to_end
 
 pub LiesBefore-transitive : (n k l : Network) → LiesBefore n k → LiesBefore k l → LiesBefore n l
@@ -47,13 +42,34 @@ before_from_ends n k (inl h) = inl h
 before_from_ends n k (inr h) = inr (h.0, inl (h.1 (own n) (own_in n)))
 
 -- each ends before all later ones
-pub ends_before_all : (networks : List Network) → AreSettled networks → AllPairs LiesBefore networks
-ends_before_all networks good = pairs_from_adjacent LiesBefore LiesBefore-transitive networks good.apart
+pub ends_before_all : (networks : List Network) → AreJoined networks → AllPairs LiesBefore networks
+ends_before_all networks joined = pairs_from_adjacent LiesBefore LiesBefore-transitive networks joined.apart
 
 -- a network that ends before another shares no address with it
-ends_apart : (n k : Network) (x : Address) → IsTruncated k → LiesBefore n k → InBlock n x → InBlock k x → ⊥
+pub ends_apart : (n k : Network) (x : Address) → IsTruncated k → LiesBefore n k → InBlock n x → InBlock k x → ⊥
 ends_apart n k x t (inl h) a b = absurd (omega (arith, h, ap family_index (sym a.same_family ∙ b.same_family)))
 ends_apart n k x t (inr h) a b = absurd (omega (arith, h.1 x a, t x b))
+
+-- what lies before a network lies before each network in its block
+pub before_subnet : (r k n : Network) → IsTruncated k → LiesBefore r k → IsSubnetOf n k → LiesBefore r n
+before_subnet r k n t (inl h) s = inl (omega (arith, h, ap family_index (s (own n) (own_in n)).same_family))
+before_subnet r k n t (inr h) s =
+    inr (h.0 ∙ sym (s (own n) (own_in n)).same_family, λ x a. omega (arith, h.1 x a, t (own n) (s (own n) (own_in n))))
+
+-- what lies before a member of a list in order lies before all from there on
+pub before_rest : (networks : List Network) → AllPairs LiesBefore networks → (r n k : Network) (c : Contains networks n)
+    (e : Contains networks k) → LiesBefore r n → c.0 ≤ e.0 → LiesBefore r k
+before_rest networks ends r n k c e before le =
+    elim (cases_order c.0 e.0) [
+      | inl same ↦ subst (LiesBefore r) (one_place networks n k c e same) before
+      | inr (inl lt) ↦ LiesBefore-transitive r n k before (pair_at LiesBefore networks ends n k c e lt)
+      | inr (inr gt) ↦ absurd (omega (arith, gt, le))
+    ]
+
+-- what lies before a network stands before every network whose own address is in that one's block
+pub before_own : (n k m : Network) → LiesBefore n k → IsTruncated k → InBlock k (own m) → IsBefore n m
+before_own n k m (inl h) t a = inl (omega (arith, h, ap family_index a.same_family))
+before_own n k m (inr h) t a = inr (h.0 ∙ sym a.same_family, inl (omega (arith, h.1 (own n) (own_in n), t (own m) a)))
 
 -- members that share an address are one
 pub one_member : (networks : List Network) → All IsTruncated networks → AllPairs LiesBefore networks
@@ -61,8 +77,12 @@ pub one_member : (networks : List Network) → All IsTruncated networks → AllP
 one_member networks trunc ends n k c e x a b =
     elim (cases_order c.0 e.0) [
       | inl same ↦ one_place networks n k c e same
-      | inr (inl lt) ↦ absurd (ends_apart n k x (all_at IsTruncated networks trunc k e) (pair_at LiesBefore networks ends n k c e lt) a b)
-      | inr (inr gt) ↦ absurd (ends_apart k n x (all_at IsTruncated networks trunc n c) (pair_at LiesBefore networks ends k n e c gt) b a)
+      | inr (inl lt) ↦
+          absurd (ends_apart n k x (all_at IsTruncated networks trunc k e)
+          (pair_at LiesBefore networks ends n k c e lt) a b)
+      | inr (inr gt) ↦
+          absurd (ends_apart k n x (all_at IsTruncated networks trunc n c)
+          (pair_at LiesBefore networks ends k n e c gt) b a)
     ]
 
 -- nothing stands between blocks that touch
@@ -71,7 +91,8 @@ none_between : (f g h last_n mid last_mid number : ℕ) → f ≡ h → number �
 none_between f g h last_n mid last_mid number e t m p q = omega arith
 
 -- members whose blocks touch are neighbours
-touching : (networks : List Network) → AllPairs LiesBefore networks → (n k : Network) (c : Contains networks n) (e : Contains networks k)
+touching : (networks : List Network) → AllPairs LiesBefore networks
+    → (n k : Network) (c : Contains networks n) (e : Contains networks k)
     → n.family ≡ k.family → k.number ≡ last_of n + 1 → c.0 + 1 ≡ e.0
 touching networks ends n k c e f t =
     elim (cases_order (c.0 + 1) e.0) [
@@ -92,18 +113,19 @@ touching networks ends n k c e f t =
         let inside : c.0 + 1 < length networks = omega (arith, lt, e.1) in
         let mid : Network = get_or networks (c.0 + 1) n in
         let m : Contains networks mid = (c.0 + 1, inside, at_place networks (c.0 + 1) mid n inside) in
-        none_between (family_index n.family) (family_index mid.family) (family_index k.family) (last_of n) mid.number (last_of mid) k.number
+        none_between (family_index n.family) (family_index mid.family) (family_index k.family) (last_of n) mid.number
+        (last_of mid) k.number
         (ap family_index f) t (own_to_last mid)
         (ends_by_numbers n mid (pair_at LiesBefore networks ends n mid c m (omega arith)))
         (ends_by_numbers mid k (pair_at LiesBefore networks ends mid k m e lt))
 
 -- the numbers with the leading bits c, but for the low k bits, lie in the block of one member
-abbrev pub LiesInOne : List Network → Family → ℕ → ℕ → Type 0
+abbrev LiesInOne : List Network → Family → ℕ → ℕ → Type 0
 LiesInOne networks family k c = (n : Network) × Contains networks n × (n.family ≡ family) × (k ≤ host_bits n)
     × ((c * 2 ^ k) / 2 ^ host_bits n ≡ n.number / 2 ^ host_bits n)
 
 -- the addresses with those leading bits are covered
-abbrev pub IsCovered : List Network → Family → ℕ → ℕ → Type 0
+abbrev IsCovered : List Network → Family → ℕ → ℕ → Type 0
 IsCovered networks family k c = (x : Address) → x.family ≡ family → x.number / 2 ^ k ≡ c → IsCoveredBy networks x
 
 -- numbers with k low bits and one more: c begins both halves, 2 * c and 2 * c + 1
@@ -123,13 +145,14 @@ both_begin c k =
     ∙ ap (λ z. z / 2 ^ (k + 1)) (sym (upper_half c k))
 
 -- two members with k open bits, one for each half, would be halves of one supernet, and neighbours
-no_halves : (networks : List Network) → All IsNetwork networks → AreSettled networks
+no_halves : (networks : List Network) → All IsNetwork networks → AreJoined networks
     → (family : Family) (k c : ℕ) → k + 1 ≤ width family
     → (n l : Network) → Contains networks n → Contains networks l → n.family ≡ family → l.family ≡ family
-    → host_bits n ≡ k → host_bits l ≡ k → n.number / 2 ^ host_bits n ≡ 2 * c → l.number / 2 ^ host_bits l ≡ 2 * c + 1 → ⊥
-no_halves networks valid good family k c le n l in_n in_l fn fl bn bl qn ql =
-    adjacent_at (λ x y. ¬ (AreHalves x y)) networks good.unjoined n l in_n in_l
-    (touching networks (ends_before_all networks good) n l in_n in_l (fn ∙ sym fl) touch)
+    → host_bits n ≡ k → host_bits l ≡ k → n.number / 2 ^ host_bits n ≡ 2 * c → l.number / 2 ^ host_bits l ≡ 2 * c + 1
+    → ⊥
+no_halves networks valid joined family k c le n l in_n in_l fn fl bn bl qn ql =
+    adjacent_at (λ x y. ¬ (AreHalves x y)) networks joined.unjoined n l in_n in_l
+    (touching networks (ends_before_all networks joined) n l in_n in_l (fn ∙ sym fl) touch)
     halves
   where
     sizes : 2 ^ host_bits n ≡ 2 ^ host_bits l
@@ -139,7 +162,8 @@ no_halves networks valid good family k c le n l in_n in_l fn fl bn bl qn ql =
     first_n = ap₂ ◌*◌ qn sizes
 
     number_l : l.number ≡ (2 * c + 1) * 2 ^ host_bits l
-    number_l = number_from_truncated l (all_at IsTruncated networks good.truncated l in_l) ∙ ap (λ q. q * 2 ^ host_bits l) ql
+    number_l = number_from_truncated l (all_at IsTruncated networks joined.truncated l in_l) ∙ ap
+        (λ q. q * 2 ^ host_bits l) ql
 
     touch : l.number ≡ last_of n + 1
     touch = omega (arith, first_n, number_l, sizes, pow_pos (host_bits n))
@@ -151,7 +175,8 @@ no_halves networks valid good family k c le n l in_n in_l fn fl bn bl qn ql =
     halves = record {
       siblings = record {
         same_family = fn ∙ sym fl;
-        same_len = same_len_from_bits n l (all_at IsNetwork networks valid n in_n) (all_at IsNetwork networks valid l in_l) (fn ∙ sym fl) (bn ∙ sym bl);
+        same_len = same_len_from_bits n l (all_at IsNetwork networks valid n in_n)
+            (all_at IsNetwork networks valid l in_l) (fn ∙ sym fl) (bn ∙ sym bl);
         has_supernet = omega (arith, le, bn, ap width fn);
         same_supernet =
             sym (shr-shr n.number (host_bits n) 1) ∙ ap (λ q. q / 2) qn
@@ -161,10 +186,11 @@ no_halves networks valid good family k c le n l in_n in_l fn fl bn bl qn ql =
       differ = λ e. omega (arith, e, qn, ql');
     }
 
-lies_step : (networks : List Network) → All IsNetwork networks → AreSettled networks
+lies_step : (networks : List Network) → All IsNetwork networks → AreJoined networks
     → (family : Family) (k c : ℕ) → k + 1 ≤ width family
-    → LiesInOne networks family k (2 * c) → LiesInOne networks family k (2 * c + 1) → LiesInOne networks family (k + 1) c
-lies_step networks valid good family k c le (n, in_n, fn, bn, en) (l, in_l, fl, bl, el) =
+    → LiesInOne networks family k (2 * c) → LiesInOne networks family k (2 * c + 1)
+    → LiesInOne networks family (k + 1) c
+lies_step networks valid joined family k c le (n, in_n, fn, bn, en) (l, in_l, fl, bl, el) =
     elim (cases_lt k (host_bits n)) [
       | inl more ↦ (n, in_n, fn, omega (arith, more), ap (λ z. z / 2 ^ host_bits n) (sym (double c k)) ∙ en)
       | inr no_more ↦ elim (cases_lt k (host_bits l)) [
@@ -173,54 +199,63 @@ lies_step networks valid good family k c le (n, in_n, fn, bn, en) (l, in_l, fl, 
           in_l,
           fl,
           omega (arith, more),
-          coarser (k + 1) (host_bits l) (c * 2 ^ (k + 1)) ((2 * c + 1) * 2 ^ k) (omega (arith, more)) (both_begin c k) ∙ el,
+          coarser (k + 1) (host_bits l) (c * 2 ^ (k + 1)) ((2 * c + 1) * 2 ^ k) (omega (arith, more)) (both_begin c k)
+              ∙ el,
         )
         | inr nor_more ↦
             let hn : host_bits n ≡ k = omega (arith, bn, no_more) in
             let hl : host_bits l ≡ k = omega (arith, bl, nor_more) in
-            absurd (no_halves networks valid good family k c le n l in_n in_l fn fl hn hl
+            absurd (no_halves networks valid joined family k c le n l in_n in_l fn fl hn hl
             (sym en ∙ ap (λ m. ((2 * c) * 2 ^ k) / 2 ^ m) hn ∙ begins (2 * c) k)
             (sym el ∙ ap (λ m. ((2 * c + 1) * 2 ^ k) / 2 ^ m) hl ∙ begins (2 * c + 1) k))
       ]
     ]
 
-pub lies_in_one : (networks : List Network) → All IsNetwork networks → AreSettled networks
+lies_in_one : (networks : List Network) → All IsNetwork networks → AreJoined networks
     → (family : Family) (k c : ℕ) → k ≤ width family → IsCovered networks family k c → LiesInOne networks family k c
-lies_in_one networks valid good family zero c le cover =
+lies_in_one networks valid joined family zero c le cover =
     let x : Address = record { family = family; number = c } in
     let w : IsCoveredBy networks x = cover x refl (div-one c) in
     (w.1, (w.0, w.2, w.3), sym w.4.same_family, omega arith, rw mul-one w.4.same_prefix)
-lies_in_one networks valid good family (suc k) c le cover =
+lies_in_one networks valid joined family (suc k) c le cover =
     subst (λ m. LiesInOne networks family m c) (add-one k)
-    (lies_step networks valid good family k c (omega arith)
-    (lies_in_one networks valid good family k (2 * c) (omega arith) (λ x f e. cover x f (half x.number (2 * c) e (omega arith))))
-    (lies_in_one networks valid good family k (2 * c + 1) (omega arith) (λ x f e. cover x f (half x.number (2 * c + 1) e (omega arith)))))
+    (lies_step networks valid joined family k c (omega arith)
+    (lies_in_one networks valid joined family k (2 * c) (omega arith)
+    (λ x f e. cover x f (half x.number (2 * c) e (omega arith))))
+    (lies_in_one networks valid joined family k (2 * c + 1) (omega arith)
+    (λ x f e. cover x f (half x.number (2 * c + 1) e (omega arith)))))
   where
     half : (y q : ℕ) → y / 2 ^ k ≡ q → q / 2 ≡ c → y / 2 ^ suc k ≡ c
     half y q e h = subst (λ m. y / 2 ^ m ≡ c) (add-one k) (sym (shr-shr y k 1) ∙ ap (λ z. z / 2) e ∙ h)
 
 -- a truncated network whose block is covered lies in one member
-pub subnet_of_one : (networks : List Network) → All IsNetwork networks → AreSettled networks
-    → (k : Network) → ((x : Address) → InBlock k x → IsCoveredBy networks x) → (n : Network) × Contains networks n × IsSubnetOf k n
-subnet_of_one networks valid good k covered =
+pub subnet_of_one : (networks : List Network) → All IsNetwork networks → AreJoined networks
+    → (k : Network) → ((x : Address) → InBlock k x → IsCoveredBy networks x) → (n : Network) × Contains networks n
+    × IsSubnetOf k n
+subnet_of_one networks valid joined k covered =
     let found : LiesInOne networks k.family (host_bits k) (k.number / 2 ^ host_bits k) =
-    lies_in_one networks valid good k.family (host_bits k) (k.number / 2 ^ host_bits k) (omega arith)
-    (λ x f e. covered x (record { same_family = f; same_prefix = e })) in
-    (found.0, found.1, nested k found.0 (at k (first_of k)) (first_in k) (record { same_family = sym found.2; same_prefix = found.4 }) found.3)
+    lies_in_one networks valid joined k.family (host_bits k) (k.number / 2 ^ host_bits k) (omega arith)
+    (λ x f e. covered x (record { same_family = f; same_prefix = e })) in (
+      found.0,
+      found.1,
+      nested k found.0 (at k (first_of k)) (first_in k)
+          (record { same_family = sym found.2; same_prefix = found.4 }) found.3,
+    )
 
-pub AreMaximalBlocks-from_neighbours : (networks : List Network) → All IsNetwork networks → AreSettled networks → AreMaximalBlocks (IsCoveredBy networks) 0 networks
-AreMaximalBlocks-from_neighbours networks valid good = record {
+pub AreMaximalBlocks-from_neighbours : (networks : List Network) → All IsNetwork networks → AreJoined networks
+    → AreMaximalBlocks (IsCoveredBy networks) 0 networks
+AreMaximalBlocks-from_neighbours networks valid joined = record {
   ascending = pairs_weaker LiesBefore IsBefore before_from_ends networks ends;
   members = λ n. (member_is_maximal n, maximal_is_member n);
 }
   where
     ends : AllPairs LiesBefore networks
-    ends = ends_before_all networks good
+    ends = ends_before_all networks joined
 
     member_is_inside : (n : Network) → Contains networks n → IsInside (IsCoveredBy networks) 0 n
     member_is_inside n c = record {
       network = all_at IsNetwork networks valid n c;
-      truncated = all_at IsTruncated networks good.truncated n c;
+      truncated = all_at IsTruncated networks joined.truncated n c;
       long_enough = omega arith;
       within = λ x a. any_from_contains (λ m. InBlock m x) networks n c a;
     }
@@ -229,13 +264,14 @@ AreMaximalBlocks-from_neighbours networks valid good = record {
     member_is_maximal n c = record {
       inside = member_is_inside n c;
       largest = λ k i s.
-          let (m, in_m, k_in_m) = subnet_of_one networks valid good k i.within in
-          let one : m ≡ n = one_member networks good.truncated ends m n in_m c (own n) (k_in_m (own n) (s (own n) (own_in n))) (own_in n) in
+          let (m, in_m, k_in_m) = subnet_of_one networks valid joined k i.within in
+          let one : m ≡ n = one_member networks joined.truncated ends m n in_m c (own n)
+          (k_in_m (own n) (s (own n) (own_in n))) (own_in n) in
           same_from_block k n i.network (member_is_inside n c).network i.truncated (member_is_inside n c).truncated
           (subst (λ z. IsSubnetOf k z) one k_in_m, s);
     }
 
     maximal_is_member : (n : Network) → IsMaximal (IsCoveredBy networks) 0 n → Contains networks n
     maximal_is_member n h =
-        let (m, in_m, n_in_m) = subnet_of_one networks valid good n h.inside.within in
+        let (m, in_m, n_in_m) = subnet_of_one networks valid joined n h.inside.within in
         subst (Contains networks) (h.largest m (member_is_inside m in_m) n_in_m) in_m

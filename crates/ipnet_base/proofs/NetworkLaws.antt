@@ -1,13 +1,19 @@
 -- Small laws of networks: the ends of blocks, inclusion as an order, truncations, supernets, siblings, masks.
-use Rattle.std.proofs.Common.{◌≡◌, ℕ, ◌+◌, ◌-◌, ◌*◌, ◌/◌, ◌^◌, ◌<◌, ◌≤◌, ◌≢◌, ◌⊎◌, ◌↔◌, refl, sym, ap, ◌∙◌, subst, arith, inl, inr, pow_pos, pow-add, shr-shr, mul-le-mul_right}
+use Rattle.std.proofs.Common.{◌≡◌, ℕ, ◌+◌, ◌-◌, ◌*◌, ◌/◌, ◌^◌, ◌<◌, ◌≤◌, ◌≢◌, ◌⊎◌, ◌↔◌, refl, sym, ap, ◌∙◌, subst}
+use Rattle.std.proofs.Common.{arith, inl, inr, pow_pos, pow-add, shr-shr, mul-le-mul_right}
 use Rattle.std.proofs.lemmas.Bool.{cases_lt, cases_eq, cases_order}
 use Rattle.std.proofs.lemmas.Nat.{pow_below}
 use Rattle.std.proofs.Math.Nat.{mul-div_cancel}
 use Rattle.ipnet_base.specs.Address.{Family, Address, IsAddress, IsBetween, width, family_index, greatest_number}
-use Rattle.ipnet_base.specs.Network.{Network, IsNetwork, host_bits, InBlock, IsSubnetOf, HaveSameBlock, IsTruncated, IsTruncationOf, IsSupernetOf, AreSiblings, AreHalves, IsBefore, IsLeastOf, IsGreatestOf, truncation}
+use Rattle.ipnet_base.specs.Network.{Network, IsNetwork, host_bits, InBlock, IsSubnetOf, HaveSameBlock, IsTruncated}
+use Rattle.ipnet_base.specs.Network.{IsTruncationOf, IsSupernetOf, AreSiblings, AreHalves, IsBefore, IsLeastOf}
+use Rattle.ipnet_base.specs.Network.{IsGreatestOf, truncation, first_of, last_of}
 use Rattle.ipnet_base.specs.Masks.{netmask_number, hostmask_number, IsNetmaskOf}
 use Rattle.ipnet_base.proofs.PrefixLaws.{block_from, first_in_block, block_end_fits}
-use Rattle.ipnet_base.proofs.BlockLaws.{at, own, own_in, first_of, last_of, nested, block_from_between, first_from_least, last_from_greatest, IsLeastOf-first, IsGreatestOf-last, last_fits, number_from_truncated, same_network, same_from_block, IsTruncated-truncation, IsNetwork-truncation, truncation_in, in_truncation, supernet_bits}
+use Rattle.ipnet_base.proofs.BlockLaws.{at, own, own_in, nested, block_from_between, first_from_least}
+use Rattle.ipnet_base.proofs.BlockLaws.{last_from_greatest, IsLeastOf-first, IsGreatestOf-last, last_fits}
+use Rattle.ipnet_base.proofs.BlockLaws.{number_from_truncated, same_network, same_from_block, IsTruncated-truncation}
+use Rattle.ipnet_base.proofs.BlockLaws.{IsNetwork-truncation, truncation_in, in_truncation, supernet_bits}
 
 -- inclusion of blocks is reflexive and transitive
 pub IsSubnetOf-refl : (n : Network) → IsSubnetOf n n
@@ -17,7 +23,8 @@ pub IsSubnetOf-trans : (n k l : Network) → IsSubnetOf n k → IsSubnetOf k l �
 IsSubnetOf-trans n k l s t x a = t x (s x a)
 
 -- blocks contain each other exactly where the truncations are equal
-pub same_block_iff_same_truncation : (n k : Network) → IsNetwork n → IsNetwork k → HaveSameBlock n k ↔ (truncation n ≡ truncation k)
+pub same_block_iff_same_truncation : (n k : Network) → IsNetwork n → IsNetwork k
+    → HaveSameBlock n k ↔ (truncation n ≡ truncation k)
 same_block_iff_same_truncation n k u v = (to, from)
   where
     to : HaveSameBlock n k → truncation n ≡ truncation k
@@ -50,14 +57,18 @@ truncation_from_relation t n h = same_network t (truncation n) there.same_family
     bits = omega (arith, ap width there.same_family, h.same_len)
 
     number : t.number ≡ first_of n
-    number = number_from_truncated t h.truncated ∙ ap (λ b. t.number / 2 ^ b * 2 ^ b) bits ∙ ap (λ q. q * 2 ^ host_bits n) there.same_prefix
+    number =
+        number_from_truncated t h.truncated ∙ ap (λ b. t.number / 2 ^ b * 2 ^ b) bits
+        ∙ ap (λ q. q * 2 ^ host_bits n) there.same_prefix
 
 pub IsTruncationOf-unique : (s t n : Network) → IsTruncationOf s n → IsTruncationOf t n → s ≡ t
 IsTruncationOf-unique s t n h k = truncation_from_relation s n h ∙ sym (truncation_from_relation t n k)
 
 -- truncated twice is truncated once, and a truncated network is its own truncation
 pub truncation_twice : (n : Network) → truncation (truncation n) ≡ truncation n
-truncation_twice n = same_network (truncation (truncation n)) (truncation n) refl (ap (λ q. q * 2 ^ host_bits n) (first_in_block (host_bits n) n.number)) refl
+truncation_twice n =
+    same_network (truncation (truncation n)) (truncation n) refl
+    (ap (λ q. q * 2 ^ host_bits n) (first_in_block (host_bits n) n.number)) refl
 
 pub truncation_of_truncated : (n : Network) → IsTruncated n → truncation n ≡ n
 truncation_of_truncated n t = same_network (truncation n) n refl (sym (number_from_truncated n t)) refl
@@ -72,8 +83,10 @@ own_to_greatest n x h = h.greatest (own n) (own_in n)
 -- a network has one supernet at most
 pub IsSupernetOf-unique : (s t n : Network) → IsNetwork n → IsSupernetOf s n → IsSupernetOf t n → s ≡ t
 IsSupernetOf-unique s t n u p q = same_from_block s t p.network q.network p.truncated q.truncated (
-  nested s t (own n) (p.contains (own n) (own_in n)) (q.contains (own n) (own_in n)) (omega (arith, supernet_bits s n u p, supernet_bits t n u q)),
-  nested t s (own n) (q.contains (own n) (own_in n)) (p.contains (own n) (own_in n)) (omega (arith, supernet_bits s n u p, supernet_bits t n u q)),
+  nested s t (own n) (p.contains (own n) (own_in n)) (q.contains (own n) (own_in n))
+      (omega (arith, supernet_bits s n u p, supernet_bits t n u q)),
+  nested t s (own n) (q.contains (own n) (own_in n)) (p.contains (own n) (own_in n))
+      (omega (arith, supernet_bits s n u p, supernet_bits t n u q)),
 )
 
 -- to be siblings is symmetric, and each network of length above 0 is its own
@@ -112,7 +125,16 @@ IsNetmaskOf-unique f number p q h k =
   where
     apart : (a b : ℕ) → a < b → IsNetmaskOf f number a → IsNetmaskOf f number b → ⊥
     apart a b lt h k =
-        omega (arith, h.is_mask, k.is_mask, pow_below (width f - b) (width f - a) (omega (arith, lt, k.fits)), masks_add_up f a h.fits, masks_add_up f b k.fits, pow_pos (width f - a), pow_pos (width f - b))
+        omega (
+          arith,
+          h.is_mask,
+          k.is_mask,
+          pow_below (width f - b) (width f - a) (omega (arith, lt, k.fits)),
+          masks_add_up f a h.fits,
+          masks_add_up f b k.fits,
+          pow_pos (width f - a),
+          pow_pos (width f - b),
+        )
 
 -- a network's block has a least and a greatest address
 pub least_exists : (n : Network) → IsNetwork n → (x : Address) × IsAddress x × IsLeastOf n x
@@ -126,7 +148,8 @@ pub greatest_exists : (n : Network) → IsNetwork n → (x : Address) × IsAddre
 greatest_exists n u = (at n (last_of n), last_fits n u, IsGreatestOf-last n (at n (last_of n)) refl refl)
 
 -- and every address of its family between these two
-pub block_is_between : (n : Network) (low high x : Address) → IsLeastOf n low → IsGreatestOf n high → InBlock n x ↔ IsBetween n.family low.number high.number x
+pub block_is_between : (n : Network) (low high x : Address) → IsLeastOf n low → IsGreatestOf n high
+    → InBlock n x ↔ IsBetween n.family low.number high.number x
 block_is_between n low high x p q = (
   λ a. record { of_family = a.same_family; from_start = p.least x a; to_end = q.greatest x a },
   λ b. block_from_between n x (record {
@@ -137,7 +160,8 @@ block_is_between n low high x p q = (
 )
 
 -- the network of the other bits but for the last is the other half
-half_of_bits : (n : Network) (c : ℕ) → IsNetwork n → 0 < n.prefix_len → c / 2 ≡ n.number / 2 ^ host_bits n / 2 → c ≢ n.number / 2 ^ host_bits n
+half_of_bits : (n : Network) (c : ℕ) → IsNetwork n → 0 < n.prefix_len → c / 2 ≡ n.number / 2 ^ host_bits n / 2
+    → c ≢ n.number / 2 ^ host_bits n
     → (k : Network) × IsNetwork k × AreHalves n k
 half_of_bits n c u long same other = (record n { number = c * 2 ^ host_bits n }, network, halves)
   where
@@ -170,7 +194,9 @@ half_of_bits n c u long same other = (record n { number = c * 2 ^ host_bits n },
         same_family = refl;
         same_len = refl;
         has_supernet = long;
-        same_supernet = above ∙ ap (λ q. q / 2) (sym (mul-div_cancel c (pow_pos (host_bits n)))) ∙ shr-shr (c * 2 ^ host_bits n) (host_bits n) 1;
+        same_supernet =
+            above ∙ ap (λ q. q / 2) (sym (mul-div_cancel c (pow_pos (host_bits n))))
+            ∙ shr-shr (c * 2 ^ host_bits n) (host_bits n) 1;
       };
       differ = λ e. other (sym (e ∙ mul-div_cancel c (pow_pos (host_bits n))));
     }
@@ -179,7 +205,8 @@ pub other_half_exists : (n : Network) → IsNetwork n → 0 < n.prefix_len → (
 other_half_exists n u long =
     elim (cases_eq (n.number / 2 ^ host_bits n) (n.number / 2 ^ host_bits n / 2 * 2)) [
       | inl even ↦ half_of_bits n (n.number / 2 ^ host_bits n + 1) u long (omega (arith, even)) (λ e. omega (arith, e))
-      | inr odd ↦ half_of_bits n (n.number / 2 ^ host_bits n - 1) u long (omega (arith, odd)) (λ e. omega (arith, e, odd))
+      | inr odd ↦ half_of_bits n (n.number / 2 ^ host_bits n - 1) u long (omega (arith, odd))
+          (λ e. omega (arith, e, odd))
     ]
 
 -- the order of truncated networks is that of families, first addresses and lengths
@@ -197,11 +224,15 @@ before_by_first n k a b t u p q = (to, from)
     to : IsBefore n k → (family_index a.family < family_index b.family)
         ⊎ ((a.family ≡ b.family) × ((a.number < b.number) ⊎ ((a.number ≡ b.number) × (n.prefix_len < k.prefix_len))))
     to (inl lt) = inl (omega (arith, lt, ap family_index p.inside.same_family, ap family_index q.inside.same_family))
-    to (inr (f, inl lt)) = inr (p.inside.same_family ∙ f ∙ sym q.inside.same_family, inl (omega (arith, lt, at_a, at_b)))
+    to (inr (f, inl lt)) =
+        inr (p.inside.same_family ∙ f ∙ sym q.inside.same_family, inl (omega (arith, lt, at_a, at_b)))
     to (inr (f, inr (e, lt))) = inr (p.inside.same_family ∙ f ∙ sym q.inside.same_family, inr (at_a ∙ e ∙ sym at_b, lt))
 
     from : (family_index a.family < family_index b.family)
-        ⊎ ((a.family ≡ b.family) × ((a.number < b.number) ⊎ ((a.number ≡ b.number) × (n.prefix_len < k.prefix_len)))) → IsBefore n k
+        ⊎ ((a.family ≡ b.family) × ((a.number < b.number) ⊎ ((a.number ≡ b.number) × (n.prefix_len < k.prefix_len))))
+        → IsBefore n k
     from (inl lt) = inl (omega (arith, lt, ap family_index p.inside.same_family, ap family_index q.inside.same_family))
-    from (inr (f, inl lt)) = inr (sym p.inside.same_family ∙ f ∙ q.inside.same_family, inl (omega (arith, lt, at_a, at_b)))
-    from (inr (f, inr (e, lt))) = inr (sym p.inside.same_family ∙ f ∙ q.inside.same_family, inr (sym at_a ∙ e ∙ at_b, lt))
+    from (inr (f, inl lt)) =
+        inr (sym p.inside.same_family ∙ f ∙ q.inside.same_family, inl (omega (arith, lt, at_a, at_b)))
+    from (inr (f, inr (e, lt))) =
+        inr (sym p.inside.same_family ∙ f ∙ q.inside.same_family, inr (sym at_a ∙ e ∙ at_b, lt))

@@ -1,70 +1,84 @@
 -- The list that a range gives, and what the calls on a range do to it.
-use Rattle.std.proofs.Common.{◌≡◌, ℕ, ◌+◌, ◌-◌, ◌<◌, ◌≤◌, Option, Some, None, [], ◌∷◌, ◌++◌, length, map, take, drop, reverse, slice_get, slice_index_or, option_map, Contains, AllPairs, MatchOption, refl, sym, ap, ap₂, ◌∙◌, subst, arith, zero, suc, inl, inr, length-append}
+use Rattle.std.proofs.Common.{◌≡◌, ℕ, ◌+◌, ◌-◌, ◌<◌, ◌≤◌, Option, Some, None, [], ◌∷◌, ◌++◌, length, map, take, drop}
+use Rattle.std.proofs.Common.{reverse, slice_get, slice_index_or, option_map, Contains, AllPairs, MatchOption, refl}
+use Rattle.std.proofs.Common.{sym, ap, ap₂, ◌∙◌, subst, arith, zero, suc, inl, inr, length-append}
 use Rattle.std.specs.Iterator.{YieldsFirstBy, YieldsLastBy}
 use Rattle.std.specs.List.{range_with_len}
 use Rattle.std.proofs.lemmas.Bool.{cases_lt, cases_eq}
 use Rattle.std.proofs.lemmas.List.{length-reverse, get_or-reverse}
-use Rattle.std.proofs.lemmas.List.FromFn.{length-map-range_with_len, get_or-map-range_with_len, map-range_with_len_more, take-map-range_with_len}
+use Rattle.std.proofs.lemmas.List.FromFn.{length-map-range_with_len, get_or-map-range_with_len, map-range_with_len_more}
+use Rattle.std.proofs.lemmas.List.FromFn.{take-map-range_with_len}
 use Rattle.std.proofs.lemmas.Option.{slice_get-get_or, slice_get_past}
-use Rattle.ipnet_base.specs.Address.{Address, IsBetween}
-use Rattle.ipnet_base.specs.Ranges.{AddressRange, numbers_between, address_at, addresses_of, address_count, with_ends, IsNext, IsNextBack, IsNth, IsNthBack, IsRangeStep, IsRangeStepBack}
+use Rattle.ipnet_base.specs.Address.{Address, IsBetween, address_at}
+use Rattle.ipnet_base.specs.Ranges.{AddressRange, numbers_between, addresses_of, address_count, with_ends, IsNext}
+use Rattle.ipnet_base.specs.Ranges.{IsNextBack, IsNth, IsNthBack, IsRangeStep, IsRangeStepBack}
 
 -- ---- the list of a range
 
 pub length-addresses_of : (r : AddressRange) → length (addresses_of r) ≡ address_count r
 unfolding numbers_between
-length-addresses_of r = length-map-range_with_len (address_at r) r.start (address_count r)
+length-addresses_of r = length-map-range_with_len (address_at r.family) r.start (address_count r)
 
 pub addresses_none : (r : AddressRange) → r.end < r.start → addresses_of r ≡ []
 unfolding numbers_between
 addresses_none r h =
     let none : address_count r ≡ 0 = omega arith in
-    ap (λ n. map (address_at r) (range_with_len r.start n)) none
+    ap (λ n. map (address_at r.family) (range_with_len r.start n)) none
 
-pub addresses_first : (r : AddressRange) → r.start ≤ r.end → addresses_of r ≡ address_at r r.start ∷ addresses_of (with_ends r (r.start + 1) r.end)
+pub addresses_first : (r : AddressRange) → r.start ≤ r.end
+    → addresses_of r ≡ address_at r.family r.start ∷ addresses_of (with_ends r (r.start + 1) r.end)
 unfolding numbers_between
 addresses_first r h =
     let more : address_count r ≡ suc (r.end + 1 - (r.start + 1)) = omega arith in
-    ap (λ n. map (address_at r) (range_with_len r.start n)) more
+    ap (λ n. map (address_at r.family) (range_with_len r.start n)) more
 
-pub addresses_last : (r : AddressRange) → r.start ≤ r.end → 0 < r.end → addresses_of r ≡ addresses_of (with_ends r r.start (r.end - 1)) ++ address_at r r.end ∷ []
+pub addresses_last : (r : AddressRange) → r.start ≤ r.end → 0 < r.end
+    → addresses_of r ≡ addresses_of (with_ends r r.start (r.end - 1)) ++ address_at r.family r.end ∷ []
 unfolding numbers_between
 addresses_last r h pos =
     let more : address_count r ≡ r.end - 1 + 1 - r.start + 1 = omega arith in
-    ap (λ n. map (address_at r) (range_with_len r.start n)) more
-    ∙ map-range_with_len_more (address_at r) r.start (r.end - 1 + 1 - r.start) r.end (omega arith)
+    ap (λ n. map (address_at r.family) (range_with_len r.start n)) more
+    ∙ map-range_with_len_more (address_at r.family) r.start (r.end - 1 + 1 - r.start) r.end (omega arith)
 
 -- a range of one address, and one of which nothing is left
-pub addresses_one : (r : AddressRange) → r.start ≡ r.end → addresses_of r ≡ address_at r r.start ∷ []
+pub addresses_one : (r : AddressRange) → r.start ≡ r.end → addresses_of r ≡ address_at r.family r.start ∷ []
 addresses_one r e =
     addresses_first r (omega arith)
-    ∙ ap (λ xs. address_at r r.start ∷ xs) (addresses_none (with_ends r (r.start + 1) r.end) (omega arith))
+    ∙ ap (λ xs. address_at r.family r.start ∷ xs) (addresses_none (with_ends r (r.start + 1) r.end) (omega arith))
 
 pub used_up : (r : AddressRange) → addresses_of (with_ends r 1 0) ≡ []
 used_up r = addresses_none (with_ends r 1 0) (omega arith)
 
-pub addresses_at : (r : AddressRange) (n : ℕ) → n < address_count r → slice_get (addresses_of r) n ≡ Some (address_at r (r.start + n))
+pub addresses_at : (r : AddressRange) (n : ℕ) → n < address_count r
+    → slice_get (addresses_of r) n ≡ Some (address_at r.family (r.start + n))
 unfolding numbers_between
 addresses_at r n h =
-    slice_get-get_or (addresses_of r) n (address_at r 0) (omega (arith, length-addresses_of r, h))
-    ∙ ap Some (get_or-map-range_with_len (address_at r) r.start (address_count r) n (r.start + n) (address_at r 0) h refl)
+    slice_get-get_or (addresses_of r) n (address_at r.family 0) (omega (arith, length-addresses_of r, h))
+    ∙ ap Some (get_or-map-range_with_len (address_at r.family) r.start (address_count r) n (r.start + n)
+    (address_at r.family 0) h refl)
 
 pub addresses_past : (r : AddressRange) (n : ℕ) → address_count r ≤ n → slice_get (addresses_of r) n ≡ None
 addresses_past r n h = slice_get_past (addresses_of r) n (omega (arith, length-addresses_of r, h))
 
-addresses_back_at : (r : AddressRange) (n : ℕ) → n < address_count r → slice_get (reverse (addresses_of r)) n ≡ Some (address_at r (r.end - n))
+addresses_back_at : (r : AddressRange) (n : ℕ) → n < address_count r
+    → slice_get (reverse (addresses_of r)) n ≡ Some (address_at r.family (r.end - n))
 unfolding numbers_between
 addresses_back_at r n h =
     let len = length-addresses_of r in
-    slice_get-get_or (reverse (addresses_of r)) n (address_at r 0) (omega (arith, len, length-reverse (addresses_of r), h))
+    slice_get-get_or (reverse (addresses_of r)) n (address_at r.family 0)
+    (omega (arith, len, length-reverse (addresses_of r), h))
     ∙ ap Some
-    (get_or-reverse (addresses_of r) n (address_at r 0) (omega (arith, len, h))
-    ∙ get_or-map-range_with_len (address_at r) r.start (address_count r) (length (addresses_of r) - 1 - n) (r.end - n) (address_at r 0) (omega (arith, len, h)) (omega (arith, len, h)))
+    (get_or-reverse (addresses_of r) n (address_at r.family 0) (omega (arith, len, h))
+    ∙ get_or-map-range_with_len (address_at r.family) r.start (address_count r) (length (addresses_of r) - 1 - n)
+    (r.end - n) (address_at r.family 0) (omega (arith, len, h)) (omega (arith, len, h)))
 
 addresses_back_past : (r : AddressRange) (n : ℕ) → address_count r ≤ n → slice_get (reverse (addresses_of r)) n ≡ None
-addresses_back_past r n h = slice_get_past (reverse (addresses_of r)) n (omega (arith, length-addresses_of r, length-reverse (addresses_of r), h))
+addresses_back_past r n h =
+    slice_get_past (reverse (addresses_of r)) n
+    (omega (arith, length-addresses_of r, length-reverse (addresses_of r), h))
 
-drop-range_with_len : (f : ℕ → Address) (a c k : ℕ) → drop k (map f (range_with_len a c)) ≡ map f (range_with_len (a + k) (c - k))
+drop-range_with_len : (f : ℕ → Address) (a c k : ℕ)
+    → drop k (map f (range_with_len a c)) ≡ map f (range_with_len (a + k) (c - k))
 drop-range_with_len f a c zero = ap₂ (λ x n. map f (range_with_len x n)) (omega arith) (omega arith)
 drop-range_with_len f a zero (suc k) =
     let none : zero - suc k ≡ zero = omega arith in
@@ -76,33 +90,40 @@ drop-range_with_len f a (suc c) (suc k) =
 addresses_from : (r : AddressRange) (k : ℕ) → drop k (addresses_of r) ≡ addresses_of (with_ends r (r.start + k) r.end)
 unfolding numbers_between
 addresses_from r k =
-    drop-range_with_len (address_at r) r.start (address_count r) k
-    ∙ ap (λ n. map (address_at r) (range_with_len (r.start + k) n)) (omega arith)
+    drop-range_with_len (address_at r.family) r.start (address_count r) k
+    ∙ ap (λ n. map (address_at r.family) (range_with_len (r.start + k) n)) (omega arith)
 
-addresses_up_to : (r : AddressRange) (k : ℕ) → k < address_count r → take (address_count r - k) (addresses_of r) ≡ addresses_of (with_ends r r.start (r.end - k))
+addresses_up_to : (r : AddressRange) (k : ℕ) → k < address_count r
+    → take (address_count r - k) (addresses_of r) ≡ addresses_of (with_ends r r.start (r.end - k))
 unfolding numbers_between
 addresses_up_to r k h =
-    take-map-range_with_len (address_at r) r.start (address_count r) (address_count r - k) (omega arith)
-    ∙ ap (λ n. map (address_at r) (range_with_len r.start n)) (omega arith)
+    take-map-range_with_len (address_at r.family) r.start (address_count r) (address_count r - k) (omega arith)
+    ∙ ap (λ n. map (address_at r.family) (range_with_len r.start n)) (omega arith)
 
-address_in_list : (r : AddressRange) (k : ℕ) (d : Address) → k < address_count r → slice_index_or (addresses_of r) k d ≡ address_at r (r.start + k)
+address_in_list : (r : AddressRange) (k : ℕ) (d : Address) → k < address_count r
+    → slice_index_or (addresses_of r) k d ≡ address_at r.family (r.start + k)
 unfolding numbers_between
-address_in_list r k d h = get_or-map-range_with_len (address_at r) r.start (address_count r) k (r.start + k) d h refl
+address_in_list r k d h =
+    get_or-map-range_with_len (address_at r.family) r.start (address_count r) k (r.start + k) d h refl
 
-pub between_from_contains : (r : AddressRange) (x : Address) → Contains (addresses_of r) x → IsBetween r.family r.start r.end x
+pub between_from_contains : (r : AddressRange) (x : Address) → Contains (addresses_of r) x
+    → IsBetween r.family r.start r.end x
 between_from_contains r x c =
     let within : c.0 < address_count r = omega (arith, c.1, length-addresses_of r) in
-    let is : address_at r (r.start + c.0) ≡ x = sym (address_in_list r c.0 x within) ∙ c.2 in
-    subst (IsBetween r.family r.start r.end) is (record { of_family = refl; from_start = omega arith; to_end = omega arith })
+    let is : address_at r.family (r.start + c.0) ≡ x = sym (address_in_list r c.0 x within) ∙ c.2 in
+    subst (IsBetween r.family r.start r.end) is
+    (record { of_family = refl; from_start = omega arith; to_end = omega arith })
 
-pub contains_from_between : (r : AddressRange) (x : Address) → IsBetween r.family r.start r.end x → Contains (addresses_of r) x
+pub contains_from_between : (r : AddressRange) (x : Address) → IsBetween r.family r.start r.end x
+    → Contains (addresses_of r) x
 contains_from_between r x b =
     let k : ℕ = x.number - r.start in
     let within : k < address_count r = omega (arith, b.from_start, b.to_end) in
     let place : r.start + k ≡ x.number = omega (arith, b.from_start) in (
       k,
       omega (arith, within, length-addresses_of r),
-      address_in_list r k x within ∙ ap (address_at r) place ∙ ap (λ f. record { family = f; number = x.number }) (sym b.of_family),
+      address_in_list r k x within ∙ ap (address_at r.family) place
+          ∙ ap (λ f. record { family = f; number = x.number }) (sym b.of_family),
     )
 
 pub addresses_ascend : (r : AddressRange) → AllPairs (λ x y. x.number < y.number) (addresses_of r)
@@ -126,7 +147,8 @@ IsNext-yields r answer s h = elim (cases_lt r.end r.start) [
 ]
 
 pub IsNextBack-yields : (r : AddressRange) (answer : Option Address) (s : AddressRange) → IsNextBack r answer s
-    → MatchOption answer ((addresses_of r ≡ []) × (addresses_of s ≡ [])) (λ x. addresses_of r ≡ addresses_of s ++ x ∷ [])
+    → MatchOption answer ((addresses_of r ≡ []) × (addresses_of s ≡ []))
+    (λ x. addresses_of r ≡ addresses_of s ++ x ∷ [])
 IsNextBack-yields r answer s h = elim (cases_lt r.end r.start) [
   | inl empty ↦ let n = h.none empty in rw (n.0, n.1) (addresses_none r empty, addresses_none r empty)
   | inr start_le ↦ elim (cases_lt r.start r.end) [
@@ -137,65 +159,120 @@ IsNextBack-yields r answer s h = elim (cases_lt r.end r.start) [
 ]
 
 -- so the ends tell all that `next` does
-pub range_step : {R A : Type 0} {address_of : A → Address} {range_of : R → AddressRange} {old new : R} {answer : Option A}
-    → IsNext (range_of old) (option_map address_of answer) (range_of new) → IsRangeStep address_of range_of old answer new
+pub range_step : {R A : Type 0} {address_of : A → Address} {range_of : R → AddressRange} {old new : R}
+    {answer : Option A}
+    → IsNext (range_of old) (option_map address_of answer) (range_of new)
+    → IsRangeStep address_of range_of old answer new
 range_step {answer = None} h = record { progress = record { on = λ _. tt; keeps = tt; rests = λ _. tt }; ends = h }
 range_step {address_of = address_of} {range_of = range_of} {old = old} {new = new} {answer = Some x} h =
     let one_less = ap length (IsNext-yields (range_of old) (Some (address_of x)) (range_of new) h) in
-    record { progress = record { on = λ _. (tt, tt, omega (arith, one_less, length-addresses_of (range_of old), length-addresses_of (range_of new))); keeps = tt; rests = λ _. tt }; ends = h }
+    record {
+      progress =
+          record {
+            on =
+                λ _. (
+                  tt,
+                  tt,
+                  omega (
+                    arith,
+                    one_less,
+                    length-addresses_of (range_of old),
+                    length-addresses_of (range_of new),
+                  ),
+                );
+            keeps = tt;
+            rests = λ _. tt;
+          };
+      ends = h;
+    }
 
-pub yields_first : {R A : Type 0} {address_of : A → Address} {range_of : R → AddressRange} {old new : R} {answer : Option A}
-    → IsRangeStep address_of range_of old answer new → YieldsFirstBy address_of (λ r. addresses_of (range_of r)) old answer new
-yields_first {range_of = range_of} {old = old} {new = new} {answer = None} step = IsNext-yields (range_of old) None (range_of new) step.ends
+pub yields_first : {R A : Type 0} {address_of : A → Address} {range_of : R → AddressRange} {old new : R}
+    {answer : Option A}
+    → IsRangeStep address_of range_of old answer new
+    → YieldsFirstBy address_of (λ r. addresses_of (range_of r)) old answer new
+yields_first {range_of = range_of} {old = old} {new = new} {answer = None} step =
+    IsNext-yields (range_of old) None (range_of new) step.ends
 yields_first {address_of = address_of} {range_of = range_of} {old = old} {new = new} {answer = Some x} step =
     IsNext-yields (range_of old) (Some (address_of x)) (range_of new) step.ends
 
-pub range_step_back : {R A : Type 0} {address_of : A → Address} {range_of : R → AddressRange} {old new : R} {answer : Option A}
-    → IsNextBack (range_of old) (option_map address_of answer) (range_of new) → IsRangeStepBack address_of range_of old answer new
+pub range_step_back : {R A : Type 0} {address_of : A → Address} {range_of : R → AddressRange} {old new : R}
+    {answer : Option A}
+    → IsNextBack (range_of old) (option_map address_of answer) (range_of new)
+    → IsRangeStepBack address_of range_of old answer new
 range_step_back {answer = None} h = record { progress = record { on = λ _. tt; keeps = tt; rests = λ _. tt }; ends = h }
 range_step_back {address_of = address_of} {range_of = range_of} {old = old} {new = new} {answer = Some x} h =
     let rest = addresses_of (range_of new) in
-    let one_less = ap length (IsNextBack-yields (range_of old) (Some (address_of x)) (range_of new) h) ∙ length-append rest (address_of x ∷ []) in
-    record { progress = record { on = λ _. (tt, tt, omega (arith, one_less, length-addresses_of (range_of old), length-addresses_of (range_of new))); keeps = tt; rests = λ _. tt }; ends = h }
+    let one_less =
+    ap length (IsNextBack-yields (range_of old) (Some (address_of x)) (range_of new) h)
+    ∙ length-append rest (address_of x ∷ []) in
+    record {
+      progress =
+          record {
+            on =
+                λ _. (
+                  tt,
+                  tt,
+                  omega (
+                    arith,
+                    one_less,
+                    length-addresses_of (range_of old),
+                    length-addresses_of (range_of new),
+                  ),
+                );
+            keeps = tt;
+            rests = λ _. tt;
+          };
+      ends = h;
+    }
 
-pub yields_last : {R A : Type 0} {address_of : A → Address} {range_of : R → AddressRange} {old new : R} {answer : Option A}
-    → IsRangeStepBack address_of range_of old answer new → YieldsLastBy address_of (λ r. addresses_of (range_of r)) old answer new
-yields_last {range_of = range_of} {old = old} {new = new} {answer = None} step = IsNextBack-yields (range_of old) None (range_of new) step.ends
+pub yields_last : {R A : Type 0} {address_of : A → Address} {range_of : R → AddressRange} {old new : R}
+    {answer : Option A}
+    → IsRangeStepBack address_of range_of old answer new
+    → YieldsLastBy address_of (λ r. addresses_of (range_of r)) old answer new
+yields_last {range_of = range_of} {old = old} {new = new} {answer = None} step =
+    IsNextBack-yields (range_of old) None (range_of new) step.ends
 yields_last {address_of = address_of} {range_of = range_of} {old = old} {new = new} {answer = Some x} step =
     IsNextBack-yields (range_of old) (Some (address_of x)) (range_of new) step.ends
 
-pub IsNth-item : (n : ℕ) (r : AddressRange) (answer : Option Address) (s : AddressRange) → IsNth n r answer s → answer ≡ slice_get (addresses_of r) n
+pub IsNth-item : (n : ℕ) (r : AddressRange) (answer : Option Address) (s : AddressRange) → IsNth n r answer s
+    → answer ≡ slice_get (addresses_of r) n
 IsNth-item n r answer s h = elim (cases_lt n (address_count r)) [
   | inr past ↦ (h.past past).0 ∙ sym (addresses_past r n past)
   | inl within ↦ elim (cases_eq (n + 1) (address_count r)) [
-    | inl e ↦ (h.last e).0 ∙ ap (λ m. Some (address_at r m)) (omega arith) ∙ sym (addresses_at r n within)
+    | inl e ↦ (h.last e).0 ∙ ap (λ m. Some (address_at r.family m)) (omega arith) ∙ sym (addresses_at r n within)
     | inr ne ↦ (h.before (omega arith)).0 ∙ sym (addresses_at r n within)
   ]
 ]
 
-pub IsNth-left : (n : ℕ) (r : AddressRange) (answer : Option Address) (s : AddressRange) → IsNth n r answer s → addresses_of s ≡ drop (n + 1) (addresses_of r)
+pub IsNth-left : (n : ℕ) (r : AddressRange) (answer : Option Address) (s : AddressRange) → IsNth n r answer s
+    → addresses_of s ≡ drop (n + 1) (addresses_of r)
 IsNth-left n r answer s h = elim (cases_lt (n + 1) (address_count r)) [
-  | inl within ↦ ap addresses_of (h.before within).1 ∙ sym (addresses_from r (n + 1) ∙ ap (λ m. addresses_of (with_ends r m r.end)) (omega arith))
+  | inl within ↦ ap addresses_of (h.before within).1
+      ∙ sym (addresses_from r (n + 1) ∙ ap (λ m. addresses_of (with_ends r m r.end)) (omega arith))
   | inr up ↦
-      let none : drop (n + 1) (addresses_of r) ≡ [] = addresses_from r (n + 1) ∙ addresses_none (with_ends r (r.start + (n + 1)) r.end) (omega arith) in
+      let none : drop (n + 1) (addresses_of r) ≡ [] =
+      addresses_from r (n + 1) ∙ addresses_none (with_ends r (r.start + (n + 1)) r.end) (omega arith) in
       elim (cases_eq (n + 1) (address_count r)) [
         | inl e ↦ ap addresses_of (h.last e).1 ∙ used_up r ∙ sym none
         | inr ne ↦ ap addresses_of (h.past (omega arith)).1 ∙ used_up r ∙ sym none
       ]
 ]
 
-pub IsNthBack-item : (n : ℕ) (r : AddressRange) (answer : Option Address) (s : AddressRange) → IsNthBack n r answer s → answer ≡ slice_get (reverse (addresses_of r)) n
+pub IsNthBack-item : (n : ℕ) (r : AddressRange) (answer : Option Address) (s : AddressRange) → IsNthBack n r answer s
+    → answer ≡ slice_get (reverse (addresses_of r)) n
 IsNthBack-item n r answer s h = elim (cases_lt n (address_count r)) [
   | inr past ↦ (h.past past).0 ∙ sym (addresses_back_past r n past)
   | inl within ↦ elim (cases_eq (n + 1) (address_count r)) [
-    | inl e ↦ (h.first e).0 ∙ ap (λ m. Some (address_at r m)) (omega arith) ∙ sym (addresses_back_at r n within)
+    | inl e ↦ (h.first e).0 ∙ ap (λ m. Some (address_at r.family m)) (omega arith) ∙ sym (addresses_back_at r n within)
     | inr ne ↦ (h.behind (omega arith)).0 ∙ sym (addresses_back_at r n within)
   ]
 ]
 
-pub IsNthBack-left : (n : ℕ) (r : AddressRange) (answer : Option Address) (s : AddressRange) → IsNthBack n r answer s → addresses_of s ≡ take (address_count r - (n + 1)) (addresses_of r)
+pub IsNthBack-left : (n : ℕ) (r : AddressRange) (answer : Option Address) (s : AddressRange) → IsNthBack n r answer s
+    → addresses_of s ≡ take (address_count r - (n + 1)) (addresses_of r)
 IsNthBack-left n r answer s h = elim (cases_lt (n + 1) (address_count r)) [
-  | inl within ↦ ap addresses_of (h.behind within).1 ∙ sym (addresses_up_to r (n + 1) within ∙ ap (λ m. addresses_of (with_ends r r.start m)) (omega arith))
+  | inl within ↦ ap addresses_of (h.behind within).1
+      ∙ sym (addresses_up_to r (n + 1) within ∙ ap (λ m. addresses_of (with_ends r r.start m)) (omega arith))
   | inr up ↦
       let zero_left : address_count r - (n + 1) ≡ 0 = omega arith in
       let none : take (address_count r - (n + 1)) (addresses_of r) ≡ [] = rw zero_left refl in

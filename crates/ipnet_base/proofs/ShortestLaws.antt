@@ -1,16 +1,21 @@
 -- No exact cover is shorter than the maximal blocks, and one as short is them, truncated and sorted.
-use Rattle.std.proofs.Common.{◌≡◌, ℕ, ◌<◌, ◌≤◌, List, [], ◌∷◌, ◌++◌, length, get_or, map, remove, Contains, AllPairs, IsPermutation, sym, ap, ◌∙◌, subst, arith, inl, inr}
+use Rattle.std.proofs.Common.{◌≡◌, ℕ, ◌<◌, ◌≤◌, List, [], ◌∷◌, ◌++◌, length, get_or, map, remove, Contains, AllPairs}
+use Rattle.std.proofs.Common.{IsPermutation, sym, ap, ◌∙◌, subst, arith, inl, inr}
 use Rattle.std.specs.List.{AllZip}
 use Rattle.std.proofs.lemmas.List.{length-append, nil_from_length, same_lists, get_or-map, length-map, append-nil}
-use Rattle.std.proofs.lemmas.List.Sorted.{IsPermutation-refl, IsPermutation-cons, IsPermutation-trans, IsPermutation-remove, IsPermutation-sym, Contains-permutation, length_permutation, IsPermutation-map}
+use Rattle.std.proofs.lemmas.List.Sorted.{IsPermutation-refl, IsPermutation-cons, IsPermutation-trans}
+use Rattle.std.proofs.lemmas.List.Sorted.{IsPermutation-remove, IsPermutation-sym, Contains-permutation}
+use Rattle.std.proofs.lemmas.List.Sorted.{length_permutation, IsPermutation-map}
 use Rattle.std.proofs.lemmas.List.Elements.{length_all_zip, AllZip-get_or}
 use Rattle.std.proofs.lemmas.Slice.Zip.{AllZip-long}
 use Rattle.std.proofs.lemmas.Bool.{cases_order}
 use Rattle.ipnet_base.specs.Address.{Address}
 use Rattle.ipnet_base.specs.Network.{Network, IsNetwork, InBlock, IsSubnetOf, IsBefore, truncation}
 use Rattle.ipnet_base.specs.Blocks.{IsInside, IsMaximal, AreMaximalBlocks, IsExactCover}
-use Rattle.ipnet_base.proofs.BlockLaws.{own, own_in, nested_or_disjoint, same_from_block, IsTruncated-truncation, IsNetwork-truncation, truncation_in, in_truncation}
-use Rattle.ipnet_base.proofs.ListLaws.{contains_cases, contains_here, contains_there, contains_at, at_place, pairs_head, pairs_tail, pairs_from_members, pair_at, any_from_contains, all_at}
+use Rattle.ipnet_base.proofs.BlockLaws.{own, own_in, nested_or_disjoint, same_from_block, IsTruncated-truncation}
+use Rattle.ipnet_base.proofs.BlockLaws.{IsNetwork-truncation, truncation_in, in_truncation}
+use Rattle.ipnet_base.proofs.ListLaws.{contains_cases, contains_here, contains_there, contains_at, at_place, pairs_head}
+use Rattle.ipnet_base.proofs.ListLaws.{pairs_tail, pairs_from_members, pair_at, any_from_contains, all_at}
 use Rattle.ipnet_base.proofs.UniqueLaws.{IsBefore-asymmetric}
 
 -- Each of the list xs has a partner in ys, and no two have one partner: then ys has one for each, and the rest.
@@ -26,11 +31,17 @@ partners {X} {Y} R (x ∷ xs) ys each apart =
     (λ z c.
     let (v, at_v, q) = each z (contains_there x xs z c) in
     elim (contains_cases y (remove ys at_y.0) v (Contains-permutation ys (y ∷ remove ys at_y.0) v first at_v)) [
-      | inl same ↦ absurd (pairs_head (λ u w. (t : Y) → R u t → R w t → ⊥) x xs apart z c y r (subst (R z) (sym same) q))
+      | inl same ↦ absurd (pairs_head (λ u w. (t : Y) → R u t → R w t → ⊥) x xs apart z c y r
+          (subst (R z) (sym same) q))
       | inr there ↦ (v, there, q)
     ])
-    (pairs_tail (λ u w. (t : Y) → R u t → R w t → ⊥) x xs apart) in
-    (y ∷ chosen, rest, IsPermutation-trans ys (y ∷ remove ys at_y.0) (y ∷ (chosen ++ rest)) first (IsPermutation-cons y (remove ys at_y.0) (chosen ++ rest) later), (r, zip))
+    (pairs_tail (λ u w. (t : Y) → R u t → R w t → ⊥) x xs apart) in (
+      y ∷ chosen,
+      rest,
+      IsPermutation-trans ys (y ∷ remove ys at_y.0) (y ∷ (chosen ++ rest)) first
+          (IsPermutation-cons y (remove ys at_y.0) (chosen ++ rest) later),
+      (r, zip),
+    )
 
 -- so xs is no longer than ys
 pub partners_no_more : {X Y : Type 0} (R : X → Y → Type 0) (xs : List X) (ys : List Y)
@@ -42,7 +53,8 @@ partners_no_more R xs ys each apart =
     omega (arith, length_permutation ys (chosen ++ rest) moved, length-append chosen rest, AllZip-long R xs chosen zip)
 
 -- maximal networks that share an address are one
-pub one_maximal : (InSet : Address → Type 0) (least : ℕ) (n k : Network) → IsMaximal InSet least n → IsMaximal InSet least k
+pub one_maximal : (InSet : Address → Type 0) (least : ℕ) (n k : Network) → IsMaximal InSet least n
+    → IsMaximal InSet least k
     → (x : Address) → InBlock n x → InBlock k x → n ≡ k
 one_maximal InSet least n k p q x a b =
     elim (nested_or_disjoint n k) [
@@ -76,7 +88,9 @@ module _ (InSet : Address → Type 0) (least : ℕ) (networks cover : List Netwo
           | inr (inl s) ↦ s
           | inr (inr d) ↦ absurd (d (own n) (own_in n) a)
           | inl s ↦
-              let whole : truncation k ≡ n = (maximal n c).largest (truncation k) (truncation_inside k in_cover) (λ x b. in_truncation k x (s x b)) in
+              let whole : truncation k ≡ n =
+              (maximal n c).largest (truncation k) (truncation_inside k in_cover)
+              (λ x b. in_truncation k x (s x b)) in
               subst (IsSubnetOf k) whole (in_truncation k)
         ],
       )
@@ -87,11 +101,14 @@ module _ (InSet : Address → Type 0) (least : ℕ) (networks cover : List Netwo
   apart : AllPairs (λ n l. (k : Network) → IsSubnetOf k n → IsSubnetOf k l → ⊥) networks
   apart = pairs_from_members IsBefore (λ n l. (k : Network) → IsSubnetOf k n → IsSubnetOf k l → ⊥) networks
       (λ n l c d b k s t.
-      let one : n ≡ l = one_maximal InSet least n l (maximal n c) (maximal l d) (own k) (s (own k) (own_in k)) (t (own k) (own_in k)) in
+      let one : n ≡ l =
+      one_maximal InSet least n l (maximal n c) (maximal l d) (own k) (s (own k) (own_in k))
+      (t (own k) (own_in k)) in
       before_itself n (subst (IsBefore n) (sym one) b))
       blocks.ascending
 
-  found : (chosen rest : List Network) × IsPermutation cover (chosen ++ rest) × AllZip (λ n k. IsSubnetOf k n) networks chosen
+  found : (chosen rest : List Network) × IsPermutation cover (chosen ++ rest)
+      × AllZip (λ n k. IsSubnetOf k n) networks chosen
   found = partners (λ n k. IsSubnetOf k n) networks cover partner apart
 
   -- no exact cover is shorter
@@ -99,16 +116,20 @@ module _ (InSet : Address → Type 0) (least : ℕ) (networks cover : List Netwo
   shortest = partners_no_more (λ n k. IsSubnetOf k n) networks cover partner apart
 
   -- a member of the list stands at one place
-  place_is : (n : Network) (c : Contains networks n) (j : ℕ) (d : Network) → j < length networks → get_or networks j d ≡ n → j ≡ c.0
+  place_is : (n : Network) (c : Contains networks n) (j : ℕ) (d : Network) → j < length networks
+      → get_or networks j d ≡ n → j ≡ c.0
   place_is n c j d l e =
       elim (cases_order j c.0) [
         | inl same ↦ same
-        | inr (inl lt) ↦ absurd (before_itself n (pair_at IsBefore networks blocks.ascending n n (j, l, at_place networks j n d l ∙ e) c lt))
-        | inr (inr gt) ↦ absurd (before_itself n (pair_at IsBefore networks blocks.ascending n n c (j, l, at_place networks j n d l ∙ e) gt))
+        | inr (inl lt) ↦ absurd (before_itself n
+            (pair_at IsBefore networks blocks.ascending n n (j, l, at_place networks j n d l ∙ e) c lt))
+        | inr (inr gt) ↦ absurd (before_itself n
+            (pair_at IsBefore networks blocks.ascending n n c (j, l, at_place networks j n d l ∙ e) gt))
       ]
 
   -- where no member of the cover is left over, each is its block, but for its host bits
-  module _ (chosen : List Network) (moved : IsPermutation cover chosen) (zip : AllZip (λ n k. IsSubnetOf k n) networks chosen) where
+  module _ (chosen : List Network) (moved : IsPermutation cover chosen)
+      (zip : AllZip (λ n k. IsSubnetOf k n) networks chosen) where
     lengths : length chosen ≡ length networks
     lengths = sym (length_all_zip (λ n k. IsSubnetOf k n) networks chosen zip)
 
@@ -121,8 +142,12 @@ module _ (InSet : Address → Type 0) (least : ℕ) (networks cover : List Netwo
         let (j, lj, ej) = Contains-permutation cover chosen k moved (p, q, e) in
         let j_list : j < length networks = omega (arith, lj, lengths) in
         let k_is : get_or chosen j d ≡ k = at_place chosen j d k lj ∙ ej in
-        let l_in : InBlock (get_or networks j d) x = AllZip-get_or (λ y z. IsSubnetOf z y) networks chosen j d d zip j_list x (subst (λ z. InBlock z x) (sym k_is) b) in
-        let one : get_or networks j d ≡ n = one_maximal InSet least (get_or networks j d) n (maximal (get_or networks j d) (contains_at networks j d j_list)) (maximal n cn) x l_in a in
+        let l_in : InBlock (get_or networks j d) x =
+        AllZip-get_or (λ y z. IsSubnetOf z y) networks chosen j d d zip j_list x
+        (subst (λ z. InBlock z x) (sym k_is) b) in
+        let one : get_or networks j d ≡ n =
+        one_maximal InSet least (get_or networks j d) n
+        (maximal (get_or networks j d) (contains_at networks j d j_list)) (maximal n cn) x l_in a in
         let place : j ≡ i = place_is n cn j d j_list one in
         subst (λ z. InBlock z x) (sym k_is ∙ ap (λ z. get_or chosen z d) place) b
 
@@ -132,7 +157,8 @@ module _ (InSet : Address → Type 0) (least : ℕ) (networks cover : List Netwo
         let n : Network = get_or networks i d in
         let in_list : i < length networks = omega (arith, l, lengths) in
         let cn : Contains networks n = contains_at networks i d in_list in
-        let ck : Contains cover k = Contains-permutation chosen cover k (IsPermutation-sym cover chosen moved) (contains_at chosen i d l) in
+        let ck : Contains cover k =
+        Contains-permutation chosen cover k (IsPermutation-sym cover chosen moved) (contains_at chosen i d l) in
         let within : IsSubnetOf k n = AllZip-get_or (λ x y. IsSubnetOf y x) networks chosen i d d zip in_list in
         same_from_block (truncation k) n (truncation_inside k ck).network (maximal n cn).inside.network
         (truncation_inside k ck).truncated (maximal n cn).inside.truncated
@@ -141,13 +167,24 @@ module _ (InSet : Address → Type 0) (least : ℕ) (networks cover : List Netwo
     same_when_all : map truncation chosen ≡ networks
     same_when_all =
         same_lists (map truncation chosen) networks (length-map chosen truncation ∙ lengths)
-        (λ i d l. let l' : i < length chosen = omega (arith, l, length-map chosen truncation) in get_or-map truncation chosen i d d l' ∙ each i d l')
+        (λ i d l. let l' : i < length chosen =
+        omega (arith, l, length-map chosen truncation) in get_or-map truncation chosen i d d l' ∙ each i d l')
 
   -- one as short is the blocks, truncated and sorted
   pub one_as_short : length cover ≡ length networks → IsPermutation (map truncation cover) networks
   one_as_short same =
       let (chosen, rest, moved, zip) = found in
-      let lengths : length chosen ≡ length networks = sym (length_all_zip (λ n k. IsSubnetOf k n) networks chosen zip) in
-      let none : rest ≡ [] = nil_from_length rest (omega (arith, length_permutation cover (chosen ++ rest) moved, length-append chosen rest, lengths, same)) in
-      let all : IsPermutation cover chosen = subst (IsPermutation cover) (ap (λ r. chosen ++ r) none ∙ append-nil chosen) moved in
-      subst (IsPermutation (map truncation cover)) (same_when_all chosen all zip) (IsPermutation-map truncation cover chosen all)
+      let lengths : length chosen ≡ length networks =
+      sym (length_all_zip (λ n k. IsSubnetOf k n) networks chosen zip) in
+      let none : rest ≡ [] =
+      nil_from_length rest (omega (
+        arith,
+        length_permutation cover (chosen ++ rest) moved,
+        length-append chosen rest,
+        lengths,
+        same,
+      )) in
+      let all : IsPermutation cover chosen =
+      subst (IsPermutation cover) (ap (λ r. chosen ++ r) none ∙ append-nil chosen) moved in
+      subst (IsPermutation (map truncation cover)) (same_when_all chosen all zip)
+      (IsPermutation-map truncation cover chosen all)

@@ -1,22 +1,26 @@
 -- One network more on a stack of networks that shows the four conditions on neighbours.
-use Rattle.std.proofs.Common.{◌≡◌, ℕ, zero, suc, ◌+◌, ◌-◌, ◌<◌, ◌≤◌, ◌⊎◌, ◌↔◌, List, [], ◌∷◌, ◌++◌, length, get_or, Contains, All, refl, sym, ap, ◌∙◌, subst, subst₂, arith, inl, inr, map, take, IsPermutation, IsSorted, Ordering, Less, is_lt, add-one, true, false}
+use Rattle.std.proofs.Common.{◌≡◌, ℕ, zero, suc, ◌+◌, ◌-◌, ◌<◌, ◌≤◌, ◌⊎◌, ◌↔◌, List, [], ◌∷◌, ◌++◌, length, get_or}
+use Rattle.std.proofs.Common.{Contains, All, refl, sym, ap, ◌∙◌, subst, subst₂, arith, inl, inr, map, take}
+use Rattle.std.proofs.Common.{IsPermutation, IsSorted, Ordering, Less, is_lt, add-one, true, false}
 use Rattle.std.specs.List.{AllAdjacentBelow}
 use Rattle.std.proofs.lemmas.Bool.{cases_lt, cases_eq, cases_order}
-use Rattle.std.proofs.lemmas.List.{length_push, get_or_push, get_or_append_left, length-map, get_or-map, take_more, take_all}
-use Rattle.std.proofs.lemmas.List.Elements.{All-push, Contains-append_left, Contains-append_right, Contains-append_cases, All-map, All-weaker}
-use Rattle.std.proofs.lemmas.List.Sorted.{All-permutation, IsPermutation-map, Contains-permutation, IsPermutation-sym}
-use Rattle.ipnet_base.specs.Network.{truncation, Network, IsNetwork, host_bits, InBlock, IsSubnetOf, IsTruncated, IsBefore, AreHalves, IsSupernetOf}
+use Rattle.std.proofs.lemmas.List.{length_push, get_or_push, get_or_append_left, length-map, get_or-map, take_more}
+use Rattle.std.proofs.lemmas.List.{take_all}
+use Rattle.std.proofs.lemmas.List.Elements.{All-push, All-weaker}
+use Rattle.std.proofs.lemmas.List.Sorted.{IsPermutation-map}
+use Rattle.ipnet_base.specs.Network.{truncation, Network, IsNetwork, host_bits, InBlock, IsSubnetOf, IsTruncated}
+use Rattle.ipnet_base.specs.Network.{IsBefore, AreHalves, IsSupernetOf}
 use Rattle.ipnet_base.specs.Blocks.{HaveSameCover, IsCoveredBy}
 use Rattle.ipnet_base.specs.Address.{Address, width, family_index}
-use Rattle.ipnet_base.proofs.NeighbourLaws.{LiesBefore, AreSettled}
-use Rattle.ipnet_base.proofs.BlockLaws.{IsTruncated-truncation, same_network, truncation_in, in_truncation, own, own_in, block_between, nested_or_disjoint, nested, supernet_to_halves, halves_to_supernet}
+use Rattle.ipnet_base.specs.Stack.{LiesBefore, AreJoined, IsBeforeOrEqual, IsInOrder, IsListWith, IsStackWith}
+use Rattle.ipnet_base.specs.Stack.{IsStackOfFirst}
+use Rattle.ipnet_base.proofs.BlockLaws.{same_network, truncation_in, in_truncation, own, own_in, block_between}
+use Rattle.ipnet_base.proofs.BlockLaws.{nested_or_disjoint, nested, supernet_to_halves, halves_to_supernet}
 use Rattle.ipnet_base.proofs.UniqueLaws.{same_family_from_index}
-use Rattle.ipnet_base.proofs.ListLaws.{contains_nil, contains_here, contains_cases, any_from_contains, at_place}
+use Rattle.ipnet_base.proofs.CoverLaws.{cover_push, cover_permutation}
+use Rattle.ipnet_base.proofs.ListLaws.{any_from_contains, at_place}
 
--- in the order of networks, the first is the second or stands before it
-abbrev pub IsAtMost : Network → Network → Type 0
-IsAtMost n k = (n ≡ k) ⊎ IsBefore n k
-
+-- the order of networks
 pub IsBefore-transitive : (n k l : Network) → IsBefore n k → IsBefore k l → IsBefore n l
 IsBefore-transitive n k l (inl h) (inl i) = inl (omega arith)
 IsBefore-transitive n k l (inl h) (inr i) = inl (omega (arith, h, ap family_index i.0))
@@ -31,13 +35,14 @@ IsBefore-transitive n k l (inr h) (inr i) = inr (h.0 ∙ i.0, both h.1 i.1)
     both (inr a) (inl b) = inl (omega arith)
     both (inr a) (inr b) = inr (a.0 ∙ b.0, omega arith)
 
-pub IsAtMost-transitive : (n k l : Network) → IsAtMost n k → IsAtMost k l → IsAtMost n l
-IsAtMost-transitive n k l (inl e) h = subst (λ z. IsAtMost z l) (sym e) h
-IsAtMost-transitive n k l (inr h) (inl e) = inr (subst (IsBefore n) e h)
-IsAtMost-transitive n k l (inr h) (inr i) = inr (IsBefore-transitive n k l h i)
+pub IsBeforeOrEqual-transitive : (n k l : Network) → IsBeforeOrEqual n k → IsBeforeOrEqual k l → IsBeforeOrEqual n l
+IsBeforeOrEqual-transitive n k l (inl e) h = subst (λ z. IsBeforeOrEqual z l) (sym e) h
+IsBeforeOrEqual-transitive n k l (inr h) (inl e) = inr (subst (IsBefore n) e h)
+IsBeforeOrEqual-transitive n k l (inr h) (inr i) = inr (IsBefore-transitive n k l h i)
 
 -- what stands no later and does not cover the next ends before it
-pub ends_before_next : (t n : Network) → IsNetwork t → IsNetwork n → IsTruncated t → IsTruncated n → IsAtMost t n → (IsSubnetOf n t → ⊥) → LiesBefore t n
+pub ends_before_next : (t n : Network) → IsNetwork t → IsNetwork n → IsTruncated t → IsTruncated n
+    → IsBeforeOrEqual t n → (IsSubnetOf n t → ⊥) → LiesBefore t n
 ends_before_next t n u v tt_ tn (inl e) out = absurd (out (subst (λ z. IsSubnetOf z t) e (λ x a. a)))
 ends_before_next t n u v tt_ tn (inr (inl h)) out = inl h
 ends_before_next t n u v tt_ tn (inr (inr (f, order))) out =
@@ -59,16 +64,18 @@ ends_before_next t n u v tt_ tn (inr (inr (f, order))) out =
     between : (x : Address) → InBlock t x → n.number ≤ x.number → InBlock t (own n)
     between x a ge = block_between t x (own n) a (sym f) (omega (arith, order)) ge
 
-pub stack_truncated : (xs : List Network) (n : Network) → AreSettled xs → IsTruncated n → All IsTruncated (xs ++ n ∷ [])
-stack_truncated xs n good t = All-push IsTruncated xs n good.truncated t
+stack_truncated : (xs : List Network) (n : Network) → AreJoined xs → IsTruncated n → All IsTruncated (xs ++ n ∷ [])
+stack_truncated xs n joined t = All-push IsTruncated xs n joined.truncated t
 
 -- what holds of neighbours holds with one more at the end, if it holds of the last and the new one
 pub adjacent_push : {X : Type 0} (R : X → X → Type 0) (xs : List X) (x : X) → AllAdjacentBelow R xs (length xs)
-    → ((d : X) → 0 < length xs → R (get_or xs (length xs - 1) d) x) → AllAdjacentBelow R (xs ++ x ∷ []) (length (xs ++ x ∷ []))
+    → ((d : X) → 0 < length xs → R (get_or xs (length xs - 1) d) x)
+    → AllAdjacentBelow R (xs ++ x ∷ []) (length (xs ++ x ∷ []))
 adjacent_push R xs x h last k d l =
     let size = length_push xs x in
     elim (cases_lt (k + 1) (length xs)) [
-      | inl inner ↦ subst₂ R (sym (get_or_append_left xs (x ∷ []) d k (omega (arith, inner)))) (sym (get_or_append_left xs (x ∷ []) d (k + 1) inner)) (h k d inner)
+      | inl inner ↦ subst₂ R (sym (get_or_append_left xs (x ∷ []) d k (omega (arith, inner))))
+          (sym (get_or_append_left xs (x ∷ []) d (k + 1) inner)) (h k d inner)
       | inr outer ↦
           let at_end : length xs ≡ k + 1 = omega (arith, outer, size, l) in
           let before : length xs - 1 ≡ k = omega (arith, at_end) in
@@ -77,46 +84,30 @@ adjacent_push R xs x h last k d l =
     ]
 
 -- the conditions hold with one more network that the last one ends before and is no half with
-pub neighbours_push : (xs : List Network) (n : Network) → AreSettled xs → IsTruncated n
+pub neighbours_push : (xs : List Network) (n : Network) → AreJoined xs → IsTruncated n
     → ((d : Network) → 0 < length xs → LiesBefore (get_or xs (length xs - 1) d) n)
     → ((d : Network) → 0 < length xs → ¬ (AreHalves (get_or xs (length xs - 1) d) n))
-    → AreSettled (xs ++ n ∷ [])
-neighbours_push xs n good t ends halves = record {
-  truncated = stack_truncated xs n good t;
-  apart = adjacent_push LiesBefore xs n good.apart ends;
-  unjoined = adjacent_push (λ a b. ¬ (AreHalves a b)) xs n good.unjoined halves;
+    → AreJoined (xs ++ n ∷ [])
+neighbours_push xs n joined t ends halves = record {
+  truncated = stack_truncated xs n joined t;
+  apart = adjacent_push LiesBefore xs n joined.apart ends;
+  unjoined = adjacent_push (λ a b. ¬ (AreHalves a b)) xs n joined.unjoined halves;
 }
 
 -- and with the last one gone
-pub neighbours_pop : (xs : List Network) (n : Network) → AreSettled (xs ++ n ∷ []) → AreSettled xs
-neighbours_pop xs n good = record {
-  truncated = λ k d l. subst IsTruncated (get_or_append_left xs (n ∷ []) d k l) (good.truncated k d (omega (arith, l, length_push xs n)));
-  apart = λ k d l. subst₂ LiesBefore (get_or_append_left xs (n ∷ []) d k (omega (arith, l))) (get_or_append_left xs (n ∷ []) d (k + 1) l) (good.apart k d (omega (arith, l, length_push xs n)));
-  unjoined = λ k d l. subst₂ (λ a b. ¬ (AreHalves a b)) (get_or_append_left xs (n ∷ []) d k (omega (arith, l))) (get_or_append_left xs (n ∷ []) d (k + 1) l) (good.unjoined k d (omega (arith, l, length_push xs n)));
+neighbours_pop : (xs : List Network) (n : Network) → AreJoined (xs ++ n ∷ []) → AreJoined xs
+neighbours_pop xs n joined = record {
+  truncated = λ k d l. subst IsTruncated (get_or_append_left xs (n ∷ []) d k l)
+      (joined.truncated k d (omega (arith, l, length_push xs n)));
+  apart = λ k d l. subst₂ LiesBefore (get_or_append_left xs (n ∷ []) d k (omega (arith, l)))
+      (get_or_append_left xs (n ∷ []) d (k + 1) l) (joined.apart k d (omega (arith, l, length_push xs n)));
+  unjoined = λ k d l. subst₂ (λ a b. ¬ (AreHalves a b)) (get_or_append_left xs (n ∷ []) d k (omega (arith, l)))
+      (get_or_append_left xs (n ∷ []) d (k + 1) l) (joined.unjoined k d (omega (arith, l, length_push xs n)));
 }
 
--- the cover of two lists together
-pub cover_append : (xs ys : List Network) (x : Address) → IsCoveredBy (xs ++ ys) x ↔ (IsCoveredBy xs x ⊎ IsCoveredBy ys x)
-cover_append xs ys x = (to, from)
-  where
-    to : IsCoveredBy (xs ++ ys) x → IsCoveredBy xs x ⊎ IsCoveredBy ys x
-    to h = elim (Contains-append_cases xs ys h.1 (h.0, h.2, h.3)) [
-      | inl c ↦ inl (any_from_contains (λ n. InBlock n x) xs h.1 c h.4)
-      | inr c ↦ inr (any_from_contains (λ n. InBlock n x) ys h.1 c h.4)
-    ]
-
-    from : IsCoveredBy xs x ⊎ IsCoveredBy ys x → IsCoveredBy (xs ++ ys) x
-    from (inl h) = any_from_contains (λ n. InBlock n x) (xs ++ ys) h.1 (Contains-append_left xs ys h.1 (h.0, h.2, h.3)) h.4
-    from (inr h) = any_from_contains (λ n. InBlock n x) (xs ++ ys) h.1 (Contains-append_right xs ys h.1 (h.0, h.2, h.3)) h.4
-
-pub cover_one : (n : Network) (x : Address) → IsCoveredBy (n ∷ []) x ↔ InBlock n x
-cover_one n x = (to, λ a. any_from_contains (λ k. InBlock k x) (n ∷ []) n (contains_here n []) a)
-  where
-    to : IsCoveredBy (n ∷ []) x → InBlock n x
-    to h = elim (contains_cases n [] h.1 (h.0, h.2, h.3)) [ inl e ↦ subst (λ k. InBlock k x) (sym e) h.4 | inr c ↦ absurd (contains_nil h.1 c) ]
-
 -- the supernet of two halves stands where the first of them does
-pub supernet_start : (s t n : Network) → IsNetwork t → IsSupernetOf s t → AreHalves t n → IsTruncated t → IsTruncated n → LiesBefore t n → s.number ≡ t.number
+supernet_start : (s t n : Network) → IsNetwork t → IsSupernetOf s t → AreHalves t n → IsTruncated t
+    → IsTruncated n → LiesBefore t n → s.number ≡ t.number
 supernet_start s t n u p h tr tn ends =
     let up : s.number ≤ t.number = p.truncated (own t) (p.contains (own t) (own_in t)) in
     elim (supernet_to_halves s t n u p h (own s) (own_in s)) [
@@ -129,11 +120,13 @@ supernet_start s t n u p h tr tn ends =
     behind (inr i) = i.1 (own t) (own_in t)
 
 -- what ends before the first half ends before the supernet, and the supernet stands before that half
-pub ends_before_supernet : (m s t : Network) → IsSupernetOf s t → s.number ≡ t.number → LiesBefore m t → LiesBefore m s
-ends_before_supernet m s t p e (inl h) = inl (omega (arith, h, ap family_index (p.contains (own t) (own_in t)).same_family))
-ends_before_supernet m s t p e (inr h) = inr (h.0 ∙ (p.contains (own t) (own_in t)).same_family, λ x a. omega (arith, h.1 x a, e))
+ends_before_supernet : (m s t : Network) → IsSupernetOf s t → s.number ≡ t.number → LiesBefore m t → LiesBefore m s
+ends_before_supernet m s t p e (inl h) =
+    inl (omega (arith, h, ap family_index (p.contains (own t) (own_in t)).same_family))
+ends_before_supernet m s t p e (inr h) =
+    inr (h.0 ∙ (p.contains (own t) (own_in t)).same_family, λ x a. omega (arith, h.1 x a, e))
 
-pub supernet_before : (s t : Network) → IsSupernetOf s t → s.number ≡ t.number → IsBefore s t
+supernet_before : (s t : Network) → IsSupernetOf s t → s.number ≡ t.number → IsBefore s t
 supernet_before s t p e = inr (sym (p.contains (own t) (own_in t)).same_family, inr (e, omega (arith, p.shorter)))
 
 -- the last of a list that has one
@@ -141,71 +134,62 @@ abbrev pub LastLiesBefore : List Network → Network → Type 0
 LastLiesBefore xs n = (d : Network) → 0 < length xs → LiesBefore (get_or xs (length xs - 1) d) n
 
 -- two halves at the end of a list cover what their supernet covers
-pub joined_cover : (ys : List Network) (t next s : Network) → IsNetwork t → AreHalves t next → IsSupernetOf s t → (x : Address)
+joined_cover : (ys : List Network) (t next s : Network) → IsNetwork t → AreHalves t next → IsSupernetOf s t
+    → (x : Address)
     → (IsCoveredBy ys x ⊎ InBlock s x) ↔ (IsCoveredBy (ys ++ t ∷ []) x ⊎ InBlock next x)
 joined_cover ys t next s u halves p x = (down, up)
   where
     down : IsCoveredBy ys x ⊎ InBlock s x → IsCoveredBy (ys ++ t ∷ []) x ⊎ InBlock next x
-    down (inl c) = inl ((cover_append ys (t ∷ []) x).1 (inl c))
+    down (inl c) = inl ((cover_push ys t x).1 (inl c))
     down (inr a) = elim (supernet_to_halves s t next u p halves x a) [
-      | inl b ↦ inl ((cover_append ys (t ∷ []) x).1 (inr ((cover_one t x).1 b)))
+      | inl b ↦ inl ((cover_push ys t x).1 (inr b))
       | inr b ↦ inr b
     ]
 
     up : IsCoveredBy (ys ++ t ∷ []) x ⊎ InBlock next x → IsCoveredBy ys x ⊎ InBlock s x
     up (inr b) = inr (halves_to_supernet s t next u p halves x (inr b))
-    up (inl c) = elim ((cover_append ys (t ∷ []) x).0 c) [
+    up (inl c) = elim ((cover_push ys t x).0 c) [
       | inl d ↦ inl d
-      | inr d ↦ inr (halves_to_supernet s t next u p halves x (inl ((cover_one t x).0 d)))
+      | inr d ↦ inr (halves_to_supernet s t next u p halves x (inl d))
     ]
-
--- what a list with one more at its end covers
-pub pushed_cover : (xs : List Network) (n : Network) (x : Address) → IsCoveredBy (xs ++ n ∷ []) x ↔ (IsCoveredBy xs x ⊎ InBlock n x)
-pushed_cover xs n x = (
-  λ c. elim ((cover_append xs (n ∷ []) x).0 c) [ inl a ↦ inl a | inr b ↦ inr ((cover_one n x).0 b) ],
-  λ c. (cover_append xs (n ∷ []) x).1 (elim c [ inl a ↦ inl a | inr b ↦ inr ((cover_one n x).1 b) ]),
-)
 
 -- Between two joins of networks in whatever order: none has a host bit, and the list and the next network cover what
 -- the old list and the network that came do.
-pub record IsGathering (old : List Network) (came : Network) (xs : List Network) (next : Network) : Type 0 where
+pub record IsAdding (old : List Network) (came : Network) (xs : List Network) (next : Network) : Type 0 where
   pub truncated : All IsTruncated xs
   pub next_truncated : IsTruncated next
   pub cover : (x : Address) → (IsCoveredBy xs x ⊎ InBlock next x) ↔ (IsCoveredBy old x ⊎ InBlock came x)
 
--- the list with the network in it
-pub record IsGathered (old : List Network) (came : Network) (new : List Network) : Type 0 where
-  pub truncated : All IsTruncated new
-  pub cover : (x : Address) → IsCoveredBy new x ↔ (IsCoveredBy old x ⊎ InBlock came x)
+pub adding_start : (old : List Network) (came : Network) → All IsTruncated old → IsTruncated came
+    → IsAdding old came old came
+adding_start old came joined t = record { truncated = joined; next_truncated = t; cover = λ x. (λ h. h, λ h. h) }
 
-pub gathering_start : (old : List Network) (came : Network) → All IsTruncated old → IsTruncated came → IsGathering old came old came
-gathering_start old came good t = record { truncated = good; next_truncated = t; cover = λ x. (λ h. h, λ h. h) }
-
-pub gathering_step : (old : List Network) (came : Network) (ys : List Network) (t next s : Network) → IsNetwork t
-    → IsGathering old came (ys ++ t ∷ []) next → AreHalves t next → IsSupernetOf s t → IsGathering old came ys s
-gathering_step old came ys t next s u h halves p = record {
-  truncated = λ k d l. subst IsTruncated (get_or_append_left ys (t ∷ []) d k l) (h.truncated k d (omega (arith, l, length_push ys t)));
+pub adding_step : (old : List Network) (came : Network) (ys : List Network) (t next s : Network) → IsNetwork t
+    → IsAdding old came (ys ++ t ∷ []) next → AreHalves t next → IsSupernetOf s t → IsAdding old came ys s
+adding_step old came ys t next s u h halves p = record {
+  truncated = λ k d l. subst IsTruncated (get_or_append_left ys (t ∷ []) d k l)
+      (h.truncated k d (omega (arith, l, length_push ys t)));
   next_truncated = p.truncated;
-  cover = λ x. let joined = joined_cover ys t next s u halves p x in (λ c. (h.cover x).0 (joined.0 c), λ c. joined.1 ((h.cover x).1 c));
+  cover = λ x. let joined = joined_cover ys t next s u halves p x in
+      (λ c. (h.cover x).0 (joined.0 c), λ c. joined.1 ((h.cover x).1 c));
 }
 
-pub gathering_end : (old : List Network) (came : Network) (xs : List Network) (next : Network) → IsGathering old came xs next → IsGathered old came (xs ++ next ∷ [])
-gathering_end old came xs next h = record {
+pub adding_end : (old : List Network) (came : Network) (xs : List Network) (next : Network)
+    → IsAdding old came xs next → IsListWith old came (xs ++ next ∷ [])
+adding_end old came xs next h = record {
   truncated = All-push IsTruncated xs next h.truncated h.next_truncated;
-  cover = λ x. let pushed = pushed_cover xs next x in (λ c. (h.cover x).0 (pushed.0 c), λ c. pushed.1 ((h.cover x).1 c));
+  cover = λ x. let pushed = cover_push xs next x in (λ c. (h.cover x).0 (pushed.0 c), λ c. pushed.1 ((h.cover x).1 c));
 }
 
 -- the first i networks are in the list, but for host bits
-pub record IsGatheredFrom (given : List Network) (i : ℕ) (list : List Network) : Type 0 where
+pub record IsListOfFirst (given : List Network) (i : ℕ) (list : List Network) : Type 0 where
   pub truncated : All IsTruncated list
   pub cover : (x : Address) → IsCoveredBy list x ↔ IsCoveredBy (take i given) x
 
-pub gathered_none : (given : List Network) → IsGatheredFrom given 0 []
-gathered_none given = record { truncated = λ k d l. absurd (omega (arith, l)); cover = λ x. (λ h. h, λ h. h) }
-
-pub gathered_more : (given : List Network) (i : ℕ) (came : Network) (list new : List Network) → i < length given → get_or given i came ≡ came
-    → IsGatheredFrom given i list → IsGathered list (truncation came) new → IsGatheredFrom given (i + 1) new
-gathered_more given i came list new l e h p = record {
+pub list_of_first_more : (given : List Network) (i : ℕ) (came : Network) (list new : List Network) → i < length given
+    → get_or given i came ≡ came
+    → IsListOfFirst given i list → IsListWith list (truncation came) new → IsListOfFirst given (i + 1) new
+list_of_first_more given i came list new l e h p = record {
   truncated = p.truncated;
   cover = λ x. (to x, from x);
 }
@@ -214,38 +198,44 @@ gathered_more given i came list new l e h p = record {
     more = take_more given i came l ∙ ap (λ z. take i given ++ z ∷ []) e
 
     to : (x : Address) → IsCoveredBy new x → IsCoveredBy (take (i + 1) given) x
-    to x a = subst (λ z. IsCoveredBy z x) (sym more) ((pushed_cover (take i given) came x).1
+    to x a = subst (λ z. IsCoveredBy z x) (sym more) ((cover_push (take i given) came x).1
         (elim ((p.cover x).0 a) [ inl b ↦ inl ((h.cover x).0 b) | inr b ↦ inr (truncation_in came x b) ]))
 
     from : (x : Address) → IsCoveredBy (take (i + 1) given) x → IsCoveredBy new x
-    from x a = (p.cover x).1 (elim ((pushed_cover (take i given) came x).0 (subst (λ z. IsCoveredBy z x) more a)) [
+    from x a = (p.cover x).1 (elim ((cover_push (take i given) came x).0 (subst (λ z. IsCoveredBy z x) more a)) [
       | inl b ↦ inl ((h.cover x).1 b)
       | inr b ↦ inr (in_truncation came x b)
     ])
 
-pub gathered_whole : (given : List Network) (i : ℕ) (list : List Network) → length given ≤ i → IsGatheredFrom given i list → HaveSameCover list given
-gathered_whole given i list le h x =
-    let all : take i given ≡ given = take_all i given le in
-    (λ a. subst (λ z. IsCoveredBy z x) all ((h.cover x).0 a), λ a. (h.cover x).1 (subst (λ z. IsCoveredBy z x) (sym all) a))
+pub list_of_first_whole : (given : List Network) (i : ℕ) (list : List Network) → length given ≤ i
+    → IsListOfFirst given i list → HaveSameCover list given
+list_of_first_whole given i list le h x =
+    let all : take i given ≡ given = take_all i given le in (
+      λ a. subst (λ z. IsCoveredBy z x) all ((h.cover x).0 a),
+      λ a. (h.cover x).1 (subst (λ z. IsCoveredBy z x) (sym all) a),
+    )
 
 -- Between two joins: the stack shows the conditions and ends before the next network, nothing stands behind
 -- the network that came, and the cover is that of the old stack and that network.
 pub record IsJoining (old : List Network) (came : Network) (xs : List Network) (next : Network) : Type 0 where
-  pub good : AreSettled xs
+  pub joined : AreJoined xs
   pub truncated : IsTruncated next
   pub ends : LastLiesBefore xs next
-  pub order : All (λ m. IsAtMost m came) xs
-  pub next_order : IsAtMost next came
+  pub order : All (λ m. IsBeforeOrEqual m came) xs
+  pub next_order : IsBeforeOrEqual next came
   pub cover : (x : Address) → (IsCoveredBy xs x ⊎ InBlock next x) ↔ (IsCoveredBy old x ⊎ InBlock came x)
 
-pub joining_start : (old : List Network) (came : Network) → All IsNetwork old → IsNetwork came → AreSettled old → IsTruncated came
-    → All (λ m. IsAtMost m came) old → ((d : Network) → 0 < length old → IsSubnetOf came (get_or old (length old - 1) d) → ⊥) → IsJoining old came old came
-joining_start old came valid u good t order out = record {
-  good = good;
+pub joining_start : (old : List Network) (came : Network) → All IsNetwork old → IsNetwork came → AreJoined old
+    → IsTruncated came
+    → All (λ m. IsBeforeOrEqual m came) old
+    → ((d : Network) → 0 < length old → IsSubnetOf came (get_or old (length old - 1) d) → ⊥)
+    → IsJoining old came old came
+joining_start old came valid u joined t order out = record {
+  joined = joined;
   truncated = t;
   ends = λ d l.
       ends_before_next (get_or old (length old - 1) d) came (valid (length old - 1) d (omega arith)) u
-      (good.truncated (length old - 1) d (omega arith)) t (order (length old - 1) d (omega arith)) (out d l);
+      (joined.truncated (length old - 1) d (omega arith)) t (order (length old - 1) d (omega arith)) (out d l);
   order = order;
   next_order = inl refl;
   cover = λ x. (λ h. h, λ h. h);
@@ -254,16 +244,20 @@ joining_start old came valid u good t order out = record {
 pub joining_step : (old : List Network) (came : Network) (ys : List Network) (t next s : Network) → IsNetwork t
     → IsJoining old came (ys ++ t ∷ []) next → AreHalves t next → IsSupernetOf s t → IsJoining old came ys s
 joining_step old came ys t next s u h halves p = record {
-  good = neighbours_pop ys t h.good;
+  joined = neighbours_pop ys t h.joined;
   truncated = p.truncated;
   ends = λ d l.
       let inner : length ys - 1 + 1 ≡ length ys = omega arith in
-      let pair : LiesBefore (get_or (ys ++ t ∷ []) (length ys - 1) d) (get_or (ys ++ t ∷ []) (length ys - 1 + 1) d) = h.good.apart (length ys - 1) d (omega (arith, length_push ys t)) in
+      let pair : LiesBefore (get_or (ys ++ t ∷ []) (length ys - 1) d) (get_or (ys ++ t ∷ []) (length ys - 1 + 1) d) =
+      h.joined.apart (length ys - 1) d (omega (arith, length_push ys t)) in
       ends_before_supernet (get_or ys (length ys - 1) d) s t p start
-      (subst₂ LiesBefore (get_or_append_left ys (t ∷ []) d (length ys - 1) (omega arith)) (get_or_push ys t d (length ys - 1 + 1) (sym inner)) pair);
-  order = λ k d l. subst (λ m. IsAtMost m came) (get_or_append_left ys (t ∷ []) d k l) (h.order k d (omega (arith, l, length_push ys t)));
-  next_order = IsAtMost-transitive s t came (inr (supernet_before s t p start)) t_order;
-  cover = λ x. let joined = joined_cover ys t next s u halves p x in (λ c. (h.cover x).0 (joined.0 c), λ c. joined.1 ((h.cover x).1 c));
+      (subst₂ LiesBefore (get_or_append_left ys (t ∷ []) d (length ys - 1) (omega arith))
+      (get_or_push ys t d (length ys - 1 + 1) (sym inner)) pair);
+  order = λ k d l. subst (λ m. IsBeforeOrEqual m came) (get_or_append_left ys (t ∷ []) d k l)
+      (h.order k d (omega (arith, l, length_push ys t)));
+  next_order = IsBeforeOrEqual-transitive s t came (inr (supernet_before s t p start)) t_order;
+  cover = λ x. let joined = joined_cover ys t next s u halves p x in
+      (λ c. (h.cover x).0 (joined.0 c), λ c. joined.1 ((h.cover x).1 c));
 }
   where
     last_is : (d : Network) → get_or (ys ++ t ∷ []) (length (ys ++ t ∷ []) - 1) d ≡ t
@@ -273,33 +267,32 @@ joining_step old came ys t next s u h halves p = record {
     t_ends = subst (λ m. LiesBefore m next) (last_is t) (h.ends t (omega (arith, length_push ys t)))
 
     t_truncated : IsTruncated t
-    t_truncated = subst IsTruncated (last_is t) (h.good.truncated (length (ys ++ t ∷ []) - 1) t (omega (arith, length_push ys t)))
+    t_truncated = subst IsTruncated (last_is t)
+        (h.joined.truncated (length (ys ++ t ∷ []) - 1) t (omega (arith, length_push ys t)))
 
-    t_order : IsAtMost t came
-    t_order = subst (λ m. IsAtMost m came) (last_is t) (h.order (length (ys ++ t ∷ []) - 1) t (omega (arith, length_push ys t)))
+    t_order : IsBeforeOrEqual t came
+    t_order = subst (λ m. IsBeforeOrEqual m came) (last_is t)
+        (h.order (length (ys ++ t ∷ []) - 1) t (omega (arith, length_push ys t)))
 
     start : s.number ≡ t.number
     start = supernet_start s t next u p halves t_truncated h.truncated t_ends
 
--- the stack with the network on it
-pub record IsPushed (old : List Network) (came : Network) (new : List Network) : Type 0 where
-  pub good : AreSettled new
-  pub order : All (λ m. IsAtMost m came) new
-  pub cover : (x : Address) → IsCoveredBy new x ↔ (IsCoveredBy old x ⊎ InBlock came x)
-
-pub joining_end : (old : List Network) (came : Network) (xs : List Network) (next : Network) → IsJoining old came xs next
-    → ((d : Network) → 0 < length xs → ¬ (AreHalves (get_or xs (length xs - 1) d) next)) → IsPushed old came (xs ++ next ∷ [])
+pub joining_end : (old : List Network) (came : Network) (xs : List Network) (next : Network)
+    → IsJoining old came xs next
+    → ((d : Network) → 0 < length xs → ¬ (AreHalves (get_or xs (length xs - 1) d) next))
+    → IsStackWith old came (xs ++ next ∷ [])
 joining_end old came xs next h no_half = record {
-  good = neighbours_push xs next h.good h.truncated h.ends no_half;
-  order = All-push (λ m. IsAtMost m came) xs next h.order h.next_order;
-  cover = λ x. let pushed = pushed_cover xs next x in (λ c. (h.cover x).0 (pushed.0 c), λ c. pushed.1 ((h.cover x).1 c));
+  joined = neighbours_push xs next h.joined h.truncated h.ends no_half;
+  order = All-push (λ m. IsBeforeOrEqual m came) xs next h.order h.next_order;
+  cover = λ x. let pushed = cover_push xs next x in (λ c. (h.cover x).0 (pushed.0 c), λ c. pushed.1 ((h.cover x).1 c));
 }
 
 -- where the last one covers it, nothing changes
-pub pushed_covered : (old : List Network) (came : Network) (top : Network) → AreSettled old → All (λ m. IsAtMost m came) old
-    → Contains old top → IsSubnetOf came top → IsPushed old came old
-pushed_covered old came top good order c sub = record {
-  good = good;
+pub stack_covers : (old : List Network) (came : Network) (top : Network) → AreJoined old
+    → All (λ m. IsBeforeOrEqual m came) old
+    → Contains old top → IsSubnetOf came top → IsStackWith old came old
+stack_covers old came top joined order c sub = record {
+  joined = joined;
   order = order;
   cover = λ x. (λ h. inl h, from x);
 }
@@ -309,7 +302,7 @@ pushed_covered old came top good order c sub = record {
     from x (inr a) = any_from_contains (λ m. InBlock m x) old top c (sub x a)
 
 -- the order of networks is total
-pub order_total : (n k : Network) → IsAtMost n k ⊎ IsBefore k n
+pub order_total : (n k : Network) → IsBeforeOrEqual n k ⊎ IsBefore k n
 order_total n k =
     elim (cases_order (family_index n.family) (family_index k.family)) [
       | inr (inl lt) ↦ inl (inr (inl lt))
@@ -327,30 +320,16 @@ order_total n k =
           ]
     ]
 
--- the networks stand in order, equal ones beside each other
-abbrev pub IsInOrder : List Network → Type 0
-IsInOrder xs = (i j : ℕ) (d : Network) → i ≤ j → j < length xs → IsAtMost (get_or xs i d) (get_or xs j d)
-
--- The first i networks of a list in order are on the stack.
-pub record IsSwept (networks : List Network) (i : ℕ) (stack : List Network) : Type 0 where
-  pub good : AreSettled stack
-  pub order : (j : ℕ) (d : Network) → i ≤ j → j < length networks → All (λ m. IsAtMost m (get_or networks j d)) stack
-  pub cover : (x : Address) → IsCoveredBy stack x ↔ IsCoveredBy (take i networks) x
-
-pub swept_start : (networks : List Network) → IsSwept networks 0 []
-swept_start networks = record {
-  good = record { truncated = λ k d l. absurd (omega (arith, l)); apart = λ k d l. absurd (omega (arith, l)); unjoined = λ k d l. absurd (omega (arith, l)) };
-  order = λ j d l m k e n. absurd (omega (arith, n));
-  cover = λ x. (λ h. h, λ h. h);
-}
-
-pub swept_step : (networks : List Network) (i : ℕ) (came : Network) (stack new : List Network) → IsInOrder networks → i < length networks → get_or networks i came ≡ came
-    → IsSwept networks i stack → IsPushed stack came new → IsSwept networks (i + 1) new
-swept_step networks i came stack new sorted l e h p = record {
-  good = p.good;
-  order = λ j d le m. All-weaker (λ k. IsAtMost k came) (λ k. IsAtMost k (get_or networks j d)) (λ k a.
-      IsAtMost-transitive k came (get_or networks j d) a
-      (subst (λ z. IsAtMost z (get_or networks j d)) (at_place networks i d came l ∙ e) (sorted i j d (omega (arith, le)) m))) new p.order;
+-- one network more is on the stack
+pub stack_of_first_more : (networks : List Network) (i : ℕ) (came : Network) (stack new : List Network)
+    → IsInOrder networks → i < length networks → get_or networks i came ≡ came
+    → IsStackOfFirst networks i stack → IsStackWith stack came new → IsStackOfFirst networks (i + 1) new
+stack_of_first_more networks i came stack new sorted l e h p = record {
+  joined = p.joined;
+  order = λ j d le m. All-weaker (λ k. IsBeforeOrEqual k came) (λ k. IsBeforeOrEqual k (get_or networks j d)) (λ k a.
+      IsBeforeOrEqual-transitive k came (get_or networks j d) a
+      (subst (λ z. IsBeforeOrEqual z (get_or networks j d)) (at_place networks i d came l ∙ e)
+      (sorted i j d (omega (arith, le)) m))) new p.order;
   cover = λ x. (to x, from x);
 }
   where
@@ -358,53 +337,29 @@ swept_step networks i came stack new sorted l e h p = record {
     more = take_more networks i came l ∙ ap (λ z. take i networks ++ z ∷ []) e
 
     to : (x : Address) → IsCoveredBy new x → IsCoveredBy (take (i + 1) networks) x
-    to x a = subst (λ z. IsCoveredBy z x) (sym more) ((cover_append (take i networks) (came ∷ []) x).1
-        (elim ((p.cover x).0 a) [ inl b ↦ inl ((h.cover x).0 b) | inr b ↦ inr ((cover_one came x).1 b) ]))
+    to x a = subst (λ z. IsCoveredBy z x) (sym more) ((cover_push (take i networks) came x).1
+        (elim ((p.cover x).0 a) [ inl b ↦ inl ((h.cover x).0 b) | inr b ↦ inr b ]))
 
     from : (x : Address) → IsCoveredBy (take (i + 1) networks) x → IsCoveredBy new x
-    from x a = (p.cover x).1 (elim ((cover_append (take i networks) (came ∷ []) x).0 (subst (λ z. IsCoveredBy z x) more a)) [
+    from x a = (p.cover x).1 (elim ((cover_push (take i networks) came x).0 (subst (λ z. IsCoveredBy z x) more a)) [
       | inl b ↦ inl ((h.cover x).1 b)
-      | inr b ↦ inr ((cover_one came x).0 b)
+      | inr b ↦ inr b
     ])
 
--- a list in another order, and one without host bits, cover the same
-pub cover_permutation : (xs ys : List Network) → IsPermutation xs ys → HaveSameCover ys xs
-cover_permutation xs ys h x = (
-  λ a. any_from_contains (λ n. InBlock n x) xs a.1 (Contains-permutation ys xs a.1 (IsPermutation-sym xs ys h) (a.0, a.2, a.3)) a.4,
-  λ a. any_from_contains (λ n. InBlock n x) ys a.1 (Contains-permutation xs ys a.1 h (a.0, a.2, a.3)) a.4,
-)
-
-pub cover_truncation : (xs : List Network) → HaveSameCover (map truncation xs) xs
-cover_truncation [] x = (λ a. a, λ a. a)
-cover_truncation (n ∷ ns) x = cons_cover (cover_truncation ns x)
-  where
-    cons_cover : IsCoveredBy (map truncation ns) x ↔ IsCoveredBy ns x → IsCoveredBy (map truncation (n ∷ ns)) x ↔ IsCoveredBy (n ∷ ns) x
-    cons_cover rest = (to, from)
-      where
-        to : IsCoveredBy (map truncation (n ∷ ns)) x → IsCoveredBy (n ∷ ns) x
-        to a = elim ((cover_append (truncation n ∷ []) (map truncation ns) x).0 a) [
-          | inl b ↦ (cover_append (n ∷ []) ns x).1 (inl ((cover_one n x).1 (truncation_in n x ((cover_one (truncation n) x).0 b))))
-          | inr b ↦ (cover_append (n ∷ []) ns x).1 (inr (rest.0 b))
-        ]
-
-        from : IsCoveredBy (n ∷ ns) x → IsCoveredBy (map truncation (n ∷ ns)) x
-        from a = elim ((cover_append (n ∷ []) ns x).0 a) [
-          | inl b ↦ (cover_append (truncation n ∷ []) (map truncation ns) x).1 (inl ((cover_one (truncation n) x).1 (in_truncation n x ((cover_one n x).0 b))))
-          | inr b ↦ (cover_append (truncation n ∷ []) (map truncation ns) x).1 (inr (rest.1 b))
-        ]
-
-pub in_order_from_adjacent : (xs : List Network) → ((k : ℕ) (d : Network) → k + 1 < length xs → IsAtMost (get_or xs k d) (get_or xs (k + 1) d)) → IsInOrder xs
+in_order_from_adjacent : (xs : List Network)
+    → ((k : ℕ) (d : Network) → k + 1 < length xs → IsBeforeOrEqual (get_or xs k d) (get_or xs (k + 1) d)) → IsInOrder xs
 in_order_from_adjacent xs h i zero d le l = inl (ap (λ k. get_or xs k d) (omega arith))
 in_order_from_adjacent xs h i (suc j) d le l =
     elim (cases_eq i (suc j)) [
       | inl same ↦ inl (ap (λ k. get_or xs k d) same)
-      | inr other ↦ IsAtMost-transitive (get_or xs i d) (get_or xs j d) (get_or xs (suc j) d)
+      | inr other ↦ IsBeforeOrEqual-transitive (get_or xs i d) (get_or xs j d) (get_or xs (suc j) d)
           (in_order_from_adjacent xs h i j d (omega arith) (omega arith))
-          (subst (λ k. IsAtMost (get_or xs j d) (get_or xs k d)) (add-one j) (h j d (omega arith)))
+          (subst (λ k. IsBeforeOrEqual (get_or xs j d) (get_or xs k d)) (add-one j) (h j d (omega arith)))
     ]
 
 -- what a sort by an order that tells networks apart leaves
-pub in_order_from_sort : {X : Type 0} (net : X → Network) (cmp : X → X → Ordering) → ((x y : X) → IsBefore (net x) (net y) → cmp x y ≡ Less)
+pub in_order_from_sort : {X : Type 0} (net : X → Network) (cmp : X → X → Ordering)
+    → ((x y : X) → IsBefore (net x) (net y) → cmp x y ≡ Less)
     → (xs : List X) → IsSorted cmp xs → IsInOrder (map net xs)
 in_order_from_sort net cmp law [] sorted = λ i j d le l. absurd (omega (arith, l))
 in_order_from_sort {X} net cmp law (x ∷ xs) sorted = in_order_from_adjacent (map net (x ∷ xs)) adjacent
@@ -412,24 +367,29 @@ in_order_from_sort {X} net cmp law (x ∷ xs) sorted = in_order_from_adjacent (m
     size : length (map net (x ∷ xs)) ≡ length (x ∷ xs)
     size = length-map (x ∷ xs) net
 
-    not_before : (a b : X) → is_lt (cmp b a) ≡ false → IsAtMost (net a) (net b)
+    not_before : (a b : X) → is_lt (cmp b a) ≡ false → IsBeforeOrEqual (net a) (net b)
     not_before a b h = elim (order_total (net a) (net b)) [
       | inl le ↦ le
       | inr gt ↦ let less : is_lt (cmp b a) ≡ true = ap is_lt (law b a gt) in absurd (cc)
     ]
 
-    adjacent : (k : ℕ) (d : Network) → k + 1 < length (map net (x ∷ xs)) → IsAtMost (get_or (map net (x ∷ xs)) k d) (get_or (map net (x ∷ xs)) (k + 1) d)
+    adjacent : (k : ℕ) (d : Network) → k + 1 < length (map net (x ∷ xs))
+        → IsBeforeOrEqual (get_or (map net (x ∷ xs)) k d) (get_or (map net (x ∷ xs)) (k + 1) d)
     adjacent k d l =
         let inside : k + 1 < length (x ∷ xs) = omega (arith, l, size) in
-        subst₂ IsAtMost (sym (get_or-map net (x ∷ xs) k x d (omega (arith, inside)))) (sym (get_or-map net (x ∷ xs) (k + 1) x d inside))
+        subst₂ IsBeforeOrEqual (sym (get_or-map net (x ∷ xs) k x d (omega (arith, inside))))
+        (sym (get_or-map net (x ∷ xs) (k + 1) x d inside))
         (not_before (get_or (x ∷ xs) k x) (get_or (x ∷ xs) (k + 1) x) (sorted k x (omega arith) inside))
 
--- the sorted list is swept whole: its stack covers what the list covers that was sorted
-pub swept_whole : {X : Type 0} (net : X → Network) (made sorted answer : List X) → IsPermutation made sorted → IsSwept (map net sorted) (length sorted) (map net answer)
+-- the stack of the whole sorted list covers what the list covers that was sorted
+pub stack_of_first_whole : {X : Type 0} (net : X → Network) (made sorted answer : List X) → IsPermutation made sorted
+    → IsStackOfFirst (map net sorted) (length sorted) (map net answer)
     → HaveSameCover (map net answer) (map net made)
-swept_whole net made sorted answer p h x =
-    let all : take (length sorted) (map net sorted) ≡ map net sorted = take_all (length sorted) (map net sorted) (omega (arith, length-map sorted net)) in
-    let same : IsCoveredBy (map net sorted) x ↔ IsCoveredBy (map net made) x = cover_permutation (map net made) (map net sorted) (IsPermutation-map net made sorted p) x in (
+stack_of_first_whole net made sorted answer p h x =
+    let all : take (length sorted) (map net sorted) ≡ map net sorted =
+    take_all (length sorted) (map net sorted) (omega (arith, length-map sorted net)) in
+    let same : IsCoveredBy (map net sorted) x ↔ IsCoveredBy (map net made) x =
+    cover_permutation (map net made) (map net sorted) (IsPermutation-map net made sorted p) x in (
       λ a. same.0 (subst (λ z. IsCoveredBy z x) all ((h.cover x).0 a)),
       λ a. (h.cover x).1 (subst (λ z. IsCoveredBy z x) (sym all) (same.1 a)),
     )

@@ -1,37 +1,57 @@
 -- What goes up from a network to its supernet: a network is maximal where its supernet is not inside, each
 -- network inside a set that can be decided lies in a maximal one, and the converse of the neighbour lemma.
-use Rattle.std.proofs.Common.{◌≡◌, ℕ, zero, suc, ◌+◌, ◌-◌, ◌*◌, ◌/◌, ◌^◌, ◌<◌, ◌≤◌, ◌⊎◌, ◌↔◌, List, [], ◌∷◌, Contains, All, refl, sym, ap, ◌∙◌, subst, arith, inl, inr, pow_pos}
+use Rattle.std.proofs.Common.{◌≡◌, ℕ, zero, suc, ◌+◌, ◌-◌, ◌*◌, ◌/◌, ◌^◌, ◌<◌, ◌≤◌, ◌⊎◌, ◌↔◌, List, [], ◌∷◌, Contains}
+use Rattle.std.proofs.Common.{All, refl, sym, ap, ◌∙◌, subst, arith, inl, inr, pow_pos}
 use Rattle.std.proofs.lemmas.Bool.{cases_lt, cases_eq}
 use Rattle.ipnet_base.specs.Address.{Address, width, IsBetween}
-use Rattle.ipnet_base.specs.Network.{Network, IsNetwork, host_bits, InBlock, IsSubnetOf, IsTruncated, IsBefore, AreHalves, IsSupernetOf, truncation}
+use Rattle.ipnet_base.specs.Network.{Network, IsNetwork, host_bits, InBlock, IsSubnetOf, IsTruncated, IsBefore}
+use Rattle.ipnet_base.specs.Network.{AreHalves, IsSupernetOf, truncation, first_of, last_of}
 use Rattle.ipnet_base.specs.Blocks.{IsCoveredBy, IsInside, IsMaximal, AreMaximalBlocks, HaveSameCover}
-use Rattle.ipnet_base.proofs.NeighbourLaws.{LiesBefore, AreSettled}
+use Rattle.ipnet_base.specs.Stack.{LiesBefore, AreJoined}
 use Rattle.ipnet_base.proofs.PrefixLaws.{coarser, block_from, first_in_block}
-use Rattle.ipnet_base.proofs.BlockLaws.{at, own, own_in, first_of, last_of, between_from_block, block_from_between, number_from_truncated, truncated_from_number, nested, bits_from_subnet, same_from_block, supernet_to_halves, supernet_bits, in_block_at, cases_family, truncation_in, in_truncation, IsTruncated-truncation, IsNetwork-truncation}
-use Rattle.ipnet_base.proofs.ListLaws.{contains_here, contains_there, contains_cases, any_from_contains, all_at, all_from_members, adjacent_from_pairs, pairs_from_members}
+use Rattle.ipnet_base.proofs.BlockLaws.{at, own, own_in, between_from_block, block_from_between}
+use Rattle.ipnet_base.proofs.BlockLaws.{number_from_truncated, truncated_from_number, nested, bits_from_subnet}
+use Rattle.ipnet_base.proofs.BlockLaws.{same_from_block, supernet_to_halves, supernet_bits, in_block_at, cases_family}
+use Rattle.ipnet_base.proofs.BlockLaws.{truncation_in, in_truncation, IsTruncated-truncation, IsNetwork-truncation}
+use Rattle.ipnet_base.proofs.ListLaws.{contains_here, contains_there, contains_cases, any_from_contains, all_at}
+use Rattle.ipnet_base.proofs.ListLaws.{all_from_members, adjacent_from_pairs, pairs_from_members}
 use Rattle.ipnet_base.proofs.UniqueLaws.{IsBefore-asymmetric}
 use Rattle.ipnet_base.proofs.ShortestLaws.{one_maximal}
 
 abbrev pub supernet : Network → Network
-supernet n = record { family = n.family; number = n.number / 2 ^ (host_bits n + 1) * 2 ^ (host_bits n + 1); prefix_len = n.prefix_len - 1 }
+supernet n =
+    record {
+      family = n.family;
+      number = n.number / 2 ^ (host_bits n + 1) * 2 ^ (host_bits n + 1);
+      prefix_len =
+          n.prefix_len - 1;
+    }
 
 pub IsSupernetOf-supernet : (n : Network) → IsNetwork n → 0 < n.prefix_len → IsSupernetOf (supernet n) n
 IsSupernetOf-supernet n u long = record {
-  network = record { address_fits = omega (arith, u.address_fits, block_from (host_bits n + 1) n.number n.number refl); prefix_fits = omega (arith, u.prefix_fits) };
-  truncated = truncated_from_number (supernet n) (subst (λ b. (supernet n).number ≡ (supernet n).number / 2 ^ b * 2 ^ b) (sym bits)
+  network =
+      record {
+        address_fits = omega (arith, u.address_fits, block_from (host_bits n + 1) n.number n.number refl);
+        prefix_fits = omega (arith, u.prefix_fits);
+      };
+  truncated = truncated_from_number (supernet n)
+      (subst (λ b. (supernet n).number ≡ (supernet n).number / 2 ^ b * 2 ^ b) (sym bits)
       (ap (λ q. q * 2 ^ (host_bits n + 1)) (sym (first_in_block (host_bits n + 1) n.number))));
   shorter = omega arith;
   contains = λ x a. in_block_at (supernet n) x (host_bits n + 1) bits a.same_family
-      (coarser (host_bits n) (host_bits n + 1) x.number n.number (omega arith) a.same_prefix ∙ sym (first_in_block (host_bits n + 1) n.number));
+      (coarser (host_bits n) (host_bits n + 1) x.number n.number (omega arith) a.same_prefix ∙ sym
+      (first_in_block (host_bits n + 1) n.number));
 }
   where
     bits : host_bits (supernet n) ≡ host_bits n + 1
     bits = omega (arith, u.prefix_fits, long)
 
 -- what contains a network, and more, contains its supernet
-pub supernet_below : (s n k : Network) → IsNetwork n → IsSupernetOf s n → IsSubnetOf n k → host_bits n < host_bits k → IsSubnetOf s k
+supernet_below : (s n k : Network) → IsNetwork n → IsSupernetOf s n → IsSubnetOf n k → host_bits n < host_bits k
+    → IsSubnetOf s k
 supernet_below s n k u p sub lt =
-    nested s k (own n) (p.contains (own n) (own_in n)) (sub (own n) (own_in n)) (omega (arith, supernet_bits s n u p, lt))
+    nested s k (own n) (p.contains (own n) (own_in n)) (sub (own n) (own_in n))
+    (omega (arith, supernet_bits s n u p, lt))
 
 -- a network is maximal where its supernet is not inside
 pub IsMaximal-from_supernet : (InSet : Address → Type 0) (least : ℕ) (n : Network) → IsInside InSet least n
@@ -41,7 +61,8 @@ IsMaximal-from_supernet InSet least n inside no_supernet = record {
   largest = λ k i sub.
       let k_own : InBlock k (own n) = sub (own n) (own_in n) in
       elim (cases_lt (host_bits n) (host_bits k)) [
-        | inr le ↦ same_from_block k n i.network inside.network i.truncated inside.truncated (nested k n (own n) k_own (own_in n) le, sub)
+        | inr le ↦ same_from_block k n i.network inside.network i.truncated inside.truncated
+            (nested k n (own n) k_own (own_in n) le, sub)
         | inl lt ↦
             let long : 0 < n.prefix_len = omega (arith, lt, ap width k_own.same_family) in
             let p : IsSupernetOf (supernet n) n = IsSupernetOf-supernet n inside.network long in
@@ -49,7 +70,15 @@ IsMaximal-from_supernet InSet least n inside no_supernet = record {
             absurd (no_supernet long (record {
               network = p.network;
               truncated = p.truncated;
-              long_enough = omega (arith, i.long_enough, bits_from_subnet (supernet n) k below, ap width k_own.same_family, i.network.prefix_fits, p.network.prefix_fits);
+              long_enough =
+                  omega (
+                    arith,
+                    i.long_enough,
+                    bits_from_subnet (supernet n) k below,
+                    ap width k_own.same_family,
+                    i.network.prefix_fits,
+                    p.network.prefix_fits,
+                  );
               within = λ x a. i.within x (below x a);
             }))
       ];
@@ -59,7 +88,8 @@ IsMaximal-from_supernet InSet least n inside no_supernet = record {
 abbrev pub IsDecided : (Address → Type 0) → Type 0
 IsDecided InSet = (x : Address) → InSet x ⊎ (InSet x → ⊥)
 
-all_below : (P : ℕ → Type 0) → ((i : ℕ) → P i ⊎ (P i → ⊥)) → (n : ℕ) → ((i : ℕ) → i < n → P i) ⊎ (((i : ℕ) → i < n → P i) → ⊥)
+all_below : (P : ℕ → Type 0) → ((i : ℕ) → P i ⊎ (P i → ⊥)) → (n : ℕ) → ((i : ℕ) → i < n → P i)
+    ⊎ (((i : ℕ) → i < n → P i) → ⊥)
 all_below P dec zero = inl (λ i l. absurd (omega arith))
 all_below P dec (suc n) =
     elim (all_below P dec n) [
@@ -74,30 +104,47 @@ all_below P dec (suc n) =
     ]
 
 -- whether a block lies in such a set
-pub block_decided : (InSet : Address → Type 0) → IsDecided InSet → (n : Network) → ((x : Address) → InBlock n x → InSet x) ⊎ (((x : Address) → InBlock n x → InSet x) → ⊥)
+block_decided : (InSet : Address → Type 0) → IsDecided InSet → (n : Network)
+    → ((x : Address) → InBlock n x → InSet x) ⊎ (((x : Address) → InBlock n x → InSet x) → ⊥)
 block_decided InSet dec n =
     elim (all_below (λ i. InSet (at n (first_of n + i))) (λ i. dec (at n (first_of n + i))) (2 ^ host_bits n)) [
       | inl all ↦ inl (λ x a.
           let b : IsBetween n.family (first_of n) (last_of n) x = between_from_block n x a in
           let place : first_of n + (x.number - first_of n) ≡ x.number = omega (arith, b.from_start) in
-          let here : InSet (at n (first_of n + (x.number - first_of n))) = all (x.number - first_of n) (omega (arith, b.to_end, b.from_start, pow_pos (host_bits n))) in
-          let same : at n (first_of n + (x.number - first_of n)) ≡ x = λ i. record { family = sym a.same_family i; number = place i } in
+          let here : InSet (at n (first_of n + (x.number - first_of n))) =
+          all (x.number - first_of n) (omega (arith, b.to_end, b.from_start, pow_pos (host_bits n))) in
+          let same : at n (first_of n + (x.number - first_of n)) ≡ x =
+          λ i. record { family = sym a.same_family i; number = place i } in
           subst InSet same here)
-      | inr fails ↦ inr (λ h. fails (λ i l. h (at n (first_of n + i)) (block_from_between n (at n (first_of n + i)) (record { of_family = refl; from_start = omega arith; to_end = omega (arith, l) }))))
+      | inr fails ↦
+          inr (λ h. fails
+          (λ i l. h (at n (first_of n + i))
+          (block_from_between n (at n (first_of n + i))
+          (record { of_family = refl; from_start = omega arith; to_end = omega (arith, l) }))))
     ]
 
-climb : (InSet : Address → Type 0) (least : ℕ) → IsDecided InSet → (d : ℕ) (n : Network) → n.prefix_len ≤ d → IsInside InSet least n
+climb : (InSet : Address → Type 0) (least : ℕ) → IsDecided InSet → (d : ℕ) (n : Network) → n.prefix_len ≤ d
+    → IsInside InSet least n
     → (m : Network) × IsMaximal InSet least m × IsSubnetOf n m
-climb InSet least dec zero n le i = (n, IsMaximal-from_supernet InSet least n i (λ long j. omega (arith, long, le)), λ x a. a)
+climb InSet least dec zero n le i =
+    (n, IsMaximal-from_supernet InSet least n i (λ long j. omega (arith, long, le)), λ x a. a)
 climb InSet least dec (suc d) n le i =
     elim (cases_lt least n.prefix_len) [
-      | inr short ↦ (n, IsMaximal-from_supernet InSet least n i (λ long j. omega (arith, long, j.long_enough, short)), λ x a. a)
+      | inr short ↦
+          (n, IsMaximal-from_supernet InSet least n i (λ long j. omega (arith, long, j.long_enough, short)), λ x a. a)
       | inl long ↦
           let p : IsSupernetOf (supernet n) n = IsSupernetOf-supernet n i.network (omega arith) in
           elim (block_decided InSet dec (supernet n)) [
             | inr fails ↦ (n, IsMaximal-from_supernet InSet least n i (λ pos j. fails j.within), λ x a. a)
             | inl within ↦
-                let (m, max, sub) = climb InSet least dec d (supernet n) (omega arith) (record { network = p.network; truncated = p.truncated; long_enough = omega (arith, long); within = within }) in
+                let (m, max, sub) = climb InSet least dec d (supernet n) (omega arith)
+                (record {
+                  network = p.network;
+                  truncated = p.truncated;
+                  long_enough =
+                      omega (arith, long);
+                  within = within;
+                }) in
                 (m, max, λ x a. sub x (p.contains x a))
           ]
     ]
@@ -133,7 +180,8 @@ IsDecided-cover (n ∷ ns) x =
     ]
 
 -- the maximal blocks of a cover cover it
-pub blocks_cover : (networks blocks : List Network) → All IsNetwork networks → AreMaximalBlocks (IsCoveredBy networks) 0 blocks → HaveSameCover blocks networks
+pub blocks_cover : (networks blocks : List Network) → All IsNetwork networks
+    → AreMaximalBlocks (IsCoveredBy networks) 0 blocks → HaveSameCover blocks networks
 blocks_cover networks blocks valid h x = (to, from)
   where
     to : IsCoveredBy blocks x → IsCoveredBy networks x
@@ -152,21 +200,41 @@ blocks_cover networks blocks valid h x = (to, from)
         any_from_contains (λ k. InBlock k x) blocks m ((h.members m).1 max) (sub x (in_truncation n x a.4))
 
 -- the blocks of a set are those of a set with the same addresses
-pub AreMaximalBlocks-same_set : (A B : Address → Type 0) (least : ℕ) (networks : List Network) → ((x : Address) → A x ↔ B x) → AreMaximalBlocks A least networks → AreMaximalBlocks B least networks
+pub AreMaximalBlocks-same_set : (A B : Address → Type 0) (least : ℕ) (networks : List Network)
+    → ((x : Address) → A x ↔ B x) → AreMaximalBlocks A least networks → AreMaximalBlocks B least networks
 AreMaximalBlocks-same_set A B least networks same h = record {
   ascending = h.ascending;
-  members = λ n. (λ c. over A B same n ((h.members n).0 c), λ m. (h.members n).1 (over B A (λ x. ((same x).1, (same x).0)) n m));
+  members =
+      λ n. (
+        λ c. over A B same n ((h.members n).0 c),
+        λ m. (h.members n).1 (over B A (λ x. ((same x).1, (same x).0)) n m),
+      );
 }
   where
-    inside_over : (A B : Address → Type 0) → ((x : Address) → A x ↔ B x) → (n : Network) → IsInside A least n → IsInside B least n
-    inside_over A B same n i = record { network = i.network; truncated = i.truncated; long_enough = i.long_enough; within = λ x a. (same x).0 (i.within x a) }
+    inside_over : (A B : Address → Type 0) → ((x : Address) → A x ↔ B x) → (n : Network) → IsInside A least n
+        → IsInside B least n
+    inside_over A B same n i =
+        record {
+          network = i.network;
+          truncated = i.truncated;
+          long_enough = i.long_enough;
+          within =
+              λ x a. (same x).0 (i.within x a);
+        }
 
-    over : (A B : Address → Type 0) → ((x : Address) → A x ↔ B x) → (n : Network) → IsMaximal A least n → IsMaximal B least n
-    over A B same n m = record { inside = inside_over A B same n m.inside; largest = λ k i s. m.largest k (inside_over B A (λ x. ((same x).1, (same x).0)) k i) s }
+    over : (A B : Address → Type 0) → ((x : Address) → A x ↔ B x) → (n : Network) → IsMaximal A least n
+        → IsMaximal B least n
+    over A B same n m =
+        record {
+          inside = inside_over A B same n m.inside;
+          largest =
+              λ k i s. m.largest k (inside_over B A (λ x. ((same x).1, (same x).0)) k i) s;
+        }
 
 -- A list is the blocks of another list's cover exactly where the two lists cover the same, given that it is
 -- the blocks of its own cover.
-pub same_blocks_iff_same_cover : (networks others blocks : List Network) → All IsNetwork networks → All IsNetwork others → AreMaximalBlocks (IsCoveredBy networks) 0 blocks
+pub same_blocks_iff_same_cover : (networks others blocks : List Network) → All IsNetwork networks
+    → All IsNetwork others → AreMaximalBlocks (IsCoveredBy networks) 0 blocks
     → AreMaximalBlocks (IsCoveredBy others) 0 blocks ↔ HaveSameCover others networks
 same_blocks_iff_same_cover networks others blocks u v h = (to, from)
   where
@@ -177,10 +245,12 @@ same_blocks_iff_same_cover networks others blocks u v h = (to, from)
         (λ c. a.0 (b.1 c), λ c. b.0 (a.1 c))
 
     from : HaveSameCover others networks → AreMaximalBlocks (IsCoveredBy others) 0 blocks
-    from same = AreMaximalBlocks-same_set (IsCoveredBy networks) (IsCoveredBy others) 0 blocks (λ x. ((same x).1, (same x).0)) h
+    from same = AreMaximalBlocks-same_set (IsCoveredBy networks) (IsCoveredBy others) 0 blocks
+        (λ x. ((same x).1, (same x).0)) h
 
 -- of two maximal networks the one that stands before the other ends before it
-pub lies_before_from_maximal : (InSet : Address → Type 0) (least : ℕ) (n k : Network) → IsMaximal InSet least n → IsMaximal InSet least k → IsBefore n k → LiesBefore n k
+pub lies_before_from_maximal : (InSet : Address → Type 0) (least : ℕ) (n k : Network) → IsMaximal InSet least n
+    → IsMaximal InSet least k → IsBefore n k → LiesBefore n k
 lies_before_from_maximal InSet least n k p q (inl lt) = inl lt
 lies_before_from_maximal InSet least n k p q (inr (f, order)) = inr (
   f,
@@ -189,18 +259,31 @@ lies_before_from_maximal InSet least n k p q (inr (f, order)) = inr (
     | inr ge ↦
         let last : x.number ≤ last_of n = (between_from_block n x a).to_end in
         let start : n.number ≡ first_of n = number_from_truncated n p.inside.truncated in
-        let inside : InBlock n (own k) = block_from_between n (own k) (record { of_family = sym f; from_start = omega (arith, start, order); to_end = omega (arith, last, ge) }) in
+        let inside : InBlock n (own k) =
+        block_from_between n (own k)
+        (record {
+          of_family = sym f;
+          from_start = omega (arith, start, order);
+          to_end =
+              omega (arith, last, ge);
+        }) in
         let one : n ≡ k = one_maximal InSet least n k p q (own k) inside (own_in k) in
-        absurd (IsBefore-asymmetric n n (subst (IsBefore n) (sym one) (inr (f, order))) (subst (IsBefore n) (sym one) (inr (f, order))))
+        absurd (IsBefore-asymmetric n n (subst (IsBefore n) (sym one) (inr (f, order)))
+        (subst (IsBefore n) (sym one) (inr (f, order))))
   ],
 )
 
 -- A list that is the blocks of its own cover shows the four conditions on neighbours.
-pub neighbours_from_blocks : (networks : List Network) → AreMaximalBlocks (IsCoveredBy networks) 0 networks → AreSettled networks
+pub neighbours_from_blocks : (networks : List Network) → AreMaximalBlocks (IsCoveredBy networks) 0 networks
+    → AreJoined networks
 neighbours_from_blocks networks h = record {
   truncated = all_from_members IsTruncated networks (λ n c. ((h.members n).0 c).inside.truncated);
-  apart = adjacent_from_pairs LiesBefore networks (pairs_from_members IsBefore LiesBefore networks (λ n k c e b. lies_before_from_maximal (IsCoveredBy networks) 0 n k ((h.members n).0 c) ((h.members k).0 e) b) h.ascending);
-  unjoined = adjacent_from_pairs (λ n k. ¬ (AreHalves n k)) networks (pairs_from_members IsBefore (λ n k. ¬ (AreHalves n k)) networks (λ n k c e b. unjoined n k c e) h.ascending);
+  apart = adjacent_from_pairs LiesBefore networks
+      (pairs_from_members IsBefore LiesBefore networks
+      (λ n k c e b. lies_before_from_maximal (IsCoveredBy networks) 0 n k ((h.members n).0 c) ((h.members k).0 e) b)
+      h.ascending);
+  unjoined = adjacent_from_pairs (λ n k. ¬ (AreHalves n k)) networks
+      (pairs_from_members IsBefore (λ n k. ¬ (AreHalves n k)) networks (λ n k c e b. unjoined n k c e) h.ascending);
 }
   where
     unjoined : (n k : Network) → Contains networks n → Contains networks k → ¬ (AreHalves n k)
@@ -212,5 +295,7 @@ neighbours_from_blocks networks h = record {
           | inl b ↦ any_from_contains (λ m. InBlock m x) networks n c b
           | inr b ↦ any_from_contains (λ m. InBlock m x) networks k e b
         ] in
-        let one : supernet n ≡ n = p.largest (supernet n) (record { network = s.network; truncated = s.truncated; long_enough = omega arith; within = covered }) s.contains in
+        let one : supernet n ≡ n = p.largest (supernet n)
+        (record { network = s.network; truncated = s.truncated; long_enough = omega arith; within = covered })
+        s.contains in
         absurd (omega (arith, ap (λ m. m.prefix_len) one, halves.siblings.has_supernet))

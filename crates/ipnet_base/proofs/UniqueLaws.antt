@@ -6,10 +6,11 @@ use Rattle.ipnet_base.specs.Blocks.{AreMaximalBlocks}
 use Rattle.ipnet_base.proofs.ListLaws.{same_from_members}
 
 -- the order of networks by numbers alone
-abbrev pub OrderedBy : (f g a b p q : ℕ) → Type 0
+abbrev OrderedBy : (f g a b p q : ℕ) → Type 0
 OrderedBy f g a b p q = (f < g) ⊎ ((f ≡ g) × ((a < b) ⊎ ((a ≡ b) × (p < q))))
 
-pub before_by_numbers : (n k : Network) → IsBefore n k → OrderedBy (family_index n.family) (family_index k.family) n.number k.number n.prefix_len k.prefix_len
+before_by_numbers : (n k : Network) → IsBefore n k
+    → OrderedBy (family_index n.family) (family_index k.family) n.number k.number n.prefix_len k.prefix_len
 before_by_numbers n k (inl h) = inl h
 before_by_numbers n k (inr h) = inr (ap family_index h.0, h.1)
 
@@ -29,7 +30,8 @@ IsBefore-asymmetric n k h i =
     asymmetric_by_numbers (family_index n.family) (family_index k.family) n.number k.number n.prefix_len k.prefix_len
     (before_by_numbers n k h) (before_by_numbers k n i)
 
-pub AreMaximalBlocks-unique : (InSet : Address → Type 0) (least : ℕ) (xs ys : List Network) → AreMaximalBlocks InSet least xs → AreMaximalBlocks InSet least ys → xs ≡ ys
+pub AreMaximalBlocks-unique : (InSet : Address → Type 0) (least : ℕ) (xs ys : List Network)
+    → AreMaximalBlocks InSet least xs → AreMaximalBlocks InSet least ys → xs ≡ ys
 AreMaximalBlocks-unique InSet least xs ys p q =
     same_from_members IsBefore IsBefore-asymmetric xs ys p.ascending q.ascending
     (λ z c. (q.members z).1 ((p.members z).0 c)) (λ z c. (p.members z).1 ((q.members z).0 c))

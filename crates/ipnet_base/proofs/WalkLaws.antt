@@ -1,17 +1,21 @@
 -- The subnet step gives a maximal block, and the steps from start to end are the blocks of the range.
-use Rattle.std.proofs.Common.{◌≡◌, ℕ, zero, suc, ◌+◌, ◌-◌, ◌*◌, ◌/◌, ◌^◌, ◌<◌, ◌≤◌, ◌⊎◌, List, [], ◌∷◌, Contains, refl, sym, ap, ◌∙◌, subst, arith, inl, inr, mul-one, pow_pos}
+use Rattle.std.proofs.Common.{◌≡◌, ℕ, zero, suc, ◌+◌, ◌-◌, ◌*◌, ◌/◌, ◌^◌, ◌<◌, ◌≤◌, ◌⊎◌, List, [], ◌∷◌, Contains, refl}
+use Rattle.std.proofs.Common.{sym, ap, ◌∙◌, subst, arith, inl, inr, mul-one, pow_pos}
 use Rattle.std.proofs.Math.Nat.{div-one}
 use Rattle.std.proofs.lemmas.Bool.{cases_lt, cases_eq}
 use Rattle.ipnet_base.specs.Address.{Family, Address, width, IsBetween}
-use Rattle.ipnet_base.specs.Network.{Network, host_bits, InBlock, IsSubnetOf, IsBefore, AreDisjoint}
+use Rattle.ipnet_base.specs.Network.{Network, host_bits, InBlock, IsSubnetOf, IsBefore, AreDisjoint, first_of, last_of}
 use Rattle.ipnet_base.specs.Blocks.{IsInside, IsMaximal, AreMaximalBlocks}
 use Rattle.ipnet_base.specs.Subnets.{StartsAt, IsLargestSubnetAt}
-use Rattle.ipnet_base.proofs.BlockLaws.{at, own, own_in, first_of, last_of, last_in, between_from_block, block_from_between, number_from_truncated, truncated_from_number, nested_or_disjoint, bits_from_subnet, same_network}
+use Rattle.ipnet_base.proofs.BlockLaws.{at, own, own_in, last_in, between_from_block, block_from_between}
+use Rattle.ipnet_base.proofs.BlockLaws.{number_from_truncated, truncated_from_number, nested_or_disjoint}
+use Rattle.ipnet_base.proofs.BlockLaws.{bits_from_subnet, same_network}
 use Rattle.ipnet_base.proofs.ListLaws.{contains_nil, contains_here, contains_there, contains_cases, pairs_cons}
 use Rattle.ipnet_base.proofs.UniqueLaws.{AreMaximalBlocks-unique}
 
 -- the step is a maximal block of the range
-pub IsMaximal-from_step : (f : Family) (s e m : ℕ) (n : Network) → IsLargestSubnetAt f s e m n → IsMaximal (IsBetween f s e) m n
+pub IsMaximal-from_step : (f : Family) (s e m : ℕ) (n : Network) → IsLargestSubnetAt f s e m n
+    → IsMaximal (IsBetween f s e) m n
 IsMaximal-from_step f s e m n step = record {
   inside = step.candidate.inside;
   largest = λ k i sub.
@@ -19,9 +23,17 @@ IsMaximal-from_step f s e m n step = record {
       let not_above : k.number ≤ n.number = i.truncated (own n) (sub (own n) (own_in n)) in
       let start : k.number ≡ s = omega (arith, own_k.from_start, not_above, step.candidate.at_start) in
       let fam : k.family ≡ n.family = own_k.of_family ∙ sym step.candidate.of_family in
-      let no_shorter : n.prefix_len ≤ k.prefix_len = step.largest k (record { inside = i; of_family = own_k.of_family; at_start = start }) in
+      let no_shorter : n.prefix_len ≤ k.prefix_len =
+      step.largest k (record { inside = i; of_family = own_k.of_family; at_start = start }) in
       same_network k n fam (start ∙ sym step.candidate.at_start)
-      (omega (arith, no_shorter, bits_from_subnet n k sub, ap width fam, i.network.prefix_fits, step.candidate.inside.network.prefix_fits));
+      (omega (
+        arith,
+        no_shorter,
+        bits_from_subnet n k sub,
+        ap width fam,
+        i.network.prefix_fits,
+        step.candidate.inside.network.prefix_fits,
+      ));
 }
 
 -- A maximal block in front of the blocks of the rest of the set.
@@ -32,10 +44,24 @@ module _ (InSet Rest : Address → Type 0) (least : ℕ) (n : Network) (rest : L
     (apart : (x : Address) → InBlock n x → Rest x → ⊥)
     (blocks : AreMaximalBlocks Rest least rest) where
   inside_back : (k : Network) → IsInside Rest least k → IsInside InSet least k
-  inside_back k i = record { network = i.network; truncated = i.truncated; long_enough = i.long_enough; within = λ x a. back x (i.within x a) }
+  inside_back k i =
+      record {
+        network = i.network;
+        truncated = i.truncated;
+        long_enough = i.long_enough;
+        within =
+            λ x a. back x (i.within x a);
+      }
 
   inside_rest : (k : Network) → IsInside InSet least k → AreDisjoint n k → IsInside Rest least k
-  inside_rest k i d = record { network = i.network; truncated = i.truncated; long_enough = i.long_enough; within = λ x a. go x a (split x (i.within x a)) }
+  inside_rest k i d =
+      record {
+        network = i.network;
+        truncated = i.truncated;
+        long_enough = i.long_enough;
+        within =
+            λ x a. go x a (split x (i.within x a));
+      }
     where
       go : (x : Address) → InBlock k x → InBlock n x ⊎ Rest x → Rest x
       go x a (inl b) = absurd (d x b a)
@@ -59,7 +85,11 @@ module _ (InSet Rest : Address → Type 0) (least : ℕ) (n : Network) (rest : L
       elim (nested_or_disjoint n z) [
         | inl n_in_z ↦ inl (sym (n_max.largest z h.inside n_in_z))
         | inr (inl z_in_n) ↦ inl (h.largest n n_max.inside z_in_n)
-        | inr (inr d) ↦ inr (record { inside = inside_rest z h.inside d; largest = λ k i s. h.largest k (inside_back k i) s })
+        | inr (inr d) ↦ inr (record {
+          inside = inside_rest z h.inside d;
+          largest =
+              λ k i s. h.largest k (inside_back k i) s;
+        })
       ]
 
   pub AreMaximalBlocks-cons : ((k : Network) → Contains rest k → IsBefore n k) → AreMaximalBlocks InSet least (n ∷ rest)
@@ -81,7 +111,8 @@ module _ (InSet Rest : Address → Type 0) (least : ℕ) (n : Network) (rest : L
       ]
 
 -- no block lies in an empty set
-pub AreMaximalBlocks-nil : (InSet : Address → Type 0) (least : ℕ) → ((x : Address) → InSet x → ⊥) → AreMaximalBlocks InSet least []
+pub AreMaximalBlocks-nil : (InSet : Address → Type 0) (least : ℕ) → ((x : Address) → InSet x → ⊥)
+    → AreMaximalBlocks InSet least []
 AreMaximalBlocks-nil InSet least none = record {
   ascending = λ i j d l m. absurd (omega arith);
   members = λ z. (λ c. absurd (contains_nil z c), λ h. absurd (none (own z) (h.inside.within (own z) (own_in z))));
@@ -91,7 +122,8 @@ AreMaximalBlocks-nil InSet least none = record {
 pub AreMaximalBlocks-step : (f : Family) (s e m : ℕ) (n : Network) (rest : List Network) → IsLargestSubnetAt f s e m n
     → AreMaximalBlocks (IsBetween f (last_of n + 1) e) m rest → AreMaximalBlocks (IsBetween f s e) m (n ∷ rest)
 AreMaximalBlocks-step f s e m n rest step blocks =
-    AreMaximalBlocks-cons (IsBetween f s e) (IsBetween f (last_of n + 1) e) m n rest (IsMaximal-from_step f s e m n step)
+    AreMaximalBlocks-cons (IsBetween f s e) (IsBetween f (last_of n + 1) e) m n rest
+    (IsMaximal-from_step f s e m n step)
     split back apart blocks before
   where
     first_is : first_of n ≡ s
@@ -116,7 +148,10 @@ AreMaximalBlocks-step f s e m n rest step blocks =
     before : (k : Network) → Contains rest k → IsBefore n k
     before k c =
         let b : IsBetween f (last_of n + 1) e (own k) = ((blocks.members k).0 c).inside.within (own k) (own_in k) in
-        inr (step.candidate.of_family ∙ sym b.of_family, inl (omega (arith, b.from_start, (between_from_block n (own n) (own_in n)).to_end)))
+        inr (
+          step.candidate.of_family ∙ sym b.of_family,
+          inl (omega (arith, b.from_start, (between_from_block n (own n) (own_in n)).to_end)),
+        )
 
 -- a block of b open bits that starts at s fits
 abbrev pub FitsFrom : (s e b : ℕ) → Type 0
@@ -132,7 +167,8 @@ fits_or_not s e b =
       ]
     ]
 
-most_bits : (s e : ℕ) → s ≤ e → (top : ℕ) → (b : ℕ) × (b ≤ top) × FitsFrom s e b × ((c : ℕ) → c ≤ top → FitsFrom s e c → c ≤ b)
+most_bits : (s e : ℕ) → s ≤ e → (top : ℕ)
+    → (b : ℕ) × (b ≤ top) × FitsFrom s e b × ((c : ℕ) → c ≤ top → FitsFrom s e c → c ≤ b)
 most_bits s e le zero = (0, omega arith, (sym (mul-one (s / 1) ∙ div-one s), omega arith), λ c h i. h)
 most_bits s e le (suc top) =
     elim (fits_or_not s e (suc top)) [
@@ -150,7 +186,8 @@ most_bits s e le (suc top) =
     ]
 
 -- the network at s with the most open bits that fit is the step
-pub step_from_bits : (f : Family) (s e m b : ℕ) → s ≤ e → e < 2 ^ width f → m ≤ width f → b ≤ width f - m → FitsFrom s e b
+pub step_from_bits : (f : Family) (s e m b : ℕ) → s ≤ e → e < 2 ^ width f → m ≤ width f → b ≤ width f - m
+    → FitsFrom s e b
     → ((c : ℕ) → c ≤ width f - m → FitsFrom s e c → c ≤ b) → (p : ℕ) → p + b ≡ width f
     → IsLargestSubnetAt f s e m (record { family = f; number = s; prefix_len = p })
 step_from_bits f s e m b le fits m_fits b_fits good most p p_is = record { candidate = candidate; largest = largest }
@@ -174,8 +211,15 @@ step_from_bits f s e m b le fits m_fits b_fits good most p p_is = record { candi
         truncated = truncated_from_number (record { family = f; number = s; prefix_len = p }) aligned;
         long_enough = omega (arith, b_fits, m_fits, p_is);
         within = λ x a.
-            let b : IsBetween f (s / 2 ^ (width f - p) * 2 ^ (width f - p)) (s / 2 ^ (width f - p) * 2 ^ (width f - p) + (2 ^ (width f - p) - 1)) x = between_from_block (record { family = f; number = s; prefix_len = p }) x a in
-            record { of_family = b.of_family; from_start = omega (arith, b.from_start, aligned); to_end = omega (arith, b.to_end, aligned, short, pow_pos (width f - p)) };
+            let b : IsBetween f (s / 2 ^ (width f - p) * 2 ^ (width f - p))
+            (s / 2 ^ (width f - p) * 2 ^ (width f - p) + (2 ^ (width f - p) - 1)) x =
+            between_from_block (record { family = f; number = s; prefix_len = p }) x a in
+            record {
+              of_family = b.of_family;
+              from_start = omega (arith, b.from_start, aligned);
+              to_end =
+                  omega (arith, b.to_end, aligned, short, pow_pos (width f - p));
+            };
       };
       of_family = refl;
       at_start = refl;
@@ -184,39 +228,53 @@ step_from_bits f s e m b le fits m_fits b_fits good most p p_is = record { candi
     largest : (k : Network) → StartsAt f s e m k → p ≤ k.prefix_len
     largest k c =
         let k_first : k.number ≡ first_of k = number_from_truncated k c.inside.truncated in
-        let k_aligned : s ≡ s / 2 ^ host_bits k * 2 ^ host_bits k = subst (λ z. z ≡ z / 2 ^ host_bits k * 2 ^ host_bits k) c.at_start k_first in
+        let k_aligned : s ≡ s / 2 ^ host_bits k * 2 ^ host_bits k =
+        subst (λ z. z ≡ z / 2 ^ host_bits k * 2 ^ host_bits k) c.at_start k_first in
         let k_last : last_of k ≤ e = (c.inside.within (at k (last_of k)) (last_in k)).to_end in
         let k_short : s + 2 ^ host_bits k ≤ e + 1 = omega (arith, k_last, k_first, c.at_start, pow_pos (host_bits k)) in
         let k_width : width k.family ≡ width f = ap width c.of_family in
-        let no_more : host_bits k ≤ b = most (host_bits k) (omega (arith, c.inside.long_enough, k_width)) (k_aligned, k_short) in
+        let no_more : host_bits k ≤ b =
+        most (host_bits k) (omega (arith, c.inside.long_enough, k_width)) (k_aligned, k_short) in
         omega (arith, no_more, k_width, p_is, c.inside.network.prefix_fits)
 
 -- from every start there is a step
-pub step_exists : (f : Family) (s e m : ℕ) → s ≤ e → e < 2 ^ width f → m ≤ width f → (n : Network) × IsLargestSubnetAt f s e m n
+pub step_exists : (f : Family) (s e m : ℕ) → s ≤ e → e < 2 ^ width f → m ≤ width f
+    → (n : Network) × IsLargestSubnetAt f s e m n
 step_exists f s e m le fits m_fits =
-    let (b, in_top, good, most) = most_bits s e le (width f - m) in
-    (record { family = f; number = s; prefix_len = width f - b }, step_from_bits f s e m b le fits m_fits in_top good most (width f - b) (omega arith))
+    let (b, in_top, good, most) = most_bits s e le (width f - m) in (
+      record { family = f; number = s; prefix_len = width f - b },
+      step_from_bits f s e m b le fits m_fits in_top good most (width f - b) (omega arith),
+    )
 
-blocks_by : (f : Family) (e m : ℕ) → e < 2 ^ width f → m ≤ width f → (d s : ℕ) → e + 1 ≤ d + s → (networks : List Network) × AreMaximalBlocks (IsBetween f s e) m networks
-blocks_by f e m fits m_fits zero s h = ([], AreMaximalBlocks-nil (IsBetween f s e) m (λ x b. omega (arith, b.from_start, b.to_end)))
+blocks_by : (f : Family) (e m : ℕ) → e < 2 ^ width f → m ≤ width f → (d s : ℕ) → e + 1 ≤ d + s
+    → (networks : List Network) × AreMaximalBlocks (IsBetween f s e) m networks
+blocks_by f e m fits m_fits zero s h =
+    ([], AreMaximalBlocks-nil (IsBetween f s e) m (λ x b. omega (arith, b.from_start, b.to_end)))
 blocks_by f e m fits m_fits (suc d) s h =
     elim (cases_lt e s) [
       | inl past ↦ ([], AreMaximalBlocks-nil (IsBetween f s e) m (λ x b. omega (arith, b.from_start, b.to_end)))
       | inr le ↦
           let (n, step) = step_exists f s e m le fits m_fits in
-          let last : s ≤ last_of n = omega (arith, (between_from_block n (own n) (own_in n)).to_end, step.candidate.at_start) in
+          let last : s ≤ last_of n =
+          omega (arith, (between_from_block n (own n) (own_in n)).to_end, step.candidate.at_start) in
           let (rest, blocks) = blocks_by f e m fits m_fits d (last_of n + 1) (omega arith) in
           (n ∷ rest, AreMaximalBlocks-step f s e m n rest step blocks)
     ]
 
 -- every range has its blocks
-pub blocks_exist : (f : Family) (s e m : ℕ) → e < 2 ^ width f → m ≤ width f → (networks : List Network) × AreMaximalBlocks (IsBetween f s e) m networks
+pub blocks_exist : (f : Family) (s e m : ℕ) → e < 2 ^ width f → m ≤ width f
+    → (networks : List Network) × AreMaximalBlocks (IsBetween f s e) m networks
 blocks_exist f s e m fits m_fits = blocks_by f e m fits m_fits (e + 1) s (omega arith)
 
 -- the blocks of a range are the step and the blocks of what is left behind it
-pub AreMaximalBlocks-uncons : (f : Family) (s e m : ℕ) (n : Network) (networks : List Network) → e < 2 ^ width f → m ≤ width f → IsLargestSubnetAt f s e m n
+pub AreMaximalBlocks-uncons : (f : Family) (s e m : ℕ) (n : Network) (networks : List Network) → e < 2 ^ width f
+    → m ≤ width f → IsLargestSubnetAt f s e m n
     → AreMaximalBlocks (IsBetween f s e) m networks
     → (rest : List Network) × (networks ≡ n ∷ rest) × AreMaximalBlocks (IsBetween f (last_of n + 1) e) m rest
 AreMaximalBlocks-uncons f s e m n networks fits m_fits step blocks =
-    let (rest, behind) = blocks_exist f (last_of n + 1) e m fits m_fits in
-    (rest, AreMaximalBlocks-unique (IsBetween f s e) m networks (n ∷ rest) blocks (AreMaximalBlocks-step f s e m n rest step behind), behind)
+    let (rest, behind) = blocks_exist f (last_of n + 1) e m fits m_fits in (
+      rest,
+      AreMaximalBlocks-unique (IsBetween f s e) m networks (n ∷ rest) blocks
+          (AreMaximalBlocks-step f s e m n rest step behind),
+      behind,
+    )

@@ -1,5 +1,5 @@
 -- Addresses and sets of addresses.
-use Rattle.std.specs.Prelude.{◌≡◌, ℕ, ◌-◌, ◌^◌, ◌<◌, ◌≤◌, Bool, IsTrue}
+use Rattle.std.specs.Prelude.{◌≡◌, ℕ, ◌-◌, ◌^◌, ◌<◌, ◌≤◌, ◌⊎◌, Bool, IsTrue}
 use Rattle.std.specs.Net.Addr.{ipv4_bits, ipv6_bits}
 use Rattle.std.specs.declared.net.ip_addr.IpAddr.{IpAddr}
 use Rattle.std.specs.declared.net.ip_addr.IpAddr.TheVariants as Ip
@@ -29,6 +29,15 @@ family_index IPv6 = 1
 pub record Address : Type 0 where
   pub family : Family
   pub number : ℕ
+
+-- The order of addresses: IPv4 before IPv6, then the number.
+abbrev pub IsAddressBefore : Address → Address → Type 0
+IsAddressBefore x y = (family_index x.family < family_index y.family)
+    ⊎ ((x.family ≡ y.family) × (x.number < y.number))
+
+-- the address of this family and number
+abbrev pub address_at : Family → ℕ → Address
+address_at family number = record { family = family; number = number }
 
 -- the number has no more bits than an address of the family
 abbrev pub IsAddress : Address → Type 0

@@ -23,6 +23,13 @@ pub record InBlock (n : Network) (x : Address) : Type 0 where
   pub same_family : x.family ≡ n.family
   pub same_prefix : x.number / 2 ^ host_bits n ≡ n.number / 2 ^ host_bits n
 
+-- the number of the first address of the block, and of the last
+abbrev pub first_of : Network → ℕ
+first_of n = n.number / 2 ^ host_bits n * 2 ^ host_bits n
+
+abbrev pub last_of : Network → ℕ
+last_of n = first_of n + (2 ^ host_bits n - 1)
+
 -- the least address of the block, and the greatest
 pub record IsLeastOf (n : Network) (x : Address) : Type 0 where
   pub inside : InBlock n x

@@ -3,7 +3,7 @@
 use Rattle.std.specs.Prelude.{◌≡◌, ℕ, ◌+◌, ◌-◌, ◌<◌, ◌≤◌, ◌⊎◌, ⊤, Option, Some, None, List, [], ◌∷◌, map, option_map}
 use Rattle.std.specs.Iterator.{MakesProgress, at_most}
 use Rattle.std.specs.List.{range_with_len, filter_map}
-use Rattle.ipnet_base.specs.Address.{Family, Address, family_index}
+use Rattle.ipnet_base.specs.Address.{Family, Address, address_at, family_index}
 
 -- What a range keeps: its family, and the numbers of its first and its last address. With start > end it is a
 -- range with no address.
@@ -16,13 +16,9 @@ pub record AddressRange : Type 0 where
 unfoldable pub numbers_between : ℕ → ℕ → List ℕ
 numbers_between start end = range_with_len start (end + 1 - start)
 
--- the address of this number in the range's family
-abbrev pub address_at : AddressRange → ℕ → Address
-address_at r number = record { family = r.family; number = number }
-
 -- the addresses that the range still gives, ascending
 abbrev pub addresses_of : AddressRange → List Address
-addresses_of r = map (address_at r) (numbers_between r.start r.end)
+addresses_of r = map (address_at r.family) (numbers_between r.start r.end)
 
 -- how many these are; 2 ^ 128 for all IPv6 addresses
 abbrev pub address_count : AddressRange → ℕ
@@ -34,39 +30,45 @@ with_ends r start end = record { family = r.family; start = start; end = end }
 
 -- `next`: from old it answers this and leaves new
 pub record IsNext (old : AddressRange) (answer : Option Address) (new : AddressRange) : Type 0 where
-  pub several : old.start < old.end → (answer ≡ Some (address_at old old.start)) × (new ≡ with_ends old (old.start + 1) old.end)
-  pub one : old.start ≡ old.end → (answer ≡ Some (address_at old old.start)) × (new ≡ with_ends old 1 0)
+  pub several : old.start < old.end → (answer ≡ Some (address_at old.family old.start))
+      × (new ≡ with_ends old (old.start + 1) old.end)
+  pub one : old.start ≡ old.end → (answer ≡ Some (address_at old.family old.start)) × (new ≡ with_ends old 1 0)
   pub none : old.end < old.start → (answer ≡ None) × (new ≡ old)
 
 -- `next_back`
 pub record IsNextBack (old : AddressRange) (answer : Option Address) (new : AddressRange) : Type 0 where
-  pub several : old.start < old.end → (answer ≡ Some (address_at old old.end)) × (new ≡ with_ends old old.start (old.end - 1))
-  pub one : old.start ≡ old.end → (answer ≡ Some (address_at old old.start)) × (new ≡ with_ends old 1 0)
+  pub several : old.start < old.end → (answer ≡ Some (address_at old.family old.end))
+      × (new ≡ with_ends old old.start (old.end - 1))
+  pub one : old.start ≡ old.end → (answer ≡ Some (address_at old.family old.start)) × (new ≡ with_ends old 1 0)
   pub none : old.end < old.start → (answer ≡ None) × (new ≡ old)
 
 -- `nth n`: past the end, at the last address, or before it
 pub record IsNth (n : ℕ) (old : AddressRange) (answer : Option Address) (new : AddressRange) : Type 0 where
   pub past : address_count old ≤ n → (answer ≡ None) × (new ≡ with_ends old 1 0)
-  pub last : n + 1 ≡ address_count old → (answer ≡ Some (address_at old old.end)) × (new ≡ with_ends old 1 0)
-  pub before : n + 1 < address_count old → (answer ≡ Some (address_at old (old.start + n))) × (new ≡ with_ends old (old.start + n + 1) old.end)
+  pub last : n + 1 ≡ address_count old → (answer ≡ Some (address_at old.family old.end)) × (new ≡ with_ends old 1 0)
+  pub before : n + 1 < address_count old → (answer ≡ Some (address_at old.family (old.start + n)))
+      × (new ≡ with_ends old (old.start + n + 1) old.end)
 
 -- `nth_back n`: past the start, at the first address, or behind it
 pub record IsNthBack (n : ℕ) (old : AddressRange) (answer : Option Address) (new : AddressRange) : Type 0 where
   pub past : address_count old ≤ n → (answer ≡ None) × (new ≡ with_ends old 1 0)
-  pub first : n + 1 ≡ address_count old → (answer ≡ Some (address_at old old.start)) × (new ≡ with_ends old 1 0)
-  pub behind : n + 1 < address_count old → (answer ≡ Some (address_at old (old.end - n))) × (new ≡ with_ends old old.start (old.end - n - 1))
+  pub first : n + 1 ≡ address_count old → (answer ≡ Some (address_at old.family old.start)) × (new ≡ with_ends old 1 0)
+  pub behind : n + 1 < address_count old → (answer ≡ Some (address_at old.family (old.end - n)))
+      × (new ≡ with_ends old old.start (old.end - n - 1))
 
 -- What `next` of a type of ranges does beside giving the first address that is left, where range_of is the range
 -- that a value keeps and address_of the address that an item stands for: it leaves the ends as above. It stands on
 -- `next` as the clause `goes` of the trait: a `for` reads `on`, `keeps` and `rests` there, which `progress` has.
-pub record IsRangeStep {R A : Type 0} (address_of : A → Address) (range_of : R → AddressRange) (old : R) (answer : Option A) (new : R) : Type 0 where
+pub record IsRangeStep {R A : Type 0} (address_of : A → Address) (range_of : R → AddressRange) (old : R)
+    (answer : Option A) (new : R) : Type 0 where
   -- what std wants of each call of `next`: fewer addresses are left
   pub progress : MakesProgress (λ _. ⊤) (λ r. at_most (address_count (range_of r))) old answer new
   pub open progress use *
   pub ends : IsNext (range_of old) (option_map address_of answer) (range_of new)
 
 -- what `next_back` does beside giving the last
-pub record IsRangeStepBack {R A : Type 0} (address_of : A → Address) (range_of : R → AddressRange) (old : R) (answer : Option A) (new : R) : Type 0 where
+pub record IsRangeStepBack {R A : Type 0} (address_of : A → Address) (range_of : R → AddressRange) (old : R)
+    (answer : Option A) (new : R) : Type 0 where
   pub progress : MakesProgress (λ _. ⊤) (λ r. at_most (address_count (range_of r))) old answer new
   pub open progress use *
   pub ends : IsNextBack (range_of old) (option_map address_of answer) (range_of new)

@@ -1,5 +1,5 @@
 -- Walks: the networks that tile a range, each the largest that starts where the one before ended.
-use Rattle.std.specs.Prelude.{◌≡◌, ℕ, ◌+◌, ◌<◌, ◌≤◌, ◌⊎◌, min}
+use Rattle.std.specs.Prelude.{◌≡◌, ℕ, ◌+◌, ◌^◌, ◌<◌, ◌≤◌, ◌⊎◌, min}
 use Rattle.ipnet_base.specs.Address.{Family, IsBetween, family_index, greatest_number}
 use Rattle.ipnet_base.specs.Network.{Network}
 use Rattle.ipnet_base.specs.Blocks.{IsInside}
@@ -14,6 +14,10 @@ pub record StartsAt (family : Family) (start end min_prefix_len : ℕ) (n : Netw
 pub record IsLargestSubnetAt (family : Family) (start end min_prefix_len : ℕ) (n : Network) : Type 0 where
   pub candidate : StartsAt family start end min_prefix_len n
   pub largest : (k : Network) → StartsAt family start end min_prefix_len k → n.prefix_len ≤ k.prefix_len
+
+-- b is the most host bits that a block of no more than distance + 1 addresses has
+abbrev pub IsMostBits : (distance b : ℕ) → Type 0
+IsMostBits distance b = (2 ^ b ≤ distance + 1) × ((c : ℕ) → 2 ^ c ≤ distance + 1 → c ≤ b)
 
 -- What a walk keeps: the first and the last number of the range that is left to it, and the least prefix
 -- length of its networks.

@@ -9,7 +9,8 @@ ghost use Rattle.ipnet_base.specs.Arithmetic.{saturating_sum, saturating_differe
 mod ip_range;
 mod ipv4_range;
 mod ipv6_range;
-pub mod range_laws;
+pub mod laws;
+pub mod member_laws;
 
 use crate::addr::{Ipv4Addr, Ipv6Addr, ipv4_from_number, ipv6_from_number};
 pub use ip_range::IpAddrRange;

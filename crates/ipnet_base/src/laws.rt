@@ -1,10 +1,16 @@
 //! Facts of the definitions, each the contract of a function that does nothing. They show that networks, blocks and
 //! lists of networks, as `specs/` defines them, are what a reader takes them for. No part of the crate's surface
 //! for users.
-ghost use Rattle.std.specs.Prelude.{◌≡◌, ◌≢◌, ℕ, ◌+◌, ◌-◌, ◌*◌, ◌^◌, ◌<◌, ◌≤◌, ◌⊎◌, ◌↔◌, Bool, List, ◌∷◌, length, map, Contains, All, IsPermutation};
-ghost use Rattle.ipnet_base.specs.Address.{Family, Address, IsAddress, IsBetween, IsAcceptedBy, width, family_index, greatest_number};
-ghost use Rattle.ipnet_base.specs.Network.{Network, IsNetwork, InBlock, IsLeastOf, IsGreatestOf, IsSubnetOf, HaveSameBlock, AreDisjoint, IsTruncated, IsTruncationOf, IsSupernetOf, AreSiblings, AreHalves, IsBefore, truncation};
-ghost use Rattle.ipnet_base.specs.Blocks.{IsCoveredBy, HaveSameCover, IsMaximal, AreMaximalBlocks, ArePairwiseDisjoint, IsExactCover, IsShortestCover, IsAggregateOf, AreAggregatedNeighbours};
+ghost use Rattle.std.specs.Prelude.{◌≡◌, ◌≢◌, ℕ, ◌+◌, ◌-◌, ◌*◌, ◌^◌, ◌<◌, ◌≤◌, ◌⊎◌, ◌↔◌, Bool};
+ghost use Rattle.std.specs.Prelude.{List, [], ◌∷◌, ◌++◌, length, map, Contains, All, IsPermutation};
+ghost use Rattle.ipnet_base.specs.Address.{Family, Address, IsAddress, IsBetween, IsAcceptedBy, width, family_index};
+ghost use Rattle.ipnet_base.specs.Address.{greatest_number};
+ghost use Rattle.ipnet_base.specs.Network.{Network, IsNetwork, InBlock, IsLeastOf, IsGreatestOf, IsSubnetOf};
+ghost use Rattle.ipnet_base.specs.Network.{HaveSameBlock, AreDisjoint, IsTruncated, IsTruncationOf, IsSupernetOf};
+ghost use Rattle.ipnet_base.specs.Network.{AreSiblings, AreHalves, IsBefore, truncation};
+ghost use Rattle.ipnet_base.specs.Blocks.{IsCoveredBy, HaveSameCover, IsMaximal, AreMaximalBlocks, ArePairwiseDisjoint};
+ghost use Rattle.ipnet_base.specs.Blocks.{IsExactCover, IsShortestCover, IsAggregateOf, IsCanonicalAggregateOf};
+ghost use Rattle.ipnet_base.specs.Blocks.{AreAggregatedNeighbours, IsAscending, IsInEither, AreSeparated};
 ghost use Rattle.ipnet_base.specs.Subnets.{IsLargestSubnetAt};
 ghost use Rattle.ipnet_base.specs.Masks.{netmask_number, hostmask_number, IsNetmaskOf};
 
@@ -109,8 +115,8 @@ pub fn truncated_networks_are_ordered_by_first_address()
         ⊎ ((a.family ≡ b.family) × ((a.number < b.number) ⊎ ((a.number ≡ b.number) × (n.prefix_len < k.prefix_len))))) }
 {}
 
-/// At most one list is the maximal blocks of a set under a least length: of a set that a test tells, of what a list
-/// covers, of a range.
+/// At most one list is the maximal blocks of a set under a minimum prefix length: of a set that a test tells, of what a
+/// list covers, of a range.
 pub fn one_list_of_maximal_blocks()
     ensures of_set { (test : Address → Bool) (m : ℕ) (a b : List Network)
         → AreMaximalBlocks (IsAcceptedBy test) m a → AreMaximalBlocks (IsAcceptedBy test) m b → a ≡ b }
@@ -132,8 +138,8 @@ pub fn same_set_has_same_maximal_blocks()
         → (test : Address → Bool) × ((x : Address) → IsBetween f start end x ↔ IsAcceptedBy test x) }
 {}
 
-/// No exact cover of a set under a least length has fewer members than its maximal blocks, and one with as many is
-/// them, truncated and sorted.
+/// No exact cover of a set under a minimum prefix length has fewer members than its maximal blocks, and one with as
+/// many is them, truncated and sorted.
 pub fn no_cover_is_shorter()
     ensures shortest { (test : Address → Bool) (m : ℕ) (blocks cover : List Network)
         → AreMaximalBlocks (IsAcceptedBy test) m blocks → IsExactCover (IsAcceptedBy test) m cover
@@ -149,31 +155,20 @@ pub fn neighbours_show_an_aggregate()
         → AreAggregatedNeighbours networks ↔ IsAggregateOf networks networks }
 {}
 
-/// An aggregate is the shortest list with the cover of its list, no longer than that list, and no two of its networks
-/// share an address.
-pub fn aggregate_is_the_shortest()
-    ensures shortest { (networks answer : List Network) → All IsNetwork networks → IsAggregateOf answer networks
-        → IsShortestCover (IsCoveredBy networks) 0 answer }
-    ensures no_longer { (networks answer : List Network) → All IsNetwork networks → IsAggregateOf answer networks
-        → length answer ≤ length networks }
-    ensures apart { (networks answer : List Network) → IsAggregateOf answer networks → ArePairwiseDisjoint answer }
+/// An aggregate of a list of networks is all that `IsCanonicalAggregateOf` says: it covers the same addresses, no list
+/// that does is shorter, it is one for all lists that cover the same, and the rest. Its networks share no address,
+/// whatever the list.
+pub fn aggregate_is_canonical()
+    ensures canonical { (networks answer : List Network) → All IsNetwork networks → IsAggregateOf answer networks
+        → IsCanonicalAggregateOf answer networks }
+    ensures disjoint { (networks answer : List Network) → IsAggregateOf answer networks → ArePairwiseDisjoint answer }
 {}
 
-/// An aggregate is its own aggregate.
-pub fn aggregate_of_an_aggregate()
-    ensures { (networks answer : List Network) → All IsNetwork networks → IsAggregateOf answer networks
-        → IsAggregateOf answer answer }
-{}
-
-/// Two lists have equal aggregates exactly where they cover the same addresses; so the aggregate of the one is that of
-/// the other exactly there.
+/// Two lists have equal aggregates exactly where they cover the same addresses.
 pub fn equal_aggregates_are_equal_covers()
-    ensures equal { (networks others answer other : List Network) → All IsNetwork networks → All IsNetwork others
+    ensures { (networks others answer other : List Network) → All IsNetwork networks → All IsNetwork others
         → IsAggregateOf answer networks → IsAggregateOf other others
         → (answer ≡ other) ↔ HaveSameCover networks others }
-    ensures shared { (networks others answer : List Network) → All IsNetwork networks → All IsNetwork others
-        → IsAggregateOf answer networks
-        → IsAggregateOf answer others ↔ HaveSameCover others networks }
 {}
 
 /// Order, repeats and host bits of a list do not change its aggregate: lists with the same truncated members have the
@@ -182,6 +177,47 @@ pub fn order_repeats_and_host_bits_do_not_matter()
     ensures { (networks others answer : List Network)
         → ((n : Network) → Contains (map truncation networks) n ↔ Contains (map truncation others) n)
         → IsAggregateOf answer networks ↔ IsAggregateOf answer others }
+{}
+
+/// The empty list covers nothing; a list with one network more covers that network's block and what it covered; two
+/// lists joined cover what the one or the other covers.
+pub fn cover_is_a_union()
+    ensures empty { (x : Address) → ¬ (IsCoveredBy [] x) }
+    ensures in_front { (n : Network) (networks : List Network) (x : Address)
+        → IsCoveredBy (n ∷ networks) x ↔ (InBlock n x ⊎ IsCoveredBy networks x) }
+    ensures at_end { (networks : List Network) (n : Network) (x : Address)
+        → IsCoveredBy (networks ++ n ∷ []) x ↔ (IsCoveredBy networks x ⊎ InBlock n x) }
+    ensures joined { (networks others : List Network) (x : Address)
+        → IsCoveredBy (networks ++ others) x ↔ (IsCoveredBy networks x ⊎ IsCoveredBy others x) }
+{}
+
+/// The aggregate of two aggregates, one after the other, is the aggregate of both lists, so that a long list may be
+/// split, its parts aggregated apart, and the answers once more.
+pub fn aggregates_can_be_aggregated()
+    ensures { (networks others first second answer : List Network) → All IsNetwork networks → All IsNetwork others
+        → IsAggregateOf first networks → IsAggregateOf second others
+        → IsAggregateOf answer (first ++ second) ↔ IsAggregateOf answer (networks ++ others) }
+{}
+
+/// Where one set comes before another and is not adjacent to it, the maximal blocks of both together are those of the
+/// first, followed by those of the second; so are the aggregates of two lists that cover such sets.
+pub fn separated_blocks_append()
+    ensures of_sets { (first second : Address → Bool) (m : ℕ) (networks others : List Network)
+        → AreSeparated (IsAcceptedBy first) (IsAcceptedBy second)
+        → AreMaximalBlocks (IsAcceptedBy first) m networks → AreMaximalBlocks (IsAcceptedBy second) m others
+        → AreMaximalBlocks (IsInEither (IsAcceptedBy first) (IsAcceptedBy second)) m (networks ++ others) }
+    ensures of_lists { (networks others first second : List Network)
+        → AreSeparated (IsCoveredBy networks) (IsCoveredBy others)
+        → IsAggregateOf first networks → IsAggregateOf second others
+        → IsAggregateOf (first ++ second) (networks ++ others) }
+{}
+
+/// Ascending networks, each maximal in a set, that cover the set are all its maximal blocks.
+pub fn covering_blocks_are_all()
+    ensures { (test : Address → Bool) (m : ℕ) (networks : List Network)
+        → IsAscending networks → All (IsMaximal (IsAcceptedBy test) m) networks
+        → ((x : Address) → IsAcceptedBy test x → IsCoveredBy networks x)
+        → AreMaximalBlocks (IsAcceptedBy test) m networks }
 {}
 
 /// What keeps a list's cover: truncating its networks; sorting it; dropping a network that lies in another member;
@@ -196,7 +232,7 @@ pub fn cover_is_kept()
 {}
 
 /// From every start within a range there is a largest subnet; it is a maximal block of the range, and stands in front
-/// of the maximal blocks of what is left behind its last address.
+/// of the maximal blocks of what is left after its last address.
 pub fn largest_subnet_is_the_next_block()
     ensures exists { (f : Family) (start end m : ℕ) → start ≤ end → end < 2 ^ width f → m ≤ width f
         → (n : Network) × IsLargestSubnetAt f start end m n }
@@ -219,7 +255,8 @@ pub fn range_is_tiled()
         → AreMaximalBlocks (IsBetween f start end) m networks → ArePairwiseDisjoint networks }
 {}
 
-/// Under least length 0 a range has at most twice the width less two maximal blocks: 62 for IPv4, 254 for IPv6.
+/// Under minimum prefix length 0 a range has at most twice the width less two maximal blocks: 62 for IPv4, 254 for
+/// IPv6.
 pub fn range_has_few_blocks()
     ensures { (f : Family) (start end : ℕ) (networks : List Network) → end < 2 ^ width f
         → AreMaximalBlocks (IsBetween f start end) 0 networks → length networks ≤ 2 * width f - 2 }

@@ -5,6 +5,8 @@ ghost use Rattle.std.specs.Net.Addr.{ipv4_bits, ipv6_bits};
 ghost use Rattle.ipnet_base.specs.Address.{IPv4, IPv6, ip_address};
 ghost use Rattle.ipnet_base.specs.Masks.{netmask_number, IsNetmaskOf};
 
+pub mod laws;
+
 use crate::addr::{IpAddr, Ipv4Addr, Ipv6Addr};
 use thiserror::Error;
 

@@ -14,8 +14,8 @@ pub enum BenchError {
     /// The first argument names no task.
     #[error("no such task")]
     Task,
-    /// An argument of a task over a range is missing, or no IPv4 address.
-    #[error("this task takes two IPv4 addresses")]
+    /// An argument of a task over a range is missing, or no address of the task's family.
+    #[error("this task takes two addresses of its family")]
     Addresses,
     /// An argument of the task over refused texts is missing, or the second no number.
     #[error("this task takes a piece of text and how often it is repeated")]

@@ -11,7 +11,7 @@ mod measure;
 mod work;
 
 use crate::error::BenchError;
-use ipnet_base::Ipv4Addr;
+use ipnet_base::{Ipv4Addr, Ipv6Addr};
 use std::alloc::Global;
 use std::env;
 use std::process::ExitCode;
@@ -19,10 +19,17 @@ use std::rt::Clock;
 
 const USAGE: &str = "usage: ipnet_bench TASK [ARGUMENT..] < NETWORKS";
 
-/// The argument at this place, as a value of its type.
-fn address(arguments: &[String], index: usize) -> Result<Ipv4Addr, BenchError> {
+/// The IPv4 address at this place of the arguments.
+fn ipv4_address(arguments: &[String], index: usize) -> Result<Ipv4Addr, BenchError> {
     let text = arguments.get(index).ok_or(BenchError::Addresses)?;
     let address = text.as_str().parse::<Ipv4Addr>();
+    address.map_err(|_| BenchError::Addresses)
+}
+
+/// The IPv6 address at this place of the arguments.
+fn ipv6_address(arguments: &[String], index: usize) -> Result<Ipv6Addr, BenchError> {
+    let text = arguments.get(index).ok_or(BenchError::Addresses)?;
+    let address = text.as_str().parse::<Ipv6Addr>();
     address.map_err(|_| BenchError::Addresses)
 }
 
@@ -34,19 +41,25 @@ fn without_input(
     arguments: &[String],
 ) -> Result<bool, BenchError> {
     match task {
-        "range_next" => {
-            let work = work::RangeNext {
-                start: address(arguments, 0)?,
-                end: address(arguments, 1)?,
-            };
-            measure::report(rt, alloc, task, work)?;
+        "range_next_ipv4" => {
+            let start = ipv4_address(arguments, 0)?;
+            let end = ipv4_address(arguments, 1)?;
+            measure::report(rt, alloc, task, work::RangeNextIpv4 { start, end })?;
         }
-        "walk" => {
-            let work = work::Walk {
-                start: address(arguments, 0)?,
-                end: address(arguments, 1)?,
-            };
-            measure::report(rt, alloc, task, work)?;
+        "range_next_ipv6" => {
+            let start = ipv6_address(arguments, 0)?;
+            let end = ipv6_address(arguments, 1)?;
+            measure::report(rt, alloc, task, work::RangeNextIpv6 { start, end })?;
+        }
+        "walk_ipv4" => {
+            let start = ipv4_address(arguments, 0)?;
+            let end = ipv4_address(arguments, 1)?;
+            measure::report(rt, alloc, task, work::WalkIpv4 { start, end })?;
+        }
+        "walk_ipv6" => {
+            let start = ipv6_address(arguments, 0)?;
+            let end = ipv6_address(arguments, 1)?;
+            measure::report(rt, alloc, task, work::WalkIpv6 { start, end })?;
         }
         "refuse" => {
             let piece = arguments.first().ok_or(BenchError::Piece)?;

@@ -1,8 +1,8 @@
 //! The works whose time is taken, each over public calls of this repository.
 
 use crate::measure::Work;
-use ipnet::{IpNet, Ipv4Net, Ipv4Subnets, Ipv6Net};
-use ipnet_base::{IpAddr, Ipv4Addr, Ipv4AddrRange};
+use ipnet::{IpNet, Ipv4Net, Ipv4Subnets, Ipv6Net, Ipv6Subnets};
+use ipnet_base::{IpAddr, Ipv4Addr, Ipv4AddrRange, Ipv6Addr, Ipv6AddrRange};
 use std::alloc::{AllocError, Global};
 use std::fmt::Write;
 
@@ -22,14 +22,14 @@ fn mixed(before: u64, number: u64) -> u64 {
     (before ^ number).wrapping_mul(0x0000_0100_0000_01b3)
 }
 
-/// Every address of a range, from its start.
+/// Every address of an IPv4 range, from its start.
 #[derive(Drop)]
-pub struct RangeNext {
+pub struct RangeNextIpv4 {
     pub start: Ipv4Addr,
     pub end: Ipv4Addr,
 }
 
-impl Work for RangeNext {
+impl Work for RangeNextIpv4 {
     fn items(&self) -> usize {
         Ipv4AddrRange::new(self.start, self.end).size_hint().0
     }
@@ -43,14 +43,35 @@ impl Work for RangeNext {
     }
 }
 
-/// A walk of a range by networks of length 24 at least.
+/// Every address of an IPv6 range, from its start.
 #[derive(Drop)]
-pub struct Walk {
+pub struct RangeNextIpv6 {
+    pub start: Ipv6Addr,
+    pub end: Ipv6Addr,
+}
+
+impl Work for RangeNextIpv6 {
+    fn items(&self) -> usize {
+        Ipv6AddrRange::new(self.start, self.end).size_hint().0
+    }
+
+    fn run(&mut self) -> Result<u64, AllocError> {
+        let mut check: u64 = 0;
+        for addr in Ipv6AddrRange::new(self.start, self.end) {
+            check = check.wrapping_add(folded(IpAddr::V6(addr))) ^ 1;
+        }
+        Ok(check)
+    }
+}
+
+/// A walk of an IPv4 range under minimum prefix length 24.
+#[derive(Drop)]
+pub struct WalkIpv4 {
     pub start: Ipv4Addr,
     pub end: Ipv4Addr,
 }
 
-impl Work for Walk {
+impl Work for WalkIpv4 {
     fn items(&self) -> usize {
         let mut items: usize = 0;
         for _ in Ipv4Subnets::new(self.start, self.end, 24) {
@@ -63,6 +84,32 @@ impl Work for Walk {
         let mut check: u64 = 0;
         for network in Ipv4Subnets::new(self.start, self.end, 24) {
             let bits = u64::from(network.addr().to_bits());
+            check = check.wrapping_add(bits ^ u64::from(network.prefix_len()));
+        }
+        Ok(check)
+    }
+}
+
+/// A walk of an IPv6 range under minimum prefix length 56.
+#[derive(Drop)]
+pub struct WalkIpv6 {
+    pub start: Ipv6Addr,
+    pub end: Ipv6Addr,
+}
+
+impl Work for WalkIpv6 {
+    fn items(&self) -> usize {
+        let mut items: usize = 0;
+        for _ in Ipv6Subnets::new(self.start, self.end, 56) {
+            items = items.saturating_add(1);
+        }
+        items
+    }
+
+    fn run(&mut self) -> Result<u64, AllocError> {
+        let mut check: u64 = 0;
+        for network in Ipv6Subnets::new(self.start, self.end, 56) {
+            let bits = folded(IpAddr::V6(network.addr()));
             check = check.wrapping_add(bits ^ u64::from(network.prefix_len()));
         }
         Ok(check)

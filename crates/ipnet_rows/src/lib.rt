@@ -39,6 +39,8 @@ mod slow_reader;
 #[cfg(test)]
 mod table;
 #[cfg(test)]
+mod text_tool;
+#[cfg(test)]
 mod texts;
 #[cfg(test)]
 mod walks;

@@ -1,6 +1,6 @@
 //! Rows on limits, and on what a caller must know before a call.
 use crate::table::{cells, ip_addr, ip_range, ip_walk, ipv4_addr, ipv6_addr, rows};
-use ipnet::{IpNet, Ipv4Net, Ipv6Net, ipv4_addr_text, ipv6_addr_text};
+use ipnet::{IpNet, Ipv4Net, Ipv4Subnets, Ipv6Net, Ipv6Subnets, ipv4_addr_text, ipv6_addr_text};
 use std::net::IpAddr;
 use std::process::Abort;
 use std::test::Fail;
@@ -115,4 +115,42 @@ fn checked_constructor(rt: HostRuntime) {
             assert!(rt; Ipv4Net::new(ipv4, len).is_err(), "{label}");
         }
     }
+}
+
+// The condition of a walk's `new` is proved where it is called, by the comparison: a walk of one address gives that
+// address alone, whatever the minimum prefix length.
+#[test]
+fn minimum_prefix_length_of_a_walk(rt: HostRuntime) {
+    let label = "conditions: minimum prefix length of a walk";
+    let ipv4 = ipv4_addr(&rt, "10.0.0.1");
+    let ipv6 = ipv6_addr(&rt, "fd00::1");
+    for min_prefix_len in 0..=255u8 {
+        if min_prefix_len <= 32 {
+            let mut walk = Ipv4Subnets::new(ipv4, ipv4, min_prefix_len);
+            assert_eq!(rt; walk.next(), Some(Ipv4Net::new_assert(ipv4, 32)), "{label}");
+            assert_eq!(rt; walk.next(), None, "{label}");
+        }
+        if min_prefix_len <= 128 {
+            let mut walk = Ipv6Subnets::new(ipv6, ipv6, min_prefix_len);
+            assert_eq!(rt;
+                walk.next(),
+                Some(Ipv6Net::new_assert(ipv6, 128)),
+                "{label}"
+            );
+            assert_eq!(rt; walk.next(), None, "{label}");
+        }
+    }
+}
+
+// The condition of `count` is proved where it is called, by the upper bound of `size_hint`.
+#[test]
+fn count_of_a_range(rt: HostRuntime) {
+    let label = "conditions: count of a range";
+    let range = ip_range(&rt, "fd00::", "fd00::ff");
+    match range.size_hint() {
+        (_, Some(_)) => assert_eq!(rt; range.count(), 256, "{label}"),
+        (_, None) => assert!(rt; false, "{label}"),
+    }
+    let (_, upper) = ip_range(&rt, "::", "ffff:ffff:ffff:ffff:ffff:ffff:ffff:ffff").size_hint();
+    assert_eq!(rt; upper, None, "{label}");
 }

@@ -5,21 +5,24 @@ use Rattle.std.proofs.Common.{refl, sym, ap, ◌∙◌, subst, arith, inl, inr, 
 use Rattle.std.proofs.lemmas.Bool.{cases_lt, lt-leb}
 use Rattle.std.proofs.lemmas.List.{length-append}
 use Rattle.std.proofs.lemmas.List.Elements.{Contains-append_left, Contains-append_right, Contains-append_cases}
-use Rattle.ipnet_base.specs.Address.{Family, IPv6, Address, IsAddress, greatest_number, family_index}
+use Rattle.ipnet_base.specs.Address.{Family, IPv6, Address, IsAddress, greatest_number, family_index, width}
 use Rattle.ipnet_base.specs.Ranges.{AddressRange, addresses_of}
 use Rattle.ipnet_base.proofs.ListLaws.{contains_nil, contains_here, pairs_head, pairs_tail}
 use Rattle.ipnet_base.proofs.ListLaws.{pairs_weaker}
-use Rattle.ipnet_base.proofs.FamilyLaws.{pairs_append}
+use Rattle.ipnet_base.proofs.ListLaws.{pairs_append}
+use Rattle.ipnet_base.proofs.ShortestLaws.{partners_no_more}
 use Rattle.ipnet_base.proofs.RangeLaws.{length-addresses_of, between_from_contains, contains_from_between}
 use Rattle.ipnet_base.proofs.RangeLaws.{addresses_ascend}
 use Rattle.ipnet_sets.specs.declared.set.IpSet.{IpSet}
 use Rattle.ipnet_sets.specs.Turns.{is_inside, AreTurns}
 use Rattle.ipnet_sets.specs.Members.{turns_of, IsMember, IsMemberOf, IsCountOf}
-use Rattle.ipnet_sets.specs.SetRanges.{range_of, IsInRange, LiesApart, IsInTurns, ranges_of, count_of}
+use Rattle.ipnet_sets.specs.SetRanges.{range_of, IsInRange, LiesApart}
+use Rattle.ipnet_sets.specs.TurnRanges.{IsInTurns, ranges_of, count_of}
 use Rattle.ipnet_sets.proofs.SetRangeLaws.{IsInRanges, any_cases, any_here, any_there, tail_turns, later, in_ranges}
 use Rattle.ipnet_sets.proofs.SetRangeLaws.{ranges_apart, ranges_some, members_of_family, after_turns}
 use Rattle.ipnet_sets.proofs.InsideLaws.{inside_before}
-use Rattle.ipnet_sets.proofs.MemberLaws.{fits_below}
+use Rattle.ipnet_sets.proofs.SetEqualLaws.{member_or_not}
+use Rattle.ipnet_sets.proofs.MemberLaws.{fits_below, fits_to}
 
 -- the addresses of ranges that lie apart can be listed
 pub counted : (ranges : List AddressRange) → AllPairs LiesApart ranges → IsCountOf (IsInRanges ranges) (count_of ranges)
@@ -85,7 +88,7 @@ count_of_family s f turns e h =
     }
 
 -- no more numbers than lie from the first turn on
-pub count_from : (f : Family) (ts : List ℕ) (b : ℕ) → AreTurns f ts → All (λ t. b ≤ t) ts
+count_from : (f : Family) (ts : List ℕ) (b : ℕ) → AreTurns f ts → All (λ t. b ≤ t) ts
     → b ≤ greatest_number f + 1 → count_of (ranges_of f ts) + b ≤ greatest_number f + 1
 count_from f [] b h up le = omega (arith, le)
 count_from f (s ∷ []) b h up le = omega (arith, h.fits 0 s (omega arith), up 0 s (omega arith))
@@ -113,14 +116,8 @@ whole_has_one f (s ∷ u ∷ ts) h e =
     (λ k d l. omega (arith, after k d l)) (omega (arith, h.fits 1 u (omega arith))) in
     absurd (omega (arith, rest, first, e))
 
-pub one_is_whole : (f : Family) (ts : List ℕ) (t : ℕ) → length ts ≡ 1 → ((d : ℕ) → get_or ts 0 d ≡ t) → t ≡ 0
-    → count_of (ranges_of f ts) ≡ greatest_number f + 1
-one_is_whole f [] t size at e = absurd (omega (arith, size))
-one_is_whole f (s ∷ []) t size at e = omega (arith, at 0, e)
-one_is_whole f (s ∷ u ∷ ts) t size at e = absurd (omega (arith, size))
-
 -- and exactly where every number of the family is inside
-pub whole_inside : (f : Family) (ts : List ℕ) → AreTurns f ts → count_of (ranges_of f ts) ≡ greatest_number f + 1
+whole_inside : (f : Family) (ts : List ℕ) → AreTurns f ts → count_of (ranges_of f ts) ≡ greatest_number f + 1
     → (x : ℕ) → is_inside ts x ≡ true
 whole_inside f [] h e x = absurd (omega (arith, e))
 whole_inside f (s ∷ []) h e x =
@@ -128,7 +125,7 @@ whole_inside f (s ∷ []) h e x =
     rw (le-leb s x (omega (arith, zero_first))) refl
 whole_inside f (s ∷ u ∷ ts) h e x = absurd (omega (arith, (whole_has_one f (s ∷ u ∷ ts) h e).0))
 
-pub inside_whole : (f : Family) (ts : List ℕ) → AreTurns f ts
+inside_whole : (f : Family) (ts : List ℕ) → AreTurns f ts
     → ((x : ℕ) → x ≤ greatest_number f → is_inside ts x ≡ true) → count_of (ranges_of f ts) ≡ greatest_number f + 1
 inside_whole f [] h all = let some : false ≡ true = all 0 (omega arith) in absurd (cc)
 inside_whole f (s ∷ []) h all = elim (cases_lt 0 s) [
@@ -187,3 +184,65 @@ not_whole_fits items slice other e g h out =
       | inl lt ↦ omega (arith, lt, same)
       | inr ge ↦ absurd (out (ap (λ z. count_of (ranges_of IPv6 (map (λ n. n) z))) e ∙ omega (arith, ge, fits)))
     ]
+
+-- lists that have each of the same members once are as long
+same_length : (xs ys : List Address) → AllPairs (λ x y. x ≢ y) xs → AllPairs (λ x y. x ≢ y) ys
+    → ((x : Address) → Contains xs x ↔ Contains ys x) → length xs ≡ length ys
+same_length xs ys a b same = omega (arith, no_more xs ys a (λ x. (same x).0), no_more ys xs b (λ x. (same x).1))
+  where
+    no_more : (us vs : List Address) → AllPairs (λ x y. x ≢ y) us
+        → ((x : Address) → Contains us x → Contains vs x) → length us ≤ length vs
+    no_more us vs once within = partners_no_more (λ x y. x ≡ y) us vs (λ x c. (x, within x c, refl))
+        (pairs_weaker (λ x z. x ≢ z) (λ x z. (y : Address) → x ≡ y → z ≡ y → ⊥)
+        (λ x z ne y e g. ne (e ∙ sym g)) us once)
+
+-- the counts of a set and of its complement
+pub counts_add_up : (f : Family) (s t : IpSet) (m n : ℕ)
+    → ((x : Address) → IsAddress x → IsMember t x ↔ ¬ (IsMember s x))
+    → IsCountOf (IsMemberOf f s) m → IsCountOf (IsMemberOf f t) n → m + n ≡ greatest_number f + 1
+counts_add_up f s t m n complement h k =
+    omega (
+      arith,
+      length-append h.addresses k.addresses,
+      h.count,
+      k.count,
+      length-addresses_of all,
+      same_length (h.addresses ++ k.addresses) (addresses_of all)
+          (pairs_append (λ x y. x ≢ y) h.addresses k.addresses h.once k.once (λ x y c d e. apart x y c d e))
+          (pairs_weaker (λ x y. x.number < y.number) (λ x y. x ≢ y)
+          (λ x y lt e. omega (arith, lt, ap (λ z. z.number) e)) (addresses_of all) (addresses_ascend all))
+          (λ x. (to x, from x)),
+    )
+  where
+    all : AddressRange
+    all = range_of f 0 (greatest_number f)
+
+    apart : (x y : Address) → Contains h.addresses x → Contains k.addresses y → x ≡ y → ⊥
+    apart x y c d e =
+        let in_s : IsMember s x = ((h.members x).0 c).1 in
+        let in_t : IsMember t y = ((k.members y).0 d).1 in
+        (complement y in_t.fits).0 in_t (subst (IsMember s) e in_s)
+
+    to : (x : Address) → Contains (h.addresses ++ k.addresses) x → Contains (addresses_of all) x
+    to x c = elim (Contains-append_cases h.addresses k.addresses x c) [
+      | inl d ↦ whole x ((h.members x).0 d).0 ((h.members x).0 d).1.fits
+      | inr d ↦ whole x ((k.members x).0 d).0 ((k.members x).0 d).1.fits
+    ]
+      where
+        whole : (y : Address) → y.family ≡ f → IsAddress y → Contains (addresses_of all) y
+        whole y same fits = contains_from_between all y (record {
+          of_family = same;
+          from_start = omega arith;
+          to_end = subst (λ g. y.number ≤ greatest_number g) same (fits_to y.family y.number fits);
+        })
+
+    from : (x : Address) → Contains (addresses_of all) x → Contains (h.addresses ++ k.addresses) x
+    from x c =
+        let b = between_from_contains all x c in
+        let fits : IsAddress x
+        = subst (λ g. x.number < 2 ^ width g) (sym b.of_family) (fits_below f x.number b.to_end) in
+        elim (member_or_not s x) [
+          | inl in_s ↦ Contains-append_left h.addresses k.addresses x ((h.members x).1 (b.of_family, in_s))
+          | inr out ↦ Contains-append_right h.addresses k.addresses x
+              ((k.members x).1 (b.of_family, (complement x fits).1 out))
+        ]

@@ -32,7 +32,7 @@ front_below family ts t h k d l =
     let upper = get_or_push ts t d (length ts) (omega arith) in
     omega (arith, h.ascending k (length ts) d l (omega (arith, size)), lower, upper)
 
-pub turns_push : (family : Family) (ts : List ℕ) (t : ℕ) → AreTurns family ts → All (λ u. u < t) ts
+turns_push : (family : Family) (ts : List ℕ) (t : ℕ) → AreTurns family ts → All (λ u. u < t) ts
     → t ≤ greatest_number family → AreTurns family (ts ++ t ∷ [])
 turns_push family ts t h below le = record {
   ascending = ascending_push ts t h.ascending below;
@@ -47,7 +47,7 @@ outside_from ts first x up_to outside le =
     ∙ sym (inside_from ts first up_to) ∙ outside
 
 -- the set ended at the first: that end is taken away
-pub opened_pop : (family : Family) (ts : List ℕ) (first : ℕ) → AreTurns family (ts ++ first ∷ [])
+opened_pop : (family : Family) (ts : List ℕ) (first : ℕ) → AreTurns family (ts ++ first ∷ [])
     → is_inside (ts ++ first ∷ []) first ≡ false → IsOpenedAt family (ts ++ first ∷ []) first ts
 opened_pop family ts first h outside =
     let below : All (λ u. u < first) ts = front_below family ts first h in
@@ -101,21 +101,6 @@ ends_by_last family ts t first h some at out up_to = (some, λ d. at d ∙ same)
       | inr ge ↦ omega (arith, ge, up_to (length ts - 1) 0 (omega (arith, some)), at 0)
     ]
 
--- all numbers from the first on, up to the family's last
-pub extended_whole : (family : Family) (old : List ℕ) (first last : ℕ) (new : List ℕ) → first ≤ last
-    → greatest_number family ≤ last → IsOpenedAt family old first new → IsExtended family old first last new
-extended_whole family old first last new ordered whole h = record {
-  turns = h.turns;
-  up_to = All-weaker (λ t. t ≤ first) (λ t. t ≤ last + 1) (λ t l. omega (arith, l, ordered)) new h.up_to;
-  members = λ x fits. elim (cases_lt x first) [
-    | inl lt ↦ (
-      λ e. inl (sym (h.before x lt) ∙ e),
-      elim [ inl e ↦ h.before x lt ∙ e | inr b ↦ absurd (omega (arith, lt, b.0)) ],
-    )
-    | inr ge ↦ (λ e. inr (ge, omega (arith, fits, whole)), λ s. (h.from x ge).1)
-  ];
-}
-
 -- and those after the last taken away again
 pub extended_push : (family : Family) (old : List ℕ) (first last : ℕ) (new : List ℕ) → first ≤ last
     → last < greatest_number family → IsOpenedAt family old first new
@@ -153,7 +138,7 @@ extended_push family old first last new ordered room h =
     }
 
 -- the first turn is the least number
-pub least_inside : (family : Family) (t : ℕ) (ts : List ℕ) → AreTurns family (t ∷ ts) → IsLeastInside family (t ∷ ts) t
+least_inside : (family : Family) (t : ℕ) (ts : List ℕ) → AreTurns family (t ∷ ts) → IsLeastInside family (t ∷ ts) t
 least_inside family t ts h = record {
   fits = h.fits 0 t (omega arith);
   inside = rw (le-leb t t (omega arith))
@@ -179,7 +164,7 @@ greatest_open family ts h odd = record {
 }
 
 -- with an even count it ends before its last turn
-pub greatest_closed : (family : Family) (ts : List ℕ) (t n : ℕ) → AreTurns family (ts ++ t ∷ []) → n + 1 ≡ t
+greatest_closed : (family : Family) (ts : List ℕ) (t n : ℕ) → AreTurns family (ts ++ t ∷ []) → n + 1 ≡ t
     → (length (ts ++ t ∷ []) % 2 ≡ 1 → ⊥) → IsGreatestInside family (ts ++ t ∷ []) n
 greatest_closed family ts t n h e even =
     let size = length_push ts t in

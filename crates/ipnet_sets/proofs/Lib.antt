@@ -5,7 +5,6 @@ pub mod SplitLaws
 pub mod ExtendLaws
 pub mod MemberLaws
 pub mod LoadLaws
-pub mod SeparateLaws
 pub mod SetRangeLaws
 pub mod SetEqualLaws
 pub mod CountLaws

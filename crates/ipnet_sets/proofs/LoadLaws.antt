@@ -11,11 +11,12 @@ use Rattle.ipnet_base.specs.Blocks.{IsCoveredBy, IsAggregateOf, AreAggregatedNei
 use Rattle.ipnet_base.proofs.BlockLaws.{own, own_in, cases_family}
 use Rattle.ipnet_base.proofs.ListLaws.{all_at, pair_at}
 use Rattle.ipnet_base.proofs.NetworkLaws.{block_is_between}
-use Rattle.ipnet_base.proofs.NeighbourLaws.{LiesBefore, ends_before_all}
-use Rattle.ipnet_base.proofs.AggregateLaws.{AreSettled-from_neighbours, neighbours_iff_own_aggregate}
+use Rattle.ipnet_base.specs.Stack.{LiesBefore}
+use Rattle.ipnet_base.proofs.NeighbourLaws.{ends_before_all, ends_apart}
+use Rattle.ipnet_base.proofs.AggregateLaws.{AreJoined-from_neighbours, neighbours_iff_own_aggregate}
 use Rattle.ipnet_base.proofs.AggregateLaws.{aggregate_of_aggregate, aggregate_valid, covered_fits}
 use Rattle.ipnet_base.proofs.AggregateLaws.{IsExactCover-of_aggregate}
-use Rattle.ipnet_base.proofs.StackLaws.{pushed_cover}
+use Rattle.ipnet_base.proofs.CoverLaws.{cover_push}
 use Rattle.ipnet.specs.declared.net.IpNet.{IpNet}
 use Rattle.ipnet.specs.NetworkOf.{ip_network}
 use Rattle.ipnet.specs.NetLaws.{ip_valid}
@@ -28,14 +29,9 @@ use Rattle.ipnet_sets.proofs.MemberLaws.{fits_to}
 abbrev pub address_of : Family → ℕ → Address
 address_of f number = record { family = f; number = number }
 
--- a network that lies before another shares no address with it
-pub before_apart : (n k : Network) (x : Address) → IsTruncated k → LiesBefore n k → InBlock n x → InBlock k x → ⊥
-before_apart n k x t (inl h) a b = absurd (omega (arith, h, ap family_index (sym a.same_family ∙ b.same_family)))
-before_apart n k x t (inr h) a b = absurd (omega (arith, h.1 x a, t x b))
-
 -- the networks of an aggregate come one after another
-pub apart_from_neighbours : (list : List Network) → AreAggregatedNeighbours list → AllPairs LiesBefore list
-apart_from_neighbours list h = ends_before_all list (AreSettled-from_neighbours list h)
+apart_from_neighbours : (list : List Network) → AreAggregatedNeighbours list → AllPairs LiesBefore list
+apart_from_neighbours list h = ends_before_all list (AreJoined-from_neighbours list h)
 
 -- The first networks of the list, as many as i, are in the set that has these turns.
 pub record IsLoadedTo (list : List Network) (i : ℕ) (kept : Family → List ℕ) : Type 0 where
@@ -43,24 +39,6 @@ pub record IsLoadedTo (list : List Network) (i : ℕ) (kept : Family → List �
   pub after : (n : Network) (c : Contains list n) → i ≤ c.0 → All (λ t. t ≤ n.number) (kept n.family)
   pub members : (f : Family) (x : ℕ) → x ≤ greatest_number f
       → (is_inside (kept f) x ≡ true) ↔ IsCoveredBy (take i list) (address_of f x)
-
-pub loaded_none : (list : List Network) (ipv4 ipv6 : List ℕ) → ipv4 ≡ [] → ipv6 ≡ []
-    → IsLoadedTo list 0 (by_family ipv4 ipv6)
-loaded_none list ipv4 ipv6 e g = record {
-  turns = λ f. subst (AreTurns f) (sym (empty f)) (record {
-    ascending = λ i j d l m. absurd (omega (arith, m));
-    fits = λ k d l. absurd (omega (arith, l));
-  });
-  after = λ n c l. subst (All (λ t. t ≤ n.number)) (sym (empty n.family)) (λ k d m. absurd (omega (arith, m)));
-  members = λ f x le. (
-    λ h. let none : is_inside (by_family ipv4 ipv6 f) x ≡ false = ap (λ z. is_inside z x) (empty f) in absurd (cc),
-    λ a. absurd (omega (arith, a.2)),
-  );
-}
-  where
-    empty : (f : Family) → by_family ipv4 ipv6 f ≡ []
-    empty IPv4 = e
-    empty IPv6 = g
 
 -- the member of a list's front, in the list
 in_front : (list : List Network) (i : ℕ) (x : Address) → i ≤ length list → (a : IsCoveredBy (take i list) x)
@@ -71,7 +49,7 @@ in_front list i x le a =
     ((a.0, omega (arith, lt, le), sym (get_or-take i list a.0 a.1 (omega (arith, lt))) ∙ a.3), lt)
 
 -- the next network begins outside the set
-pub loaded_outside : (list : List Network) (i : ℕ) (kept : Family → List ℕ) (n : Network)
+loaded_outside : (list : List Network) (i : ℕ) (kept : Family → List ℕ) (n : Network)
     → AllPairs LiesBefore list → IsNetwork n → IsTruncated n → (c : Contains list n) → c.0 ≡ i
     → IsLoadedTo list i kept → is_inside (kept n.family) n.number ≡ false
 loaded_outside list i kept n pairs valid trunc c at h = elim (cases_Bool (is_inside (kept n.family) n.number)) [
@@ -80,11 +58,11 @@ loaded_outside list i kept n pairs valid trunc c at h = elim (cases_Bool (is_ins
       let a : IsCoveredBy (take i list) (own n)
       = (h.members n.family n.number (fits_to n.family n.number valid.address_fits)).0 inside in
       let (d, lt) = in_front list i (own n) (omega (arith, at, c.1)) a in
-      absurd (before_apart a.1 n (own n) trunc (pair_at LiesBefore list pairs a.1 n d c (omega (arith, lt, at)))
+      absurd (ends_apart a.1 n (own n) trunc (pair_at LiesBefore list pairs a.1 n d c (omega (arith, lt, at)))
       a.4 (own_in n))
 ]
 
-pub loaded_more : (list : List Network) (i : ℕ) (kept new : Family → List ℕ) (n : Network) (low high : Address)
+loaded_more : (list : List Network) (i : ℕ) (kept new : Family → List ℕ) (n : Network) (low high : Address)
     → AllPairs LiesBefore list → IsNetwork n → IsTruncated n → (c : Contains list n) → c.0 ≡ i
     → IsLeastOf n low → IsGreatestOf n high
     → IsExtended n.family (kept n.family) low.number high.number (new n.family)
@@ -118,7 +96,7 @@ loaded_more list i kept new n low high pairs valid trunc c at least greatest ext
     to : (f : Family) (x : ℕ) → x ≤ greatest_number f → is_inside (new f) x ≡ true
         → IsCoveredBy (take (i + 1) list) (address_of f x)
     to f x le inside = subst (λ z. IsCoveredBy z (address_of f x)) (sym more)
-        ((pushed_cover (take i list) n (address_of f x)).1 (elim (cases_family f n.family) [
+        ((cover_push (take i list) n (address_of f x)).1 (elim (cases_family f n.family) [
           | inl own ↦
               let it : is_inside (new n.family) x ≡ true = subst (λ g. is_inside (new g) x ≡ true) own inside in
               let fits : x ≤ greatest_number n.family = subst (λ g. x ≤ greatest_number g) own le in
@@ -148,7 +126,7 @@ loaded_more list i kept new n low high pairs valid trunc c at least greatest ext
     ]
       where
         cover : IsCoveredBy (take i list) (address_of f x) ⊎ InBlock n (address_of f x)
-        cover = (pushed_cover (take i list) n (address_of f x)).0
+        cover = (cover_push (take i list) n (address_of f x)).0
             (subst (λ z. IsCoveredBy z (address_of f x)) more a)
 
 -- The next network of a list of values, which is an aggregate.

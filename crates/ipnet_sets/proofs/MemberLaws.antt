@@ -1,13 +1,14 @@
 -- Facts of the addresses of a set, from those of the numbers of each family.
-use Rattle.std.proofs.Common.{◌≡◌, ℕ, ◌^◌, ◌<◌, ◌≤◌, ◌↔◌, Bool, true, false, IsTrue, List, map}
+use Rattle.std.proofs.Common.{◌+◌, ◌≡◌, ℕ, ◌^◌, ◌<◌, ◌≤◌, ◌↔◌, Bool, true, false, IsTrue, List, length, map}
 use Rattle.std.proofs.Common.{refl, ap, ◌∙◌, subst, subst₂, arith}
+use Rattle.std.proofs.lemmas.List.{length-map}
 use Rattle.ipnet_base.specs.Address.{Family, IPv4, IPv6, Address, IsAddress, IsBetween, width, greatest_number}
 use Rattle.ipnet_base.specs.Network.{Network, IsNetwork, InBlock, IsLeastOf, IsGreatestOf}
 use Rattle.ipnet_base.proofs.NetworkLaws.{block_is_between}
 use Rattle.ipnet_base.proofs.BlockLaws.{between_from_block, last_fits}
 use Rattle.ipnet_sets.specs.declared.set.IpSet.{IpSet}
 use Rattle.ipnet_sets.specs.declared.turns.Operation.{Operation}
-use Rattle.ipnet_sets.specs.Turns.{is_inside, combined, IsLeastInside, IsGreatestInside}
+use Rattle.ipnet_sets.specs.Turns.{is_inside, combined, IsLeastInside, IsGreatestInside, by_family}
 use Rattle.ipnet_sets.specs.Members.{turns_of, is_member, IsMember}
 
 pub fits_below : (f : Family) (x : ℕ) → x ≤ greatest_number f → x < 2 ^ width f
@@ -19,7 +20,7 @@ fits_to IPv4 x lt = omega arith
 fits_to IPv6 x lt = omega arith
 
 -- each address of a network's block is one of its family
-pub block_fits : (n : Network) → IsNetwork n → (x : Address) → InBlock n x → IsAddress x
+block_fits : (n : Network) → IsNetwork n → (x : Address) → InBlock n x → IsAddress x
 block_fits n valid x a =
     omega (arith, (between_from_block n x a).to_end, last_fits n valid, ap (λ f. 2 ^ width f) a.same_family)
 
@@ -27,7 +28,7 @@ block_fits n valid x a =
 abbrev pub HasTurns : IpSet → Family → List ℕ → Type 0
 HasTurns s f slice = map (λ n. n) slice ≡ turns_of s f
 
-pub member_at : (s : IpSet) (f : Family) (slice : List ℕ) (n : ℕ) → HasTurns s f slice → n ≤ greatest_number f
+member_at : (s : IpSet) (f : Family) (slice : List ℕ) (n : ℕ) → HasTurns s f slice → n ≤ greatest_number f
     → is_inside (map (λ n. n) slice) n ≡ true → IsMember s (record { family = f; number = n })
 member_at s f slice n e le h = record {
   fits = fits_below f n le;
@@ -95,3 +96,30 @@ pub nothing_in_slices : (operation : Operation) (s t : IpSet) (f : Family) (slic
 nothing_in_slices operation s t f slice other answer e g h =
     subst₂ (λ a b. IsTrue answer ↔ ((x : ℕ) → x ≤ greatest_number f
     → combined operation (is_inside a x) (is_inside b x) ≡ false)) e g h
+
+-- the turns of what is made of two sets, by the lists that hold them
+pub no_more_turns : (a b : IpSet) (ipv4 ipv6 first4 first6 second4 second6 : List ℕ) → first4 ≡ a.ipv4.items
+    → first6 ≡ a.ipv6.items → second4 ≡ b.ipv4.items → second6 ≡ b.ipv6.items
+    → length ipv4 ≤ length first4 + length second4 → length ipv6 ≤ length first6 + length second6
+    → (f : Family) → length (by_family (map (λ n. n) ipv4) (map (λ n. n) ipv6) f)
+    ≤ length (turns_of a f) + length (turns_of b f)
+no_more_turns a b ipv4 ipv6 first4 first6 second4 second6 e4 e6 g4 g6 h k IPv4 =
+    omega (
+      arith,
+      h,
+      ap length e4,
+      ap length g4,
+      length-map ipv4 (λ n. n),
+      length-map a.ipv4.items (λ n. n),
+      length-map b.ipv4.items (λ n. n),
+    )
+no_more_turns a b ipv4 ipv6 first4 first6 second4 second6 e4 e6 g4 g6 h k IPv6 =
+    omega (
+      arith,
+      k,
+      ap length e6,
+      ap length g6,
+      length-map ipv6 (λ n. n),
+      length-map a.ipv6.items (λ n. n),
+      length-map b.ipv6.items (λ n. n),
+    )

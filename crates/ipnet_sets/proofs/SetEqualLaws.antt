@@ -9,7 +9,6 @@ use Rattle.std.proofs.lemmas.Bool.Decides.{nat_tests}
 use Rattle.std.specs.Ordering.{ordering_then, partial_ordering_then}
 use Rattle.std.specs.Cmp.Lexicographic.{slice_cmp, slice_partial_cmp}
 use Rattle.ipnet_base.specs.Address.{Family, IPv4, IPv6, Address, IsAddress, width, greatest_number}
-use Rattle.ipnet.proofs.EqualLaws.{lists_equal, read_one_to_one}
 use Rattle.ipnet_sets.specs.declared.set.IpSet.{IpSet}
 use Rattle.ipnet_sets.specs.Turns.{is_inside, AreTurns}
 use Rattle.ipnet_sets.specs.Members.{turns_of, is_member, IsMember, HaveSameAddresses}
@@ -33,7 +32,7 @@ outside_first f t ts x h lt =
     rw (lt-leb t x lt) (inside_before ts x (λ k d l. omega (arith, later f t ts h k d l, lt)))
 
 -- there is one list of turns for each set of numbers
-pub same_turns : (f : Family) (ts us : List ℕ) → AreTurns f ts → AreTurns f us
+same_turns : (f : Family) (ts us : List ℕ) → AreTurns f ts → AreTurns f us
     → ((x : ℕ) → x ≤ greatest_number f → is_inside ts x ≡ is_inside us x) → ts ≡ us
 same_turns f [] [] a b same = refl
 same_turns f [] (u ∷ us) a b same =
@@ -77,12 +76,20 @@ same_turns_of a b f h k same = same_turns f (turns_of a f) (turns_of b f) h k
       λ e. ((same at).1 (record { fits = fits; inside = e })).inside,
     ))
 
+-- words that hold the same numbers are the same
+words_are_numbers : (xs : List ℕ) → map (λ n. n) xs ≡ xs
+words_are_numbers [] = refl
+words_are_numbers (x ∷ xs) = ap (λ z. x ∷ z) (words_are_numbers xs)
+
+same_numbers : (xs ys : List ℕ) → map (λ n. n) xs ≡ map (λ n. n) ys → xs ≡ ys
+same_numbers xs ys e = sym (words_are_numbers xs) ∙ e ∙ words_are_numbers ys
+
 -- the words of the two sets are the same
 pub same_words : (a b : IpSet) → HaveSameAddresses a b → (a.ipv4.items ≡ b.ipv4.items) × (a.ipv6.items ≡ b.ipv6.items)
 same_words a b same = (
-  read_one_to_one (λ n. n) (λ x y e. e) a.ipv4.items b.ipv4.items
+  same_numbers a.ipv4.items b.ipv4.items
       (same_turns_of a b IPv4 a.ipv4_turns b.ipv4_turns same),
-  read_one_to_one (λ n. n) (λ x y e. e) a.ipv6.items b.ipv6.items
+  same_numbers a.ipv6.items b.ipv6.items
       (same_turns_of a b IPv6 a.ipv6_turns b.ipv6_turns same),
 )
 
@@ -104,11 +111,25 @@ both_true : (a b : Bool) → (a && b ≡ true) ↔ ((a ≡ true) × (b ≡ true)
 both_true true b = (λ e. (refl, e), λ e. e.1)
 both_true false b = (λ e. cc, λ e. cc)
 
+lists_equal : (xs ys : List ℕ) → (pointwise nat_eq xs ys ≡ true) ↔ (xs ≡ ys)
+lists_equal [] [] = (λ e. refl, λ e. refl)
+lists_equal [] (y ∷ ys) = (λ e. cc, λ e. cc)
+lists_equal (x ∷ xs) [] = (λ e. cc, λ e. cc)
+lists_equal (x ∷ xs) (y ∷ ys) =
+    let rest = lists_equal xs ys in
+    let both = both_true (nat_eq x y) (pointwise nat_eq xs ys) in (
+      λ e. ap₂ (λ z zs. z ∷ zs) ((numbers_equal x y).0 (both.0 e).0) (rest.0 (both.0 e).1),
+      λ e.
+          let head : x ≡ y = cc in
+          let tail : xs ≡ ys = cc in
+          both.1 ((numbers_equal x y).1 head, rest.1 tail),
+    )
+
 pub equal_by_addresses : (a b : IpSet) → (pointwise nat_eq a.ipv4.items b.ipv4.items
     && pointwise nat_eq a.ipv6.items b.ipv6.items ≡ true) ↔ HaveSameAddresses a b
 equal_by_addresses a b =
-    let ipv4 = lists_equal nat_eq numbers_equal a.ipv4.items b.ipv4.items in
-    let ipv6 = lists_equal nat_eq numbers_equal a.ipv6.items b.ipv6.items in
+    let ipv4 = lists_equal a.ipv4.items b.ipv4.items in
+    let ipv6 = lists_equal a.ipv6.items b.ipv6.items in
     let both = both_true (pointwise nat_eq a.ipv4.items b.ipv4.items) (pointwise nat_eq a.ipv6.items b.ipv6.items) in (
       λ e. same_addresses a b (ipv4.0 (both.0 e).0) (ipv6.0 (both.0 e).1),
       λ same. let words = same_words a b same in both.1 (ipv4.1 words.0, ipv6.1 words.1),

@@ -1,26 +1,27 @@
 -- The ranges of a set that is kept by its turns, and their networks.
 use Rattle.std.proofs.Common.{◌≡◌, ℕ, suc, ◌+◌, ◌-◌, ◌<◌, ◌≤◌, ◌⊎◌, ◌↔◌, true, false, not}
-use Rattle.std.proofs.Common.{List, [], ◌∷◌, ◌++◌, length, drop, get_or, map, Contains, All, AllPairs, Any}
+use Rattle.std.proofs.Common.{List, [], ◌∷◌, ◌++◌, drop, map, Contains, All, AllPairs, Any}
 use Rattle.std.proofs.Common.{refl, sym, ap, ◌∙◌, subst, arith, inl, inr, le-leb, append_assoc}
 use Rattle.std.proofs.lemmas.Bool.{cases_lt, lt-leb}
 use Rattle.std.proofs.lemmas.List.{append-nil, drop-map}
 use Rattle.std.proofs.lemmas.List.Elements.{Contains-append_left, Contains-append_right, Contains-append_cases}
 use Rattle.ipnet_base.specs.Address.{Family, IPv4, IPv6, Address, greatest_number, family_index}
 use Rattle.ipnet_base.specs.Network.{Network}
-use Rattle.ipnet_base.specs.Blocks.{AreMaximalBlocks}
+use Rattle.ipnet_base.specs.Blocks.{AreMaximalBlocks, IsInEither, AreSeparated}
 use Rattle.ipnet_base.specs.Ranges.{AddressRange}
 use Rattle.ipnet_base.proofs.ListLaws.{contains_nil, contains_here, contains_cases, any_from_contains}
 use Rattle.ipnet_base.proofs.ListLaws.{pairs_head, pairs_tail, pairs_cons, all_from_members}
-use Rattle.ipnet_base.proofs.FamilyLaws.{pairs_append}
+use Rattle.ipnet_base.proofs.ListLaws.{pairs_append}
+use Rattle.ipnet_base.proofs.SeparationLaws.{AreMaximalBlocks-append}
 use Rattle.ipnet_base.proofs.SupernetLaws.{AreMaximalBlocks-same_set}
 use Rattle.ipnet_base.proofs.WalkLaws.{AreMaximalBlocks-nil}
 use Rattle.ipnet_sets.specs.declared.set.IpSet.{IpSet}
 use Rattle.ipnet_sets.specs.Turns.{is_inside, AreTurns}
 use Rattle.ipnet_sets.specs.Members.{turns_of, IsMember}
-use Rattle.ipnet_sets.specs.SetRanges.{range_of, IsInRange, LiesApart, AreRangesOf, IsInTurns, ranges_of}
-use Rattle.ipnet_sets.specs.SetRanges.{AreBlocksOfRanges, HasBlocksAdded}
+use Rattle.ipnet_sets.specs.SetRanges.{range_of, IsInRange, LiesApart, AreRangesOf}
+use Rattle.ipnet_sets.specs.TurnRanges.{IsInTurns, ranges_of}
+use Rattle.ipnet_sets.specs.TurnRanges.{AreBlocksOfRanges, HasBlocksAdded}
 use Rattle.ipnet_sets.proofs.InsideLaws.{not_twice, inside_before}
-use Rattle.ipnet_sets.proofs.SeparateLaws.{IsInEither, AreSeparatedAt, AreMaximalBlocks-append}
 use Rattle.ipnet_sets.proofs.MemberLaws.{fits_below, fits_to}
 
 -- some member of a list
@@ -238,32 +239,13 @@ ranges_of_set s ipv4 ipv6 e g h k = record {
           (subst (λ z. IsInTurns IPv6 z x) (sym g) i))
     ]
 
--- the first range of a list of turns
-pub first_of_one : (f : Family) (ts : List ℕ) (s last : ℕ) → length ts ≡ 1 → ((d : ℕ) → get_or ts 0 d ≡ s)
-    → last ≡ greatest_number f → ranges_of f ts ≡ range_of f s last ∷ ranges_of f (drop 2 ts)
-first_of_one f [] s last size at e = absurd (omega (arith, size))
-first_of_one f (t ∷ []) s last size at e = λ i. range_of f (at t i) (sym e i) ∷ []
-first_of_one f (t ∷ u ∷ ts) s last size at e = absurd (omega (arith, size))
-
-pub first_of_more : (f : Family) (ts : List ℕ) (s u last : ℕ) → 1 < length ts → ((d : ℕ) → get_or ts 0 d ≡ s)
-    → ((d : ℕ) → get_or ts 1 d ≡ u) → last + 1 ≡ u
-    → ranges_of f ts ≡ range_of f s last ∷ ranges_of f (drop 2 ts)
-first_of_more f [] s u last size at next e = absurd (omega (arith, size))
-first_of_more f (t ∷ []) s u last size at next e = absurd (omega (arith, size))
-first_of_more f (t ∷ v ∷ ts) s u last size at next e =
-    let ends : v - 1 ≡ last = omega (arith, next v, e) in
-    λ i. range_of f (at t i) (ends i) ∷ ranges_of f ts
-
-pub drop_turns : (f : Family) (ts : List ℕ) → AreTurns f ts → AreTurns f (drop 2 ts)
+drop_turns : (f : Family) (ts : List ℕ) → AreTurns f ts → AreTurns f (drop 2 ts)
 drop_turns f [] h = h
 drop_turns f (t ∷ []) h = tail_turns f t [] h
 drop_turns f (t ∷ u ∷ ts) h = tail_turns f u ts (tail_turns f t (u ∷ ts) h)
 
-pub no_ranges : (f : Family) (ts : List ℕ) → ts ≡ [] → ranges_of f ts ≡ []
-no_ranges f ts e = ap (ranges_of f) e
-
 -- the maximal blocks of ranges that lie apart, one range after the other, are those of all of them
-pub blocks_by_ranges : (ranges : List AddressRange) (networks : List Network) → AllPairs LiesApart ranges
+blocks_by_ranges : (ranges : List AddressRange) (networks : List Network) → AllPairs LiesApart ranges
     → AreBlocksOfRanges ranges networks → AreMaximalBlocks (IsInRanges ranges) 0 networks
 blocks_by_ranges [] networks apart e = subst (AreMaximalBlocks (IsInRanges []) 0) (sym e)
     (AreMaximalBlocks-nil (IsInRanges []) 0 (λ x a. contains_nil a.1 (a.0, a.2, a.3)))
@@ -274,26 +256,50 @@ blocks_by_ranges (r ∷ rs) networks apart (front, rest, h, k, e) =
       elim [ inl b ↦ any_here (λ q. IsInRange q x) r rs b | inr a ↦ any_there (λ q. IsInRange q x) r rs a ],
       any_cases (λ q. IsInRange q x) r rs,
     ))
-    (AreMaximalBlocks-append r.family (r.end + 1) (IsInRange r) (IsInRanges rs) separated 0 front rest h
+    (AreMaximalBlocks-append (IsInRange r) (IsInRanges rs) 0 separated front rest h
     (blocks_by_ranges rs rest (pairs_tail LiesApart r rs apart) k)))
   where
-    separated : AreSeparatedAt r.family (r.end + 1) (IsInRange r) (IsInRanges rs)
+    after : (x : Address) (a : IsInRanges rs x) → LiesApart r a.1
+    after x a = pairs_head LiesApart r rs apart a.1 (a.0, a.2, a.3)
+
+    separated : AreSeparated (IsInRange r) (IsInRanges rs)
     separated = record {
-      below = λ x b. inr (b.of_family, omega (arith, b.to_end));
-      above = λ x a. elim (pairs_head LiesApart r rs apart a.1 (a.0, a.2, a.3)) [
-        | inl lt ↦ inl (omega (arith, lt, ap family_index a.4.of_family))
-        | inr same ↦ inr (a.4.of_family ∙ sym same.0, omega (arith, same.1, a.4.from_start))
+      before = λ x y b a. elim (after y a) [
+        | inl lt ↦ inl (omega (arith, lt, ap family_index b.of_family, ap family_index a.4.of_family))
+        | inr lt ↦ inr (b.of_family ∙ lt.0 ∙ sym a.4.of_family, omega (arith, lt.1, b.to_end, a.4.from_start))
       ];
+      gap = λ x y b a same. (
+        record { family = x.family; number = r.end + 1 },
+        refl,
+        omega (arith, b.to_end),
+        elim (after y a) [
+          | inl lt ↦ absurd (omega (
+            arith,
+            lt,
+            ap family_index b.of_family,
+            ap family_index a.4.of_family,
+            ap family_index same,
+          ))
+          | inr lt ↦ omega (arith, lt.1, a.4.from_start)
+        ],
+        elim [
+          | inl c ↦ omega (arith, c.to_end)
+          | inr c ↦ elim (after (record { family = x.family; number = r.end + 1 }) c) [
+            | inl lt ↦ omega (arith, lt, ap family_index b.of_family, ap family_index c.4.of_family)
+            | inr lt ↦ omega (arith, lt.1, c.4.from_start)
+          ]
+        ],
+      );
     }
 
-pub blocks_append : (first second : List AddressRange) (xs ys : List Network) → AreBlocksOfRanges first xs
+blocks_append : (first second : List AddressRange) (xs ys : List Network) → AreBlocksOfRanges first xs
     → AreBlocksOfRanges second ys → AreBlocksOfRanges (first ++ second) (xs ++ ys)
 blocks_append [] second xs ys e k = subst (λ z. AreBlocksOfRanges second (z ++ ys)) (sym e) k
 blocks_append (r ∷ rs) second xs ys (front, rest, h, g, e) k =
     (front, rest ++ ys, h, blocks_append rs second rest ys g k, ap (λ z. z ++ ys) e ∙ append_assoc front rest ys)
 
 -- the networks of a set, by those of its ranges
-pub blocks_of_set : (s : IpSet) (ranges : List AddressRange) (networks : List Network)
+blocks_of_set : (s : IpSet) (ranges : List AddressRange) (networks : List Network)
     → AreRangesOf (IsMember s) ranges → AreBlocksOfRanges ranges networks → AreMaximalBlocks (IsMember s) 0 networks
 blocks_of_set s ranges networks h k =
     AreMaximalBlocks-same_set (IsInRanges ranges) (IsMember s) 0 networks (λ x. ((h.members x).1, (h.members x).0))
@@ -304,9 +310,6 @@ pub record IsPushing (all left : List AddressRange) (old now : List Network) : T
   pub front : List Network
   pub now_is : now ≡ old ++ front
   pub done : (rest : List Network) → AreBlocksOfRanges left rest → AreBlocksOfRanges all (front ++ rest)
-
-pub pushing_start : (all : List AddressRange) (old : List Network) → IsPushing all all old old
-pushing_start all old = record { front = []; now_is = sym (append-nil old); done = λ rest h. h }
 
 pub pushing_more : (all left later : List AddressRange) (r : AddressRange) (old now new blocks : List Network)
     → left ≡ r ∷ later → AreMaximalBlocks (IsInRange r) 0 blocks → new ≡ now ++ blocks → IsPushing all left old now
@@ -344,9 +347,3 @@ pub turns_after : {X : Type 0} (number : X → ℕ) (f : Family) (xs left : List
     → AreTurns f (map number xs) → AreTurns f (map number left)
 turns_after number f xs left e h =
     subst (AreTurns f) (drop-map number 2 xs ∙ ap (map number) (sym e)) (drop_turns f (map number xs) h)
-
--- turns that are in words are fewer after the first range
-pub fewer_after : {X : Type 0} (xs left : List X) → left ≡ drop 2 xs → (xs ≡ [] → ⊥) → length left < length xs
-fewer_after [] left e some = absurd (some refl)
-fewer_after (x ∷ []) left e some = omega (arith, ap length e)
-fewer_after (x ∷ y ∷ xs) left e some = omega (arith, ap length e)

@@ -70,7 +70,7 @@ inside_from_split turns number place h =
     size = length-take-le place turns h.within
 
 -- up to the next turn the numbers are as the first
-pub split_until : (turns : List ℕ) (first place x : ℕ) → IsSplitAt turns first place → first ≤ x
+split_until : (turns : List ℕ) (first place x : ℕ) → IsSplitAt turns first place → first ≤ x
     → (place < length turns → (d : ℕ) → x < get_or turns place d) → AreAscending turns → IsSplitAt turns x place
 split_until turns first place x h le before asc = record {
   within = h.within;
@@ -83,7 +83,7 @@ split_until turns first place x h le before asc = record {
 }
 
 -- the turn after the place is the first number that is as the first is not
-pub split_after : (turns : List ℕ) (first place turn : ℕ) → IsSplitAt turns first place → AreAscending turns
+split_after : (turns : List ℕ) (first place turn : ℕ) → IsSplitAt turns first place → AreAscending turns
     → place < length turns → ((d : ℕ) → get_or turns place d ≡ turn) → is_inside turns turn ≡ not (is_odd place)
 split_after turns first place turn h asc l e =
     inside_from_split turns turn (place + 1) (record {

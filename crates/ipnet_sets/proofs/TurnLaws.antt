@@ -3,7 +3,7 @@ use Rattle.std.proofs.Common.{◌≡◌, ℕ, ◌+◌, ◌<◌, ◌≤◌, ◌�
 use Rattle.std.proofs.Common.{List, [], ◌∷◌, ◌++◌, length, take, get_or, All}
 use Rattle.std.proofs.Common.{refl, sym, ap, ap₂, ◌∙◌, subst, arith, inl, inr}
 use Rattle.std.proofs.lemmas.Bool.{cases_lt, cases_order}
-use Rattle.std.proofs.lemmas.List.{take_more, take_all, length-take-le, length_push}
+use Rattle.std.proofs.lemmas.List.{take_more, length-take-le, length_push}
 use Rattle.std.proofs.lemmas.List.Elements.{All-push, All-weaker}
 use Rattle.ipnet_base.specs.Address.{Family, greatest_number}
 use Rattle.ipnet_sets.specs.declared.turns.Operation.{Operation}
@@ -226,13 +226,6 @@ combining_same operation first i second j turns number next_i next_j asc asc' tu
     (λ x lt. refl)
     (λ x ge. inside_from turns x (All-weaker (λ t. t < number) (λ t. t ≤ x) (λ t l. omega (arith, l, ge)) turns below)
     ∙ same)
-
-pub combined_whole : (operation : Operation) (first : List ℕ) (i : ℕ) (second : List ℕ) (j : ℕ) (turns : List ℕ)
-    → length first ≤ i → length second ≤ j → IsCombining operation first i second j turns
-    → (x : ℕ) → is_inside turns x ≡ combined operation (is_inside first x) (is_inside second x)
-combined_whole operation first i second j turns le lf h x =
-    h.members x ∙ ap₂ (combined operation)
-    (ap (λ z. is_inside z x) (take_all i first le)) (ap (λ z. is_inside z x) (take_all j second lf))
 
 -- the number at a turn that the operation takes is in what it makes of the two whole sets
 pub combined_at : (operation : Operation) (first : List ℕ) (i : ℕ) (second : List ℕ) (j : ℕ) (turns : List ℕ)

@@ -2,4 +2,5 @@
 pub mod Turns
 pub mod Members
 pub mod SetRanges
+pub mod TurnRanges
 pub mod RangesLeft

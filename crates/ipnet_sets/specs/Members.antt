@@ -1,5 +1,5 @@
 -- The addresses that a value of the set type has: all that contracts see of it.
-use Rattle.std.specs.Prelude.{◌≡◌, ◌≢◌, ◌<◌, ◌≤◌, ◌⊎◌, ◌↔◌, ℕ, Bool, true, List, map, length}
+use Rattle.std.specs.Prelude.{◌≡◌, ◌≢◌, ◌+◌, ◌<◌, ◌≤◌, ◌⊎◌, ◌↔◌, ℕ, Bool, true, List, map, length}
 use Rattle.std.specs.Prelude.{Contains, AllPairs}
 use Rattle.ipnet_base.specs.Address.{Family, Address, IsAddress, family_index}
 use Rattle.ipnet_sets.specs.declared.set.IpSet.{IpSet}
@@ -17,6 +17,10 @@ is_member s x = is_inside (turns_of s x.family) x.number
 pub record IsMember (s : IpSet) (x : Address) : Type 0 where
   pub fits : IsAddress x
   pub inside : is_member s x ≡ true
+
+-- what is made of a and b has no more turns than these together
+abbrev pub HasNoMoreTurns : IpSet → IpSet → IpSet → Type 0
+HasNoMoreTurns s a b = (f : Family) → length (turns_of s f) ≤ length (turns_of a f) + length (turns_of b f)
 
 -- the two sets have the same addresses
 abbrev pub HaveSameAddresses : IpSet → IpSet → Type 0

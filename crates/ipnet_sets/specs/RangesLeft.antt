@@ -3,7 +3,7 @@ use Rattle.std.specs.Prelude.{List, map, ◌++◌}
 use Rattle.ipnet_base.specs.Address.{IPv4, IPv6}
 use Rattle.ipnet_base.specs.Ranges.{AddressRange}
 use Rattle.ipnet_sets.specs.declared.set_ranges.IpSetRanges.{IpSetRanges}
-use Rattle.ipnet_sets.specs.SetRanges.{ranges_of}
+use Rattle.ipnet_sets.specs.TurnRanges.{ranges_of}
 
 -- the IPv4 ranges that are left, then the IPv6 ones
 abbrev pub ranges_left : IpSetRanges → List AddressRange

@@ -1,5 +1,5 @@
 -- Sets of numbers by their turns: the ascending list of the numbers at which the set begins or ends. Every such list
--- is one set, and every set of the numbers of one family has one such list.
+-- is one set, and every set of the numbers of one family has one such list. Private contracts alone cite these.
 use Rattle.std.specs.Prelude.{◌≡◌, ℕ, ◌+◌, ◌-◌, ◌<◌, ◌≤◌, ◌⊎◌, ◌↔◌, Bool, true, false, not, cond, leb, ◌&&◌, ◌||◌}
 use Rattle.std.specs.Prelude.{List, [], ◌∷◌, length, get_or, All, AllPairs}
 use Rattle.ipnet_base.specs.Address.{Family, IPv4, IPv6, greatest_number}

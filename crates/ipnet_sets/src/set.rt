@@ -5,7 +5,8 @@ ghost use Rattle.ipnet_base.specs.Network.{InBlock};
 ghost use Rattle.ipnet_base.specs.Blocks.{IsCoveredBy, AreMaximalBlocks, AreAggregatedNeighbours};
 ghost use Rattle.ipnet.specs.NetworkOf.{ip_network};
 ghost use Rattle.ipnet.specs.SubnetsLeft.{ip_subnets_left};
-ghost use Rattle.ipnet_sets.specs.SetRanges.{ranges_of, AreRangesOf, HasBlocksAdded};
+ghost use Rattle.ipnet_sets.specs.SetRanges.{AreRangesOf};
+ghost use Rattle.ipnet_sets.specs.TurnRanges.{ranges_of, HasBlocksAdded};
 ghost use Rattle.ipnet_sets.specs.Turns.{AreTurns, combined};
 
 use crate::number::Number;
@@ -13,6 +14,7 @@ use crate::set_ranges::IpSetRanges;
 use crate::turns::{self, Operation};
 use ipnet::{IpAddr, IpNet, IpSubnets};
 use std::alloc::{AllocError, Global};
+use std::fmt;
 
 pub mod laws;
 
@@ -20,6 +22,12 @@ pub mod laws;
 ///
 /// It is kept by the numbers at which it begins and ends, so a set that is a few ranges is small, however many
 /// addresses it has.
+///
+/// Sets are equal exactly where they have the same addresses; the order and the hash go by the addresses too.
+///
+/// ```text
+/// from 10.0.0.0/30 and 10.0.0.4/31: the addresses 10.0.0.0 to 10.0.0.5
+/// ```
 #[derive(PartialEq, Eq, PartialOrd, Ord, Hash, Drop)]
 pub struct IpSet {
     ipv4: Vec<u32>,
@@ -55,7 +63,7 @@ fn push_walk(networks: &mut Vec<IpNet>, walk: IpSubnets) -> Result<(), AllocErro
 
 impl IpSet {
     ghost use Rattle.ipnet_sets.specs.RangesLeft.{ranges_left};
-    ghost use Rattle.ipnet_sets.specs.Members.{is_member, IsMember, IsMemberOf, IsCountOf};
+    ghost use Rattle.ipnet_sets.specs.Members.{is_member, IsMember, IsMemberOf, IsCountOf, HasNoMoreTurns};
     ghost use Rattle.ipnet_sets.specs.Members.{IsFirstOf, IsLastOf, IsFromTo};
 
     /// The set with no address.
@@ -139,8 +147,9 @@ impl IpSet {
         operation: Operation,
         other: &IpSet,
     ) -> Result<IpSet, AllocError>
-        ensures { IfOk result (λ s. (x : Address)
+        ensures members { IfOk result (λ s. (x : Address)
             → is_member s x ≡ combined operation (is_member self.now x) (is_member other.now x)) }
+        ensures turns { IfOk result (λ s. HasNoMoreTurns s self.now other.now) }
     {
         let ipv4 = turns::combine(
             alloc,
@@ -163,7 +172,9 @@ impl IpSet {
     /// 10.0.0.0-10.0.0.5 and 10.0.0.3-10.0.0.9: 10.0.0.0-10.0.0.9
     /// ```
     pub fn union(&self, alloc: Global, other: &IpSet) -> Result<IpSet, AllocError>
-        ensures { IfOk result (λ s. (x : Address) → IsMember s x ↔ (IsMember self.now x ⊎ IsMember other.now x)) }
+        ensures members { IfOk result (λ s. (x : Address)
+            → IsMember s x ↔ (IsMember self.now x ⊎ IsMember other.now x)) }
+        ensures turns { IfOk result (λ s. HasNoMoreTurns s self.now other.now) }
     {
         self.combined(alloc, Operation::Union, other)
     }
@@ -174,7 +185,9 @@ impl IpSet {
     /// 10.0.0.0-10.0.0.5 and 10.0.0.3-10.0.0.9: 10.0.0.3-10.0.0.5
     /// ```
     pub fn intersection(&self, alloc: Global, other: &IpSet) -> Result<IpSet, AllocError>
-        ensures { IfOk result (λ s. (x : Address) → IsMember s x ↔ (IsMember self.now x × IsMember other.now x)) }
+        ensures members { IfOk result (λ s. (x : Address)
+            → IsMember s x ↔ (IsMember self.now x × IsMember other.now x)) }
+        ensures turns { IfOk result (λ s. HasNoMoreTurns s self.now other.now) }
     {
         self.combined(alloc, Operation::Intersection, other)
     }
@@ -185,7 +198,9 @@ impl IpSet {
     /// 10.0.0.0-10.0.0.5 and 10.0.0.3-10.0.0.9: 10.0.0.0-10.0.0.2
     /// ```
     pub fn difference(&self, alloc: Global, other: &IpSet) -> Result<IpSet, AllocError>
-        ensures { IfOk result (λ s. (x : Address) → IsMember s x ↔ (IsMember self.now x × ¬ (IsMember other.now x))) }
+        ensures members { IfOk result (λ s. (x : Address)
+            → IsMember s x ↔ (IsMember self.now x × ¬ (IsMember other.now x))) }
+        ensures turns { IfOk result (λ s. HasNoMoreTurns s self.now other.now) }
     {
         self.combined(alloc, Operation::Difference, other)
     }
@@ -196,8 +211,9 @@ impl IpSet {
     /// 10.0.0.0-10.0.0.5 and 10.0.0.3-10.0.0.9: 10.0.0.0-10.0.0.2 and 10.0.0.6-10.0.0.9
     /// ```
     pub fn symmetric_difference(&self, alloc: Global, other: &IpSet) -> Result<IpSet, AllocError>
-        ensures { IfOk result (λ s. (x : Address) → IsMember s x
+        ensures members { IfOk result (λ s. (x : Address) → IsMember s x
             ↔ ((IsMember self.now x × ¬ (IsMember other.now x)) ⊎ (IsMember other.now x × ¬ (IsMember self.now x)))) }
+        ensures turns { IfOk result (λ s. HasNoMoreTurns s self.now other.now) }
     {
         self.combined(alloc, Operation::SymmetricDifference, other)
     }
@@ -217,6 +233,12 @@ impl IpSet {
     }
 
     /// Whether the address is in the set. Takes no memory; the time grows with the logarithm of the number of ranges.
+    ///
+    /// An IPv4 address and the IPv6 address that maps it are two addresses.
+    ///
+    /// ```text
+    /// 10.0.0.0-10.0.0.5 contains 10.0.0.5, and neither 10.0.0.6 nor ::ffff:10.0.0.5
+    /// ```
     pub fn contains(&self, ip: &IpAddr) -> bool
         ensures { IsTrue result ↔ IsMember self.now (ip_address ip.now) }
     {
@@ -228,6 +250,10 @@ impl IpSet {
 
     /// Whether every address of the network's block is in the set. Takes no memory; the time grows with the logarithm
     /// of the number of ranges.
+    ///
+    /// ```text
+    /// 10.0.0.0-10.0.0.5 covers 10.0.0.4/31, and does not cover 10.0.0.4/30
+    /// ```
     pub fn covers(&self, network: &IpNet) -> bool
         ensures { IsTrue result ↔ ((x : Address) → InBlock (ip_network network.now) x → IsMember self.now x) }
     {
@@ -255,6 +281,10 @@ impl IpSet {
     }
 
     /// Whether every address of this set is in the other. Takes no memory.
+    ///
+    /// ```text
+    /// 10.0.0.1-10.0.0.3 is a subset of 10.0.0.0-10.0.0.5; the empty set is one of each set
+    /// ```
     pub fn is_subset(&self, other: &IpSet) -> bool
         ensures { IsTrue result ↔ ((x : Address) → IsMember self.now x → IsMember other.now x) }
     {
@@ -262,13 +292,21 @@ impl IpSet {
     }
 
     /// Whether no address is in both sets. Takes no memory.
+    ///
+    /// ```text
+    /// 10.0.0.0-10.0.0.5 and 10.0.0.6-10.0.0.9 are disjoint; 10.0.0.0-10.0.0.5 and 10.0.0.5-10.0.0.9 are not
+    /// ```
     pub fn is_disjoint(&self, other: &IpSet) -> bool
         ensures { IsTrue result ↔ ((x : Address) → IsMember self.now x → ¬ (IsMember other.now x)) }
     {
         self.makes_nothing(Operation::Intersection, other)
     }
 
-    /// Whether the set has no address.
+    /// Whether the set has no address. Takes no memory.
+    ///
+    /// ```text
+    /// from 10.0.0.8 to 10.0.0.3: true; from 10.0.0.8 to 10.0.0.8: false
+    /// ```
     pub fn is_empty(&self) -> bool
         ensures { IsTrue result ↔ ((x : Address) → ¬ (IsMember self.now x)) }
     {
@@ -307,6 +345,10 @@ impl IpSet {
     }
 
     /// How many IPv4 addresses the set has: 0 to 2^32.
+    ///
+    /// ```text
+    /// of 10.0.0.0-10.0.0.5: 6; of 0.0.0.0/0: 4294967296; of fd00::/8: 0
+    /// ```
     pub fn ipv4_count(&self) -> u64
         ensures { IsCountOf (IsMemberOf IPv4 self.now) result }
     {
@@ -314,6 +356,10 @@ impl IpSet {
     }
 
     /// How many IPv6 addresses the set has: 0 to 2^128 - 1, or `None` where it has all of them, 2^128.
+    ///
+    /// ```text
+    /// of fd00::/126: Some(4); of 10.0.0.0/8: Some(0); of ::/0: None
+    /// ```
     pub fn ipv6_count(&self) -> Option<u128>
         ensures none { IsNone result ↔ ((x : Address) → IsAddress x → x.family ≡ IPv6 → IsMember self.now x) }
         ensures some { IfSome result (IsCountOf (IsMemberOf IPv6 self.now)) }
@@ -325,6 +371,10 @@ impl IpSet {
     }
 
     /// The first address of the set, IPv4 before IPv6, or `None` if it has none.
+    ///
+    /// ```text
+    /// of fd00::/126 and 10.0.0.0/30: Some(10.0.0.0)
+    /// ```
     pub fn first(&self) -> Option<IpAddr>
         ensures none { IsNone result ↔ ((x : Address) → ¬ (IsMember self.now x)) }
         ensures some { IfSome result (λ a. IsFirstOf (IsMember self.now) (ip_address a)) }
@@ -339,6 +389,10 @@ impl IpSet {
     }
 
     /// The last address of the set, IPv6 after IPv4, or `None` if it has none.
+    ///
+    /// ```text
+    /// of fd00::/126 and 10.0.0.0/30: Some(fd00::3)
+    /// ```
     pub fn last(&self) -> Option<IpAddr>
         ensures none { IsNone result ↔ ((x : Address) → ¬ (IsMember self.now x)) }
         ensures some { IfSome result (λ a. IsLastOf (IsMember self.now) (ip_address a)) }
@@ -363,5 +417,23 @@ impl Clone for IpSet {
         let ipv4 = self.ipv4.clone()?;
         let ipv6 = self.ipv6.clone()?;
         Ok(IpSet { ipv4, ipv6 })
+    }
+}
+
+/// Writes the ranges of the set, as `{10.0.0.0-10.0.0.5, fd00::-fd00::3}`.
+impl fmt::Debug for IpSet {
+    fn fmt<W: fmt::Write>(&self, f: &mut fmt::Formatter<W>) -> fmt::Result {
+        f.write_str("{")?;
+        let mut is_first = true;
+        for range in self.ranges() {
+            if let (Some(start), Some(end)) = (range.min(), range.max()) {
+                if !is_first {
+                    f.write_str(", ")?;
+                }
+                is_first = false;
+                write!(f, "{start}-{end}")?;
+            }
+        }
+        f.write_str("}")
     }
 }

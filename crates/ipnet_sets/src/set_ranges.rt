@@ -12,6 +12,10 @@ use std::iter::FusedIterator;
 
 /// The ranges of a set: the fewest ranges that have together its addresses, IPv4 before IPv6 and ascending. No two of
 /// them touch. Made by `IpSet::ranges`; takes no memory.
+///
+/// ```text
+/// of 10.0.0.0/30, 10.0.0.4/31, fd00::/126: 10.0.0.0 to 10.0.0.5, then fd00:: to fd00::3, then None
+/// ```
 #[derive(Clone, Copy)]
 pub struct IpSetRanges<'a> {
     pub(crate) ipv4: &'a [u32],

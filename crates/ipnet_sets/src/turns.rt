@@ -4,7 +4,8 @@ ghost use Rattle.std.specs.Prelude.{◌≡◌, ℕ, ◌+◌, ◌^◌, ◌<◌, �
 ghost use Rattle.std.specs.Prelude.{length, map, drop, All, IfOk, OnOk, IsNone, IfSome};
 ghost use Rattle.ipnet_base.specs.Address.{greatest_number};
 ghost use Rattle.ipnet_sets.specs.Turns.{is_inside, combined, AreTurns, IsTurn, IsSplitAt, IsOpenedAt, IsExtended};
-ghost use Rattle.ipnet_sets.specs.SetRanges.{range_of, ranges_of, count_of};
+ghost use Rattle.ipnet_sets.specs.SetRanges.{range_of};
+ghost use Rattle.ipnet_sets.specs.TurnRanges.{ranges_of, count_of};
 ghost use Rattle.ipnet_sets.specs.Turns.{EndsWith, IsLeastInside, IsGreatestInside};
 
 use crate::number::Number;

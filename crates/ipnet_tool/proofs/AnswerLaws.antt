@@ -1,5 +1,7 @@
 -- The networks of a text by family, their aggregates, and the text of these.
-use Rattle.std.proofs.Common.{◌≡◌, ℕ, arith, ◌+◌, ◌<◌, ◌↔◌, inl, inr, subst, take, List, [], ◌∷◌, ◌++◌, map, length, get_or, refl, sym, ap, ◌∙◌, append_assoc, append-nil}
+use Rattle.std.proofs.Common.{◌≡◌, ℕ, arith, ◌+◌, ◌<◌, ◌↔◌, inl, inr, subst, take, List, [], ◌∷◌, ◌++◌, map, length}
+use Rattle.std.proofs.Common.{get_or, Ok, Err, String, Global, string_bytes, refl, sym, ap, ◌∙◌, append_assoc}
+use Rattle.std.proofs.Common.{append-nil}
 use Rattle.std.proofs.lemmas.List.Elements.{All-map}
 use Rattle.std.proofs.lemmas.List.{map_push, take_more}
 use Rattle.ipnet.specs.Address.{IPv4, IPv6}
@@ -9,22 +11,29 @@ use Rattle.ipnet.specs.CanonicalTexts.{canonical_text}
 use Rattle.ipnet.specs.NetworkOf.{ipv4_network, ipv6_network}
 use Rattle.ipnet.specs.declared.net.ipv4_net.Ipv4Net.{Ipv4Net}
 use Rattle.ipnet.specs.declared.net.ipv6_net.Ipv6Net.{Ipv6Net}
-use Rattle.ipnet.proofs.FamilyLaws.{IsAggregateOf-append, cover_append, cover_append_left, cover_append_right, cover_append_cases}
-use Rattle.ipnet.proofs.AggregateLaws.{aggregate_of_same_cover, HaveSameCover-sym}
-use Rattle.ipnet.proofs.LineLaws.{no_lines}
+use Rattle.ipnet.proofs.FamilyLaws.{aggregate_of_families}
+use Rattle.ipnet.proofs.CoverLaws.{cover_append_left, cover_append_right, cover_append_cases, HaveSameCover-append}
+use Rattle.ipnet.proofs.CoverLaws.{HaveSameCover-sym}
+use Rattle.ipnet.proofs.AggregateLaws.{aggregate_of_same_cover}
+use Rattle.ipnet.proofs.LineLaws.{no_lines, all_good}
 use Rattle.ipnet.proofs.WalkLaws.{AreMaximalBlocks-nil}
-use Rattle.ipnet.specs.Grammar.{Grammar}
-use Rattle.ipnet.specs.Lines.{lines_of, AreNetworksOf}
-use Rattle.ipnet_tool.specs.Answers.{IsAnswerTo, text_of_lines}
+use Rattle.ipnet.specs.declared.parser.Grammar.{Grammar}
+use Rattle.ipnet.specs.Lines.{lines_of, AreNetworksOf, IsFirstBadLine}
+use Rattle.ipnet_tool.specs.Answers.{IsAnswerTo, IsTextAnswer, StartsWithBadLine, text_of_lines}
+use Rattle.ipnet_tool.specs.declared.tool.ToolError.{ToolError}
+use Rattle.ipnet_tool.specs.declared.tool.ToolError.TheVariants as ToolErrors
+use Rattle.ipnet_tool.proofs.EarlyLines.{none_bad}
 
--- the text of two lists of networks, one behind the other
-pub text_of_lines-append : (networks others : List Network) → text_of_lines (networks ++ others) ≡ text_of_lines networks ++ text_of_lines others
+-- the text of two lists of networks, one after the other
+pub text_of_lines-append : (networks others : List Network)
+    → text_of_lines (networks ++ others) ≡ text_of_lines networks ++ text_of_lines others
 text_of_lines-append [] others = refl
 text_of_lines-append (n ∷ networks) others =
     ap (λ t. canonical_text n ++ 10 ∷ [] ++ t) (text_of_lines-append networks others)
     ∙ sym (append_assoc (canonical_text n ++ 10 ∷ []) (text_of_lines networks) (text_of_lines others))
 
-pub text_of_lines-push : (networks : List Network) (n : Network) → text_of_lines (networks ++ n ∷ []) ≡ (text_of_lines networks ++ canonical_text n) ++ 10 ∷ []
+pub text_of_lines-push : (networks : List Network) (n : Network)
+    → text_of_lines (networks ++ n ∷ []) ≡ (text_of_lines networks ++ canonical_text n) ++ 10 ∷ []
 text_of_lines-push networks n =
     text_of_lines-append networks (n ∷ [])
     ∙ ap (λ t. text_of_lines networks ++ t) (append-nil (canonical_text n ++ 10 ∷ []))
@@ -32,13 +41,17 @@ text_of_lines-push networks n =
 
 -- the aggregates of the two families are together the aggregate of all
 pub both_families : (ipv4 blocks4 : List Ipv4Net) (ipv6 blocks6 : List Ipv6Net)
-    → IsAggregateOf (map ipv4_network blocks4) (map ipv4_network ipv4) → IsAggregateOf (map ipv6_network blocks6) (map ipv6_network ipv6)
-    → IsAggregateOf (map ipv4_network blocks4 ++ map ipv6_network blocks6) (map ipv4_network ipv4 ++ map ipv6_network ipv6)
+    → IsAggregateOf (map ipv4_network blocks4) (map ipv4_network ipv4)
+    → IsAggregateOf (map ipv6_network blocks6) (map ipv6_network ipv6)
+    → IsAggregateOf (map ipv4_network blocks4 ++ map ipv6_network blocks6)
+    (map ipv4_network ipv4 ++ map ipv6_network ipv6)
 both_families ipv4 blocks4 ipv6 blocks6 =
-    IsAggregateOf-append (map ipv4_network ipv4) (map ipv6_network ipv6) (map ipv4_network blocks4) (map ipv6_network blocks6)
-    (All-map (λ n. n.family ≡ IPv4) ipv4_network ipv4 (λ k d l. refl)) (All-map (λ n. n.family ≡ IPv6) ipv6_network ipv6 (λ k d l. refl))
+    aggregate_of_families (map ipv4_network ipv4) (map ipv6_network ipv6)
+    (map ipv4_network blocks4) (map ipv6_network blocks6)
+    (All-map (λ n. n.family ≡ IPv4) ipv4_network ipv4 (λ k d l. refl))
+    (All-map (λ n. n.family ≡ IPv6) ipv6_network ipv6 (λ k d l. refl))
 
--- one network more in front of the networks of the second list, and the same behind both
+-- one network more in front of the networks of the second list, and the same after both
 pub cover_moved : (a b : List Network) (n : Network) → HaveSameCover ((a ++ n ∷ []) ++ b) ((a ++ b) ++ n ∷ [])
 cover_moved a b n x = (
   λ p. elim (cover_append_cases (a ++ n ∷ []) b x p) [
@@ -59,14 +72,17 @@ cover_moved a b n x = (
 
 -- the networks of both families with one IPv4 network more, or one IPv6 network more
 pub pushed_ipv4 : (ipv4 new : List Ipv4Net) (ipv6 : List Ipv6Net) (n : Ipv4Net) → new ≡ ipv4 ++ n ∷ []
-    → HaveSameCover (map ipv4_network new ++ map ipv6_network ipv6) ((map ipv4_network ipv4 ++ map ipv6_network ipv6) ++ ipv4_network n ∷ [])
+    → HaveSameCover (map ipv4_network new ++ map ipv6_network ipv6)
+    ((map ipv4_network ipv4 ++ map ipv6_network ipv6) ++ ipv4_network n ∷ [])
 pushed_ipv4 ipv4 new ipv6 n e =
-    subst (λ z. HaveSameCover (z ++ map ipv6_network ipv6) ((map ipv4_network ipv4 ++ map ipv6_network ipv6) ++ ipv4_network n ∷ []))
+    subst (λ z. HaveSameCover (z ++ map ipv6_network ipv6)
+    ((map ipv4_network ipv4 ++ map ipv6_network ipv6) ++ ipv4_network n ∷ []))
     (sym (ap (map ipv4_network) e ∙ map_push ipv4_network ipv4 n))
     (cover_moved (map ipv4_network ipv4) (map ipv6_network ipv6) (ipv4_network n))
 
 pub pushed_ipv6 : (ipv4 : List Ipv4Net) (ipv6 new : List Ipv6Net) (n : Ipv6Net) → new ≡ ipv6 ++ n ∷ []
-    → HaveSameCover (map ipv4_network ipv4 ++ map ipv6_network new) ((map ipv4_network ipv4 ++ map ipv6_network ipv6) ++ ipv6_network n ∷ [])
+    → HaveSameCover (map ipv4_network ipv4 ++ map ipv6_network new)
+    ((map ipv4_network ipv4 ++ map ipv6_network ipv6) ++ ipv6_network n ∷ [])
 pushed_ipv6 ipv4 ipv6 new n e =
     subst (λ z. HaveSameCover z ((map ipv4_network ipv4 ++ map ipv6_network ipv6) ++ ipv6_network n ∷ []))
     (append_assoc (map ipv4_network ipv4) (map ipv6_network ipv6) (ipv6_network n ∷ [])
@@ -77,42 +93,84 @@ pushed_ipv6 ipv4 ipv6 new n e =
 pub cover_moves_on : (whole old new more : List Network) (n : Network) → HaveSameCover new (old ++ n ∷ [])
     → HaveSameCover whole (old ++ n ∷ more) → HaveSameCover whole (new ++ more)
 cover_moves_on whole old new more n pushed same x =
-    let there : IsCoveredBy (new ++ more) x ↔ IsCoveredBy ((old ++ n ∷ []) ++ more) x = cover_append new more (old ++ n ∷ []) more pushed (λ y. (λ a. a, λ a. a)) x in
+    let there : IsCoveredBy (new ++ more) x ↔ IsCoveredBy ((old ++ n ∷ []) ++ more) x =
+    HaveSameCover-append new more (old ++ n ∷ []) more pushed (λ y. (λ a. a, λ a. a)) x in
     let spelled : (old ++ n ∷ []) ++ more ≡ old ++ n ∷ more = append_assoc old (n ∷ []) more in (
       λ a. there.1 (subst (λ z. IsCoveredBy z x) (sym spelled) ((same x).0 a)),
       λ a. (same x).1 (subst (λ z. IsCoveredBy z x) spelled (there.0 a)),
     )
 
 -- the text of the lines so far, and of one network more
-pub one_line_more : {X : Type 0} (network_of : X → Network) (front : List ℕ) (items : List X) (i : ℕ) (item : X) (text new : List ℕ) → i < length items → item ≡ get_or items i item
-    → text ≡ front ++ text_of_lines (map network_of (take i items)) → new ≡ (text ++ canonical_text (network_of item)) ++ 10 ∷ []
+pub one_line_more : {X : Type 0} (network_of : X → Network) (front : List ℕ) (items : List X) (i : ℕ) (item : X)
+    (text new : List ℕ) → i < length items → item ≡ get_or items i item
+    → text ≡ front ++ text_of_lines (map network_of (take i items))
+    → new ≡ (text ++ canonical_text (network_of item)) ++ 10 ∷ []
     → new ≡ front ++ text_of_lines (map network_of (take (i + 1) items))
 one_line_more network_of front items i item text new less is so_far pushed =
     let more : map network_of (take (i + 1) items) ≡ map network_of (take i items) ++ network_of item ∷ [] =
-    ap (map network_of) (take_more items i item less ∙ ap (λ z. take i items ++ z ∷ []) (sym is)) ∙ map_push network_of (take i items) item in
+    ap (map network_of) (take_more items i item less ∙ ap (λ z. take i items ++ z ∷ []) (sym is))
+    ∙ map_push network_of (take i items) item in
     pushed
     ∙ ap (λ z. (z ++ canonical_text (network_of item)) ++ 10 ∷ []) so_far
-    ∙ ap (λ z. z ++ 10 ∷ []) (append_assoc front (text_of_lines (map network_of (take i items))) (canonical_text (network_of item)))
+    ∙ ap (λ z. z ++ 10 ∷ [])
+    (append_assoc front (text_of_lines (map network_of (take i items))) (canonical_text (network_of item)))
     ∙ append_assoc front (text_of_lines (map network_of (take i items)) ++ canonical_text (network_of item)) (10 ∷ [])
-    ∙ ap (λ z. front ++ z) (sym (ap text_of_lines more ∙ text_of_lines-push (map network_of (take i items)) (network_of item)))
-
--- a text with no byte has the empty answer
-pub empty_answer : (grammar : Grammar) (text answer : List ℕ) → length text ≡ 0 → answer ≡ [] → IsAnswerTo grammar text answer
-empty_answer grammar text answer none empty = record {
-  networks = [];
-  written = no_lines grammar text none;
-  blocks = [];
-  aggregate = AreMaximalBlocks-nil (IsCoveredBy []) 0 (λ x h. omega (arith, h.2));
-  spelled = empty;
-}
+    ∙ ap (λ z. front ++ z)
+    (sym (ap text_of_lines more ∙ text_of_lines-push (map network_of (take i items)) (network_of item)))
 
 -- the text of the aggregate of networks that cover what the lines' networks cover is the answer
-pub answer_from : (grammar : Grammar) (text answer : List ℕ) (networks families blocks : List Network) → AreNetworksOf grammar (lines_of text) networks
-    → HaveSameCover networks families → IsAggregateOf blocks families → answer ≡ text_of_lines blocks → IsAnswerTo grammar text answer
+pub answer_from : (grammar : Grammar) (text answer : List ℕ) (networks families blocks : List Network)
+    → AreNetworksOf grammar (lines_of text) networks
+    → HaveSameCover networks families → IsAggregateOf blocks families → answer ≡ text_of_lines blocks
+    → IsAnswerTo grammar text answer
 answer_from grammar text answer networks families blocks written same aggregate spelled = record {
   networks = networks;
   written = written;
   blocks = blocks;
   aggregate = aggregate_of_same_cover families networks blocks (HaveSameCover-sym networks families same) aggregate;
   spelled = spelled;
+}
+
+-- ---- what the tool gives
+
+-- for a text with no byte, the empty answer
+pub nothing_for_nothing : (grammar : Grammar) (text : List ℕ) (answer : String Global) → length text ≡ 0
+    → string_bytes answer ≡ [] → IsTextAnswer grammar text (Ok answer)
+nothing_for_nothing grammar text answer none empty = record {
+  empty = λ _. empty;
+  answer = record {
+    networks = [];
+    written = no_lines grammar text none;
+    blocks = [];
+    aggregate = AreMaximalBlocks-nil (IsCoveredBy []) 0 (λ x h. omega (arith, h.2));
+    spelled = empty;
+  };
+  no_bad_line = all_good grammar (lines_of text) [] (no_lines grammar text none);
+  bad_line = λ number e. absurd cc;
+  bad_at_once = λ number h. absurd (none_bad grammar text number none h);
+}
+
+-- for a text that starts with no bad line, an answer
+pub answered : (grammar : Grammar) (text : List ℕ) (answer : String Global) → 0 < length text
+    → IsAnswerTo grammar text (string_bytes answer)
+    → ((number : ℕ) → ¬ (StartsWithBadLine grammar (lines_of text) number)) → IsTextAnswer grammar text (Ok answer)
+answered grammar text answer some is none_at_once = record {
+  empty = λ e. absurd (omega (arith, some, ap length e));
+  answer = is;
+  no_bad_line = all_good grammar (lines_of text) is.networks is.written;
+  bad_line = λ number e. absurd cc;
+  bad_at_once = λ number h. absurd (none_at_once number h);
+}
+
+-- for another, what ends the reading of its lines
+pub not_answered : (grammar : Grammar) (text : List ℕ) (error : ToolError) → 0 < length text
+    → ((number : ℕ) → error ≡ ToolErrors.Line number → IsFirstBadLine grammar (lines_of text) number)
+    → ((number : ℕ) → StartsWithBadLine grammar (lines_of text) number → error ≡ ToolErrors.Line number)
+    → IsTextAnswer grammar text (Err error)
+not_answered grammar text error some bad_line at_once = record {
+  empty = λ e. absurd (omega (arith, some, ap length e));
+  answer = tt;
+  no_bad_line = tt;
+  bad_line = λ number e. bad_line number cc;
+  bad_at_once = λ number h. ap Err (at_once number h);
 }

@@ -1,22 +1,76 @@
 -- The first line that is not empty, where it is bad.
-use Rattle.std.proofs.Common.{◌≡◌, ℕ, ◌+◌, ◌<◌, List, [], ◌∷◌, length, arith}
-use Rattle.ipnet.specs.Grammar.{Grammar}
+use Rattle.std.proofs.Common.{◌≡◌, ℕ, ◌+◌, ◌<◌, List, [], ◌∷◌, ◌++◌, length, All, refl, sym, ap, subst, inl, arith}
+use Rattle.std.proofs.lemmas.List.Elements.{All-head, All-tail}
+use Rattle.ipnet.specs.Network.{Network}
+use Rattle.ipnet.specs.declared.parser.Grammar.{Grammar}
 use Rattle.ipnet.specs.Lines.{lines_of, IsBadLine}
-use Rattle.ipnet_tool.specs.Answers.{IsBadAtOnce}
+use Rattle.ipnet.specs.NetworkTexts.{IsNetworkText}
+use Rattle.ipnet_tool.specs.Answers.{StartsWithBadLine}
+use Rattle.ipnet_tool.proofs.LineCuts.{empty_text}
 
--- it stands behind an empty line
-pub behind_empty : (grammar : Grammar) (line : List ℕ) (lines : List (List ℕ)) (number : ℕ) → length line ≡ 0 → IsBadAtOnce grammar (line ∷ lines) number
-    → (later : ℕ) × (number ≡ later + 1) × IsBadAtOnce grammar lines later
-behind_empty grammar [] lines number none h = h
-behind_empty grammar (b ∷ line) lines number none h = absurd (omega arith)
+-- after an empty line
+pub after_empty : (grammar : Grammar) (line : List ℕ) (lines : List (List ℕ)) (number : ℕ) → length line ≡ 0
+    → StartsWithBadLine grammar (line ∷ lines) number → (later : ℕ) × (number ≡ later + 1)
+    × StartsWithBadLine grammar lines later
+after_empty grammar line lines number none h =
+    found h.first.before h.first.line h.first.behind h.first.cut h.first.number_is h.empty h.first.bad
+  where
+    found : (before : List (List ℕ)) (bad : List ℕ) (after : List (List ℕ)) → line ∷ lines ≡ before ++ bad ∷ after
+        → number ≡ length before + 1
+        → All (λ line. line ≡ []) before → IsBadLine grammar bad → (later : ℕ) × (number ≡ later + 1)
+        × StartsWithBadLine grammar lines later
+    found [] bad after cut is empty is_bad =
+        let same : line ≡ bad = cc in
+        absurd (is_bad.0 (subst (λ z. z ≡ []) same (empty_text line none)))
+    found (first ∷ before) bad after cut is empty is_bad =
+        let rest : lines ≡ before ++ bad ∷ after = cc in
+        let empty_rest = All-tail (λ line. line ≡ []) first before empty in (
+          length before + 1,
+          omega (arith, is),
+          record {
+            first = record {
+              before = before;
+              line = bad;
+              behind = after;
+              cut = rest;
+              number_is = refl;
+              good = λ k d less. inl (empty_rest k d less);
+              bad = is_bad;
+            };
+            empty = empty_rest;
+          },
+        )
 
--- it is a line that is not empty
-pub bad_here : (grammar : Grammar) (line : List ℕ) (lines : List (List ℕ)) (number : ℕ) → 0 < length line → IsBadAtOnce grammar (line ∷ lines) number
-    → IsBadLine grammar line × (number ≡ 1)
-bad_here grammar [] lines number some h = absurd (omega arith)
-bad_here grammar (b ∷ line) lines number some h = h
+-- a line that is not empty is itself the one
+pub bad_here : (grammar : Grammar) (line : List ℕ) (lines : List (List ℕ)) (number : ℕ) → 0 < length line
+    → StartsWithBadLine grammar (line ∷ lines) number → IsBadLine grammar line × (number ≡ 1)
+bad_here grammar line lines number some h =
+    found h.first.before h.first.line h.first.behind h.first.cut h.first.number_is h.empty h.first.bad
+  where
+    found : (before : List (List ℕ)) (bad : List ℕ) (after : List (List ℕ)) → line ∷ lines ≡ before ++ bad ∷ after
+        → number ≡ length before + 1
+        → All (λ line. line ≡ []) before → IsBadLine grammar bad → IsBadLine grammar line × (number ≡ 1)
+    found [] bad after cut is empty is_bad =
+        let same : line ≡ bad = cc in
+        (subst (IsBadLine grammar) (sym same) is_bad, is)
+    found (first ∷ before) bad after cut is empty is_bad =
+        let same : line ≡ first = cc in
+        let none : first ≡ [] = All-head (λ line. line ≡ []) first before empty in
+        absurd (omega (arith, some, ap length same, ap length none))
 
--- a text with no byte has none
-pub none_bad : (grammar : Grammar) (text : List ℕ) (number : ℕ) → length text ≡ 0 → IsBadAtOnce grammar (lines_of text) number → ⊥
-none_bad grammar [] number none h = h
+-- a line that writes a network is not
+pub not_good : (grammar : Grammar) (line : List ℕ) (lines : List (List ℕ)) (number : ℕ) (n : Network) → 0 < length line
+    → IsNetworkText grammar line n
+    → StartsWithBadLine grammar (line ∷ lines) number → ⊥
+not_good grammar line lines number n some written h =
+    let (bad, one) = bad_here grammar line lines number some h in bad.1 n written
+
+-- a text with no byte has no line
+pub none_bad : (grammar : Grammar) (text : List ℕ) (number : ℕ) → length text ≡ 0
+    → StartsWithBadLine grammar (lines_of text) number → ⊥
+none_bad grammar [] number none h = found h.first.before h.first.line h.first.behind h.first.cut
+  where
+    found : (before : List (List ℕ)) (bad : List ℕ) (after : List (List ℕ)) → [] ≡ before ++ bad ∷ after → ⊥
+    found [] bad after cut = absurd cc
+    found (first ∷ before) bad after cut = absurd cc
 none_bad grammar (b ∷ text) number none h = omega arith

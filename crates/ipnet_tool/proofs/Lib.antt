@@ -1,4 +1,4 @@
 -- Lemmas of this crate.
 pub mod LineCuts
-pub mod AnswerLaws
 pub mod EarlyLines
+pub mod AnswerLaws

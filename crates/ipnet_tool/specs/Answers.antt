@@ -1,10 +1,14 @@
 -- The answer of the tool to a text: its networks aggregated, one a line.
-use Rattle.std.specs.Prelude.{◌≡◌, ℕ, ◌+◌, List, [], ◌∷◌, ◌++◌}
+use Rattle.std.specs.Prelude.{◌≡◌, ℕ, List, [], ◌∷◌, ◌++◌, All, Result, Err, IfOk, IsOkAnd, OnOk}
+use Rattle.std.specs.Prelude.{String, string_bytes}
+use Rattle.std.specs.declared.alloc.Global.{Global}
 use Rattle.ipnet.specs.Network.{Network}
 use Rattle.ipnet.specs.Blocks.{IsAggregateOf}
 use Rattle.ipnet.specs.CanonicalTexts.{canonical_text}
-use Rattle.ipnet.specs.Grammar.{Grammar}
-use Rattle.ipnet.specs.Lines.{lines_of, AreNetworksOf, IsBadLine}
+use Rattle.ipnet.specs.declared.parser.Grammar.{Grammar}
+use Rattle.ipnet.specs.Lines.{lines_of, AreNetworksOf, IsGoodLine, IsFirstBadLine}
+use Rattle.ipnet_tool.specs.declared.tool.ToolError.{ToolError}
+use Rattle.ipnet_tool.specs.declared.tool.ToolError.TheVariants as ToolErrors
 
 -- the canonical texts of the networks, in order, each followed by "\n" (10)
 abbrev pub text_of_lines : List Network → List ℕ
@@ -20,10 +24,19 @@ pub record IsAnswerTo (grammar : Grammar) (text answer : List ℕ) : Type 0 wher
   pub aggregate : IsAggregateOf blocks networks
   pub spelled : answer ≡ text_of_lines blocks
 
--- The first line that is not empty is bad, and this is its number, counted from 1 with the empty ones. It is met
--- before there is a network to keep.
-abbrev pub IsBadAtOnce : Grammar → List (List ℕ) → ℕ → Type 0
-IsBadAtOnce grammar [] number = ⊥
-IsBadAtOnce grammar ([] ∷ lines) number =
-    (later : ℕ) × (number ≡ later + 1) × IsBadAtOnce grammar lines later
-IsBadAtOnce grammar ((b ∷ line) ∷ lines) number = IsBadLine grammar (b ∷ line) × (number ≡ 1)
+-- The first line that is not empty is bad, and this is its number, counted from 1 with the empty ones. So it is found
+-- before any memory is needed.
+pub record StartsWithBadLine (grammar : Grammar) (lines : List (List ℕ)) (number : ℕ) : Type 0 where
+  pub first : IsFirstBadLine grammar lines number
+  pub empty : All (λ line. line ≡ []) first.before
+
+-- What the text tool gives for a text in this grammar: the answer, or the first bad line, or want of memory. The last
+-- comes neither on an empty text nor where the first line that is not empty is bad.
+pub record IsTextAnswer (grammar : Grammar) (text : List ℕ) (result : Result (String Global) ToolError) : Type 0 where
+  pub empty : text ≡ [] → IsOkAnd result (λ answer. string_bytes answer ≡ [])
+  pub answer : IfOk result (λ answer. IsAnswerTo grammar text (string_bytes answer))
+  pub no_bad_line : OnOk result (All (IsGoodLine grammar) (lines_of text))
+  pub bad_line : (number : ℕ) → result ≡ Err (ToolErrors.Line number)
+      → IsFirstBadLine grammar (lines_of text) number
+  pub bad_at_once : (number : ℕ) → StartsWithBadLine grammar (lines_of text) number
+      → result ≡ Err (ToolErrors.Line number)

@@ -1,15 +1,9 @@
--- What the private contracts of the tool see: the grammar that is asked for, and the networks of two lists as one.
+-- What the private contracts of the tool see of the networks of two lists as one.
+-- Private contracts alone cite these.
 use Rattle.std.specs.Prelude.{List, ◌++◌, map}
 use Rattle.ipnet.specs.Network.{Network}
-use Rattle.ipnet.specs.Grammar.{Grammar, Strict, Legacy}
 use Rattle.ipnet.specs.NetworkOf.{ipv4_network, ipv6_network}
 use Rattle.ipnet_tool.specs.declared.tool.Families.{Families}
-use Rattle.ipnet_tool.specs.declared.tool.Reading.{Reading}
-use Rattle.ipnet_tool.specs.declared.tool.Reading.TheVariants as Asked
-
-abbrev pub grammar_of : Reading → Grammar
-grammar_of Asked.Strict = Strict
-grammar_of Asked.Legacy = Legacy
 
 -- the networks of the two lists, IPv4 first
 abbrev pub networks_of : Families → List Network

@@ -1,9 +1,10 @@
--- The exit status of each fault that the program tells.
+-- The exit status of each failure that the program reports.
 use Rattle.std.specs.Prelude.{ℕ}
-use Rattle.ipnet_tool.specs.declared.program.Fault.{Fault}
-use Rattle.ipnet_tool.specs.declared.program.Fault.TheVariants.{Arguments, Unreadable, NotUtf8, Memory, Line, Unwritable}
+use Rattle.ipnet_tool.specs.declared.program.Failure.{Failure}
+use Rattle.ipnet_tool.specs.declared.program.Failure.TheVariants.{Arguments, Unreadable, NotUtf8, Memory, Line}
+use Rattle.ipnet_tool.specs.declared.program.Failure.TheVariants.{Unwritable}
 
-abbrev pub status_of : Fault → ℕ
+abbrev pub status_of : Failure → ℕ
 status_of (Line number) = 1
 status_of Arguments = 2
 status_of Unreadable = 3

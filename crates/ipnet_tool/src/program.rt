@@ -1,48 +1,61 @@
 //! The program, over any reader and writers.
 ghost use Rattle.std.specs.Prelude.{◌≡◌, ◌≤◌, ◌⊎◌, ◌↔◌, IfOk, IfErr, IfSome, IfNone, OnOk};
 ghost use Rattle.std.specs.Io.KnownBytes.{Consumes, IsAtEnd, Keeps};
-ghost use Rattle.ipnet.specs.Grammar.{Grammar};
-ghost use Rattle.ipnet_tool.specs.Families.{grammar_of};
+ghost use Rattle.ipnet.specs.declared.parser.Grammar.{Grammar};
 ghost use Rattle.ipnet_tool.specs.Runs.{IsChosenBy, IsAnswered, HasBadLine};
 ghost use Rattle.ipnet_tool.specs.Statuses.{status_of};
+ghost use Rattle.ipnet_tool.specs.declared.program.Failure.TheVariants.{Arguments, Unreadable, Memory};
 
-use crate::tool::{Reading, ToolError, answer_to};
+use crate::tool::{ToolError, answer_to};
+use ipnet::Grammar;
 use std::alloc::Global;
+use std::env::Env;
 use std::io::{ErrorKind, Read, Write};
-use std::str;
+use std::{env, str};
 use thiserror::Error;
 
 /// How many bytes are asked for in one read.
 const PIECE: usize = 65536;
 
-/// Why a run writes no answer, or not the whole of it.
+/// Why a run writes no answer, or not the whole of it. The text is the line that [`report`] writes.
+///
+/// ```text
+/// Failure::Line(2), whose text is  line 2: invalid IP address syntax
+/// ```
 #[derive(Clone, Copy, Debug, Drop, Error)]
-pub(crate) enum Fault {
+pub enum Failure {
+    /// The arguments are other than none or the one word `legacy`.
     #[error("ipnet: takes no argument or the word legacy")]
     Arguments,
+    /// A read failed.
     #[error("ipnet: input cannot be read")]
     Unreadable,
+    /// The input is not UTF-8.
     #[error("ipnet: input is not UTF-8")]
     NotUtf8,
+    /// A growth was refused.
     #[error("ipnet: out of memory")]
     Memory,
+    /// The line of this number, counted from 1 with the empty ones, is the first that is neither empty nor a
+    /// network.
     #[error("line {0}: invalid IP address syntax")]
     Line(usize),
+    /// A write failed, or the flush after it.
     #[error("ipnet: output cannot be written")]
     Unwritable,
 }
 
-impl Fault {
+impl Failure {
     ghost use Rattle.ipnet_tool.specs.Statuses.{status_of};
 
-    /// The exit status that tells of this fault.
+    /// The exit status that tells of this failure.
     fn status(self) -> u8
         ensures { result ≡ status_of self }
     {
         match self {
-            Fault::Line(_) => 1,
-            Fault::Arguments => 2,
-            Fault::Unreadable | Fault::NotUtf8 | Fault::Memory | Fault::Unwritable => 3,
+            Failure::Line(_) => 1,
+            Failure::Arguments => 2,
+            Failure::Unreadable | Failure::NotUtf8 | Failure::Memory | Failure::Unwritable => 3,
         }
     }
 }
@@ -50,18 +63,18 @@ impl Fault {
 /// Runs the program, and answers its exit status.
 ///
 /// It reads networks from `input` up to its end, one a line, and writes their aggregate to `out`, one network a line.
-/// With the one argument `legacy` the lines are read by the legacy grammar. What goes wrong is told on `faults` in
-/// one line; where that cannot be written, the status stays.
+/// With the one argument `legacy` the lines are read by the legacy grammar. An error is reported on `faults` in one
+/// line; if that write fails, the status is the same.
 ///
-/// | Status | When, in this order | On `faults` |
+/// | Status | On `faults` | When, in this order |
 /// |---|---|---|
-/// | 2 | arguments other than none, or the one word `legacy`; nothing is read | `ipnet: takes no argument or the word legacy` |
-/// | 3 | a read fails | `ipnet: input cannot be read` |
-/// | 3 | the input is not UTF-8 | `ipnet: input is not UTF-8` |
-/// | 3 | want of memory at any point, also while reading | `ipnet: out of memory` |
-/// | 1 | line N is the first that is neither empty nor a network | `line N: invalid IP address syntax` |
-/// | 3 | a write or the flush behind it fails; a beginning of the answer may have gone out | `ipnet: output cannot be written` |
-/// | 0 | otherwise | nothing |
+/// | 2 | `ipnet: takes no argument or the word legacy` | other arguments than none or `legacy`; nothing is read |
+/// | 3 | `ipnet: input cannot be read` | a read fails |
+/// | 3 | `ipnet: input is not UTF-8` | the input is not UTF-8 |
+/// | 3 | `ipnet: out of memory` | want of memory at any point, also while reading |
+/// | 1 | `line N: invalid IP address syntax` | line N is the first that is neither empty nor a network |
+/// | 3 | `ipnet: output cannot be written` | a write or the flush after it fails; the answer may be out in part |
+/// | 0 | nothing | otherwise |
 ///
 /// ```text
 /// arguments none, input "fd00::/32\n10.0.0.0/24\n": status 0, and out gets "10.0.0.0/24\nfd00::/32\n"
@@ -78,56 +91,83 @@ pub fn run<R: Read, W: Write, X: Write>(
     ensures refused { (result ≡ 2) ↔ ((grammar : Grammar) → ¬ (IsChosenBy args.now grammar)) }
     ensures unread { result ≡ 2 → Keeps (R.remaining input.old) (R.remaining input.new) }
     ensures silent { (result ≡ 1) ⊎ (result ≡ 2) → Keeps (W.contents out.old) (W.contents out.new) }
-    ensures answered { result ≡ 0 → IsAnswered args.now (R.remaining input.old) (R.remaining input.new) (W.contents out.old) (W.contents out.new) }
+    ensures answered { result ≡ 0 → IsAnswered args.now
+        (R.remaining input.old) (R.remaining input.new) (W.contents out.old) (W.contents out.new) }
     ensures faultless { result ≡ 0 → Keeps (X.contents faults.old) (X.contents faults.new) }
     ensures bad_line { result ≡ 1 → HasBadLine args.now (R.remaining input.old) (R.remaining input.new) }
 {
-    let Some(reading) = chosen(args) else {
-        return told(faults, Fault::Arguments);
+    let Some(grammar) = chosen(args) else {
+        return report(faults, Failure::Arguments);
     };
     let bytes = match read_all(alloc, input) {
         Ok(bytes) => bytes,
-        Err(fault) => return told(faults, fault),
+        Err(failure) => return report(faults, failure),
     };
     let Ok(text) = str::from_utf8(bytes.as_slice()) else {
-        return told(faults, Fault::NotUtf8);
+        return report(faults, Failure::NotUtf8);
     };
-    let answer = match answer_to(alloc, text, reading) {
+    let answer = match answer_to(alloc, text, grammar) {
         Ok(answer) => answer,
-        Err(ToolError::Line(number)) => return told(faults, Fault::Line(number)),
-        Err(ToolError::Memory) => return told(faults, Fault::Memory),
+        Err(ToolError::Line(number)) => return report(faults, Failure::Line(number)),
+        Err(ToolError::Memory) => return report(faults, Failure::Memory),
     };
     if out.write_all(answer.as_bytes()).is_err() || out.flush().is_err() {
-        return told(faults, Fault::Unwritable);
+        return report(faults, Failure::Unwritable);
     }
     0
 }
 
 /// The grammar that the arguments choose.
-fn chosen(args: &[String]) -> Option<Reading>
-    ensures some { IfSome result (λ reading. IsChosenBy args.now (grammar_of reading)) }
+fn chosen(args: &[String]) -> Option<Grammar>
+    ensures some { IfSome result (IsChosenBy args.now) }
     ensures none { IfNone result ((grammar : Grammar) → ¬ (IsChosenBy args.now grammar)) }
 {
     match args {
-        [] => Some(Reading::Strict),
-        [word] if word.as_str() == "legacy" => Some(Reading::Legacy),
+        [] => Some(Grammar::Strict),
+        [word] if word.as_str() == "legacy" => Some(Grammar::Legacy),
         _ => None,
     }
 }
 
-/// Tells the fault in a line, if that can be written, and answers its status.
-pub(crate) fn told<X: Write>(faults: &mut X, fault: Fault) -> u8
-    ensures { result ≡ status_of fault }
+/// The arguments that the system gives, without the program's own name, which stands first.
+///
+/// One that is not UTF-8 is refused as any other word is, with `Arguments`; where there is no memory for them the
+/// error is `Memory`.
+///
+/// ```text
+/// of the words  ipnet legacy  the arguments are  legacy
+/// ```
+pub fn arguments<R: Env + AllocGlobal>(rt: &R) -> Result<Vec<String>, Failure>
+    ensures { IfErr result (λ failure. (failure ≡ Arguments) ⊎ (failure ≡ Memory)) }
 {
-    let _ = writeln!(faults, "{fault}");
-    fault.status()
+    match env::args(rt) {
+        Ok(args) => {
+            let words = args.skip(1).collect::<Vec<String>>(rt.alloc());
+            words.map_err(|_| Failure::Memory)
+        }
+        Err(error) if error.kind() == ErrorKind::OutOfMemory => Err(Failure::Memory),
+        Err(_) => Err(Failure::Arguments),
+    }
+}
+
+/// Reports the failure in one line, ignoring a failed write, and returns its exit status, as the table of [`run`]
+/// has both.
+///
+/// ```text
+/// of Failure::Line(2): status 1, and faults gets "line 2: invalid IP address syntax\n"
+/// ```
+pub fn report<X: Write>(faults: &mut X, failure: Failure) -> u8
+    ensures { result ≡ status_of failure }
+{
+    let _ = writeln!(faults, "{failure}");
+    failure.status()
 }
 
 /// The bytes that the reader gives up to its end. A read that was interrupted is made again.
-fn read_all<R: Read>(alloc: Global, input: &mut R) -> Result<Vec<u8>, Fault>
+fn read_all<R: Read>(alloc: Global, input: &mut R) -> Result<Vec<u8>, Failure>
     ensures bytes { IfOk result (λ bytes. Consumes (R.remaining input.old) (R.remaining input.new) bytes.items) }
     ensures end { OnOk result (IsAtEnd (R.remaining input.new)) }
-    ensures status { IfErr result (λ fault. status_of fault ≡ 3) }
+    ensures failure { IfErr result (λ failure. (failure ≡ Unreadable) ⊎ (failure ≡ Memory)) }
 {
     let mut bytes = Vec::new(alloc);
     let mut piece = [0u8; PIECE];
@@ -136,15 +176,15 @@ fn read_all<R: Read>(alloc: Global, input: &mut R) -> Result<Vec<u8>, Fault>
             Ok(0) => return Ok(bytes),
             Ok(count) => {
                 let Ok(()) = bytes.extend_from_slice(&piece[..count]) else {
-                    return Err(Fault::Memory);
+                    return Err(Failure::Memory);
                 };
             }
             Err(error) => {
                 if error.kind() != ErrorKind::Interrupted {
-                    return Err(Fault::Unreadable);
+                    return Err(Failure::Unreadable);
                 }
             }
         }
     }
-    Err(Fault::Unreadable)
+    Err(Failure::Unreadable)
 }

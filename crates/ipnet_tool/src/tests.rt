@@ -1,6 +1,6 @@
-//! Rows of the tool and of the program, the latter on devices that make no growth, and runs short of memory.
+//! Rows of the tool and of the program, the latter on devices that make no growth; and runs short of memory.
+mod argument_rows;
 mod devices;
-mod memory;
 mod memory_rows;
 mod program_rows;
 mod text_rows;

@@ -1,19 +1,21 @@
 //! The text tool: a list of networks, one a line, into the shortest list of the same addresses.
-ghost use Rattle.std.specs.Prelude.{◌≡◌, ℕ, ◌<◌, [], ◌∷◌, List, ◌++◌, length, All, Err, IfOk, IsOkAnd, OnOk, string_bytes};
+ghost use Rattle.std.specs.Prelude.{◌≡◌, ℕ, ◌<◌, [], ◌∷◌, List, ◌++◌, length, Err, IfOk, OnOk, string_bytes};
 ghost use Rattle.ipnet.specs.Network.{Network};
 ghost use Rattle.ipnet.specs.Blocks.{HaveSameCover, IsAggregateOf};
 ghost use Rattle.ipnet.specs.CanonicalTexts.{canonical_text};
-ghost use Rattle.ipnet.specs.Grammar.{Strict, Legacy};
-ghost use Rattle.ipnet.specs.Lines.{lines_of, AreNetworksOf, IsGoodLine, IsFirstBadLine};
+ghost use Rattle.ipnet.specs.declared.parser.Grammar.TheVariants.{Strict, Legacy};
+ghost use Rattle.ipnet.specs.Lines.{lines_of, AreNetworksOf, IsFirstBadLine};
 ghost use Rattle.ipnet.specs.NetworkOf.{ip_network};
 ghost use Rattle.ipnet.specs.NetworkTexts.{IsNetworkText, ReadsNetwork};
-ghost use Rattle.ipnet_tool.specs.Answers.{IsAnswerTo, IsBadAtOnce, text_of_lines};
-ghost use Rattle.ipnet_tool.specs.Families.{grammar_of, networks_of};
+ghost use Rattle.ipnet_tool.specs.Answers.{IsTextAnswer, StartsWithBadLine, text_of_lines};
+ghost use Rattle.ipnet_tool.specs.Families.{networks_of};
 
 use ipnet::parser::AddrParseError;
-use ipnet::{IpNet, Ipv4Net, Ipv6Net};
+use ipnet::{Grammar, IpNet, Ipv4Net, Ipv6Net};
 use std::alloc::{AllocError, Global};
 use thiserror::Error;
+
+pub mod laws;
 
 /// Why a text has no answer. The text of a bad line has its number in decimal; that of `Memory` is `out of memory`.
 ///
@@ -34,7 +36,7 @@ pub enum ToolError {
 /// The shortest list of networks that cover the addresses of the text's networks, in canonical text, one a
 /// line.
 ///
-/// The text is cut at each "\n"; what stands behind the last is a line too, unless it is empty. Empty lines
+/// The text is cut at each "\n"; what stands after the last is a line too, unless it is empty. Empty lines
 /// are skipped, and each other line is read as [`IpNet`] by the strict grammar. The answer has the maximal
 /// aligned blocks of the addresses, IPv4 first, ascending, each followed by "\n". The first bad line is
 /// refused with its number, and a growth that is refused before that line is reached is want of memory; where
@@ -45,13 +47,9 @@ pub enum ToolError {
 /// aggregate_text(alloc, "10.0.0.0/24\n\nx\n")           is  Err(ToolError::Line(3))
 /// ```
 pub fn aggregate_text(alloc: Global, text: &str) -> Result<String, ToolError>
-    ensures empty { text.now ≡ [] → IsOkAnd result (λ answer. string_bytes answer ≡ []) }
-    ensures answer { IfOk result (λ answer. IsAnswerTo Strict text.now (string_bytes answer)) }
-    ensures no_bad_line { OnOk result (All (IsGoodLine Strict) (lines_of text.now)) }
-    ensures bad_line { (number : ℕ) → result ≡ Err (ToolError.Line number) → IsFirstBadLine Strict (lines_of text.now) number }
-    ensures bad_at_once { (number : ℕ) → IsBadAtOnce Strict (lines_of text.now) number → result ≡ Err (ToolError.Line number) }
+    ensures { IsTextAnswer Strict text.now result }
 {
-    answer_to(alloc, text, Reading::Strict)
+    answer_to(alloc, text, Grammar::Strict)
 }
 
 /// The same for lines that are read by the legacy grammar, [`IpNet::parse_legacy`].
@@ -60,20 +58,9 @@ pub fn aggregate_text(alloc: Global, text: &str) -> Result<String, ToolError>
 /// aggregate_text_legacy(alloc, "10.0.0.0/24\n10.0.01.0/24\n")  is  Ok("10.0.0.0/23\n")
 /// ```
 pub fn aggregate_text_legacy(alloc: Global, text: &str) -> Result<String, ToolError>
-    ensures empty { text.now ≡ [] → IsOkAnd result (λ answer. string_bytes answer ≡ []) }
-    ensures answer { IfOk result (λ answer. IsAnswerTo Legacy text.now (string_bytes answer)) }
-    ensures no_bad_line { OnOk result (All (IsGoodLine Legacy) (lines_of text.now)) }
-    ensures bad_line { (number : ℕ) → result ≡ Err (ToolError.Line number) → IsFirstBadLine Legacy (lines_of text.now) number }
-    ensures bad_at_once { (number : ℕ) → IsBadAtOnce Legacy (lines_of text.now) number → result ≡ Err (ToolError.Line number) }
+    ensures { IsTextAnswer Legacy text.now result }
 {
-    answer_to(alloc, text, Reading::Legacy)
-}
-
-/// The grammar by which lines are read.
-#[derive(Clone, Copy)]
-pub(crate) enum Reading {
-    Strict,
-    Legacy,
+    answer_to(alloc, text, Grammar::Legacy)
 }
 
 /// Networks by family, so that each family is sorted without the room and the tests that the other needs.
@@ -84,17 +71,13 @@ struct Families {
 }
 
 /// The answer, in the grammar that is asked for.
-pub(crate) fn answer_to(alloc: Global, text: &str, reading: Reading) -> Result<String, ToolError>
-    ensures empty { text.now ≡ [] → IsOkAnd result (λ answer. string_bytes answer ≡ []) }
-    ensures answer { IfOk result (λ answer. IsAnswerTo (grammar_of reading) text.now (string_bytes answer)) }
-    ensures no_bad_line { OnOk result (All (IsGoodLine (grammar_of reading)) (lines_of text.now)) }
-    ensures bad_line { (number : ℕ) → result ≡ Err (ToolError.Line number) → IsFirstBadLine (grammar_of reading) (lines_of text.now) number }
-    ensures bad_at_once { (number : ℕ) → IsBadAtOnce (grammar_of reading) (lines_of text.now) number → result ≡ Err (ToolError.Line number) }
+pub(crate) fn answer_to(alloc: Global, text: &str, grammar: Grammar) -> Result<String, ToolError>
+    ensures { IsTextAnswer grammar text.now result }
 {
     if text.is_empty() {
         return Ok(String::new(alloc));
     }
-    let families = read_lines(alloc, text, reading)?;
+    let families = read_lines(alloc, text, grammar)?;
     let Ok(blocks) = aggregated(alloc, &families) else {
         return Err(ToolError::Memory);
     };
@@ -105,7 +88,7 @@ pub(crate) fn answer_to(alloc: Global, text: &str, reading: Reading) -> Result<S
     Ok(answer)
 }
 
-/// The first line of a text that is not empty, and what stands behind its end.
+/// The first line of a text that is not empty, and what stands after its end.
 fn first_line(text: &str) -> (&str, &str)
     requires { 0 < length text.now }
     ensures lines { lines_of text.now ≡ result.0.now ∷ lines_of result.1.now }
@@ -118,12 +101,12 @@ fn first_line(text: &str) -> (&str, &str)
 }
 
 /// The network that the line writes in this grammar.
-fn read_line(line: &str, reading: Reading) -> Result<IpNet, AddrParseError>
-    ensures { ReadsNetwork ip_network (IsNetworkText (grammar_of reading)) line.now result }
+fn read_line(line: &str, grammar: Grammar) -> Result<IpNet, AddrParseError>
+    ensures { ReadsNetwork ip_network (IsNetworkText grammar) line.now result }
 {
-    match reading {
-        Reading::Strict => line.parse::<IpNet>(),
-        Reading::Legacy => IpNet::parse_legacy(line),
+    match grammar {
+        Grammar::Strict => line.parse::<IpNet>(),
+        Grammar::Legacy => IpNet::parse_legacy(line),
     }
 }
 
@@ -143,11 +126,14 @@ impl Families {
 }
 
 /// The networks that the lines write, up to the end or to the first bad line.
-fn read_lines(alloc: Global, text: &str, reading: Reading) -> Result<Families, ToolError>
-    ensures networks { IfOk result (λ families. (networks : List Network) × AreNetworksOf (grammar_of reading) (lines_of text.now) networks
+fn read_lines(alloc: Global, text: &str, grammar: Grammar) -> Result<Families, ToolError>
+    ensures networks { IfOk result (λ families. (networks : List Network)
+        × AreNetworksOf grammar (lines_of text.now) networks
         × HaveSameCover networks (networks_of families)) }
-    ensures bad_line { (number : ℕ) → result ≡ Err (ToolError.Line number) → IsFirstBadLine (grammar_of reading) (lines_of text.now) number }
-    ensures bad_at_once { (number : ℕ) → IsBadAtOnce (grammar_of reading) (lines_of text.now) number → result ≡ Err (ToolError.Line number) }
+    ensures bad_line { (number : ℕ) → result ≡ Err (ToolError.Line number)
+        → IsFirstBadLine grammar (lines_of text.now) number }
+    ensures bad_at_once { (number : ℕ) → StartsWithBadLine grammar (lines_of text.now) number
+        → result ≡ Err (ToolError.Line number) }
 {
     let mut families = Families {
         ipv4: Vec::new(alloc),
@@ -156,11 +142,11 @@ fn read_lines(alloc: Global, text: &str, reading: Reading) -> Result<Families, T
     let mut rest = text;
     let mut number = 0;
     'lines: while !rest.is_empty() {
-        let (line, behind) = first_line(rest);
-        rest = behind;
+        let (line, after) = first_line(rest);
+        rest = after;
         number += 1;
         if !line.is_empty() {
-            let Ok(network) = read_line(line, reading) else {
+            let Ok(network) = read_line(line, grammar) else {
                 return Err(ToolError::Line(number));
             };
             let Ok(()) = families.push(network) else {
@@ -194,9 +180,10 @@ fn printed(alloc: Global, families: &Families) -> Result<String, AllocError>
     Ok(text)
 }
 
-/// Puts the line of one network more behind the text.
+/// Appends the network's text and a newline.
 fn push_line(text: &mut String, network: IpNet) -> Result<(), AllocError>
-    ensures { OnOk result (string_bytes text.new ≡ (string_bytes text.old ++ canonical_text (ip_network network)) ++ 10 ∷ []) }
+    ensures { OnOk result
+        (string_bytes text.new ≡ (string_bytes text.old ++ canonical_text (ip_network network)) ++ 10 ∷ []) }
 {
     text.push_str(network.to_text().as_str())?;
     text.push_str("\n")

@@ -9,8 +9,8 @@
 //! Inferred: that a call makes no further growth after it has given memory back, since `outcomes` counts no calls
 //! of the allocator. Where the allocator never refuses, as under a sanitizer, the runs show nothing.
 use super::same_addresses;
-use crate::memory::{RUNS, outcomes};
 use crate::net::{IpNet, Ipv4Net, Ipv6Net};
+use out_of_memory::{RUNS, outcomes};
 use std::alloc::{AllocError, Global};
 use std::process::Abort;
 use std::test::Fail;

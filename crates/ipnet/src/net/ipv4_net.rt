@@ -1,7 +1,11 @@
-ghost use Rattle.std.specs.Prelude.{◌≡◌, ◌-◌, ◌*◌, ◌/◌, ◌%◌, ◌^◌, ◌<◌, ◌≤◌, ◌⊎◌, ◌↔◌, IsTrue, IsErr, IfOk, IsNone, IfSome};
-ghost use Rattle.ipnet_base.specs.Address.{IPv4, width, ipv4_address};
-ghost use Rattle.ipnet_base.specs.Network.{Network, IsLeastOf, IsGreatestOf, IsSubnetOf, InBlock, IsSupernetOf, AreSiblings, IsTruncationOf};
-ghost use Rattle.ipnet.specs.NetworkParts.{address_at, network_at, own_address, netmask, hostmask, HasAddressAndNetmask, AreSubnetsOfLength, IsBlockRange, IsHostRange};
+//! IPv4 networks: their parts, blocks and subnets, in bit operations on one word.
+ghost use Rattle.std.specs.Prelude.{◌≡◌, ◌-◌, ◌*◌, ◌/◌, ◌%◌, ◌^◌, ◌<◌, ◌≤◌, ◌⊎◌, ◌↔◌, IsTrue, IsErr, IfOk, IsNone};
+ghost use Rattle.std.specs.Prelude.{IfSome};
+ghost use Rattle.ipnet_base.specs.Address.{IPv4, width, ipv4_address, address_at};
+ghost use Rattle.ipnet_base.specs.Network.{Network, IsLeastOf, IsGreatestOf, IsSubnetOf, InBlock, IsSupernetOf};
+ghost use Rattle.ipnet_base.specs.Network.{AreSiblings, IsTruncationOf, last_of};
+ghost use Rattle.ipnet.specs.NetworkParts.{network_at, own_address, netmask, hostmask, HasAddressAndNetmask};
+ghost use Rattle.ipnet.specs.NetworkParts.{AreSubnetsOfLength, IsBlockRange, IsHostRange};
 
 use super::{Contains, Net};
 use crate::subnets::Ipv4Subnets;
@@ -59,7 +63,6 @@ fn address_of(number: u32) -> Ipv4Addr
 }
 
 impl Ipv4Net {
-    ghost use Rattle.ipnet_base.proofs.BlockLaws.{last_of};
     ghost use Rattle.ipnet.specs.NetworkOf.{ipv4_network, ipv4_network_of};
     ghost use Rattle.ipnet_base.specs.RangeOf.{ipv4_range};
     ghost use Rattle.ipnet.specs.SubnetsLeft.{ipv4_subnet_range, ipv4_subnets_left};
@@ -101,8 +104,10 @@ impl Ipv4Net {
     /// Ipv4Net::with_netmask(10.1.1.7, 255.255.0.0) is 10.1.1.7/16, with 255.0.255.0 an error
     /// ```
     pub fn with_netmask(ip: Ipv4Addr, netmask: Ipv4Addr) -> Result<Ipv4Net, PrefixLenError>
-        ensures made { IfOk result (λ n. HasAddressAndNetmask (ipv4_network n) (ipv4_address ip) (ipv4_address netmask)) }
-        ensures refused { IsErr result ↔ ((n : Network) → ¬ (HasAddressAndNetmask n (ipv4_address ip) (ipv4_address netmask))) }
+        ensures made { IfOk result (λ n. HasAddressAndNetmask (ipv4_network n) (ipv4_address ip)
+            (ipv4_address netmask)) }
+        ensures refused { IsErr result ↔
+            ((n : Network) → ¬ (HasAddressAndNetmask n (ipv4_address ip) (ipv4_address netmask))) }
     {
         let prefix_len = ipv4_mask_to_prefix(netmask)?;
         Ipv4Net::new(ip, prefix_len)
@@ -257,8 +262,10 @@ impl Ipv4Net {
     /// ```
     pub fn subnets(&self, new_prefix_len: u8) -> Result<Ipv4Subnets, PrefixLenError>
         ensures range { IfOk result (λ s. IsBlockRange (ipv4_network self.now) new_prefix_len (ipv4_subnet_range s)) }
-        ensures walk { IfOk result (λ s. AreSubnetsOfLength (ipv4_network self.now) new_prefix_len (ipv4_subnets_left s)) }
-        ensures refused { IsErr result ↔ ((new_prefix_len < (ipv4_network self.now).prefix_len) ⊎ (32 < new_prefix_len)) }
+        ensures walk { IfOk result (λ s.
+            AreSubnetsOfLength (ipv4_network self.now) new_prefix_len (ipv4_subnets_left s)) }
+        ensures refused { IsErr result ↔
+            ((new_prefix_len < (ipv4_network self.now).prefix_len) ⊎ (32 < new_prefix_len)) }
     {
         if new_prefix_len < self.prefix_len() || new_prefix_len > 32 {
             return Err(PrefixLenError);

@@ -1,7 +1,10 @@
+//! IPv6 networks: their parts, blocks and subnets, in bit operations on the number and the length.
 ghost use Rattle.std.specs.Prelude.{◌≡◌, ◌-◌, ◌*◌, ◌/◌, ◌^◌, ◌<◌, ◌≤◌, ◌⊎◌, ◌↔◌, IsTrue, IsErr, IfOk, IsNone, IfSome};
-ghost use Rattle.ipnet_base.specs.Address.{IPv6, width, ipv6_address};
-ghost use Rattle.ipnet_base.specs.Network.{Network, IsLeastOf, IsGreatestOf, IsSubnetOf, InBlock, IsSupernetOf, AreSiblings, IsTruncationOf};
-ghost use Rattle.ipnet.specs.NetworkParts.{address_at, network_at, own_address, netmask, hostmask, HasAddressAndNetmask, AreSubnetsOfLength, IsBlockRange, IsHostRange};
+ghost use Rattle.ipnet_base.specs.Address.{IPv6, width, ipv6_address, address_at};
+ghost use Rattle.ipnet_base.specs.Network.{Network, IsLeastOf, IsGreatestOf, IsSubnetOf, InBlock, IsSupernetOf};
+ghost use Rattle.ipnet_base.specs.Network.{AreSiblings, IsTruncationOf, last_of};
+ghost use Rattle.ipnet.specs.NetworkParts.{network_at, own_address, netmask, hostmask, HasAddressAndNetmask};
+ghost use Rattle.ipnet.specs.NetworkParts.{AreSubnetsOfLength, IsBlockRange, IsHostRange};
 
 use super::{Contains, Net};
 use crate::subnets::Ipv6Subnets;
@@ -60,7 +63,6 @@ fn address_of(number: u128) -> Ipv6Addr
 }
 
 impl Ipv6Net {
-    ghost use Rattle.ipnet_base.proofs.BlockLaws.{last_of};
     ghost use Rattle.ipnet.specs.NetworkOf.{ipv6_network, ipv6_network_of};
     ghost use Rattle.ipnet_base.specs.RangeOf.{ipv6_range};
     ghost use Rattle.ipnet.specs.SubnetsLeft.{ipv6_subnet_range, ipv6_subnets_left};
@@ -102,8 +104,10 @@ impl Ipv6Net {
     /// Ipv6Net::with_netmask(fd00::7, ffff:ff00::) is fd00::7/24, with ff00:ff:: an error
     /// ```
     pub fn with_netmask(ip: Ipv6Addr, netmask: Ipv6Addr) -> Result<Ipv6Net, PrefixLenError>
-        ensures made { IfOk result (λ n. HasAddressAndNetmask (ipv6_network n) (ipv6_address ip) (ipv6_address netmask)) }
-        ensures refused { IsErr result ↔ ((n : Network) → ¬ (HasAddressAndNetmask n (ipv6_address ip) (ipv6_address netmask))) }
+        ensures made { IfOk result (λ n. HasAddressAndNetmask (ipv6_network n) (ipv6_address ip)
+            (ipv6_address netmask)) }
+        ensures refused { IsErr result ↔
+            ((n : Network) → ¬ (HasAddressAndNetmask n (ipv6_address ip) (ipv6_address netmask))) }
     {
         let prefix_len = ipv6_mask_to_prefix(netmask)?;
         Ipv6Net::new(ip, prefix_len)
@@ -250,8 +254,10 @@ impl Ipv6Net {
     /// ```
     pub fn subnets(&self, new_prefix_len: u8) -> Result<Ipv6Subnets, PrefixLenError>
         ensures range { IfOk result (λ s. IsBlockRange (ipv6_network self.now) new_prefix_len (ipv6_subnet_range s)) }
-        ensures walk { IfOk result (λ s. AreSubnetsOfLength (ipv6_network self.now) new_prefix_len (ipv6_subnets_left s)) }
-        ensures refused { IsErr result ↔ ((new_prefix_len < (ipv6_network self.now).prefix_len) ⊎ (128 < new_prefix_len)) }
+        ensures walk { IfOk result (λ s.
+            AreSubnetsOfLength (ipv6_network self.now) new_prefix_len (ipv6_subnets_left s)) }
+        ensures refused { IsErr result ↔
+            ((new_prefix_len < (ipv6_network self.now).prefix_len) ⊎ (128 < new_prefix_len)) }
     {
         if new_prefix_len < self.prefix_len() || new_prefix_len > 128 {
             return Err(PrefixLenError);

@@ -1,48 +1,61 @@
 //! What holds of all values of the network types at once: `==`, the order and the hash go by the network that a value
-//! stands for, host bits and all, and a network's mask reads back as its length.
-ghost use Rattle.std.specs.Prelude.{◌≡◌, ◌↔◌, IsTrue};
-ghost use Rattle.std.specs.Ordering.{MatchOrdering};
+//! stands for, host bits and all; the clone is the value; a network's netmask reads back as its prefix length.
+//!
+//! ```text
+//! 10.0.0.0/24 < 10.0.0.1/8 < 10.0.0.1/24 < ::/0, and no two of these are equal or hashed alike
+//! ```
+ghost use Rattle.std.specs.Prelude.{◌≡◌};
 ghost use Rattle.ipnet_base.specs.Network.{IsNetwork, IsBefore};
+ghost use Rattle.ipnet_base.specs.Values.{ComparesBy, HashesBy, ClonesExactly};
 ghost use Rattle.ipnet.specs.NetworkOf.{ipv4_network, ipv6_network, ip_network};
+ghost use Rattle.ipnet.specs.declared.net.IpNet.{IpNet};
+ghost use Rattle.ipnet.specs.declared.net.ipv4_net.Ipv4Net.{Ipv4Net};
+ghost use Rattle.ipnet.specs.declared.net.ipv6_net.Ipv6Net.{Ipv6Net};
 
 use super::{IpNet, Ipv4Net, Ipv6Net};
 use ipnet_base::{PrefixLenError, ip_mask_to_prefix, ipv4_mask_to_prefix, ipv6_mask_to_prefix};
 use std::hash::Hash;
 
-/// Each IPv4 network has a number of 32 bits and a length of at most 32. They are equal where they stand for one
-/// network, ordered as networks, and hashed alike exactly where equal.
-pub fn ipv4_nets_follow_networks(a: Ipv4Net, b: Ipv4Net)
-    ensures valid { IsNetwork (ipv4_network a) }
-    ensures equality { IsTrue (⟦<Ipv4Net as PartialEq>⟧.eq a b) ↔ (ipv4_network a ≡ ipv4_network b) }
-    ensures one_to_one { ipv4_network a ≡ ipv4_network b → a ≡ b }
-    ensures order { MatchOrdering (⟦<Ipv4Net as Ord>⟧.cmp a b)
-        (IsBefore (ipv4_network a) (ipv4_network b)) (ipv4_network a ≡ ipv4_network b) (IsBefore (ipv4_network b) (ipv4_network a)) }
-    ensures partial_order { ⟦<Ipv4Net as PartialOrd>⟧.partial_cmp a b ≡ Some (⟦<Ipv4Net as Ord>⟧.cmp a b) }
-    ensures hash { (⟦<Ipv4Net as Hash>⟧.hash_input a ≡ ⟦<Ipv4Net as Hash>⟧.hash_input b) ↔ (ipv4_network a ≡ ipv4_network b) }
+/// Each IPv4 network has a number of 32 bits and a prefix length of at most 32. They are equal where they stand for
+/// one network, ordered as networks, and hashed alike exactly where equal.
+pub fn ipv4_nets_compare_by_network()
+    ensures valid { (n : Ipv4Net) → IsNetwork (ipv4_network n) }
+    ensures compare { (a b : Ipv4Net) → ComparesBy ipv4_network IsBefore ⟦<Ipv4Net as PartialEq>⟧.eq
+        ⟦<Ipv4Net as Ord>⟧.cmp ⟦<Ipv4Net as PartialOrd>⟧.partial_cmp a b }
+    ensures hash { (a b : Ipv4Net) → HashesBy ipv4_network ⟦<Ipv4Net as Hash>⟧.hash_input a b }
 {}
 
-/// Each IPv6 network has a number of 128 bits and a length of at most 128. They are equal where they stand for one
-/// network, ordered as networks, and hashed alike exactly where equal.
-pub fn ipv6_nets_follow_networks(a: Ipv6Net, b: Ipv6Net)
-    ensures valid { IsNetwork (ipv6_network a) }
-    ensures equality { IsTrue (⟦<Ipv6Net as PartialEq>⟧.eq a b) ↔ (ipv6_network a ≡ ipv6_network b) }
-    ensures one_to_one { ipv6_network a ≡ ipv6_network b → a ≡ b }
-    ensures order { MatchOrdering (⟦<Ipv6Net as Ord>⟧.cmp a b)
-        (IsBefore (ipv6_network a) (ipv6_network b)) (ipv6_network a ≡ ipv6_network b) (IsBefore (ipv6_network b) (ipv6_network a)) }
-    ensures partial_order { ⟦<Ipv6Net as PartialOrd>⟧.partial_cmp a b ≡ Some (⟦<Ipv6Net as Ord>⟧.cmp a b) }
-    ensures hash { (⟦<Ipv6Net as Hash>⟧.hash_input a ≡ ⟦<Ipv6Net as Hash>⟧.hash_input b) ↔ (ipv6_network a ≡ ipv6_network b) }
+/// Each IPv6 network has a number of 128 bits and a prefix length of at most 128. They are equal where they stand for
+/// one network, ordered as networks, and hashed alike exactly where equal.
+pub fn ipv6_nets_compare_by_network()
+    ensures valid { (n : Ipv6Net) → IsNetwork (ipv6_network n) }
+    ensures compare { (a b : Ipv6Net) → ComparesBy ipv6_network IsBefore ⟦<Ipv6Net as PartialEq>⟧.eq
+        ⟦<Ipv6Net as Ord>⟧.cmp ⟦<Ipv6Net as PartialOrd>⟧.partial_cmp a b }
+    ensures hash { (a b : Ipv6Net) → HashesBy ipv6_network ⟦<Ipv6Net as Hash>⟧.hash_input a b }
 {}
 
-/// Networks of either family have a number and a length within its width. They are equal where they stand for one
-/// network, ordered as networks, so IPv4 before IPv6, and hashed alike exactly where equal.
-pub fn ip_nets_follow_networks(a: IpNet, b: IpNet)
-    ensures valid { IsNetwork (ip_network a) }
-    ensures equality { IsTrue (⟦<IpNet as PartialEq>⟧.eq a b) ↔ (ip_network a ≡ ip_network b) }
-    ensures one_to_one { ip_network a ≡ ip_network b → a ≡ b }
-    ensures order { MatchOrdering (⟦<IpNet as Ord>⟧.cmp a b)
-        (IsBefore (ip_network a) (ip_network b)) (ip_network a ≡ ip_network b) (IsBefore (ip_network b) (ip_network a)) }
-    ensures partial_order { ⟦<IpNet as PartialOrd>⟧.partial_cmp a b ≡ Some (⟦<IpNet as Ord>⟧.cmp a b) }
-    ensures hash { (⟦<IpNet as Hash>⟧.hash_input a ≡ ⟦<IpNet as Hash>⟧.hash_input b) ↔ (ip_network a ≡ ip_network b) }
+/// Networks of either family have a number and a prefix length within its width. They are equal where they stand for
+/// one network, ordered as networks, so IPv4 before IPv6, and hashed alike exactly where equal.
+pub fn ip_nets_compare_by_network()
+    ensures valid { (n : IpNet) → IsNetwork (ip_network n) }
+    ensures compare { (a b : IpNet) → ComparesBy ip_network IsBefore ⟦<IpNet as PartialEq>⟧.eq
+        ⟦<IpNet as Ord>⟧.cmp ⟦<IpNet as PartialOrd>⟧.partial_cmp a b }
+    ensures hash { (a b : IpNet) → HashesBy ip_network ⟦<IpNet as Hash>⟧.hash_input a b }
+{}
+
+/// The clone of an IPv4 network is the network, and is never refused.
+pub fn ipv4_nets_clone()
+    ensures { ClonesExactly ⟦<Ipv4Net as Clone>⟧.is_clone ⟦<Ipv4Net as Clone>⟧.is_infallible }
+{}
+
+/// The clone of an IPv6 network is the network, and is never refused.
+pub fn ipv6_nets_clone()
+    ensures { ClonesExactly ⟦<Ipv6Net as Clone>⟧.is_clone ⟦<Ipv6Net as Clone>⟧.is_infallible }
+{}
+
+/// The clone of a network of either family is the network, and is never refused.
+pub fn ip_nets_clone()
+    ensures { ClonesExactly ⟦<IpNet as Clone>⟧.is_clone ⟦<IpNet as Clone>⟧.is_infallible }
 {}
 
 /// The netmask of an IPv4 network reads back as its prefix length.

@@ -1,17 +1,20 @@
 //! Reading a text in one forward pass.
-ghost use Rattle.std.specs.Prelude.{◌≡◌, min, [], ◌∷◌, ◌+◌, ◌<◌, ◌≤◌, length, take, drop, slice_index, IfSome, IfNone, option_map, MatchOption, true};
+ghost use Rattle.std.specs.Prelude.{◌≡◌, min, [], ◌∷◌, ◌+◌, ◌<◌, ◌≤◌, length, take, drop, slice_index, IfSome};
+ghost use Rattle.std.specs.Prelude.{IfNone, option_map, MatchOption, true};
 ghost use Rattle.std.specs.Bool.{OnTrue, OnFalse};
 ghost use Rattle.std.specs.Char.{digit_value};
 ghost use Rattle.std.specs.Str.Parse.{digits_value};
 ghost use Rattle.std.specs.Net.Addr.{ipv4_octets, ipv6_segments};
 ghost use Rattle.ipnet_base.specs.Network.{Network};
 ghost use Rattle.ipnet.specs.AddressTexts.{expanded};
-ghost use Rattle.ipnet.specs.Grammar.{grammar_of};
 ghost use Rattle.ipnet.specs.NetworkOf.{ip_network};
 ghost use Rattle.ipnet.specs.NetworkTexts.{IsNetworkText};
-ghost use Rattle.ipnet.specs.Reading.{digit_run, all_decimal, run_of, octet_of, read_byte, read_octet, read_dotted, read_length, read_ipv4_network, read_last, read_pieces, read_tail, read_ipv6, read_ipv6_network, is_single_colon};
+ghost use Rattle.ipnet.specs.ReaderSteps.{digit_run, all_decimal, run_of, octet_of, read_byte, read_octet};
+ghost use Rattle.ipnet.specs.ReaderSteps.{read_dotted, read_length, read_ipv4_network, read_last, read_pieces};
+ghost use Rattle.ipnet.specs.ReaderSteps.{read_tail, read_ipv6, read_ipv6_network, is_single_colon};
 
 use crate::net::{IpNet, Ipv4Net, Ipv6Net};
+use crate::parser::Grammar;
 use arrayvec::ArrayVec;
 use std::net::{Ipv4Addr, Ipv6Addr};
 
@@ -99,18 +102,18 @@ fn first_digits(rest: &[u8]) -> Digits
 }
 
 /// The octet that the digits write, if they write one.
-#[tactic(auto, using(std::proofs::lemmas::Bool::Decides::nat_tests), unfolding(crate::specs::Reading::octet_of))]
-fn octet(rest: &[u8], digits: Digits, strict: bool) -> Option<u8>
+#[tactic(auto, using(std::proofs::lemmas::Bool::Decides::nat_tests), unfolding(crate::specs::ReaderSteps::octet_of))]
+fn octet(rest: &[u8], digits: Digits, grammar: Grammar) -> Option<u8>
     requires within { digits.count ≤ length rest.now }
     requires in_decimal { digits.in_decimal ≡ digits_value 10 (take digits.count rest.now) }
     requires is_decimal { digits.is_decimal ≡ all_decimal (take digits.count rest.now) }
-    ensures { result ≡ octet_of strict (take digits.count rest.now) }
+    ensures { result ≡ octet_of grammar (take digits.count rest.now) }
 {
     let count = digits.count;
     if count == 0 || count > 3 || !digits.is_decimal || digits.in_decimal > 255 {
         return None;
     }
-    if strict && count > 1 && rest[0] == b'0' {
+    if grammar == Grammar::Strict && count > 1 && rest[0] == b'0' {
         return None;
     }
     Some(digits.in_decimal as u8)
@@ -139,12 +142,12 @@ fn expand(head: &[u16], tail: &[u16]) -> Ipv6Addr
 struct Reader<'a> {
     text: &'a [u8],
     position: usize,
-    strict: bool,
+    grammar: Grammar,
     ghost within: { position ≤ length text.now },
 }
 
 impl<'a> Reader<'a> {
-    ghost use Rattle.ipnet.specs.Reader.{rest_of, IsForward, read_to, taken_to};
+    ghost use Rattle.ipnet.specs.ReaderState.{rest_of, IsForward, read_to, taken_to};
 
     /// Takes this byte, if it is next.
     fn byte(&mut self, byte: u8) -> bool
@@ -160,16 +163,16 @@ impl<'a> Reader<'a> {
     }
 
     /// The digits at the front, at most four.
-    #[tactic(auto, using(std::proofs::lemmas::Bool::Decides::nat_tests), unfolding(crate::specs::Reading::group_of))]
+    #[tactic(auto, unfolding(crate::specs::ReaderSteps::group_of))]
     fn run(&mut self) -> Run
         ensures forward { IsForward self.old self.new }
-        ensures run { result ≡ run_of self.old.strict (digit_run 4 (rest_of self.old)).0 }
+        ensures run { result ≡ run_of self.old.grammar (digit_run 4 (rest_of self.old)).0 }
         ensures rest { rest_of self.new ≡ (digit_run 4 (rest_of self.old)).1 }
     {
         let rest = &self.text[self.position..];
         let digits = first_digits(rest);
         let count = digits.count;
-        let octet = octet(rest, digits, self.strict);
+        let octet = octet(rest, digits, self.grammar);
         self.position += count;
         Run {
             count,
@@ -179,10 +182,10 @@ impl<'a> Reader<'a> {
     }
 
     /// A "." and an octet.
-    #[tactic(auto, unfolding(crate::specs::Reading::read_octet))]
+    #[tactic(auto, unfolding(crate::specs::ReaderSteps::read_octet))]
     fn next_octet(&mut self) -> Option<u8>
         ensures forward { IsForward self.old self.new }
-        ensures value { read_to result self.new ≡ read_octet self.old.strict (rest_of self.old) }
+        ensures value { read_to result self.new ≡ read_octet self.old.grammar (rest_of self.old) }
     {
         if !self.byte(b'.') {
             return None;
@@ -191,11 +194,11 @@ impl<'a> Reader<'a> {
     }
 
     /// The dotted address whose first octet has been read.
-    #[tactic(auto, unfolding(crate::specs::Reading::read_dotted))]
+    #[tactic(auto, unfolding(crate::specs::ReaderSteps::read_dotted))]
     fn dotted(&mut self, first: u8) -> Option<Ipv4Addr>
         ensures forward { IsForward self.old self.new }
         ensures value { option_map (λ a. (ipv4_octets a, rest_of self.new)) result
-            ≡ read_dotted self.old.strict first (rest_of self.old) }
+            ≡ read_dotted self.old.grammar first (rest_of self.old) }
     {
         let second = self.next_octet()?;
         let third = self.next_octet()?;
@@ -204,10 +207,10 @@ impl<'a> Reader<'a> {
     }
 
     /// A "/" and a length, which end the text.
-    #[tactic(auto, unfolding(crate::specs::Reading::read_length))]
+    #[tactic(auto, unfolding(crate::specs::ReaderSteps::read_length))]
     fn prefix_len(&mut self, most: usize, greatest: u8) -> Option<u8>
         ensures forward { IsForward self.old self.new }
-        ensures value { result ≡ read_length self.old.strict most greatest (rest_of self.old) }
+        ensures value { result ≡ read_length self.old.grammar most greatest (rest_of self.old) }
         ensures small { IfSome result (λ n. n ≤ greatest) }
     {
         if !self.byte(b'/') {
@@ -223,11 +226,11 @@ impl<'a> Reader<'a> {
     }
 
     /// The address and the length of the IPv4 network whose first octet has been read, if the first run was one.
-    #[tactic(auto, unfolding(crate::specs::Reading::read_ipv4_network))]
+    #[tactic(auto, unfolding(crate::specs::ReaderSteps::read_ipv4_network))]
     fn ipv4_network(&mut self, first: Option<u8>) -> Option<(Ipv4Addr, u8)>
         ensures forward { IsForward self.old self.new }
         ensures value { option_map (λ n. (ipv4_octets n.0, n.1)) result
-            ≡ read_ipv4_network self.old.strict first (rest_of self.old) }
+            ≡ read_ipv4_network self.old.grammar first (rest_of self.old) }
         ensures small { IfSome result (λ n. n.1 ≤ 32) }
     {
         let addr = self.dotted(first?)?;
@@ -263,11 +266,11 @@ impl<'a> Reader<'a> {
     }
 
     /// The two groups of the dotted address whose first octet has been read, if the run before was one.
-    #[tactic(auto, unfolding(crate::specs::Reading::read_last))]
+    #[tactic(auto, unfolding(crate::specs::ReaderSteps::read_last))]
     fn last(&mut self, octet: Option<u8>) -> Option<(u16, u16)>
         ensures forward { IsForward self.old self.new }
         ensures value { option_map (λ g. (g.0 ∷ g.1 ∷ [], true, rest_of self.new)) result
-            ≡ read_last self.old.strict octet (rest_of self.old) }
+            ≡ read_last self.old.grammar octet (rest_of self.old) }
     {
         let [a, b, c, d] = self.dotted(octet?)?.octets();
         Some((
@@ -281,7 +284,7 @@ impl<'a> Reader<'a> {
         requires { room ≤ 8 }
         ensures forward { IsForward self.old self.new }
         ensures value { option_map (λ p. (p.groups.items, p.is_dotted, rest_of self.new)) result
-            ≡ read_pieces self.old.strict room first (rest_of self.old) }
+            ≡ read_pieces self.old.grammar room first (rest_of self.old) }
         ensures fits { IfSome result (λ p. length p.groups.items ≤ room) }
     {
         let mut groups = ArrayVec::new();
@@ -317,12 +320,12 @@ impl<'a> Reader<'a> {
     }
 
     /// "::" and what stands behind it.
-    #[tactic(auto, unfolding(crate::specs::Reading::read_tail))]
+    #[tactic(auto, unfolding(crate::specs::ReaderSteps::read_tail))]
     fn tail(&mut self, head: &[u16]) -> Option<Ipv6Addr>
         requires { length head.now ≤ 7 }
         ensures forward { IsForward self.old self.new }
         ensures value { option_map (λ a. (ipv6_segments a, rest_of self.new)) result
-            ≡ read_tail self.old.strict head.now (rest_of self.old) }
+            ≡ read_tail self.old.grammar head.now (rest_of self.old) }
     {
         if !self.byte(b':') {
             return None;
@@ -334,17 +337,20 @@ impl<'a> Reader<'a> {
         if run.count == 0 {
             return Some(expand(head, &[]));
         }
-        let most = if self.strict { 7 } else { 8 };
+        let most = match self.grammar {
+            Grammar::Strict => 7,
+            Grammar::Legacy => 8,
+        };
         let tail = self.pieces(run, most - head.len())?;
         Some(expand(head, tail.groups.as_slice()))
     }
 
     /// The IPv6 address whose first run has been read.
-    #[tactic(auto, unfolding(crate::specs::Reading::read_ipv6))]
+    #[tactic(auto, unfolding(crate::specs::ReaderSteps::read_ipv6))]
     fn ipv6(&mut self, first: Run) -> Option<Ipv6Addr>
         ensures forward { IsForward self.old self.new }
         ensures value { option_map (λ a. (ipv6_segments a, rest_of self.new)) result
-            ≡ read_ipv6 self.old.strict first (rest_of self.old) }
+            ≡ read_ipv6 self.old.grammar first (rest_of self.old) }
     {
         if first.count == 0 {
             return self.tail(&[]);
@@ -361,11 +367,11 @@ impl<'a> Reader<'a> {
     }
 
     /// The address and the length of the IPv6 network whose first run has been read.
-    #[tactic(auto, unfolding(crate::specs::Reading::read_ipv6_network))]
+    #[tactic(auto, unfolding(crate::specs::ReaderSteps::read_ipv6_network))]
     fn ipv6_network(&mut self, first: Run) -> Option<(Ipv6Addr, u8)>
         ensures forward { IsForward self.old self.new }
         ensures value { option_map (λ n. (ipv6_segments n.0, n.1)) result
-            ≡ read_ipv6_network self.old.strict first (rest_of self.old) }
+            ≡ read_ipv6_network self.old.grammar first (rest_of self.old) }
         ensures small { IfSome result (λ n. n.1 ≤ 128) }
     {
         let addr = self.ipv6(first)?;
@@ -376,14 +382,14 @@ impl<'a> Reader<'a> {
 
 /// The network that the whole text writes, if it writes one. The byte behind the first run of digits tells the
 /// family.
-pub(super) fn read_network(text: &[u8], strict: bool) -> Option<IpNet>
-    ensures { MatchOption result ((network : Network) → ¬ (IsNetworkText (grammar_of strict) text.now network))
-        (λ n. IsNetworkText (grammar_of strict) text.now (ip_network n)) }
+pub(super) fn read_network(text: &[u8], grammar: Grammar) -> Option<IpNet>
+    ensures { MatchOption result ((network : Network) → ¬ (IsNetworkText grammar text.now network))
+        (λ n. IsNetworkText grammar text.now (ip_network n)) }
 {
     let mut reader = Reader {
         text,
         position: 0,
-        strict,
+        grammar,
     };
     let first = reader.run();
     if reader.peek(0) == b'.' {

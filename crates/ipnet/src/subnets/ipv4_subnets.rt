@@ -1,9 +1,9 @@
+//! Walks over ranges of IPv4 addresses: how the largest network at the start is found, and what a step leaves.
 ghost use Rattle.std.specs.Prelude.{◌≡◌, ◌<◌, ◌≤◌, ◌-◌, ◌^◌};
 ghost use Rattle.std.specs.Net.Addr.{ipv4_bits};
 ghost use Rattle.ipnet_base.specs.Address.{IPv4};
-ghost use Rattle.ipnet_base.specs.Subnets.{IsLargestSubnetAt, IsAdvancedPast};
-ghost use Rattle.ipnet_base.proofs.StepLaws.{IsMostBits};
-ghost use Rattle.ipnet.specs.NetworkOf.{ipv4_network};
+ghost use Rattle.ipnet_base.specs.Subnets.{IsLargestSubnetAt, IsAdvancedPast, IsMostBits};
+ghost use Rattle.ipnet.specs.NetworkOf.{ipv4_network, ipv4_network_of};
 
 use crate::net::Ipv4Net;
 use std::iter::FusedIterator;
@@ -22,8 +22,12 @@ use std::net::Ipv4Addr;
 /// by the networks that they still give: two walks that are over may differ.
 #[derive(Clone, Copy, PartialEq, Eq, PartialOrd, Ord, Hash, Debug)]
 pub struct Ipv4Subnets {
+    /// The first number of what is left. It saturates at the last address of all.
     start: u32,
+    /// The last number of what is left: that of the range, until a network ends at it or at the last address of all;
+    /// then 0, which lies below the start.
     end: u32,
+    /// The minimum prefix length of each network, as `u32`, the type of shift counts.
     min_prefix_len: u32,
     ghost start_fits: { start < 2 ^ 32 },
     ghost end_fits: { end < 2 ^ 32 },
@@ -44,15 +48,31 @@ fn range_prefix_len(distance: u32) -> u32
     }
 }
 
+/// The prefix length of the largest network that starts at the start and ends at or before the end.
+fn largest_prefix_len(start: u32, end: u32, min_prefix_len: u32) -> u32
+    requires ordered { start ≤ end }
+    requires prefix_fits { min_prefix_len ≤ 32 }
+    ensures fits { result ≤ 32 }
+    ensures largest { IsLargestSubnetAt IPv4 start end min_prefix_len (ipv4_network_of start result) }
+{
+    // No network may be larger than this one, and in a walk over the subnets of a network it always fits: a test that
+    // a processor predicts, in place of counts that it has to wait for.
+    let net = Ipv4Net::from_number(start, min_prefix_len);
+    if net.leading_number(min_prefix_len) == start && net.last_number() <= end {
+        return min_prefix_len;
+    }
+    let by_range = range_prefix_len(end - start);
+    let by_start = u32::BITS - start.trailing_zeros();
+    by_range.max(by_start).max(min_prefix_len)
+}
+
 /// The largest network that starts at the start and ends at or before the end.
 fn largest_subnet_at(start: u32, end: u32, min_prefix_len: u32) -> Ipv4Net
     requires ordered { start ≤ end }
     requires prefix_fits { min_prefix_len ≤ 32 }
     ensures { IsLargestSubnetAt IPv4 start end min_prefix_len (ipv4_network result) }
 {
-    let by_range = range_prefix_len(end - start);
-    let by_start = u32::BITS - start.trailing_zeros();
-    let prefix_len = by_range.max(by_start).max(min_prefix_len);
+    let prefix_len = largest_prefix_len(start, end, min_prefix_len);
     Ipv4Net::from_number(start, prefix_len)
 }
 
@@ -72,7 +92,8 @@ impl Ipv4Subnets {
     pub fn new(start: Ipv4Addr, end: Ipv4Addr, min_prefix_len: u8) -> Ipv4Subnets
         requires { min_prefix_len ≤ 32 }
         ensures range { ipv4_subnet_range result ≡ ipv4_range_of (ipv4_bits start) (ipv4_bits end) min_prefix_len }
-        ensures walk { IsWalkOf (ipv4_range_of (ipv4_bits start) (ipv4_bits end) min_prefix_len) (ipv4_subnets_left result) }
+        ensures walk { IsWalkOf (ipv4_range_of (ipv4_bits start) (ipv4_bits end) min_prefix_len)
+            (ipv4_subnets_left result) }
     {
         Ipv4Subnets {
             start: start.to_bits(),

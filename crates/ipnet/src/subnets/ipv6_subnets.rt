@@ -1,9 +1,9 @@
+//! Walks over ranges of IPv6 addresses: how the largest network at the start is found, and what a step leaves.
 ghost use Rattle.std.specs.Prelude.{◌≡◌, ◌<◌, ◌≤◌, ◌-◌, ◌^◌};
 ghost use Rattle.std.specs.Net.Addr.{ipv6_bits};
 ghost use Rattle.ipnet_base.specs.Address.{IPv6};
-ghost use Rattle.ipnet_base.specs.Subnets.{IsLargestSubnetAt, IsAdvancedPast};
-ghost use Rattle.ipnet_base.proofs.StepLaws.{IsMostBits};
-ghost use Rattle.ipnet.specs.NetworkOf.{ipv6_network};
+ghost use Rattle.ipnet_base.specs.Subnets.{IsLargestSubnetAt, IsAdvancedPast, IsMostBits};
+ghost use Rattle.ipnet.specs.NetworkOf.{ipv6_network, ipv6_network_of};
 
 use crate::net::Ipv6Net;
 use std::iter::FusedIterator;
@@ -14,16 +14,20 @@ use std::net::Ipv6Addr;
 /// together exactly the addresses of the range.
 ///
 /// ```text
-/// 2001:db8:: to 2001:db8::ef, least length 0:   2001:db8::/121, 2001:db8::80/122, 2001:db8::c0/123, 2001:db8::e0/124
-/// 2001:db8:: to 2001:db8::ef, least length 122: 2001:db8::/122, 2001:db8::40/122, 2001:db8::80/122, 2001:db8::c0/123, 2001:db8::e0/124
+/// fd00:: to fd00::ef, least length 0:   fd00::/121, fd00::80/122, fd00::c0/123, fd00::e0/124
+/// fd00:: to fd00::ef, least length 122: fd00::/122, fd00::40/122, fd00::80/122, fd00::c0/123, fd00::e0/124
 /// ```
 ///
 /// Walks compare by what they store, the start, then the end, then the least length of what is left, and not
 /// by the networks that they still give: two walks that are over may differ.
 #[derive(Clone, Copy, PartialEq, Eq, PartialOrd, Ord, Hash, Debug)]
 pub struct Ipv6Subnets {
+    /// The first number of what is left. It saturates at the last address of all.
     start: u128,
+    /// The last number of what is left: that of the range, until a network ends at it or at the last address of all;
+    /// then 0, which lies below the start.
     end: u128,
+    /// The minimum prefix length of each network, as `u32`, the type of shift counts.
     min_prefix_len: u32,
     ghost start_fits: { start < 2 ^ 128 },
     ghost end_fits: { end < 2 ^ 128 },
@@ -44,15 +48,31 @@ fn range_prefix_len(distance: u128) -> u32
     }
 }
 
+/// The prefix length of the largest network that starts at the start and ends at or before the end.
+fn largest_prefix_len(start: u128, end: u128, min_prefix_len: u32) -> u32
+    requires ordered { start ≤ end }
+    requires prefix_fits { min_prefix_len ≤ 128 }
+    ensures fits { result ≤ 128 }
+    ensures largest { IsLargestSubnetAt IPv6 start end min_prefix_len (ipv6_network_of start result) }
+{
+    // No network may be larger than this one, and in a walk over the subnets of a network it always fits: a test that
+    // a processor predicts, in place of counts that it has to wait for.
+    let net = Ipv6Net::from_number(start, min_prefix_len);
+    if net.leading_number(min_prefix_len) == start && net.last_number() <= end {
+        return min_prefix_len;
+    }
+    let by_range = range_prefix_len(end - start);
+    let by_start = u128::BITS - start.trailing_zeros();
+    by_range.max(by_start).max(min_prefix_len)
+}
+
 /// The largest network that starts at the start and ends at or before the end.
 fn largest_subnet_at(start: u128, end: u128, min_prefix_len: u32) -> Ipv6Net
     requires ordered { start ≤ end }
     requires prefix_fits { min_prefix_len ≤ 128 }
     ensures { IsLargestSubnetAt IPv6 start end min_prefix_len (ipv6_network result) }
 {
-    let by_range = range_prefix_len(end - start);
-    let by_start = u128::BITS - start.trailing_zeros();
-    let prefix_len = by_range.max(by_start).max(min_prefix_len);
+    let prefix_len = largest_prefix_len(start, end, min_prefix_len);
     Ipv6Net::from_number(start, prefix_len)
 }
 
@@ -72,7 +92,8 @@ impl Ipv6Subnets {
     pub fn new(start: Ipv6Addr, end: Ipv6Addr, min_prefix_len: u8) -> Ipv6Subnets
         requires { min_prefix_len ≤ 128 }
         ensures range { ipv6_subnet_range result ≡ ipv6_range_of (ipv6_bits start) (ipv6_bits end) min_prefix_len }
-        ensures walk { IsWalkOf (ipv6_range_of (ipv6_bits start) (ipv6_bits end) min_prefix_len) (ipv6_subnets_left result) }
+        ensures walk { IsWalkOf (ipv6_range_of (ipv6_bits start) (ipv6_bits end) min_prefix_len)
+            (ipv6_subnets_left result) }
     {
         Ipv6Subnets {
             start: start.to_bits(),

@@ -1,46 +1,73 @@
-//! What holds of all walks at once: `==`, the order and the hash go by the stored ends and the least length.
-ghost use Rattle.std.specs.Prelude.{◌≡◌, ◌≤◌, ◌↔◌, IsTrue};
-ghost use Rattle.std.specs.declared.cmp.Ordering.TheVariants.{Less, Equal};
+//! What holds of all walks at once: `==`, the order and the hash go by the stored ends and the minimum prefix length,
+//! and the clone is the value.
+//!
+//! ```text
+//! 0.0.0.0 to 0.0.0.6 at 0 < 0.0.0.0 to 0.0.0.6 at 31 < 0.0.0.0 to 0.0.0.7 at 0 < :: to ::6 at 0
+//! ```
+ghost use Rattle.std.specs.Prelude.{◌≤◌};
 ghost use Rattle.ipnet_base.specs.Address.{width};
 ghost use Rattle.ipnet_base.specs.Subnets.{IsWalkBefore};
+ghost use Rattle.ipnet_base.specs.Values.{ComparesBy, HashesBy, ClonesExactly};
 ghost use Rattle.ipnet.specs.SubnetsLeft.{ipv4_subnet_range, ipv6_subnet_range, ip_subnet_range};
 ghost use Rattle.ipnet.specs.declared.subnets.IpSubnets.{IpSubnets};
 ghost use Rattle.ipnet.specs.declared.subnets.ipv4_subnets.Ipv4Subnets.{Ipv4Subnets};
 ghost use Rattle.ipnet.specs.declared.subnets.ipv6_subnets.Ipv6Subnets.{Ipv6Subnets};
 
 use crate::subnets::{IpSubnets, Ipv4Subnets, Ipv6Subnets};
+use std::fmt::Debug;
 use std::hash::Hash;
+use std::iter::FusedIterator;
 
-/// Walks over IPv4 ranges have a least length of at most 32; they are equal, ordered and hashed by their ranges.
-pub fn ipv4_subnets_compare_by_range()
+/// Each walk over an IPv4 range has a minimum prefix length of at most 32. They are equal where their stored ends and
+/// this length are, ordered by these, and hashed alike exactly where equal.
+pub fn ipv4_walks_compare_by_range()
     ensures valid { (s : Ipv4Subnets) → (ipv4_subnet_range s).min_prefix_len ≤ 32 }
-    ensures equal { (s t : Ipv4Subnets) → IsTrue (⟦<Ipv4Subnets as PartialEq>⟧.eq s t) ↔ (ipv4_subnet_range s ≡ ipv4_subnet_range t) }
-    ensures less { (s t : Ipv4Subnets) → (⟦<Ipv4Subnets as Ord>⟧.cmp s t ≡ Less) ↔ IsWalkBefore (ipv4_subnet_range s) (ipv4_subnet_range t) }
-    ensures tied { (s t : Ipv4Subnets) → (⟦<Ipv4Subnets as Ord>⟧.cmp s t ≡ Equal) ↔ (ipv4_subnet_range s ≡ ipv4_subnet_range t) }
-    ensures partial { (s t : Ipv4Subnets) → ⟦<Ipv4Subnets as PartialOrd>⟧.partial_cmp s t ≡ Some (⟦<Ipv4Subnets as Ord>⟧.cmp s t) }
-    ensures hash { (s t : Ipv4Subnets) → ipv4_subnet_range s ≡ ipv4_subnet_range t
-        → ⟦<Ipv4Subnets as Hash>⟧.hash_input s ≡ ⟦<Ipv4Subnets as Hash>⟧.hash_input t }
+    ensures compare { (a b : Ipv4Subnets) → ComparesBy ipv4_subnet_range IsWalkBefore ⟦<Ipv4Subnets as PartialEq>⟧.eq
+        ⟦<Ipv4Subnets as Ord>⟧.cmp ⟦<Ipv4Subnets as PartialOrd>⟧.partial_cmp a b }
+    ensures hash { (a b : Ipv4Subnets) → HashesBy ipv4_subnet_range ⟦<Ipv4Subnets as Hash>⟧.hash_input a b }
 {}
 
-/// Walks over IPv6 ranges have a least length of at most 128; they are equal, ordered and hashed by their ranges.
-pub fn ipv6_subnets_compare_by_range()
+/// Each walk over an IPv6 range has a minimum prefix length of at most 128. They are equal where their stored ends and
+/// this length are, ordered by these, and hashed alike exactly where equal.
+pub fn ipv6_walks_compare_by_range()
     ensures valid { (s : Ipv6Subnets) → (ipv6_subnet_range s).min_prefix_len ≤ 128 }
-    ensures equal { (s t : Ipv6Subnets) → IsTrue (⟦<Ipv6Subnets as PartialEq>⟧.eq s t) ↔ (ipv6_subnet_range s ≡ ipv6_subnet_range t) }
-    ensures less { (s t : Ipv6Subnets) → (⟦<Ipv6Subnets as Ord>⟧.cmp s t ≡ Less) ↔ IsWalkBefore (ipv6_subnet_range s) (ipv6_subnet_range t) }
-    ensures tied { (s t : Ipv6Subnets) → (⟦<Ipv6Subnets as Ord>⟧.cmp s t ≡ Equal) ↔ (ipv6_subnet_range s ≡ ipv6_subnet_range t) }
-    ensures partial { (s t : Ipv6Subnets) → ⟦<Ipv6Subnets as PartialOrd>⟧.partial_cmp s t ≡ Some (⟦<Ipv6Subnets as Ord>⟧.cmp s t) }
-    ensures hash { (s t : Ipv6Subnets) → ipv6_subnet_range s ≡ ipv6_subnet_range t
-        → ⟦<Ipv6Subnets as Hash>⟧.hash_input s ≡ ⟦<Ipv6Subnets as Hash>⟧.hash_input t }
+    ensures compare { (a b : Ipv6Subnets) → ComparesBy ipv6_subnet_range IsWalkBefore ⟦<Ipv6Subnets as PartialEq>⟧.eq
+        ⟦<Ipv6Subnets as Ord>⟧.cmp ⟦<Ipv6Subnets as PartialOrd>⟧.partial_cmp a b }
+    ensures hash { (a b : Ipv6Subnets) → HashesBy ipv6_subnet_range ⟦<Ipv6Subnets as Hash>⟧.hash_input a b }
 {}
 
-/// Walks of either family have a least length within its width; they are equal, ordered and hashed by their ranges:
-/// an IPv4 one stands before every IPv6 one.
-pub fn ip_subnets_compare_by_range()
+/// Walks of either family have a minimum prefix length within its width. They are equal where their families, stored
+/// ends and this length are, ordered by these with IPv4 before IPv6, and hashed alike exactly where equal.
+pub fn ip_walks_compare_by_range()
     ensures valid { (s : IpSubnets) → (ip_subnet_range s).min_prefix_len ≤ width (ip_subnet_range s).family }
-    ensures equal { (s t : IpSubnets) → IsTrue (⟦<IpSubnets as PartialEq>⟧.eq s t) ↔ (ip_subnet_range s ≡ ip_subnet_range t) }
-    ensures less { (s t : IpSubnets) → (⟦<IpSubnets as Ord>⟧.cmp s t ≡ Less) ↔ IsWalkBefore (ip_subnet_range s) (ip_subnet_range t) }
-    ensures tied { (s t : IpSubnets) → (⟦<IpSubnets as Ord>⟧.cmp s t ≡ Equal) ↔ (ip_subnet_range s ≡ ip_subnet_range t) }
-    ensures partial { (s t : IpSubnets) → ⟦<IpSubnets as PartialOrd>⟧.partial_cmp s t ≡ Some (⟦<IpSubnets as Ord>⟧.cmp s t) }
-    ensures hash { (s t : IpSubnets) → ip_subnet_range s ≡ ip_subnet_range t
-        → ⟦<IpSubnets as Hash>⟧.hash_input s ≡ ⟦<IpSubnets as Hash>⟧.hash_input t }
+    ensures compare { (a b : IpSubnets) → ComparesBy ip_subnet_range IsWalkBefore ⟦<IpSubnets as PartialEq>⟧.eq
+        ⟦<IpSubnets as Ord>⟧.cmp ⟦<IpSubnets as PartialOrd>⟧.partial_cmp a b }
+    ensures hash { (a b : IpSubnets) → HashesBy ip_subnet_range ⟦<IpSubnets as Hash>⟧.hash_input a b }
 {}
+
+/// The clone of a walk over an IPv4 range is the walk, and is never refused.
+pub fn ipv4_walks_clone()
+    ensures { ClonesExactly ⟦<Ipv4Subnets as Clone>⟧.is_clone ⟦<Ipv4Subnets as Clone>⟧.is_infallible }
+{}
+
+/// The clone of a walk over an IPv6 range is the walk, and is never refused.
+pub fn ipv6_walks_clone()
+    ensures { ClonesExactly ⟦<Ipv6Subnets as Clone>⟧.is_clone ⟦<Ipv6Subnets as Clone>⟧.is_infallible }
+{}
+
+/// The clone of a walk of either family is the walk, and is never refused.
+pub fn ip_walks_clone()
+    ensures { ClonesExactly ⟦<IpSubnets as Clone>⟧.is_clone ⟦<IpSubnets as Clone>⟧.is_infallible }
+{}
+
+/// Walks of each type are fused iterators, which answer `None` ever after `None`, and `Debug` writes them.
+//
+// The contract says nothing: it is the body that is not compiled where one of the six is missing.
+pub fn walks_are_fused_and_debug(ipv4: &Ipv4Subnets, ipv6: &Ipv6Subnets, ip: &IpSubnets) {
+    is_fused_and_debug(ipv4);
+    is_fused_and_debug(ipv6);
+    is_fused_and_debug(ip);
+}
+
+/// Nothing: it can be called for such types alone.
+fn is_fused_and_debug<W: FusedIterator + Debug>(_: &W) {}

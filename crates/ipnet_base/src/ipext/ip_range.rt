@@ -1,8 +1,8 @@
 //! Ranges of addresses of either family.
 ghost use Rattle.std.specs.Prelude.{◌≡◌, ◌+◌, ◌-◌, ◌^◌, ◌<◌, ◌≤◌, option_map, slice_get, drop, take, reverse};
 ghost use Rattle.std.specs.Option.{SomeIff};
-ghost use Rattle.ipnet_base.specs.Address.{ip_address};
-ghost use Rattle.ipnet_base.specs.Ranges.{address_at, address_count, IsNth, IsNthBack};
+ghost use Rattle.ipnet_base.specs.Address.{ip_address, address_at};
+ghost use Rattle.ipnet_base.specs.Ranges.{address_count, IsNth, IsNthBack};
 
 use super::{Ipv4AddrRange, Ipv6AddrRange};
 use crate::addr::IpAddr;
@@ -80,7 +80,7 @@ impl IpAddrRange {
     /// ```
     pub fn min(self) -> Option<IpAddr>
         ensures { let r = ip_range self in
-            SomeIff (option_map ip_address result) (r.start ≤ r.end) (address_at r r.start) }
+            SomeIff (option_map ip_address result) (r.start ≤ r.end) (address_at r.family r.start) }
     {
         match self {
             IpAddrRange::V4(range) => range.min().map(IpAddr::V4),
@@ -95,7 +95,7 @@ impl IpAddrRange {
     /// ```
     pub fn max(self) -> Option<IpAddr>
         ensures { let r = ip_range self in
-            SomeIff (option_map ip_address result) (r.start ≤ r.end) (address_at r r.end) }
+            SomeIff (option_map ip_address result) (r.start ≤ r.end) (address_at r.family r.end) }
     {
         match self {
             IpAddrRange::V4(range) => range.max().map(IpAddr::V4),
@@ -110,7 +110,7 @@ impl IpAddrRange {
     /// ```
     pub fn last(self) -> Option<IpAddr>
         ensures { let r = ip_range self in
-            SomeIff (option_map ip_address result) (r.start ≤ r.end) (address_at r r.end) }
+            SomeIff (option_map ip_address result) (r.start ≤ r.end) (address_at r.family r.end) }
     {
         match self {
             IpAddrRange::V4(range) => range.last().map(IpAddr::V4),

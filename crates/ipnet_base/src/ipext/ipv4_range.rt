@@ -1,9 +1,10 @@
 //! Ranges of IPv4 addresses.
-ghost use Rattle.std.specs.Prelude.{◌≡◌, ◌+◌, ◌-◌, ◌^◌, ◌<◌, ◌≤◌, ◌↔◌, IsTrue, option_map, slice_get, drop, take, reverse};
+ghost use Rattle.std.specs.Prelude.{◌≡◌, ◌+◌, ◌-◌, ◌^◌, ◌<◌, ◌≤◌, ◌↔◌, IsTrue, option_map, slice_get, drop, take};
+ghost use Rattle.std.specs.Prelude.{reverse};
 ghost use Rattle.std.specs.Option.{SomeIff};
 ghost use Rattle.std.specs.Net.Addr.{ipv4_bits};
-ghost use Rattle.ipnet_base.specs.Address.{ipv4_address};
-ghost use Rattle.ipnet_base.specs.Ranges.{address_at, address_count, with_ends, IsNth, IsNthBack};
+ghost use Rattle.ipnet_base.specs.Address.{ipv4_address, address_at};
+ghost use Rattle.ipnet_base.specs.Ranges.{address_count, with_ends, IsNth, IsNthBack};
 
 use crate::addr::{Ipv4Addr, ipv4_from_number};
 use std::iter::FusedIterator;
@@ -22,7 +23,10 @@ use std::iter::FusedIterator;
 /// ```
 #[derive(Clone, Copy, PartialEq, Eq, PartialOrd, Ord, Hash, Debug)]
 pub struct Ipv4AddrRange {
+    /// The number of the first address that is left; 1 once the last address was given, or `nth` or `nth_back` passed
+    /// over all.
     start: u32,
+    /// The number of the last address that is left; then 0, which lies below the start.
     end: u32,
     ghost start_fits: { start < 2 ^ 32 },
     ghost end_fits: { end < 2 ^ 32 },
@@ -69,7 +73,7 @@ impl Ipv4AddrRange {
     /// ```
     pub fn min(self) -> Option<Ipv4Addr>
         ensures { let r = ipv4_range self in
-            SomeIff (option_map ipv4_address result) (r.start ≤ r.end) (address_at r r.start) }
+            SomeIff (option_map ipv4_address result) (r.start ≤ r.end) (address_at r.family r.start) }
     {
         if self.start <= self.end {
             Some(ipv4_from_number(self.start))
@@ -85,7 +89,7 @@ impl Ipv4AddrRange {
     /// ```
     pub fn max(self) -> Option<Ipv4Addr>
         ensures { let r = ipv4_range self in
-            SomeIff (option_map ipv4_address result) (r.start ≤ r.end) (address_at r r.end) }
+            SomeIff (option_map ipv4_address result) (r.start ≤ r.end) (address_at r.family r.end) }
     {
         if self.start <= self.end {
             Some(ipv4_from_number(self.end))
@@ -101,7 +105,7 @@ impl Ipv4AddrRange {
     /// ```
     pub fn last(self) -> Option<Ipv4Addr>
         ensures { let r = ipv4_range self in
-            SomeIff (option_map ipv4_address result) (r.start ≤ r.end) (address_at r r.end) }
+            SomeIff (option_map ipv4_address result) (r.start ≤ r.end) (address_at r.family r.end) }
     {
         self.max()
     }

@@ -1,9 +1,10 @@
 //! Ranges of IPv6 addresses.
-ghost use Rattle.std.specs.Prelude.{◌≡◌, ◌+◌, ◌-◌, ◌^◌, ◌<◌, ◌≤◌, ◌↔◌, IsTrue, option_map, slice_get, drop, take, reverse};
+ghost use Rattle.std.specs.Prelude.{◌≡◌, ◌+◌, ◌-◌, ◌^◌, ◌<◌, ◌≤◌, ◌↔◌, IsTrue, option_map, slice_get, drop, take};
+ghost use Rattle.std.specs.Prelude.{reverse};
 ghost use Rattle.std.specs.Option.{SomeIff};
 ghost use Rattle.std.specs.Net.Addr.{ipv6_bits};
-ghost use Rattle.ipnet_base.specs.Address.{ipv6_address};
-ghost use Rattle.ipnet_base.specs.Ranges.{address_at, address_count, with_ends, IsNth, IsNthBack};
+ghost use Rattle.ipnet_base.specs.Address.{ipv6_address, address_at};
+ghost use Rattle.ipnet_base.specs.Ranges.{address_count, with_ends, IsNth, IsNthBack};
 
 use crate::addr::{Ipv6Addr, ipv6_from_number};
 use std::iter::FusedIterator;
@@ -22,7 +23,10 @@ use std::iter::FusedIterator;
 /// ```
 #[derive(Clone, Copy, PartialEq, Eq, PartialOrd, Ord, Hash, Debug)]
 pub struct Ipv6AddrRange {
+    /// The number of the first address that is left; 1 once the last address was given, or `nth` or `nth_back` passed
+    /// over all.
     start: u128,
+    /// The number of the last address that is left; then 0, which lies below the start.
     end: u128,
     ghost start_fits: { start < 2 ^ 128 },
     ghost end_fits: { end < 2 ^ 128 },
@@ -72,7 +76,7 @@ impl Ipv6AddrRange {
     /// ```
     pub fn min(self) -> Option<Ipv6Addr>
         ensures { let r = ipv6_range self in
-            SomeIff (option_map ipv6_address result) (r.start ≤ r.end) (address_at r r.start) }
+            SomeIff (option_map ipv6_address result) (r.start ≤ r.end) (address_at r.family r.start) }
     {
         if self.start <= self.end {
             Some(ipv6_from_number(self.start))
@@ -88,7 +92,7 @@ impl Ipv6AddrRange {
     /// ```
     pub fn max(self) -> Option<Ipv6Addr>
         ensures { let r = ipv6_range self in
-            SomeIff (option_map ipv6_address result) (r.start ≤ r.end) (address_at r r.end) }
+            SomeIff (option_map ipv6_address result) (r.start ≤ r.end) (address_at r.family r.end) }
     {
         if self.start <= self.end {
             Some(ipv6_from_number(self.end))
@@ -104,7 +108,7 @@ impl Ipv6AddrRange {
     /// ```
     pub fn last(self) -> Option<Ipv6Addr>
         ensures { let r = ipv6_range self in
-            SomeIff (option_map ipv6_address result) (r.start ≤ r.end) (address_at r r.end) }
+            SomeIff (option_map ipv6_address result) (r.start ≤ r.end) (address_at r.family r.end) }
     {
         self.max()
     }

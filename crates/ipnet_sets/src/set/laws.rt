@@ -1,12 +1,12 @@
 //! What holds of all sets at once, each the contract of a function that computes nothing else: `==`, the order and the
 //! hash go by the addresses, and the operations belong together as those of sets do.
-ghost use Rattle.std.specs.Prelude.{◌≡◌, ◌↔◌, IsTrue, IfOk, map};
+ghost use Rattle.std.specs.Prelude.{◌≡◌, ℕ, ◌+◌, ◌^◌, ◌↔◌, IsTrue, IfOk, map};
 ghost use Rattle.std.specs.declared.cmp.Ordering.TheVariants.{Equal};
-ghost use Rattle.ipnet_base.specs.Address.{Address};
+ghost use Rattle.ipnet_base.specs.Address.{Family, Address, IsAddress, width};
 ghost use Rattle.ipnet_base.specs.Blocks.{IsAggregateOf};
 ghost use Rattle.ipnet.specs.NetworkOf.{ip_network};
 ghost use Rattle.ipnet_sets.specs.declared.set.IpSet.{IpSet};
-ghost use Rattle.ipnet_sets.specs.Members.{IsMember, HaveSameAddresses};
+ghost use Rattle.ipnet_sets.specs.Members.{IsMember, IsMemberOf, IsCountOf, HaveSameAddresses};
 
 use super::IpSet;
 use ipnet::IpNet;
@@ -82,3 +82,9 @@ pub fn difference_of_a_subset_is_empty(
     let difference = a.difference(alloc, b)?;
     Ok(difference.is_empty())
 }
+
+/// The counts of a set and of its complement add up to all addresses of the family.
+pub fn counts_of_complements_add_up()
+    ensures { (f : Family) (s t : IpSet) (m n : ℕ) → ((x : Address) → IsAddress x → IsMember t x ↔ ¬ (IsMember s x))
+        → IsCountOf (IsMemberOf f s) m → IsCountOf (IsMemberOf f t) n → m + n ≡ 2 ^ width f }
+{}

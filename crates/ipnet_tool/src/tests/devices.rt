@@ -10,12 +10,14 @@ pub const WHOLE: usize = usize::MAX;
 /// The number of the call that fails, where none does: calls are counted from 1.
 pub const NEVER: usize = 0;
 
-/// Gives at most so many bytes a read, though never none before the end, and fails at one of its reads.
+/// Gives at most so many bytes a read, though never none before the end, and fails at one of its reads, or at some
+/// in a row.
 #[derive(Drop)]
 pub struct ByteReader<'a> {
     rest: &'a [u8],
     most: usize,
     fails_at: usize,
+    fails_to: usize,
     kind: ErrorKind,
     reads: usize,
     largest: usize,
@@ -28,6 +30,7 @@ impl<'a> ByteReader<'a> {
             rest: bytes,
             most,
             fails_at,
+            fails_to: fails_at,
             kind,
             reads: 0,
             largest: 0,
@@ -37,6 +40,13 @@ impl<'a> ByteReader<'a> {
     /// A reader that gives all at once, and never fails.
     pub fn whole(bytes: &'a [u8]) -> ByteReader<'a> {
         ByteReader::new(bytes, WHOLE, NEVER, ErrorKind::Other)
+    }
+
+    /// A reader of one byte a read. Its reads number 2 and 3 are interrupted.
+    pub fn interrupted_twice(bytes: &'a [u8]) -> ByteReader<'a> {
+        let mut reader = ByteReader::new(bytes, 1, 2, ErrorKind::Interrupted);
+        reader.fails_to = 3;
+        reader
     }
 
     /// How many reads there were.
@@ -56,7 +66,7 @@ impl Read for ByteReader<'_> {
     fn read(&mut self, buf: &mut [u8]) -> io::Result<usize> {
         self.reads = self.reads.saturating_add(1);
         self.largest = self.largest.max(buf.len());
-        if self.reads == self.fails_at {
+        if self.fails_at != NEVER && self.fails_at <= self.reads && self.reads <= self.fails_to {
             return Err(io::Error::from(self.kind));
         }
         let count = self.most.max(1).min(buf.len()).min(self.rest.len());
@@ -77,6 +87,7 @@ pub struct ArrayWriter {
     len: usize,
     most: usize,
     fails_at: usize,
+    kind: ErrorKind,
     flushes: bool,
     writes: usize,
     largest: usize,
@@ -91,6 +102,7 @@ impl ArrayWriter {
             len: 0,
             most,
             fails_at,
+            kind: ErrorKind::Other,
             flushes: true,
             writes: 0,
             largest: 0,
@@ -100,6 +112,13 @@ impl ArrayWriter {
     /// A writer that takes all at once, and never fails.
     pub fn whole() -> ArrayWriter {
         ArrayWriter::new(WHOLE, NEVER)
+    }
+
+    /// A writer of one byte a write, whose second write is interrupted.
+    pub fn interrupted() -> ArrayWriter {
+        let mut writer = ArrayWriter::new(1, 2);
+        writer.kind = ErrorKind::Interrupted;
+        writer
     }
 
     /// A writer that takes all at once, and cannot be flushed.
@@ -127,7 +146,7 @@ impl Write for ArrayWriter {
         self.writes = self.writes.saturating_add(1);
         self.largest = self.largest.max(buf.len());
         if self.writes == self.fails_at {
-            return Err(io::Error::from(ErrorKind::Other));
+            return Err(io::Error::from(self.kind));
         }
         let len = self.len;
         let count = self.most.min(buf.len()).min(ROOM - len);

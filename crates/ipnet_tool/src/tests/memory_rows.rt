@@ -1,14 +1,42 @@
-//! Rows on want of memory: every request for memory refused in turn, and the first of all.
+//! Rows on want of memory. Each call is made with ample memory, then with none to be had, and then with ever more.
+//!
+//! Each of these calls but one is refused up to some run, and answered from then on. The answer of a long line
+//! outgrows the first block that its string has. The allocator keeps each block that a run gave back for later
+//! requests of the same size, and so it may find none for the next size: answers and refusals alternate until there
+//! is room for all.
 use crate::program::run;
 use crate::tests::devices::{ArrayWriter, ByteReader};
-use crate::tests::memory::{Outcome, exhaust, is_memory_left, outcomes};
 use crate::tool::{ToolError, aggregate_text, aggregate_text_legacy};
-use std::alloc::Global;
+use out_of_memory::{RUNS, outcomes};
+use std::alloc::{AllocError, Global};
 use std::process::Abort;
 use std::test::Fail;
 
+/// How a run of a call ended.
+#[derive(Clone, Copy, Debug, PartialEq, Eq, Drop)]
+enum Outcome {
+    /// It told want of memory.
+    Refused,
+    /// It gave the answer that is right where memory is ample.
+    Answered,
+    /// It gave anything else.
+    Wrong,
+}
+
+/// Asserts that the runs told want of memory up to some run, and gave the answer from then on.
+fn check(rt: &impl Abort, label: &str, outcomes: &[Outcome; RUNS]) {
+    let refused = outcomes
+        .iter()
+        .take_while(|outcome| **outcome == Outcome::Refused)
+        .count();
+    assert!(rt; 0 < refused && refused < RUNS, "{label}: {refused}");
+    for outcome in &outcomes[refused..] {
+        assert_eq!(rt; *outcome, Outcome::Answered, "{label}: after {refused}");
+    }
+}
+
 /// Asserts that each run told want of memory or gave the answer: the first run the former, the last the latter.
-fn compare(rt: &impl Abort, label: &str, outcomes: &[Outcome]) {
+fn check_each(rt: &impl Abort, label: &str, outcomes: &[Outcome; RUNS]) {
     for outcome in outcomes {
         assert_ne!(rt; *outcome, Outcome::Wrong, "{label}");
     }
@@ -16,60 +44,73 @@ fn compare(rt: &impl Abort, label: &str, outcomes: &[Outcome]) {
     assert_eq!(rt; outcomes.last(), Some(&Outcome::Answered), "{label}");
 }
 
-/// Grows the stack by the 64 KiB that a run of the program takes: where all memory is taken it could not grow.
-fn grow_stack(rt: &impl Abort, alloc: Global) {
-    let told = run_once(alloc, b"", 0, b"", b"");
-    assert_eq!(rt; told, Outcome::Answered, "program: no input");
+/// What the text tool gives, in the strict grammar.
+fn text_outcome(alloc: Global, text: &str, wanted: Result<&str, usize>) -> Outcome {
+    match aggregate_text(alloc, text) {
+        Ok(answer) if wanted == Ok(answer.as_str()) => Outcome::Answered,
+        Err(ToolError::Line(number)) if wanted == Err(number) => Outcome::Answered,
+        Err(ToolError::Memory) => Outcome::Refused,
+        _ => Outcome::Wrong,
+    }
 }
 
 #[test]
 fn text_tool(rt: HostRuntime) -> Result<(), Fail> {
     let alloc = rt.alloc();
-    grow_stack(&rt, alloc);
     // label, text, the answer or the number of the bad line
-    let rows: [(&str, &str, Result<&str, usize>); 5] = [
-        ("tool", "10.0.1.0/24\n\n10.0.0.0/24", Ok("10.0.0.0/23\n")),
-        ("tool, a bad line", "10.0.0.0/24\n\nx\n", Err(3)),
+    let rows: [(&str, &str, Result<&str, usize>); 4] = [
         (
-            "tool, a bad line of the older grammar",
+            "memory: tool",
+            "10.0.1.0/24\n\n10.0.0.0/24",
+            Ok("10.0.0.0/23\n"),
+        ),
+        ("memory: tool, a bad line", "10.0.0.0/24\n\nx\n", Err(3)),
+        (
+            "memory: tool, a bad line of the legacy grammar",
             "10.0.0.0/24\n10.0.01.0/24\n",
             Err(2),
         ),
         (
-            "tool, both families",
+            "memory: tool, both families",
             "fd00::/32\n10.0.0.0/24\n",
             Ok("10.0.0.0/24\nfd00::/32\n"),
         ),
-        (
-            "tool, a long line",
-            "2001:db8:1111:2222:3333:4444:5555:6666/128",
-            Ok("2001:db8:1111:2222:3333:4444:5555:6666/128\n"),
-        ),
     ];
     for (label, text, wanted) in rows {
-        let call = || match aggregate_text(alloc, text) {
-            Ok(answer) if wanted == Ok(answer.as_str()) => Outcome::Answered,
-            Err(ToolError::Line(number)) if wanted == Err(number) => Outcome::Answered,
-            Err(ToolError::Memory) => Outcome::Refused,
-            _ => Outcome::Wrong,
-        };
-        if let Some(outcomes) = outcomes(alloc, call)? {
-            compare(&rt, label, &outcomes);
+        if let Some(outcomes) = outcomes(alloc, || text_outcome(alloc, text, wanted))? {
+            check(&rt, label, &outcomes);
         }
     }
     Ok(())
 }
 
+#[test]
+fn text_tool_on_a_long_line(rt: HostRuntime) -> Result<(), Fail> {
+    let alloc = rt.alloc();
+    let text = "2001:db8:1111:2222:3333:4444:5555:6666/128";
+    let wanted = Ok("2001:db8:1111:2222:3333:4444:5555:6666/128\n");
+    if let Some(outcomes) = outcomes(alloc, || text_outcome(alloc, text, wanted))? {
+        check_each(&rt, "memory: tool, a long line", &outcomes);
+    }
+    Ok(())
+}
+
 /// Runs the program on the bytes: whether it gave the wanted status, standard output and standard error.
-fn run_once(alloc: Global, bytes: &[u8], status: u8, wanted: &[u8], fault: &[u8]) -> Outcome {
+fn program_outcome(
+    alloc: Global,
+    bytes: &[u8],
+    status: u8,
+    wanted: &[u8],
+    report: &[u8],
+) -> Outcome {
     let mut input = ByteReader::whole(bytes);
     let mut out = ArrayWriter::whole();
     let mut faults = ArrayWriter::whole();
-    let told = run(alloc, &[], &mut input, &mut out, &mut faults);
-    if told == status && out.held() == wanted && faults.held() == fault {
+    let answer = run(alloc, &[], &mut input, &mut out, &mut faults);
+    if answer == status && out.held() == wanted && faults.held() == report {
         return Outcome::Answered;
     }
-    match (told, out.held(), faults.held()) {
+    match (answer, out.held(), faults.held()) {
         (3, b"", b"ipnet: out of memory\n") => Outcome::Refused,
         _ => Outcome::Wrong,
     }
@@ -88,53 +129,61 @@ fn program(rt: HostRuntime) -> Result<(), Fail> {
             b"",
         ),
         (
-            "program: want of memory, a bad line",
+            "memory: program, a bad line",
             b"x\n",
             1,
             b"",
             b"line 1: invalid IP address syntax\n",
         ),
         (
-            "program: want of memory, not UTF-8",
+            "memory: program, not UTF-8",
             b"x\n\xff",
             3,
             b"",
             b"ipnet: input is not UTF-8\n",
         ),
     ];
-    for (label, bytes, status, wanted, fault) in rows {
-        let call = || run_once(alloc, bytes, status, wanted, fault);
+    for (label, bytes, status, wanted, report) in rows {
+        let call = || program_outcome(alloc, bytes, status, wanted, report);
         if let Some(outcomes) = outcomes(alloc, call)? {
-            compare(&rt, label, &outcomes);
+            check(&rt, label, &outcomes);
         }
     }
     Ok(())
 }
 
+/// Asserts that the call is true in every run, also with no memory to be had.
+fn check_no_request<F: FnMut() -> bool>(
+    rt: &impl Abort,
+    alloc: Global,
+    label: &str,
+    call: F,
+) -> Result<(), AllocError>
+    requires { F.IsAlwaysCallable call }
+{
+    if let Some(answers) = outcomes(alloc, call)? {
+        assert!(rt; answers == [true; RUNS], "{label}");
+    }
+    Ok(())
+}
+
 #[test]
-fn first_request_refused(rt: HostRuntime) -> Result<(), Fail> {
+fn no_request(rt: HostRuntime) -> Result<(), Fail> {
     let alloc = rt.alloc();
-    grow_stack(&rt, alloc);
-    let held = exhaust(alloc)?;
-    let left = is_memory_left(alloc);
-    let empty = aggregate_text(alloc, "");
-    let older_empty = aggregate_text_legacy(alloc, "");
-    let first_line_bad = aggregate_text(alloc, "10.0.0.0/24\r\n");
-    let short = aggregate_text(alloc, "10.0.0.0/24\n");
-    drop(held);
-    assert!(rt;
-        empty.is_ok_and(|text| text.is_empty()),
-        "memory: tool on nothing"
-    );
-    assert!(rt;
-        older_empty.is_ok_and(|text| text.is_empty()),
-        "memory: older tool on nothing"
-    );
-    assert_eq!(rt;
-        first_line_bad.err(),
-        Some(ToolError::Line(1)),
-        "memory: tool, the first line bad"
-    );
-    assert!(rt; left || short.err() == Some(ToolError::Memory));
+    check_no_request(&rt, alloc, "memory: tool on nothing", || {
+        aggregate_text(alloc, "").is_ok_and(|text| text.is_empty())
+    })?;
+    check_no_request(&rt, alloc, "memory: legacy tool on nothing", || {
+        aggregate_text_legacy(alloc, "").is_ok_and(|text| text.is_empty())
+    })?;
+    check_no_request(&rt, alloc, "memory: tool, the first line bad", || {
+        aggregate_text(alloc, "10.0.0.0/24\r\n") == Err(ToolError::Line(1))
+    })?;
+    check_no_request(
+        &rt,
+        alloc,
+        "memory: tool, a bad line after an empty one",
+        || { aggregate_text(alloc, "\n10.0.0.0/24\r\n") == Err(ToolError::Line(2)) },
+    )?;
     Ok(())
 }

@@ -1,8 +1,10 @@
 //! Rows of the program.
 use crate::program::run;
 use crate::tests::devices::{ArrayWriter, ByteReader, NEVER, WHOLE};
+use crate::tool::{aggregate_text, aggregate_text_legacy};
 use std::alloc::Global;
 use std::io::ErrorKind;
+use std::process::Abort;
 use std::str;
 use std::test::Fail;
 
@@ -28,7 +30,7 @@ fn arguments(alloc: Global, words: &[&str]) -> Result<Vec<String>, Fail> {
 #[test]
 fn runs(rt: HostRuntime) -> Result<(), Fail> {
     let alloc = rt.alloc();
-    let older = "10.0.0.0/24\n10.0.01.0/24\n";
+    let legacy = "10.0.0.0/24\n10.0.01.0/24\n";
     let both = "fd00::/32\n10.0.0.0/24\n";
     let none = [].as_slice();
     // label, arguments, input, standard output, standard error, status
@@ -45,18 +47,25 @@ fn runs(rt: HostRuntime) -> Result<(), Fail> {
         ("line 2 is bad", none, "10.0.0.0/24\nx\n", "", LINE_2, 1),
         ("one argument x", ["x"].as_slice(), "", "", REFUSED, 2),
         (
-            "older grammar with the word",
+            "legacy grammar with the word",
             ["legacy"].as_slice(),
-            older,
+            legacy,
             "10.0.0.0/23\n",
             "",
             0,
         ),
-        ("older grammar without the word", none, older, "", LINE_2, 1),
+        (
+            "legacy grammar without the word",
+            none,
+            legacy,
+            "",
+            LINE_2,
+            1,
+        ),
         (
             "the word twice",
             ["legacy", "legacy"].as_slice(),
-            older,
+            legacy,
             "",
             REFUSED,
             2,
@@ -64,14 +73,14 @@ fn runs(rt: HostRuntime) -> Result<(), Fail> {
         (
             "the word with a blank",
             ["legacy "].as_slice(),
-            older,
+            legacy,
             "",
             REFUSED,
             2,
         ),
-        ("an empty word", [""].as_slice(), older, "", REFUSED, 2),
+        ("an empty word", [""].as_slice(), legacy, "", REFUSED, 2),
         (
-            "a bad line of the older grammar too",
+            "a bad line of the legacy grammar too",
             ["legacy"].as_slice(),
             "10.0.0.0/24\nx\n",
             "",
@@ -249,6 +258,63 @@ fn writers(rt: HostRuntime) -> Result<(), Fail> {
     Ok(())
 }
 
+/// Asserts that a run with no arguments prints the one network, though a call of these devices was interrupted.
+fn check_interrupted(
+    rt: &impl Abort,
+    alloc: Global,
+    label: &str,
+    input: &mut ByteReader,
+    out: &mut ArrayWriter,
+) -> Result<(), Fail> {
+    let mut faults = ArrayWriter::whole();
+    let status = run(alloc, &[], input, out, &mut faults);
+    assert_eq!(rt; status, 0, "{label}");
+    assert_eq!(rt; str::from_utf8(out.held())?, "10.0.0.0/24\n", "{label}");
+    assert_eq!(rt; faults.held().len(), 0, "{label}");
+    Ok(())
+}
+
+#[test]
+fn interruptions(rt: HostRuntime) -> Result<(), Fail> {
+    let alloc = rt.alloc();
+    let route = b"10.0.0.0/24\n";
+    check_interrupted(
+        &rt,
+        alloc,
+        "two interrupted reads in a row",
+        &mut ByteReader::interrupted_twice(route),
+        &mut ArrayWriter::whole(),
+    )?;
+    check_interrupted(
+        &rt,
+        alloc,
+        "second write of one byte is interrupted",
+        &mut ByteReader::whole(route),
+        &mut ArrayWriter::interrupted(),
+    )?;
+    Ok(())
+}
+
+#[test]
+fn reports_in_pieces(rt: HostRuntime) -> Result<(), Fail> {
+    let alloc = rt.alloc();
+    // label, failing write of standard error, standard error
+    let rows = [
+        ("standard error takes one byte a write", NEVER, LINE_2),
+        ("second write of one byte of standard error fails", 2, "l"),
+    ];
+    for (label, fails_at, report) in rows {
+        let mut input = ByteReader::whole(b"10.0.0.0/24\nx\n");
+        let mut out = ArrayWriter::whole();
+        let mut faults = ArrayWriter::new(1, fails_at);
+        let status = run(alloc, &[], &mut input, &mut out, &mut faults);
+        assert_eq!(rt; status, 1, "{label}");
+        assert_eq!(rt; out.held().len(), 0, "{label}");
+        assert_eq!(rt; str::from_utf8(faults.held())?, report, "{label}");
+    }
+    Ok(())
+}
+
 // Each status with whatever a later one would come from beside it: the first that holds is the answer.
 #[test]
 fn statuses(rt: HostRuntime) -> Result<(), Fail> {
@@ -329,6 +395,50 @@ fn every_second_address(alloc: Global) -> Result<String, Fail> {
         }
     }
     Ok(text)
+}
+
+/// Every address of 10.6.0.0/15, one a line.
+fn each_address(alloc: Global) -> Result<String, Fail> {
+    let mut text = String::new(alloc);
+    for second in 6..8u32 {
+        for third in 0..256u32 {
+            for fourth in 0..256u32 {
+                writeln!(text, "10.{second}.{third}.{fourth}/32")?;
+            }
+        }
+    }
+    Ok(text)
+}
+
+#[test]
+fn input_above_a_megabyte(rt: HostRuntime) -> Result<(), Fail> {
+    let alloc = rt.alloc();
+    let text = each_address(alloc)?;
+    assert!(rt; text.len() > 1_000_000);
+    let answer = aggregate_text(alloc, text.as_str())?;
+    assert_eq!(rt;
+        answer.as_str(),
+        "10.6.0.0/15\n",
+        "tool: input above a megabyte"
+    );
+    let answer = aggregate_text_legacy(alloc, text.as_str())?;
+    assert_eq!(rt;
+        answer.as_str(),
+        "10.6.0.0/15\n",
+        "tool: input above a megabyte"
+    );
+    let mut input = ByteReader::whole(text.as_bytes());
+    let mut out = ArrayWriter::whole();
+    let mut faults = ArrayWriter::whole();
+    let status = run(alloc, &[], &mut input, &mut out, &mut faults);
+    assert_eq!(rt; status, 0, "program: input above a megabyte");
+    assert_eq!(rt;
+        str::from_utf8(out.held())?,
+        "10.6.0.0/15\n",
+        "program: input above a megabyte"
+    );
+    assert_eq!(rt; faults.held().len(), 0, "program: input above a megabyte");
+    Ok(())
 }
 
 #[test]

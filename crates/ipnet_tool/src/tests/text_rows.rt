@@ -31,14 +31,14 @@ fn texts(rt: HostRuntime) -> Result<(), Fail> {
         ("nothing", "", Ok(""), Ok("")),
         ("empty lines alone", "\n\n", Ok(""), Ok("")),
         (
-            "a bad line behind an empty one",
+            "a bad line after an empty one",
             "10.0.0.0/24\n\nx\n",
             Err(3),
             Err(3),
         ),
         ("a carriage return", "10.0.0.0/24\r\n", Err(1), Err(1)),
         (
-            "a line of the older grammar",
+            "a line of the legacy grammar",
             "10.0.0.0/24\n10.0.01.0/24\n",
             Err(2),
             Ok("10.0.0.0/23\n"),

@@ -1,5 +1,4 @@
-use Rattle.ipnet_base.proofs.StackLaws.{cover_permutation, cover_truncation}
-use Rattle.ipnet_base.proofs.AggregateLaws.{cover_without_nested, cover_of_joined}
+use Rattle.ipnet_base.proofs.CoverLaws.{cover_permutation, cover_truncation, cover_without_nested, cover_of_joined}
 use Rattle.ipnet_base.proofs.laws.cover_is_kept.Goals as goal
 
 pub returns : goal.returns

@@ -1,9 +1,5 @@
-use Rattle.ipnet_base.proofs.SupernetLaws.{same_blocks_iff_same_cover}
 use Rattle.ipnet_base.proofs.AggregateLaws.{same_aggregate_iff_same_cover}
 use Rattle.ipnet_base.proofs.laws.equal_aggregates_are_equal_covers.Goals as goal
 
 pub returns : goal.returns
-returns c = record {
-  equal = same_aggregate_iff_same_cover;
-  shared = same_blocks_iff_same_cover;
-}
+returns c = same_aggregate_iff_same_cover

@@ -1,6 +1,6 @@
 use Rattle.ipnet_base.specs.Address.{IsBetween}
 use Rattle.ipnet_base.proofs.WalkLaws.{blocks_exist}
-use Rattle.ipnet_base.proofs.CoverLaws.{IsShortestCover-of_range, maximal_blocks_apart}
+use Rattle.ipnet_base.proofs.ExactCoverLaws.{IsShortestCover-of_range, maximal_blocks_apart}
 use Rattle.ipnet_base.proofs.laws.range_is_tiled.Goals as goal
 
 pub returns : goal.returns

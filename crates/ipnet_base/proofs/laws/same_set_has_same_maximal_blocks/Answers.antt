@@ -1,7 +1,7 @@
 use Rattle.ipnet_base.specs.Address.{IsAcceptedBy, IsBetween}
 use Rattle.ipnet_base.specs.Blocks.{IsCoveredBy}
 use Rattle.ipnet_base.proofs.SupernetLaws.{AreMaximalBlocks-same_set, IsDecided-cover}
-use Rattle.ipnet_base.proofs.CoverLaws.{IsDecided-between, test_of_decided}
+use Rattle.ipnet_base.proofs.ExactCoverLaws.{IsDecided-between, test_of_decided}
 use Rattle.ipnet_base.proofs.laws.same_set_has_same_maximal_blocks.Goals as goal
 
 pub returns : goal.returns

@@ -18,11 +18,13 @@ returns-then-number-ipv4_netmask-clause-exact c = λ p.
 pub returns-else-number-ipv4_netmask-clause-exact : goal.returns-else-number-ipv4_netmask-clause-exact
 returns-else-number-ipv4_netmask-clause-exact c = λ p. (
   λ e. cc,
-  λ m. absurd (no_netmask IPv4 w32 (ipv4_bits c.args.mask) c.leading_ones-ones.result c.ipv4_netmask.result refl (cc) c.ipv4_netmask.ensures (λ e. c.if-number-ipv4_netmask.false (cc)) p m),
+  λ m. absurd (no_netmask IPv4 w32 (ipv4_bits c.args.mask) c.leading_ones-ones.result c.ipv4_netmask.result refl (cc)
+      c.ipv4_netmask.ensures (λ e. c.if-number-ipv4_netmask.false (cc)) p m),
 )
 
 pub returns-else-number-ipv4_netmask-clause-refused : goal.returns-else-number-ipv4_netmask-clause-refused
 returns-else-number-ipv4_netmask-clause-refused c = (
-  λ _ p m. no_netmask IPv4 w32 (ipv4_bits c.args.mask) c.leading_ones-ones.result c.ipv4_netmask.result refl (cc) c.ipv4_netmask.ensures (λ e. c.if-number-ipv4_netmask.false (cc)) p m,
+  λ _ p m. no_netmask IPv4 w32 (ipv4_bits c.args.mask) c.leading_ones-ones.result c.ipv4_netmask.result refl (cc)
+      c.ipv4_netmask.ensures (λ e. c.if-number-ipv4_netmask.false (cc)) p m,
   λ _. refl,
 )

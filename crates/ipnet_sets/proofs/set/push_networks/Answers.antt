@@ -1,7 +1,8 @@
 use Rattle.std.proofs.Common.{◌≡◌, ◌∷◌, [], map, sym, ap, ◌∙◌, refl}
 use Rattle.ipnet.specs.NetworkOf.{ip_network}
 use Rattle.ipnet.specs.SubnetsLeft.{ip_subnets_left}
-use Rattle.ipnet_sets.specs.SetRanges.{range_of, ranges_of}
+use Rattle.ipnet_sets.specs.SetRanges.{range_of}
+use Rattle.ipnet_sets.specs.TurnRanges.{ranges_of}
 use Rattle.ipnet_sets.proofs.SetRangeLaws.{turns_after, pushing_more, pushing_end}
 use Rattle.ipnet_sets.proofs.set.push_networks.Goals as goal
 

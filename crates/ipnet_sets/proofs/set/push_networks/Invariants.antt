@@ -1,7 +1,7 @@
 use Rattle.std.proofs.Common.{map, length}
 use Rattle.ipnet.specs.NetworkOf.{ip_network}
 use Rattle.ipnet_sets.specs.Turns.{AreTurns}
-use Rattle.ipnet_sets.specs.SetRanges.{ranges_of}
+use Rattle.ipnet_sets.specs.TurnRanges.{ranges_of}
 use Rattle.ipnet_sets.proofs.SetRangeLaws.{IsPushing}
 use Rattle.ipnet_sets.proofs.set.push_networks.Given as goal
 

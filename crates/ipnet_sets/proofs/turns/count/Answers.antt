@@ -1,5 +1,6 @@
 use Rattle.std.proofs.Common.{◌≡◌, ◌∷◌, map, sym, ap, ◌∙◌}
-use Rattle.ipnet_sets.specs.SetRanges.{range_of, ranges_of, count_of}
+use Rattle.ipnet_sets.specs.SetRanges.{range_of}
+use Rattle.ipnet_sets.specs.TurnRanges.{ranges_of, count_of}
 use Rattle.ipnet_sets.proofs.SetRangeLaws.{turns_after}
 use Rattle.ipnet_sets.proofs.CountLaws.{first_ordered, counting_more}
 use Rattle.ipnet_sets.proofs.turns.count.Goals as goal

@@ -1,6 +1,6 @@
 use Rattle.std.proofs.Common.{◌≡◌, ◌+◌, map, length}
 use Rattle.ipnet_sets.specs.Turns.{AreTurns}
-use Rattle.ipnet_sets.specs.SetRanges.{ranges_of, count_of}
+use Rattle.ipnet_sets.specs.TurnRanges.{ranges_of, count_of}
 use Rattle.ipnet_sets.proofs.turns.count.Given as goal
 
 abbrev pub invariant-loop-range : goal.invariant-loop-range

@@ -14,18 +14,24 @@ loop-network-preserved c =
 pub loop-network-2-init : goal.loop-network-2-init
 loop-network-2-init c =
     c.loop-network.invariant
-    ∙ ap (λ z. text_of_lines (map ipv4_network z)) (take_all c.loop-network.network-index c.deref-network-items.result.now c.loop-network-test.false ∙ c.deref-network-items.ensures.value)
+    ∙ ap (λ z. text_of_lines (map ipv4_network z))
+    (take_all c.loop-network.network-index c.deref-network-items.result.now c.loop-network-test.false
+    ∙ c.deref-network-items.ensures.value)
     ∙ sym (append-nil (text_of_lines (map ipv4_network c.args.families.now.ipv4.items)))
 
 pub loop-network-2-preserved : goal.loop-network-2-preserved
 loop-network-2-preserved c =
-    one_line_more ipv6_network (text_of_lines (map ipv4_network c.args.families.now.ipv4.items)) c.deref-network-items-2.result.now c.loop-network-2.network-index
-    c.network-item-in-loop-network-2.result (string_bytes c.loop-network-2.text) (string_bytes c.push_line-in-loop-network-2.new.text) c.loop-network-2-test.true
+    one_line_more ipv6_network (text_of_lines (map ipv4_network c.args.families.now.ipv4.items))
+    c.deref-network-items-2.result.now c.loop-network-2.network-index
+    c.network-item-in-loop-network-2.result (string_bytes c.loop-network-2.text)
+    (string_bytes c.push_line-in-loop-network-2.new.text) c.loop-network-2-test.true
     c.network-item-in-loop-network-2.is c.loop-network-2.invariant c.in_ok-push_line-2.ensures
 
 pub returns : goal.returns
 returns c =
     let ipv4 = map ipv4_network c.args.families.now.ipv4.items in
     c.loop-network-2.invariant
-    ∙ ap (λ z. text_of_lines ipv4 ++ text_of_lines (map ipv6_network z)) (take_all c.loop-network-2.network-index c.deref-network-items-2.result.now c.loop-network-2-test.false ∙ c.deref-network-items-2.ensures.value)
+    ∙ ap (λ z. text_of_lines ipv4 ++ text_of_lines (map ipv6_network z))
+    (take_all c.loop-network-2.network-index c.deref-network-items-2.result.now c.loop-network-2-test.false
+    ∙ c.deref-network-items-2.ensures.value)
     ∙ sym (text_of_lines-append ipv4 (map ipv6_network c.args.families.now.ipv6.items))

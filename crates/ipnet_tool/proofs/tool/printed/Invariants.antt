@@ -4,7 +4,10 @@ use Rattle.ipnet_tool.specs.Answers.{text_of_lines}
 use Rattle.ipnet_tool.proofs.tool.printed.Given as goal
 
 abbrev pub invariant-loop-network : goal.invariant-loop-network
-invariant-loop-network l = string_bytes l.text ≡ [] ++ text_of_lines (map ipv4_network (take l.network-index l.network-items))
+invariant-loop-network l =
+    string_bytes l.text ≡ [] ++ text_of_lines (map ipv4_network (take l.network-index l.network-items))
 
 abbrev pub invariant-loop-network-2 : goal.invariant-loop-network-2
-invariant-loop-network-2 l = string_bytes l.text ≡ text_of_lines (map ipv4_network l.families.ipv4.items) ++ text_of_lines (map ipv6_network (take l.network-index l.network-items))
+invariant-loop-network-2 l =
+    string_bytes l.text ≡ text_of_lines (map ipv4_network l.families.ipv4.items)
+    ++ text_of_lines (map ipv6_network (take l.network-index l.network-items))

@@ -1,11 +1,11 @@
-use Rattle.std.proofs.Common.{◌≡◌, ℕ, ◌+◌, ◌<◌, ◌∷◌, [], length, subst, arith, rules, append-nil, inl, inr}
+use Rattle.std.proofs.Common.{◌≡◌, ℕ, ◌+◌, ◌<◌, ◌∷◌, [], length, refl, subst, arith, rules, append-nil, inl, inr}
 use Rattle.ipnet.specs.Lines.{lines_of, IsFirstBadLine}
 use Rattle.ipnet.specs.NetworkOf.{ip_network}
 use Rattle.ipnet.proofs.LineLaws.{empty_line, network_line, bad_line, good_line, no_lines}
-use Rattle.ipnet_tool.specs.Answers.{IsBadAtOnce}
-use Rattle.ipnet_tool.specs.Families.{grammar_of, networks_of}
+use Rattle.ipnet_tool.specs.Answers.{StartsWithBadLine}
+use Rattle.ipnet_tool.specs.Families.{networks_of}
 use Rattle.ipnet_tool.proofs.AnswerLaws.{cover_moves_on}
-use Rattle.ipnet_tool.proofs.EarlyLines.{behind_empty, bad_here, none_bad}
+use Rattle.ipnet_tool.proofs.EarlyLines.{after_empty, bad_here, not_good, none_bad}
 use Rattle.ipnet_tool.proofs.LineCuts.{some_bytes, no_bytes, empty_text}
 use Rattle.ipnet_tool.proofs.tool.read_lines.Goals as goal
 
@@ -16,67 +16,89 @@ append_one n m = omega arith
 pub returns-in_default-clause-bad_line : goal.returns-in_default-clause-bad_line
 returns-in_default-clause-bad_line c = λ number e.
     let cut = c.first_line.ensures.lines in
-    let first : IsFirstBadLine (grammar_of c.args.reading) (lines_of c.args.text.now) (c.lines.number + 1) =
-    c.lines.invariant.bad_line 1 (rw cut (bad_line (grammar_of c.args.reading) c.first_line.result.0.now (lines_of c.first_line.result.1.now) (some_bytes (length c.first_line.result.0.now) c.if-not-is_empty.ensures) c.in_default.ensures)) in
+    let first : IsFirstBadLine c.args.grammar (lines_of c.args.text.now) (c.lines.number + 1) =
+    c.lines.invariant.bad_line 1
+    (rw cut (bad_line c.args.grammar c.first_line.result.0.now (lines_of c.first_line.result.1.now)
+    (some_bytes (length c.first_line.result.0.now) c.if-not-is_empty.ensures) (c.in_default.ensures.error.0 refl))) in
     let same : c.lines.number + 1 ≡ number = cc in
-    subst (IsFirstBadLine (grammar_of c.args.reading) (lines_of c.args.text.now)) same first
+    subst (IsFirstBadLine c.args.grammar (lines_of c.args.text.now)) same first
 
 pub lines-preserved-in-Ok-push : goal.lines-preserved-in-Ok-push
 lines-preserved-in-Ok-push c =
-    let grammar = grammar_of c.args.reading in
+    let grammar = c.args.grammar in
     let cut = c.first_line.ensures.lines in
     let line = c.first_line.result.0.now in
-    let behind = lines_of c.first_line.result.1.now in
+    let after = lines_of c.first_line.result.1.now in
     let n = ip_network c.in-Ok.network in
     let some : 0 < length line = some_bytes (length line) c.if-not-is_empty.ensures in
     record {
       is_text = search rules;
       count = omega (arith, c.first_line.ensures.shorter);
       networks = λ more h.
-          let (whole, is, same) = c.lines.invariant.networks (n ∷ more) (rw cut (network_line grammar line behind n more some c.in-Ok.ensures h)) in
-          (whole, is, cover_moves_on whole (networks_of c.lines.families) (networks_of c.push.new.self) more n c.in-Ok-push.ensures same);
-      bad_line = λ later h. rw append_one (c.lines.invariant.bad_line (1 + later) (rw cut (good_line grammar line behind later (inr (n, c.in-Ok.ensures)) h)));
+          let (whole, is, same) = c.lines.invariant.networks (n ∷ more)
+          (rw cut (network_line grammar line after n more some ((c.in-Ok.ensures.ok c.in-Ok.network).0 refl) h)) in (
+            whole,
+            is,
+            cover_moves_on whole (networks_of c.lines.families)
+                (networks_of c.push.new.self) more n c.in-Ok-push.ensures same,
+          );
+      bad_line = λ later h. rw append_one
+          (c.lines.invariant.bad_line (1 + later)
+          (rw cut (good_line grammar line after later (inr (n, ((c.in-Ok.ensures.ok c.in-Ok.network).0 refl))) h)));
       at_once = λ number h.
           let (later, is, at) = c.lines.invariant.at_once number h in
-          let (bad, one) = bad_here grammar line behind later some (subst (λ z. IsBadAtOnce grammar z later) cut at) in
-          absurd (bad.1 n c.in-Ok.ensures);
+          absurd (not_good grammar line after later n some ((c.in-Ok.ensures.ok c.in-Ok.network).0 refl)
+          (subst (λ z. StartsWithBadLine grammar z later) cut at));
     }
+
+pub returns-in_default-push-clause-bad_at_once : goal.returns-in_default-push-clause-bad_at_once
+returns-in_default-push-clause-bad_at_once c = λ number h.
+    let grammar = c.args.grammar in
+    let line = c.first_line.result.0.now in
+    let (later, is, at) = c.lines.invariant.at_once number h in
+    absurd (not_good grammar line (lines_of c.first_line.result.1.now) later (ip_network c.in-Ok.network)
+    (some_bytes (length line) c.if-not-is_empty.ensures) ((c.in-Ok.ensures.ok c.in-Ok.network).0 refl)
+    (subst (λ z. StartsWithBadLine grammar z later) c.first_line.ensures.lines at))
 
 pub lines-preserved : goal.lines-preserved
 lines-preserved c =
-    let grammar = grammar_of c.args.reading in
+    let grammar = c.args.grammar in
     let cut = c.first_line.ensures.lines in
     let line = c.first_line.result.0.now in
-    let behind = lines_of c.first_line.result.1.now in
+    let after = lines_of c.first_line.result.1.now in
     let none : length line ≡ 0 = no_bytes (length line) c.if-not-is_empty.ensures in
     record {
       is_text = search rules;
       count = omega (arith, c.first_line.ensures.shorter);
-      networks = λ more h. c.lines.invariant.networks more (rw cut (empty_line grammar line behind more none h));
-      bad_line = λ later h. rw append_one (c.lines.invariant.bad_line (1 + later) (rw cut (good_line grammar line behind later (inl (empty_text line none)) h)));
+      networks = λ more h. c.lines.invariant.networks more (rw cut (empty_line grammar line after more none h));
+      bad_line = λ later h. rw append_one
+          (c.lines.invariant.bad_line (1 + later)
+          (rw cut (good_line grammar line after later (inl (empty_text line none)) h)));
       at_once = λ number h.
           let (later, is, at) = c.lines.invariant.at_once number h in
-          let (less, more, still) = behind_empty grammar line behind later none (subst (λ z. IsBadAtOnce grammar z later) cut at) in
+          let (less, more, still) = after_empty grammar line after later none
+          (subst (λ z. StartsWithBadLine grammar z later) cut at) in
           (less, omega (arith, is, more), still);
     }
 
 pub returns-clause-networks : goal.returns-clause-networks
 returns-clause-networks c =
     let none : length c.lines.rest.now ≡ 0 = no_bytes (length c.lines.rest.now) c.lines-test.ensures in
-    rw append-nil at (c.lines.invariant.networks [] (no_lines (grammar_of c.args.reading) c.lines.rest.now none))
+    rw append-nil at (c.lines.invariant.networks [] (no_lines c.args.grammar c.lines.rest.now none))
 
 pub returns-clause-bad_at_once : goal.returns-clause-bad_at_once
 returns-clause-bad_at_once c = λ number h.
     let none : length c.lines.rest.now ≡ 0 = no_bytes (length c.lines.rest.now) c.lines-test.ensures in
     let (later, is, at) = c.lines.invariant.at_once number h in
-    absurd (none_bad (grammar_of c.args.reading) c.lines.rest.now later none at)
+    absurd (none_bad c.args.grammar c.lines.rest.now later none at)
 
 pub returns-in_default-clause-bad_at_once : goal.returns-in_default-clause-bad_at_once
 returns-in_default-clause-bad_at_once c = λ number h.
-    let grammar = grammar_of c.args.reading in
+    let grammar = c.args.grammar in
     let line = c.first_line.result.0.now in
-    let behind = lines_of c.first_line.result.1.now in
+    let after = lines_of c.first_line.result.1.now in
     let (later, is, at) = c.lines.invariant.at_once number h in
-    let (bad, one) = bad_here grammar line behind later (some_bytes (length line) c.if-not-is_empty.ensures) (subst (λ z. IsBadAtOnce grammar z later) c.first_line.ensures.lines at) in
+    let (bad, one) = bad_here grammar line after later (some_bytes (length line) c.if-not-is_empty.ensures)
+    (subst (λ z. StartsWithBadLine grammar z later) c.first_line.ensures.lines at) in
     let same : c.lines.number + 1 ≡ number = omega (arith, is, one) in
     cc

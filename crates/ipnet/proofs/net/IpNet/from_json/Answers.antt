@@ -3,7 +3,7 @@ use Rattle.serde_json.specs.Find.{as_str}
 use Rattle.serde_json.specs.View.{view}
 use Rattle.ipnet.specs.NetworkOf.{ip_network}
 use Rattle.ipnet.specs.NetLaws.{ip_one_to_one}
-use Rattle.ipnet.specs.Grammar.{Strict}
+use Rattle.ipnet.specs.declared.parser.Grammar.TheVariants.{Strict}
 use Rattle.ipnet.specs.NetworkTexts.{IsNetworkText}
 use Rattle.ipnet.specs.declared.json.JsonError.TheVariants.{Syntax}
 use Rattle.ipnet.proofs.WholeTexts.{one_network}
@@ -13,7 +13,8 @@ use Rattle.ipnet.proofs.net.IpNet.from_json.Goals as goal
 pub returns : goal.returns
 returns c =
     let found : as_str (view c.args.value.now) ≡ Some c.in_ok-text.text.now = search rules in
-    let cases : MatchResult c.parse.result (λ n. c.map_err.result ≡ Ok n) (λ _. c.map_err.result ≡ Err Syntax) = search rules in
+    let cases : MatchResult c.parse.result (λ n. c.map_err.result ≡ Ok n) (λ _. c.map_err.result ≡ Err Syntax) =
+    search rules in
     let read = json_read ip_network ip_one_to_one (IsNetworkText Strict) (one_network Strict)
     (view c.args.value.now) c.in_ok-text.text.now c.parse.result c.map_err.result found c.parse.ensures.value cases in
     record { ok = read.0; not_string = read.1; syntax = read.2 }

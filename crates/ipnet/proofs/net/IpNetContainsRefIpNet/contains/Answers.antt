@@ -14,10 +14,12 @@ pub returns-in_default : goal.returns-in_default
 returns-in_default c =
     let k = V4 c.in_default.field-0-0 in
     let n = V6 c.in_default.field-0-1 in
-    rw (c.in_default.is-0, c.in_default.is-1) (never (IsSubnetOf (ip_network n) (ip_network k)) (families_apart (ip_network n) (ip_network k) (λ same. cc)))
+    rw (c.in_default.is-0, c.in_default.is-1)
+    (never (IsSubnetOf (ip_network n) (ip_network k)) (families_apart (ip_network n) (ip_network k) (λ same. cc)))
 
 pub returns-in_default-2 : goal.returns-in_default-2
 returns-in_default-2 c =
     let k = V6 c.in_default.field-0-0 in
     let n = V4 c.in_default.field-0-1 in
-    rw (c.in_default.is-0, c.in_default.is-1) (never (IsSubnetOf (ip_network n) (ip_network k)) (families_apart (ip_network n) (ip_network k) (λ same. cc)))
+    rw (c.in_default.is-0, c.in_default.is-1)
+    (never (IsSubnetOf (ip_network n) (ip_network k)) (families_apart (ip_network n) (ip_network k) (λ same. cc)))

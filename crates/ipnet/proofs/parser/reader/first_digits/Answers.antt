@@ -7,19 +7,35 @@ use Rattle.ipnet.proofs.parser.reader.first_digits.Goals as goal
 
 pub overflow_mul-in_hex : goal.overflow_mul-in_hex
 overflow_mul-in_hex c =
-    omega (arith, room_for_one c.loop-count.count c.loop-count.in_hex c.loop-count-test.true c.loop-count.invariant.below)
+    omega (
+      arith,
+      room_for_one c.loop-count.count c.loop-count.in_hex c.loop-count-test.true
+          c.loop-count.invariant.below,
+    )
 
 pub overflow_add-in_hex : goal.overflow_add-in_hex
 overflow_add-in_hex c =
-    omega (arith, c.in-Some.ensures.digit, room_for_one c.loop-count.count c.loop-count.in_hex c.loop-count-test.true c.loop-count.invariant.below)
+    omega (
+      arith,
+      c.in-Some.ensures.digit,
+      room_for_one c.loop-count.count c.loop-count.in_hex c.loop-count-test.true c.loop-count.invariant.below,
+    )
 
 pub overflow_mul-in_decimal : goal.overflow_mul-in_decimal
 overflow_mul-in_decimal c =
-    omega (arith, room_for_one c.loop-count.count c.loop-count.in_hex c.loop-count-test.true c.loop-count.invariant.below)
+    omega (
+      arith,
+      room_for_one c.loop-count.count c.loop-count.in_hex c.loop-count-test.true
+          c.loop-count.invariant.below,
+    )
 
 pub overflow_add-in_decimal : goal.overflow_add-in_decimal
 overflow_add-in_decimal c =
-    omega (arith, c.in-Some.ensures.digit, room_for_one c.loop-count.count c.loop-count.in_hex c.loop-count-test.true c.loop-count.invariant.below)
+    omega (
+      arith,
+      c.in-Some.ensures.digit,
+      room_for_one c.loop-count.count c.loop-count.in_hex c.loop-count-test.true c.loop-count.invariant.below,
+    )
 
 pub loop-count-preserved : goal.loop-count-preserved
 loop-count-preserved c =
@@ -40,10 +56,12 @@ loop-count-preserved c =
 
 pub returns-after-loop-count-clause-run : goal.returns-after-loop-count-clause-run
 returns-after-loop-count-clause-run c =
-    digit_run_at c.loop-count.count c.args.rest.now c.loop-count.invariant.fits c.loop-count.invariant.within c.loop-count.invariant.all
+    digit_run_at c.loop-count.count c.args.rest.now c.loop-count.invariant.fits c.loop-count.invariant.within
+    c.loop-count.invariant.all
     (λ less. absurd (omega arith))
 
 pub returns-in_default-clause-run : goal.returns-in_default-clause-run
 returns-in_default-clause-run c =
-    digit_run_at c.loop-count.count c.args.rest.now c.loop-count.invariant.fits c.loop-count.invariant.within c.loop-count.invariant.all
+    digit_run_at c.loop-count.count c.args.rest.now c.loop-count.invariant.fits c.loop-count.invariant.within
+    c.loop-count.invariant.all
     (λ _. c.in_default.ensures.none)

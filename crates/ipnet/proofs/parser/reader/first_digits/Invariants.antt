@@ -1,6 +1,6 @@
 use Rattle.std.proofs.Common.{◌≡◌, ◌-◌, ◌≤◌, ◌<◌, ◌^◌, length, take}
 use Rattle.std.specs.Str.Parse.{AllDigits, digits_value}
-use Rattle.ipnet.specs.Reading.{all_decimal}
+use Rattle.ipnet.specs.ReaderSteps.{all_decimal}
 use Rattle.ipnet.proofs.parser.reader.first_digits.Given as goal
 
 -- what the digits so far write

@@ -20,7 +20,10 @@ unfolding agree_below
 agree_at f g zero h b lt = absurd (omega arith)
 agree_at f g (suc n) h b lt =
     let (at, below) = both_of (eqb (f n) (g n)) (agree_below f g n) h in
-    elim (cases_eq b n) [ inl same ↦ rw same (eqb-true (f n) (g n) at) | inr other ↦ agree_at f g n below b (omega arith) ]
+    elim (cases_eq b n) [
+      | inl same ↦ rw same (eqb-true (f n) (g n) at)
+      | inr other ↦ agree_at f g n below b (omega arith)
+    ]
 
 pub returns : goal.returns
 unfolding agree_below

@@ -14,10 +14,12 @@ returns-else-zeros-trailing_ones-eq-BITS-clause-fits c =
     omega (
       arith,
       (most_bits_some_zero w32 c.args.distance c.ranges.distance.fits (trailing_of_zero 32)
-          (λ e. c.if-zeros-trailing_ones-eq-BITS.false (ap (λ t. leading_zeros w32 c.args.distance + t) c.trailing_ones.ensures ∙ e))).0,
+          (λ e. c.if-zeros-trailing_ones-eq-BITS.false
+          (ap (λ t. leading_zeros w32 c.args.distance + t) c.trailing_ones.ensures ∙ e))).0,
     )
 
 pub returns-else-zeros-trailing_ones-eq-BITS-clause-most : goal.returns-else-zeros-trailing_ones-eq-BITS-clause-most
 returns-else-zeros-trailing_ones-eq-BITS-clause-most c =
     (most_bits_some_zero w32 c.args.distance c.ranges.distance.fits (trailing_of_zero 32)
-    (λ e. c.if-zeros-trailing_ones-eq-BITS.false (ap (λ t. leading_zeros w32 c.args.distance + t) c.trailing_ones.ensures ∙ e))).1
+    (λ e. c.if-zeros-trailing_ones-eq-BITS.false
+    (ap (λ t. leading_zeros w32 c.args.distance + t) c.trailing_ones.ensures ∙ e))).1

@@ -12,14 +12,14 @@ from_aggregate-requires c =
     let xs = c.args.networks.now.items in
     subst (λ z. AreAggregatedNeighbours (map ip_network z)) (sym c.as_slice.ensures.value)
     (neighbours_of_aggregate (map ip_network xs) (map ip_network c.in_ok-list.list.items) (all_valid xs)
-    c.in_ok-list.ensures.aggregate)
+    c.in_ok-list.ensures.aggregate.aggregate)
 
 pub returns : goal.returns
 returns c =
     let xs = c.args.networks.now.items in
     let list = c.in_ok-list.list.items in
     let same = cover_of_aggregate (map ip_network xs) (map ip_network list) (all_valid xs)
-    c.in_ok-list.ensures.aggregate in
+    c.in_ok-list.ensures.aggregate.aggregate in
     IfOk-weaker c.from_aggregate.result
     (λ s. (x : Address) → IsMember s x ↔ IsCoveredBy (map ip_network c.as_slice.result.now) x)
     (λ s. (x : Address) → IsMember s x ↔ IsCoveredBy (map ip_network xs) x)

@@ -7,4 +7,5 @@ returns c =
     equal_answer c.in_ok-first.first c.in_ok-second.second c.eq.result c.eq.ensures
     (union_complement c.args.a.now c.args.b.now
     c.in_ok-union.union c.in_ok-first.first c.in_ok-not_a.not_a c.in_ok-not_b.not_b c.in_ok-second.second
-    c.in_ok-union.ensures c.in_ok-first.ensures c.in_ok-not_a.ensures c.in_ok-not_b.ensures c.in_ok-second.ensures)
+    c.in_ok-union.ensures.members c.in_ok-first.ensures c.in_ok-not_a.ensures c.in_ok-not_b.ensures
+    c.in_ok-second.ensures.members)

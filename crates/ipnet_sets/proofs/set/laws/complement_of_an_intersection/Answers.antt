@@ -7,4 +7,5 @@ returns c =
     equal_answer c.in_ok-first.first c.in_ok-second.second c.eq.result c.eq.ensures
     (intersection_complement c.args.a.now c.args.b.now
     c.in_ok-shared.shared c.in_ok-first.first c.in_ok-not_a.not_a c.in_ok-not_b.not_b c.in_ok-second.second
-    c.in_ok-shared.ensures c.in_ok-first.ensures c.in_ok-not_a.ensures c.in_ok-not_b.ensures c.in_ok-second.ensures)
+    c.in_ok-shared.ensures.members c.in_ok-first.ensures c.in_ok-not_a.ensures c.in_ok-not_b.ensures
+    c.in_ok-second.ensures.members)

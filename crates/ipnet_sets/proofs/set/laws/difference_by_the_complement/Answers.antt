@@ -7,4 +7,4 @@ returns c =
     equal_answer c.in_ok-first.first c.in_ok-second.second c.eq.result c.eq.ensures
     (difference_complement c.args.a.now c.args.b.now
     c.in_ok-first.first c.in_ok-not_b.not_b c.in_ok-second.second
-    c.in_ok-first.ensures c.in_ok-not_b.ensures c.in_ok-second.ensures)
+    c.in_ok-first.ensures.members c.in_ok-not_b.ensures c.in_ok-second.ensures.members)

@@ -6,5 +6,6 @@ use Rattle.ipnet.proofs.net.ipv4_net.Ipv4Net.trunc.Goals as goal
 pub returns : goal.returns
 returns c =
     let n = c.args.self.now in
-    truncation_from_numbers (ipv4_network c.from_number.result) (ipv4_network n) c.leading_bits-len.result c.leading_number.result
+    truncation_from_numbers (ipv4_network c.from_number.result) (ipv4_network n) c.leading_bits-len.result
+    c.leading_number.result
     (ipv4_valid n) c.leading_bits-len.ensures c.leading_number.ensures c.from_number.ensures

@@ -8,5 +8,7 @@ pub returns : goal.returns
 returns c =
     let n = c.args.self.now in
     let k = c.args.other.now in
-    halves_test (ipv4_network n) (ipv4_network k) c.leading_bits-len.result c.prefix_of.result (ipv4_valid n) (ipv4_valid k) refl c.leading_bits-len.ensures (omega arith)
-    (c.prefix_of.ensures ∙ ap₂ (λ a b. bit_xor a b / 2 ^ (32 - c.leading_bits-len.result)) c.number.ensures c.number-2.ensures)
+    halves_test (ipv4_network n) (ipv4_network k) c.leading_bits-len.result c.prefix_of.result (ipv4_valid n)
+    (ipv4_valid k) refl c.leading_bits-len.ensures (omega arith)
+    (c.prefix_of.ensures ∙ ap₂ (λ a b. bit_xor a b / 2 ^ (32 - c.leading_bits-len.result)) c.number.ensures
+    c.number-2.ensures)

@@ -7,5 +7,6 @@ use Rattle.ipnet.proofs.net.ipv4_net.Ipv4NetNet.joined.Goals as goal
 pub returns : goal.returns
 returns c =
     let n = c.args.self.now in
-    supernet_from_numbers (ipv4_network c.from_number.result) (ipv4_network n) (c.leading_bits-shorter.result - 1) c.leading_number.result
+    supernet_from_numbers (ipv4_network c.from_number.result) (ipv4_network n) (c.leading_bits-shorter.result - 1)
+    c.leading_number.result
     (ipv4_valid n) (omega arith) c.leading_number.ensures c.from_number.ensures

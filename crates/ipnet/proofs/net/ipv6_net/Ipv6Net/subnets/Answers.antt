@@ -9,10 +9,12 @@ use Rattle.ipnet.proofs.net.ipv6_net.Ipv6Net.subnets.Goals as goal
 pub returns-clause-walk : goal.returns-clause-walk
 returns-clause-walk c =
     let n = c.args.self.now in
-    AreSubnetsOfLength-from_walk (ipv6_network n) c.args.new_prefix_len (ipv6_subnets_left c.new.result) (ipv6_address c.network.result) (ipv6_address c.broadcast.result)
+    AreSubnetsOfLength-from_walk (ipv6_network n) c.args.new_prefix_len (ipv6_subnets_left c.new.result)
+    (ipv6_address c.network.result) (ipv6_address c.broadcast.result)
     (ipv6_valid n) (omega arith) (omega arith) c.network.ensures c.broadcast.ensures c.new.ensures.walk.blocks
 
 pub returns-clause-range : goal.returns-clause-range
 returns-clause-range c =
-    IsBlockRange-from_ends (ipv6_network c.args.self.now) c.args.new_prefix_len (ipv6_subnet_range c.new.result) (ipv6_address c.network.result) (ipv6_address c.broadcast.result)
+    IsBlockRange-from_ends (ipv6_network c.args.self.now) c.args.new_prefix_len (ipv6_subnet_range c.new.result)
+    (ipv6_address c.network.result) (ipv6_address c.broadcast.result)
     c.network.ensures c.broadcast.ensures c.new.ensures.range

@@ -6,5 +6,6 @@ use Rattle.ipnet.proofs.net.ipv6_net.Ipv6Net.trunc.Goals as goal
 pub returns : goal.returns
 returns c =
     let n = c.args.self.now in
-    truncation_from_numbers (ipv6_network c.from_number.result) (ipv6_network n) c.leading_bits-len.result c.leading_number.result
+    truncation_from_numbers (ipv6_network c.from_number.result) (ipv6_network n) c.leading_bits-len.result
+    c.leading_number.result
     (ipv6_valid n) c.leading_bits-len.ensures c.leading_number.ensures c.from_number.ensures

@@ -1,9 +1,8 @@
 use Rattle.std.proofs.Common.{subst, arith, IsTrue, ◌↔◌}
-use Rattle.ipnet_base.specs.Address.{IPv6}
+use Rattle.ipnet_base.specs.Address.{IPv6, address_at}
 use Rattle.ipnet_base.specs.Network.{InBlock, IsSubnetOf}
 use Rattle.ipnet_base.proofs.BlockLaws.{own, own_in}
 use Rattle.ipnet.specs.NetworkOf.{ipv6_network}
-use Rattle.ipnet.specs.NetworkParts.{address_at}
 use Rattle.ipnet.specs.NetLaws.{ipv6_valid}
 use Rattle.ipnet.proofs.NumberLaws.{longer_from_subnet, subnet_from_own, never}
 use Rattle.ipnet.proofs.net.ipv6_net.Ipv6NetContainsRefIpv6Net.contains.Goals as goal
@@ -12,14 +11,16 @@ pub returns-then-leading_bits : goal.returns-then-leading_bits
 returns-then-leading_bits c =
     let n = c.args.other.now in
     let k = c.args.self.now in
-    never (IsSubnetOf (ipv6_network n) (ipv6_network k)) (λ s. omega (arith, longer_from_subnet (ipv6_network n) (ipv6_network k) (ipv6_valid n) (ipv6_valid k) s))
+    never (IsSubnetOf (ipv6_network n) (ipv6_network k))
+    (λ s. omega (arith, longer_from_subnet (ipv6_network n) (ipv6_network k) (ipv6_valid n) (ipv6_valid k) s))
 
 pub returns : goal.returns
 returns c =
     let n = c.args.other.now in
     let k = c.args.self.now in
     let answer : IsTrue c.has_number.result ↔ InBlock (ipv6_network k) (own (ipv6_network n)) =
-    subst (λ m. IsTrue c.has_number.result ↔ InBlock (ipv6_network k) (address_at IPv6 m)) c.number.ensures c.has_number.ensures in (
+    subst (λ m. IsTrue c.has_number.result ↔ InBlock (ipv6_network k) (address_at IPv6 m)) c.number.ensures
+    c.has_number.ensures in (
       λ t. subnet_from_own (ipv6_network n) (ipv6_network k) (omega arith) (answer.0 t),
       λ s. answer.1 (s (own (ipv6_network n)) (own_in (ipv6_network n))),
     )

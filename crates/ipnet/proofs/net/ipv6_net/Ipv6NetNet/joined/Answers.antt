@@ -7,5 +7,6 @@ use Rattle.ipnet.proofs.net.ipv6_net.Ipv6NetNet.joined.Goals as goal
 pub returns : goal.returns
 returns c =
     let n = c.args.self.now in
-    supernet_from_numbers (ipv6_network c.from_number.result) (ipv6_network n) (c.leading_bits-shorter.result - 1) c.leading_number.result
+    supernet_from_numbers (ipv6_network c.from_number.result) (ipv6_network n) (c.leading_bits-shorter.result - 1)
+    c.leading_number.result
     (ipv6_valid n) (omega arith) c.leading_number.ensures c.from_number.ensures

@@ -1,14 +1,15 @@
 use Rattle.std.proofs.Common.{rules, ◌∙◌, sym, subst, ap, length}
 use Rattle.ipnet_base.specs.Subnets.{IsAdvancedPast}
 use Rattle.ipnet.specs.NetworkOf.{ipv4_network}
-use Rattle.ipnet.specs.SubnetsLeft.{ipv4_subnet_range, ipv4_subnets_left, ipv4_subnets_left-are_blocks}
-use Rattle.ipnet.proofs.SubnetsLaws.{ipv4_walk, nothing_left, left_advanced, greatest_is_last}
+use Rattle.ipnet.specs.SubnetsLeft.{ipv4_subnet_range, ipv4_subnets_left}
+use Rattle.ipnet.proofs.SubnetsLaws.{ipv4_subnets_left-are_blocks, nothing_left, left_advanced, greatest_is_last}
 use Rattle.ipnet.proofs.subnets.ipv4_subnets.Ipv4SubnetsIterator.next.Goals as goal
 
 pub returns-then-self-clause-steps : goal.returns-then-self-clause-steps
 returns-then-self-clause-steps c =
     let nothing =
-    nothing_left (ipv4_subnet_range c.args.self.now) (ipv4_subnets_left c.args.self.now) (ipv4_subnets_left-are_blocks c.args.self.now) c.if-self.true in
+    nothing_left (ipv4_subnet_range c.args.self.now) (ipv4_subnets_left c.args.self.now)
+    (ipv4_subnets_left-are_blocks c.args.self.now) c.if-self.true in
     (nothing, nothing)
 
 pub returns-then-self-clause-goes : goal.returns-then-self-clause-goes
@@ -16,8 +17,6 @@ returns-then-self-clause-goes c = record {
   progress = search rules;
   largest = search rules;
   advanced = search rules;
-  walk = ipv4_walk c.args.self.now;
-  rest = ipv4_walk c.args.self.now;
   over = search rules;
   unchanged = search rules;
 }
@@ -25,9 +24,11 @@ returns-then-self-clause-goes c = record {
 pub returns-clause-steps : goal.returns-clause-steps
 returns-clause-steps c =
     left_advanced (ipv4_subnet_range c.args.self.now) (ipv4_subnet_range c.advance_past.new.self)
-    (ipv4_network c.largest_subnet_at-network.result) (ipv4_subnets_left c.args.self.now) (ipv4_subnets_left c.advance_past.new.self)
+    (ipv4_network c.largest_subnet_at-network.result) (ipv4_subnets_left c.args.self.now)
+    (ipv4_subnets_left c.advance_past.new.self)
     c.args.self.now.end_fits c.largest_subnet_at-network.ensures
-    (subst (λ last. IsAdvancedPast last (ipv4_subnet_range c.args.self.now) (ipv4_subnet_range c.advance_past.new.self)) c.last_number.ensures c.advance_past.ensures)
+    (subst (λ last. IsAdvancedPast last (ipv4_subnet_range c.args.self.now) (ipv4_subnet_range c.advance_past.new.self))
+    c.last_number.ensures c.advance_past.ensures)
     (ipv4_subnets_left-are_blocks c.args.self.now) (ipv4_subnets_left-are_blocks c.advance_past.new.self)
 
 pub returns-clause-goes : goal.returns-clause-goes
@@ -36,10 +37,11 @@ returns-clause-goes c =
     record {
       progress = search rules;
       largest = search rules;
-      advanced = λ x greatest. subst (λ last. IsAdvancedPast last (ipv4_subnet_range c.args.self.now) (ipv4_subnet_range c.advance_past.new.self))
-          (c.last_number.ensures ∙ sym (greatest_is_last (ipv4_network c.largest_subnet_at-network.result) x greatest)) c.advance_past.ensures;
-      walk = ipv4_walk c.args.self.now;
-      rest = ipv4_walk c.advance_past.new.self;
+      advanced =
+          λ x greatest. subst (λ last. IsAdvancedPast last (ipv4_subnet_range c.args.self.now)
+          (ipv4_subnet_range c.advance_past.new.self))
+          (c.last_number.ensures ∙ sym (greatest_is_last (ipv4_network c.largest_subnet_at-network.result) x greatest))
+          c.advance_past.ensures;
       over = search rules;
       unchanged = search rules;
     }

@@ -1,0 +1,278 @@
+#!/usr/bin/env python3
+"""Makes the lists of networks that the bench goes over: bench/lists.py [NAME..]
+
+With no name all of them are made; each is printed with its path, its lines and its digest. They are the same on every
+machine: the generated ones come from fixed seeds, the real ones from the tables of Debian's package tor-geoipdb, which
+change with the package's version. They stand in the folder that IPNET_BENCH_CACHE names, else in ~/.cache/ipnet-bench.
+"""
+import bisect
+import hashlib
+import ipaddress
+import itertools
+import os
+import socket
+import sys
+
+CACHE = os.path.expanduser(os.environ.get("IPNET_BENCH_CACHE") or os.path.join(
+    os.environ.get("XDG_CACHE_HOME") or "~/.cache", "ipnet-bench"))
+MILLION = 1_000_000
+
+# The tables of tor-geoipdb: "FIRST,LAST,COUNTRY" on each line, IPv4 addresses as numbers.
+GEOIP_IPV4, GEOIP_IPV6 = "/usr/share/tor/geoip", "/usr/share/tor/geoip6"
+COUNTRIES = 40
+
+# How many of 100,000 IPv4 routes have which prefix length: about as in the Internet's routing table.
+ROUTES = {8: 2, 9: 1, 10: 4, 11: 10, 12: 30, 13: 60, 14: 120, 15: 210, 16: 1_400, 17: 850, 18: 1_400, 19: 2_550,
+          20: 4_500, 21: 5_200, 22: 11_000, 23: 10_200, 24: 62_463}
+# The same of 100 IPv6 routes.
+ROUTES_IPV6 = {29: 5, 32: 13, 33: 4, 34: 3, 36: 5, 38: 2, 40: 9, 42: 2, 44: 10, 45: 1, 46: 2, 47: 1, 48: 43}
+
+
+class Missing(Exception):
+    """What a list is made from isn't on this machine."""
+
+
+class Numbers:
+    """The pseudorandom numbers of SplitMix64 (Steele, Lea, Flood, 2014), the same on every version of Python."""
+
+    def __init__(self, seed):
+        self.state = seed
+
+    def bits(self):
+        """64 bits."""
+        self.state = (self.state + 0x9E3779B97F4A7C15) & 0xFFFFFFFFFFFFFFFF
+        mixed = (self.state ^ self.state >> 30) * 0xBF58476D1CE4E5B9 & 0xFFFFFFFFFFFFFFFF
+        mixed = (mixed ^ mixed >> 27) * 0x94D049BB133111EB & 0xFFFFFFFFFFFFFFFF
+        return mixed ^ mixed >> 31
+
+    def below(self, bound):
+        return self.bits() % bound
+
+    def percent(self, chance):
+        """True in that many cases of a hundred."""
+        return self.below(100) < chance
+
+    def shuffle(self, items):
+        """Puts the list in any order."""
+        for index in range(len(items) - 1, 0, -1):
+            other = self.below(index + 1)
+            items[index], items[other] = items[other], items[index]
+
+    def any_of(self, weights):
+        """Endless: keys of the table, each as often as its weight says."""
+        keys, sums = list(weights), list(itertools.accumulate(weights.values()))
+        while True:
+            yield keys[bisect.bisect(sums, self.below(sums[-1]))]
+
+
+def ipv4(address, prefix_len):
+    return "%d.%d.%d.%d/%d" % (address >> 24, address >> 16 & 255, address >> 8 & 255, address & 255, prefix_len)
+
+
+def ipv6(address, prefix_len):
+    return "%s/%d" % (socket.inet_ntop(socket.AF_INET6, address.to_bytes(16, "big")), prefix_len)
+
+
+# Generated lists: each is endless or long, and as much of it is taken as a row wants.
+
+def random_ipv4(seed=1):
+    """Any address, prefix lengths 20 to 32."""
+    numbers = Numbers(seed)
+    while True:
+        bits = numbers.bits()
+        yield ipv4(bits >> 32, 20 + (bits & 0xFFFFFFFF) % 13)
+
+
+def random_ipv6(seed=2):
+    """Any address of 2000::/3, prefix lengths 32 to 128."""
+    numbers = Numbers(seed)
+    while True:
+        address = 1 << 125 | numbers.bits() >> 3 << 64 | numbers.bits()
+        yield ipv6(address, 32 + numbers.below(97))
+
+
+def random_both():
+    """The two in turn."""
+    for pair in zip(random_ipv4(3), random_ipv6(4)):
+        yield from pair
+
+
+def routing_table():
+    """Routes of both families, one in five of them IPv6, in any order. A quarter of them is followed by the network's
+    sibling, as of a block that is announced in two parts, and a tenth by itself once more."""
+    numbers = Numbers(5)
+    lengths, lengths_ipv6 = numbers.any_of(ROUTES), numbers.any_of(ROUTES_IPV6)
+    while True:
+        if numbers.percent(20):
+            prefix_len, text, width = next(lengths_ipv6), ipv6, 128
+            network = (1 << 125 | numbers.below(1 << 29) << 96 | numbers.bits() << 32) >> 128 - prefix_len
+        else:
+            prefix_len, text, width = next(lengths), ipv4, 32
+            network = numbers.bits() >> 64 - prefix_len
+        routes = [network] + [network ^ 1] * numbers.percent(25) + [network] * numbers.percent(10)
+        for route in routes:
+            yield text(route << width - prefix_len, prefix_len)
+
+
+def consecutive_hosts():
+    """/32 side by side, descending: all of them join."""
+    for address in range(0x0AFFFFFF, -1, -1):
+        yield ipv4(address, 32)
+
+
+def aggregated_ipv4():
+    """Every other /26: no two join."""
+    for address in range(0, 1 << 32, 1 << 7):
+        yield ipv4(address, 26)
+
+
+def aggregated_ipv6():
+    """Every other /49 from 2000:: on: no two join."""
+    for address in range(0x2000 << 112, 0x4000 << 112, 1 << 80):
+        yield ipv6(address, 49)
+
+
+def routes_ipv4():
+    """IPv4 prefixes with the lengths of a routing table, each a network of 1.0.0.0 to 223.255.255.255."""
+    numbers = Numbers(6)
+    for prefix_len in numbers.any_of(ROUTES):
+        address = (1 << 24) + numbers.below(223 << 24)
+        yield ipv4(address >> 32 - prefix_len << 32 - prefix_len, prefix_len)
+
+
+def descending_hosts():
+    """/32, descending; about one address in five is left out."""
+    numbers = Numbers(7)
+    for address in range(0x0AFFFFFF, -1, -1):
+        if not numbers.percent(20):
+            yield ipv4(address, 32)
+
+
+def sites_ipv6():
+    """Different /48 inside forty /32, in any order."""
+    numbers = Numbers(8)
+    parents = [0x20010000 + numbers.below(0x0FFF0000) for _ in range(40)]
+    seen = set()
+    while len(seen) < 40 << 16:
+        site = parents[numbers.below(40)] << 16 | numbers.below(1 << 16)
+        if site not in seen:
+            seen.add(site)
+            yield ipv6(site << 80, 48)
+
+
+# Real lists.
+
+def ranges(path, address):
+    """(networks, country) of each range of a table, the networks as pairs of an address and a prefix length."""
+    with open(path, encoding="ascii") as lines:
+        for line in lines:
+            if not line.startswith("#"):
+                first, last, country = line.rstrip("\n").split(",")
+                cut = ipaddress.summarize_address_range(address(first), address(last))
+                yield [(int(network.network_address), network.prefixlen) for network in cut], country
+
+
+def ranges_of_ipv4():
+    return ranges(GEOIP_IPV4, lambda text: ipaddress.IPv4Address(int(text)))
+
+
+def ranges_of_ipv6():
+    return ranges(GEOIP_IPV6, ipaddress.IPv6Address)
+
+
+def ranges_ipv4():
+    """Every IPv4 range, cut into networks, in the table's order, which ascends."""
+    return (ipv4(*network) for networks, _ in ranges_of_ipv4() for network in networks)
+
+
+def ranges_ipv6():
+    """The same of IPv6."""
+    return (ipv6(*network) for networks, _ in ranges_of_ipv6() for network in networks)
+
+
+def ranges_both():
+    """Both, in any order."""
+    lines = list(ranges_ipv4()) + list(ranges_ipv6())
+    Numbers(9).shuffle(lines)
+    return lines
+
+
+def by_country(table):
+    """The networks of each country, and how many ranges it has. "??" is no country."""
+    networks, counts = {}, {}
+    for found, country in table:
+        if country != "??":
+            networks.setdefault(country, []).extend(found)
+            counts[country] = counts.get(country, 0) + 1
+    return networks, counts
+
+
+def untidy(networks, width, numbers):
+    """Every network, one in five of them twice, three in ten of these with an address that isn't the network's."""
+    for address, prefix_len in networks:
+        for _ in range(2 if numbers.percent(20) else 1):
+            hosts = (1 << width - prefix_len) - 1
+            yield address | (numbers.bits() & hosts if numbers.percent(30) else 0), prefix_len
+
+
+def countries(with_ipv6, seed):
+    """The forty countries that have most IPv4 ranges, untidy and in any order."""
+    numbers = Numbers(seed)
+    networks, counts = by_country(ranges_of_ipv4())
+    chosen = sorted(counts, key=lambda country: (-counts[country], country))[:COUNTRIES]
+    lines = [ipv4(*network) for country in chosen for network in untidy(networks[country], 32, numbers)]
+    if with_ipv6:
+        networks, _ = by_country(ranges_of_ipv6())
+        lines += [ipv6(*network) for country in chosen for network in untidy(networks.get(country, []), 128, numbers)]
+    numbers.shuffle(lines)
+    return lines
+
+
+def countries_ipv4():
+    return countries(False, 10)
+
+
+def countries_both():
+    return countries(True, 11)
+
+
+GENERATED = {make.__name__: make for make in (
+    random_ipv4, random_ipv6, random_both, routing_table, consecutive_hosts, aggregated_ipv4, aggregated_ipv6,
+    routes_ipv4, descending_hosts, sites_ipv6)}
+# The lists that are at most so long.
+MOST = {"sites_ipv6": MILLION, "consecutive_hosts": 10 * MILLION, "descending_hosts": 10 * MILLION}
+REAL = {make.__name__: make for make in (ranges_ipv4, ranges_ipv6, ranges_both, countries_ipv4, countries_both)}
+
+
+def path_of(name, count=MILLION):
+    """The path of a list, which is made where it isn't there yet. A real list has its own length."""
+    file = name + ".txt" if name in REAL else "%s.%d.txt" % (name, count)
+    path = os.path.join(CACHE, "lists", file)
+    if not os.path.exists(path):
+        if name in REAL and not (os.path.exists(GEOIP_IPV4) and os.path.exists(GEOIP_IPV6)):
+            raise Missing("there is no %s (apt-get install tor-geoipdb)" % GEOIP_IPV4)
+        print("making the list " + file, file=sys.stderr, flush=True)
+        lines = REAL[name]() if name in REAL else itertools.islice(GENERATED[name](), count)
+        os.makedirs(os.path.dirname(path), exist_ok=True)
+        with open(path + ".part", "w", encoding="ascii") as out:
+            out.writelines(line + "\n" for line in lines)
+        os.rename(path + ".part", path)
+    return path
+
+
+def main(names):
+    for name in names or [*GENERATED, *REAL]:
+        if name not in GENERATED and name not in REAL:
+            sys.exit("bench/lists.py: no list " + name)
+        try:
+            path = path_of(name)
+        except Missing as missing:
+            print("%s is left out: %s" % (name, missing))
+            continue
+        with open(path, "rb") as lines:
+            text = lines.read()
+        print("%9d lines  %s  %s" % (text.count(b"\n"), hashlib.sha256(text).hexdigest()[:16], path))
+
+
+if __name__ == "__main__":
+    main(sys.argv[1:])

@@ -1,0 +1,107 @@
+-- Lists in which nothing is left to join: the stack of a sweep as the aggregate of a list, and what tests of neighbours
+-- tell.
+use Rattle.std.proofs.Common.{◌≡◌, ℕ, ◌+◌, ◌-◌, ◌<◌, ◌↔◌, IsTrue, true, false, ltb, eqb, List, [], ◌∷◌, ◌++◌, map}
+use Rattle.std.proofs.Common.{take, length, get_or, All, refl, sym, ap, ◌∙◌, subst, subst₂, arith, inl, inr, eq-eqb}
+use Rattle.std.proofs.lemmas.Bool.{ltb-true, lt-ltb, eqb-true}
+use Rattle.std.proofs.lemmas.List.{length-map, map_more, get_or-map}
+use Rattle.std.proofs.lemmas.List.Elements.{All-map}
+use Rattle.ipnet_base.specs.Address.{family_index}
+use Rattle.ipnet_base.specs.Network.{Network, IsNetwork, IsTruncated, AreHalves, truncation, last_of}
+use Rattle.ipnet_base.specs.Blocks.{IsCoveredBy, HaveSameCover, IsAggregateOf, AreAggregatedNeighbours}
+use Rattle.ipnet_base.proofs.BlockLaws.{between_from_block, number_from_truncated, truncated_from_number}
+use Rattle.ipnet_base.specs.Stack.{LiesBefore, AreJoined}
+use Rattle.ipnet_base.proofs.NeighbourLaws.{ends_by_numbers, AreMaximalBlocks-from_neighbours}
+use Rattle.ipnet_base.proofs.SupernetLaws.{AreMaximalBlocks-same_set, neighbours_from_blocks}
+use Rattle.ipnet_base.proofs.StackLaws.{neighbours_push}
+use Rattle.ipnet_base.proofs.AggregateLaws.{AreJoined-from_neighbours, AreAggregatedNeighbours-from_joined}
+use Rattle.ipnet.proofs.FrontLaws.{front_length, front_last}
+
+-- what holds of each value as it is read holds of a list of them
+pub All-read : {X Y : Type 0} (P : Y → Type 0) (f : X → Y) → ((x : X) → P (f x)) → (xs : List X) → All P (map f xs)
+All-read P f h xs = All-map P f xs (λ k d l. h (get_or xs k d))
+
+-- a stack that covers what the list covers is its aggregate
+pub aggregate_from_stack : (given stack : List Network) → All IsNetwork stack → AreJoined stack
+    → HaveSameCover stack given → IsAggregateOf stack given
+aggregate_from_stack given stack valid joined same =
+    AreMaximalBlocks-same_set (IsCoveredBy stack) (IsCoveredBy given) 0 stack same
+    (AreMaximalBlocks-from_neighbours stack valid joined)
+
+-- in one family, the last number of the first network below the number of the second tells that it lies before it
+pub lies_by_last : (n k : Network) (last number : ℕ) → last ≡ last_of n → number ≡ k.number → n.family ≡ k.family
+    → IsTrue (ltb last number) ↔ LiesBefore n k
+lies_by_last n k last number e d f = (
+  λ h. inr (f, λ x a. omega (arith, ltb-true last number h, (between_from_block n x a).to_end, e, d)),
+  λ h. lt-ltb last number (elim (ends_by_numbers n k h) [
+    | inl other ↦ absurd (omega (arith, other, ap family_index f))
+    | inr below ↦ omega (arith, below.1, e, d)
+  ]),
+)
+
+-- a network whose number is that of its truncation has no host bit
+pub truncated_by_number : (n t : Network) (number other : ℕ) → number ≡ n.number → t ≡ truncation n → other ≡ t.number
+    → IsTrue (eqb number other) ↔ IsTruncated n
+truncated_by_number n t number other e f d =
+    let first : other ≡ (truncation n).number = d ∙ ap (λ z. z.number) f in (
+      λ h. truncated_from_number n (sym e ∙ eqb-true number other h ∙ first),
+      λ h. eq-eqb number other (e ∙ number_from_truncated n h ∙ sym first),
+    )
+
+-- a list in which no network stands yet, and one more that is truncated
+pub joined_first : {X : Type 0} (f : X → Network) (xs : List X) (i : ℕ) (x : X) → i < length xs → x ≡ get_or xs i x
+    → i ≡ 0
+    → AreJoined (map f (take i xs)) → IsTruncated (f x) → AreJoined (map f (take (i + 1) xs))
+joined_first f xs i x l e none joined t =
+    let size : length (map f (take i xs)) ≡ i = front_length f xs i (omega arith) in
+    subst AreJoined (sym (map_more f xs i x l ∙ ap (λ z. map f (take i xs) ++ f z ∷ []) (sym e)))
+    (neighbours_push (map f (take i xs)) (f x) joined t (λ d m. absurd (omega (arith, m, size)))
+    (λ d m. absurd (omega (arith, m, size))))
+
+-- one more after the network y, which lies before it and is not its other half
+pub joined_more : {X : Type 0} (f : X → Network) (xs : List X) (i : ℕ) (x y : X) → i < length xs → x ≡ get_or xs i x
+    → 0 < i → y ≡ get_or xs (i - 1) y
+    → AreJoined (map f (take i xs)) → IsTruncated (f x) → LiesBefore (f y) (f x) → ¬ (AreHalves (f y) (f x))
+    → AreJoined (map f (take (i + 1) xs))
+joined_more f xs i x y l e some before joined t lies halves =
+    subst AreJoined (sym (map_more f xs i x l ∙ ap (λ z. map f (take i xs) ++ f z ∷ []) (sym e)))
+    (neighbours_push (map f (take i xs)) (f x) joined t
+    (λ d m. subst (λ z. LiesBefore z (f x)) (sym (front_last f xs i y some (omega arith) before d)) lies)
+    (λ d m h. halves (subst (λ z. AreHalves z (f x)) (front_last f xs i y some (omega arith) before d) h)))
+
+-- what a joined list shows of one network, and of one and the next
+pub joined_at : {X : Type 0} (f : X → Network) (xs : List X) (i : ℕ) (x : X) → AreJoined (map f xs) → i < length xs
+    → x ≡ get_or xs i x → IsTruncated (f x)
+joined_at f xs i x joined l e =
+    subst IsTruncated (get_or-map f xs i x (f x) l ∙ ap f (sym e))
+    (joined.truncated i (f x) (omega (arith, length-map xs f)))
+
+pub joined_pair : {X : Type 0} (f : X → Network) (xs : List X) (i : ℕ) (x y : X) → AreJoined (map f xs) → 0 < i
+    → i < length xs → x ≡ get_or xs i x → y ≡ get_or xs (i - 1) y
+    → LiesBefore (f y) (f x) × ¬ (AreHalves (f y) (f x))
+joined_pair f xs i x y joined some l e before =
+    let at : i - 1 + 1 ≡ i = omega arith in
+    let size : length (map f xs) ≡ length xs = length-map xs f in
+    let first : get_or (map f xs) (i - 1) (f x) ≡ f y =
+    get_or-map f xs (i - 1) y (f x) (omega arith) ∙ ap f (sym before) in
+    let second : get_or (map f xs) (i - 1 + 1) (f x) ≡ f x =
+    ap (λ k. get_or (map f xs) k (f x)) at ∙ get_or-map f xs i x (f x) l ∙ ap f (sym e) in (
+      subst₂ LiesBefore first second (joined.apart (i - 1) (f x) (omega (arith, size))),
+      subst₂ (λ n k. ¬ (AreHalves n k)) first second (joined.unjoined (i - 1) (f x) (omega (arith, size))),
+    )
+
+-- what the answers of `is_aggregated` say
+pub joined_is_own : (networks : List Network) → All IsNetwork networks → AreJoined networks → IsTrue true
+    ↔ IsAggregateOf networks networks
+joined_is_own networks valid joined = (λ h. AreMaximalBlocks-from_neighbours networks valid joined, λ h. refl)
+
+pub joined_is_neighbours : (networks : List Network) → AreJoined networks → IsTrue true
+    ↔ AreAggregatedNeighbours networks
+joined_is_neighbours networks joined = (λ h. AreAggregatedNeighbours-from_joined networks joined, λ h. refl)
+
+pub unjoined_is_not_own : (networks : List Network) → (AreJoined networks → ⊥) → IsTrue false
+    ↔ IsAggregateOf networks networks
+unjoined_is_not_own networks never = (λ h. cc, λ h. absurd (never (neighbours_from_blocks networks h)))
+
+pub unjoined_is_not_neighbours : (networks : List Network) → (AreJoined networks → ⊥) → IsTrue false
+    ↔ AreAggregatedNeighbours networks
+unjoined_is_not_neighbours networks never = (λ h. cc, λ h. absurd (never (AreJoined-from_neighbours networks h)))

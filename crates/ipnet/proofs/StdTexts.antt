@@ -1,0 +1,104 @@
+-- The strict texts of addresses are exactly those of std's own grammar.
+use Rattle.std.proofs.Common.{◌≡◌, ℕ, ◌<◌, ◌↔◌, Bool, true, List, [], ◌∷◌, ◌++◌, decimal, refl, sym, ap, ◌∙◌, arith}
+use Rattle.std.proofs.Common.{inl, inr, append_assoc, append-nil}
+use Rattle.std.proofs.lemmas.Str.Parse.{numerals_by_value, tells_digits}
+use Rattle.std.proofs.lemmas.Fmt.{decimal-digits_value}
+use Rattle.std.specs.Net.Grammar.{IsGroupsAfter, IsColonHex as StdColonHex, IsElided as StdElided}
+use Rattle.std.specs.Net.Grammar.{IsDotted as StdDotted, IsGroup as StdGroup}
+use Rattle.ipnet.specs.declared.parser.Grammar.TheVariants.{Strict}
+use Rattle.ipnet.specs.Numerals.{IsOctet, IsGroup}
+use Rattle.ipnet.specs.AddressTexts.{IsIpv4AddressText, IsGroups, EndsInIpv4, IsCompressed, IsIpv6AddressText}
+use Rattle.ipnet.proofs.Ipv4Texts.{Dots-from}
+use Rattle.ipnet.proofs.PrintedTexts.{IsIpv4AddressText-std, IsIpv6AddressText-std}
+
+-- a strict octet is the decimal of its value
+octet_decimal : (text : List ℕ) (n : ℕ) → IsOctet Strict text n → (n < 256) × (text ≡ decimal n)
+octet_decimal text n h = (
+  omega (arith, h.small),
+  sym (decimal-digits_value (numerals_by_value _ tells_digits) text h.digits.1 h.digits.0 (h.plain refl)
+      (omega (arith, h.value, h.small)))
+      ∙ ap decimal h.value,
+)
+
+dotted : (text octets : List ℕ) → IsIpv4AddressText Strict text octets → StdDotted text octets
+dotted text octets h =
+    let dots = Dots-from Strict text octets h in
+    let (fits_a, is_a) = octet_decimal dots.t₁ dots.a dots.is_a in
+    let (fits_b, is_b) = octet_decimal dots.t₂ dots.b dots.is_b in
+    let (fits_c, is_c) = octet_decimal dots.t₃ dots.c dots.is_c in
+    let (fits_d, is_d) = octet_decimal dots.t₄ dots.d dots.is_d in
+    record {
+      a = dots.a;
+      b = dots.b;
+      c = dots.c;
+      d = dots.d;
+      fit = (fits_a, fits_b, fits_c, fits_d);
+      value = dots.value;
+      spelled = dots.spelled ∙ rw (is_a, is_b, is_c, is_d) (simp append_assoc);
+    }
+
+pub ipv4_std : (text octets : List ℕ) → IsIpv4AddressText Strict text octets ↔ StdDotted text octets
+ipv4_std text octets = (dotted text octets, IsIpv4AddressText-std text octets)
+
+group : (text : List ℕ) (n : ℕ) → IsGroup text n → StdGroup text n
+group text n h = ((h.digits, h.value), h.short)
+
+behind_lead : (lead text first rest : List ℕ) → text ≡ first ++ (58 ∷ []) ++ rest
+    → lead ++ text ≡ lead ++ first ++ (58 ∷ rest)
+behind_lead lead text first rest split = rw split (simp append_assoc)
+
+-- groups behind a lead, as std writes them
+groups_after : (ipv4 : Bool) (lead text : List ℕ) (g : ℕ) (groups : List ℕ) → IsGroups text (g ∷ groups)
+    → IsGroupsAfter ipv4 lead (lead ++ text) (g ∷ groups)
+groups_after ipv4 lead text g [] h = inl (text, [], sym (append-nil (lead ++ text)), group text g h, refl)
+groups_after ipv4 lead text g (i ∷ groups) h =
+    inl (
+      h.0,
+      58 ∷ h.1,
+      behind_lead lead text h.0 h.1 h.2,
+      group h.0 g h.3,
+      groups_after ipv4 (58 ∷ []) h.1 i groups h.4,
+    )
+
+groups_std : (ipv4 : Bool) (text groups : List ℕ) → IsGroups text groups → IsGroupsAfter ipv4 [] text groups
+groups_std ipv4 text [] h = h
+groups_std ipv4 text (g ∷ groups) h = groups_after ipv4 [] text g groups h
+
+mixed_after : (lead text groups : List ℕ) → EndsInIpv4 Strict text groups
+    → IsGroupsAfter true lead (lead ++ text) groups
+mixed_after lead text [] h = absurd h
+mixed_after lead text (g ∷ []) h = absurd h
+mixed_after lead text (g ∷ i ∷ []) (octets, is, value) = inr (text, octets, refl, refl, dotted text octets is, value)
+mixed_after lead text (g ∷ i ∷ j ∷ groups) h =
+    inl (
+      h.0,
+      58 ∷ h.1,
+      behind_lead lead text h.0 h.1 h.2,
+      group h.0 g h.3,
+      mixed_after (58 ∷ []) h.1 (i ∷ j ∷ groups) h.4,
+    )
+
+compressed_std : (text groups : List ℕ) → IsCompressed Strict text groups → StdElided text groups
+compressed_std text groups h = record {
+  head_text = h.head_text;
+  tail_text = h.tail_text;
+  head = h.head;
+  tail = h.tail;
+  spelled = h.spelled;
+  head_groups = groups_std _ h.head_text h.head h.head_groups;
+  tail_groups =
+      elim h.tail_groups [
+        | inl plain ↦ groups_std true h.tail_text h.tail plain
+        | inr mixed ↦ mixed_after [] h.tail_text h.tail mixed
+      ];
+  room = omega (arith, h.room);
+  value = h.value;
+}
+
+colon_hex : (text groups : List ℕ) → IsIpv6AddressText Strict text groups → StdColonHex text groups
+colon_hex text groups (inl h) = inl (groups_std true text groups h.1, h.0)
+colon_hex text groups (inr (inl h)) = inl (mixed_after [] text groups h.1, h.0)
+colon_hex text groups (inr (inr h)) = inr (compressed_std text groups h)
+
+pub ipv6_std : (text groups : List ℕ) → IsIpv6AddressText Strict text groups ↔ StdColonHex text groups
+ipv6_std text groups = (colon_hex text groups, IsIpv6AddressText-std text groups)

@@ -1,6 +1,0 @@
-use Rattle.std.proofs.Common.{map}
-use Rattle.ipnet_base.proofs.StackLaws.{IsGatheredFrom}
-use Rattle.ipnet.proofs.aggregate.gathered.Given as goal
-
-abbrev pub invariant-loop-network : goal.invariant-loop-network
-invariant-loop-network g l = IsGatheredFrom (map g.N.Net.network l.network-items) l.network-index (map g.N.Net.network l.list.items)

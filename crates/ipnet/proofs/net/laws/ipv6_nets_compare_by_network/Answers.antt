@@ -1,0 +1,18 @@
+use Rattle.std.proofs.Common.{rules}
+use Rattle.ipnet.specs.NetLaws.{ipv6_valid, ipv6_one_to_one}
+use Rattle.ipnet.proofs.NetOrderLaws.{ipv6_ranks, ipv6_hash}
+use Rattle.ipnet.proofs.net.laws.ipv6_nets_compare_by_network.Goals as goal
+
+pub returns-clause-valid : goal.returns-clause-valid
+returns-clause-valid c = ipv6_valid
+
+pub returns-clause-compare : goal.returns-clause-compare
+returns-clause-compare c a b = record {
+  equality = search rules;
+  one_to_one = ipv6_one_to_one a b;
+  order = ipv6_ranks a b;
+  partial_order = search rules;
+}
+
+pub returns-clause-hash : goal.returns-clause-hash
+returns-clause-hash c = ipv6_hash

@@ -1,0 +1,15 @@
+use Rattle.std.proofs.Common.{rules, refl}
+use Rattle.ipnet.specs.contracts.subnets.IpSubnetsHash.TheImpl as IpSubnetsHash
+use Rattle.ipnet.proofs.WalkValueLaws.{ip_one_to_one, ip_hash}
+use Rattle.ipnet.proofs.subnets.laws.ip_walks_compare_by_range.Goals as goal
+
+pub returns-clause-compare : goal.returns-clause-compare
+returns-clause-compare c a b = record {
+  equality = search rules;
+  one_to_one = ip_one_to_one a b;
+  order = search rules;
+  partial_order = search rules;
+}
+
+pub returns-clause-hash : goal.returns-clause-hash
+returns-clause-hash c = ip_hash (λ s. (IpSubnetsHash.ghosts).hash_input s) (λ s. refl) (λ s. refl)

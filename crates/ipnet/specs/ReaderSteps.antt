@@ -1,0 +1,157 @@
+-- What the private steps of the reader compute, as functions on lists. `proofs/` shows that they read the grammar.
+-- Private contracts alone cite these.
+use Rattle.std.specs.Prelude.{ℕ, zero, suc, ◌-◌, Bool, true, false, not, ◌&&◌, List, [], ◌∷◌, ◌++◌, length, drop}
+use Rattle.std.specs.Prelude.{slice_index, Option, Some, None, option_map, option_and_then, ◌==◌, nat_lt, nat_le}
+use Rattle.std.specs.Prelude.{if◌then◌else◌}
+use Rattle.std.specs.List.{list_all}
+use Rattle.std.specs.Char.{is_digit}
+use Rattle.std.specs.Str.Parse.{digits_value}
+use Rattle.std.specs.Net.Addr.{segments_of}
+use Rattle.ipnet.specs.declared.parser.reader.Run.{Run}
+use Rattle.ipnet.specs.declared.parser.Grammar.{Grammar}
+use Rattle.ipnet.specs.declared.parser.Grammar.TheVariants.{Strict, Legacy}
+use Rattle.ipnet.specs.AddressTexts.{most_written_groups, expanded}
+
+-- a value and the text behind it
+abbrev pub Read : Type 0 → Type 0
+Read A = Option (A × List ℕ)
+
+infixl 10 ◌>>=◌
+abbrev pub ◌>>=◌ : {A B : Type 0} → Option A → (A → Option B) → Option B
+o >>= f = option_and_then f o
+
+-- `b'.'`
+abbrev pub dot : ℕ
+dot = 46
+
+-- `b'/'`
+abbrev pub slash : ℕ
+slash = 47
+
+-- `b':'`
+abbrev pub colon : ℕ
+colon = 58
+
+-- what follows this byte at the front
+abbrev pub read_byte : ℕ → List ℕ → Option (List ℕ)
+read_byte byte [] = None
+read_byte byte (first ∷ rest) = if first == byte then Some rest else None
+
+-- the hexadecimal digits at the front, at most so many, and the text behind them
+unfoldable pub digit_run : ℕ → List ℕ → List ℕ × List ℕ
+digit_run zero text = ([], text)
+digit_run (suc room) [] = ([], [])
+digit_run (suc room) (c ∷ text) =
+    let more = digit_run room text in
+    if is_digit c 16 then (c ∷ more.0, more.1) else ([], c ∷ text)
+
+-- no digit but decimal ones
+abbrev pub all_decimal : List ℕ → Bool
+all_decimal digits = list_all (λ c. is_digit c 10) digits
+
+-- the digits have no leading zero (48), if the grammar allows none
+abbrev pub is_plain : Grammar → List ℕ → Bool
+is_plain Strict digits = not ((slice_index digits 0 == 48) && nat_lt 1 (length digits))
+is_plain Legacy digits = true
+
+-- the octet that a run of digits writes, if it writes one
+unfoldable pub octet_of : Grammar → List ℕ → Option ℕ
+octet_of grammar digits =
+    if nat_lt 0 (length digits) && nat_le (length digits) 3
+    && all_decimal digits && nat_le (digits_value 10 digits) 255
+    && is_plain grammar digits
+    then Some (digits_value 10 digits) else None
+
+-- the group that at most four hexadecimal digits write, if there are any
+unfoldable pub group_of : List ℕ → Option ℕ
+group_of digits = if nat_lt 0 (length digits) then Some (digits_value 16 digits) else None
+
+abbrev pub run_of : Grammar → List ℕ → Run
+run_of grammar digits = record { count = length digits; octet = octet_of grammar digits; group = group_of digits }
+
+-- a "." and an octet
+unfoldable pub read_octet : Grammar → List ℕ → Read ℕ
+read_octet grammar text = do
+  digits ← read_byte dot text
+  octet ← octet_of grammar (digit_run 4 digits).0
+  Some (octet, (digit_run 4 digits).1)
+
+-- the dotted address whose first octet has been read
+unfoldable pub read_dotted : Grammar → ℕ → List ℕ → Read (List ℕ)
+read_dotted grammar a text = do
+  b ← read_octet grammar text
+  c ← read_octet grammar b.1
+  d ← read_octet grammar c.1
+  Some (a ∷ b.0 ∷ c.0 ∷ d.0 ∷ [], d.1)
+
+-- a "/" and a length, which end the text
+unfoldable pub read_length : Grammar → ℕ → ℕ → List ℕ → Option ℕ
+read_length grammar most greatest text = do
+  digits ← read_byte slash text
+  let run = digit_run 4 digits
+  n ← octet_of grammar run.0
+  if nat_le n greatest && nat_le (length run.0) most && (length run.1 == 0) then Some n else None
+
+-- an IPv4 network whose first octet has been read, if its first run was one
+unfoldable pub read_ipv4_network : Grammar → Option ℕ → List ℕ → Option (List ℕ × ℕ)
+read_ipv4_network grammar octet text = do
+  first ← octet
+  address ← read_dotted grammar first text
+  prefix_len ← read_length grammar 2 32 address.1
+  Some (address.0, prefix_len)
+
+-- groups, whether a dotted address stands for the last two, and the text behind them
+abbrev pub Pieces : Type 0
+Pieces = Option (List ℕ × Bool × List ℕ)
+
+-- these groups before those found
+abbrev pub behind : List ℕ → Pieces → Pieces
+behind front found = option_map (λ p. (front ++ p.0, p.1, p.2)) found
+
+-- a ":" that isn't followed by another
+abbrev pub is_single_colon : List ℕ → Bool
+is_single_colon text = (slice_index text 0 == colon) && not (slice_index text 1 == colon)
+
+-- a dotted address for two groups, whose first octet has been read, if the run before was one
+unfoldable pub read_last : Grammar → Option ℕ → List ℕ → Pieces
+read_last grammar octet text = do
+  first ← octet
+  address ← read_dotted grammar first text
+  Some (segments_of address.0, true, address.1)
+
+-- at most so many groups joined by ":", whose first run has been read, and may be a dotted address
+unfoldable pub read_pieces : Grammar → ℕ → Run → List ℕ → Pieces
+read_pieces grammar zero first text = None
+read_pieces grammar (suc room) first text =
+    if slice_index text 0 == dot
+    then (if nat_lt 0 room then read_last grammar first.octet text else None)
+    else (first.group >>= λ g.
+    if is_single_colon text
+    then (let next = digit_run 4 (drop 1 text) in
+    behind (g ∷ []) (read_pieces grammar room (run_of grammar next.0) next.1))
+    else Some (g ∷ [], false, text))
+
+-- "::" and what stands behind it
+unfoldable pub read_tail : Grammar → List ℕ → List ℕ → Read (List ℕ)
+read_tail grammar head text = do
+  one ← read_byte colon text
+  two ← read_byte colon one
+  let run = digit_run 4 two
+  if length run.0 == 0 then Some (expanded head [], run.1) else (do
+    tail ← read_pieces grammar (most_written_groups grammar - length head) (run_of grammar run.0) run.1
+    Some (expanded head tail.0, tail.2))
+
+-- an IPv6 address whose first run has been read
+unfoldable pub read_ipv6 : Grammar → Run → List ℕ → Read (List ℕ)
+read_ipv6 grammar first text =
+    if first.count == 0 then read_tail grammar [] text else (do
+      head ← read_pieces grammar 8 first text
+      if length head.0 == 8 then Some (head.0, head.2)
+          else (if head.1 then None else read_tail grammar head.0 head.2))
+
+-- an IPv6 network whose first run has been read
+unfoldable pub read_ipv6_network : Grammar → Run → List ℕ → Option (List ℕ × ℕ)
+read_ipv6_network grammar first text = do
+  address ← read_ipv6 grammar first text
+  prefix_len ← read_length grammar 3 128 address.1
+  Some (address.0, prefix_len)

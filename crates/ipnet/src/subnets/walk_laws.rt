@@ -1,0 +1,59 @@
+//! What holds of each walk, whatever it stores.
+ghost use Rattle.std.specs.Prelude.{◌≡◌, ◌↔◌, Option, IsNone};
+ghost use Rattle.ipnet.specs.NetworkOf.{ipv4_network, ipv6_network, ip_network};
+ghost use Rattle.ipnet.specs.SubnetsLeft.{IsWalkOf, IsSubnetStep, ipv4_subnet_range, ipv4_subnets_left};
+ghost use Rattle.ipnet.specs.SubnetsLeft.{ipv6_subnet_range, ipv6_subnets_left, ip_subnet_range, ip_subnets_left};
+ghost use Rattle.ipnet.specs.declared.net.IpNet.{IpNet};
+ghost use Rattle.ipnet.specs.declared.net.ipv4_net.Ipv4Net.{Ipv4Net};
+ghost use Rattle.ipnet.specs.declared.net.ipv6_net.Ipv6Net.{Ipv6Net};
+ghost use Rattle.ipnet.specs.declared.subnets.ipv4_subnets.Ipv4Subnets.{Ipv4Subnets};
+ghost use Rattle.ipnet.specs.declared.subnets.ipv6_subnets.Ipv6Subnets.{Ipv6Subnets};
+ghost use Rattle.ipnet.specs.declared.subnets.IpSubnets.{IpSubnets};
+ghost use Rattle.ipnet.specs.declared.subnets.IpSubnets.TheVariants.{V4, V6};
+
+use super::{IpSubnets, Ipv4Subnets, Ipv6Subnets};
+
+/// What an IPv4 walk still gives is the walk of the range that is left to it.
+pub fn ipv4_walk_is_of_its_range(subnets: Ipv4Subnets)
+    ensures { IsWalkOf (ipv4_subnet_range subnets) (ipv4_subnets_left subnets) }
+{}
+
+/// What an IPv6 walk still gives is the walk of the range that is left to it.
+pub fn ipv6_walk_is_of_its_range(subnets: Ipv6Subnets)
+    ensures { IsWalkOf (ipv6_subnet_range subnets) (ipv6_subnets_left subnets) }
+{}
+
+/// What a walk of either family still gives is the walk of the range that is left to it.
+pub fn ip_walk_is_of_its_range(subnets: IpSubnets)
+    ensures { IsWalkOf (ip_subnet_range subnets) (ip_subnets_left subnets) }
+{}
+
+/// After `None` an IPv4 walk gives `None` at each call, and stores the same for good.
+pub fn ipv4_walk_stays_over()
+    ensures { (before between after : Ipv4Subnets) (first second : Option Ipv4Net) →
+        IsSubnetStep ipv4_network ipv4_subnet_range ipv4_subnets_left before first between →
+        IsSubnetStep ipv4_network ipv4_subnet_range ipv4_subnets_left between second after →
+        IsNone first → IsNone second × (after ≡ before) }
+{}
+
+/// After `None` an IPv6 walk gives `None` at each call, and stores the same for good.
+pub fn ipv6_walk_stays_over()
+    ensures { (before between after : Ipv6Subnets) (first second : Option Ipv6Net) →
+        IsSubnetStep ipv6_network ipv6_subnet_range ipv6_subnets_left before first between →
+        IsSubnetStep ipv6_network ipv6_subnet_range ipv6_subnets_left between second after →
+        IsNone first → IsNone second × (after ≡ before) }
+{}
+
+/// After `None` a walk gives `None` at each call, and stores the same for good.
+pub fn ip_walk_stays_over()
+    ensures { (before between after : IpSubnets) (first second : Option IpNet) →
+        IsSubnetStep ip_network ip_subnet_range ip_subnets_left before first between →
+        IsSubnetStep ip_network ip_subnet_range ip_subnets_left between second after →
+        IsNone first → IsNone second × (after ≡ before) }
+{}
+
+/// A walk of either family that is made from a walk of one family is that walk.
+pub fn ip_walk_from_is_same(ipv4: Ipv4Subnets, ipv6: Ipv6Subnets, subnets: IpSubnets)
+    ensures from_ipv4 { ⟦<IpSubnets as From<Ipv4Subnets>>⟧.from_gives ipv4 subnets ↔ (subnets ≡ V4 ipv4) }
+    ensures from_ipv6 { ⟦<IpSubnets as From<Ipv6Subnets>>⟧.from_gives ipv6 subnets ↔ (subnets ≡ V6 ipv6) }
+{}

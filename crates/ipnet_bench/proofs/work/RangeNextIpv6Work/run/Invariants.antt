@@ -1,0 +1,6 @@
+use Rattle.ipnet_base.specs.Ranges.{address_count}
+use Rattle.ipnet_base.specs.RangeOf.{ipv6_range}
+use Rattle.ipnet_bench.proofs.work.RangeNextIpv6Work.run.Given as goal
+
+abbrev pub decreases-loop-addr : goal.decreases-loop-addr
+decreases-loop-addr l = address_count (ipv6_range l.addr-iterator)

@@ -1,6 +1,0 @@
-use Rattle.ipnet_base.specs.Ranges.{address_count}
-use Rattle.ipnet_base.specs.RangeOf.{ipv4_range}
-use Rattle.ipnet_bench.proofs.work.RangeNextWork.run.Given as goal
-
-abbrev pub decreases-loop-addr : goal.decreases-loop-addr
-decreases-loop-addr l = address_count (ipv4_range l.addr-iterator)

@@ -1,0 +1,6 @@
+use Rattle.std.proofs.Common.{length}
+use Rattle.ipnet.specs.SubnetsLeft.{ipv4_subnets_left}
+use Rattle.ipnet_bench.proofs.work.WalkIpv4Work.items.Given as goal
+
+abbrev pub decreases-loop : goal.decreases-loop
+decreases-loop l = length (ipv4_subnets_left l.iterator')

@@ -1,0 +1,6 @@
+use Rattle.std.proofs.Common.{length}
+use Rattle.ipnet.specs.SubnetsLeft.{ipv6_subnets_left}
+use Rattle.ipnet_bench.proofs.work.WalkIpv6Work.run.Given as goal
+
+abbrev pub decreases-loop-network : goal.decreases-loop-network
+decreases-loop-network l = length (ipv6_subnets_left l.network-iterator)

@@ -1,0 +1,11 @@
+//! Lists of networks as text, one network a line, into the shortest list of the same addresses: the calls on texts,
+//! and the program over any reader and writers.
+#![tactic(auto)]
+
+pub mod program;
+#[cfg(test)]
+mod tests;
+pub mod tool;
+
+pub use program::run;
+pub use tool::{ToolError, aggregate_text, aggregate_text_legacy};

@@ -1,0 +1,132 @@
+//! Memory that runs out, for the tests of calls that take some. Nothing but tests uses this crate.
+#![tactic(auto)]
+
+use std::alloc::{AllocError, Global};
+
+/// How many runs [`outcomes`] makes: not so many that what it holds back of the spare block would stand among the
+/// allocator's lists of small blocks.
+pub const RUNS: usize = 180;
+
+/// The bytes that [`outcomes`] gives back piece by piece: so many that the block stands outside these lists.
+const SPARE: usize = 4096;
+
+/// The bytes by which each run of [`outcomes`] finds more memory than the one before it: the allocator hands out no
+/// less.
+const STEP: usize = 16;
+
+/// The greatest size of the allocator's small blocks. A free one of these serves no request of another size.
+const GREATEST_SMALL: usize = 1040;
+
+/// More blocks than all memory has.
+const MOST_BLOCKS: usize = 100_000;
+
+/// How much of the stack a test takes beside what its call takes.
+const STACK: usize = 262_144;
+
+fn block(alloc: Global, len: usize) -> Result<Vec<u8>, AllocError> {
+    Vec::with_capacity(alloc, len)
+}
+
+/// Takes much of the stack once: where no memory is to be had it can't grow, nor later where blocks stay beside it.
+///
+/// Some of what was written there goes into the block, so that no compiler leaves it out.
+fn grow_stack(block: &mut Vec<u8>) -> Result<(), AllocError> {
+    let mut room = [0u8; STACK];
+    for at in 0..STACK {
+        room[at] = (at % 251) as u8;
+    }
+    let from = block.capacity().min(STACK - STEP);
+    block.extend_from_slice(&room[from..from + STEP])
+}
+
+/// Takes blocks of this size until one is refused.
+fn take(alloc: Global, len: usize, held: &mut Vec<Vec<u8>>) -> Result<(), AllocError> {
+    for _ in 0..MOST_BLOCKS {
+        if held.len() >= MOST_BLOCKS {
+            break;
+        }
+        match block(alloc, len) {
+            Ok(taken) => held.push(taken)?,
+            Err(_) => break,
+        }
+    }
+    Ok(())
+}
+
+/// All the memory that can be had, in blocks of ever smaller sizes, and then each small block that stands free.
+fn take_all(alloc: Global) -> Result<Vec<Vec<u8>>, AllocError> {
+    let mut held = Vec::with_capacity(alloc, MOST_BLOCKS)?;
+    let mut len = 1usize << 46;
+    for _ in 0..43 {
+        take(alloc, len, &mut held)?;
+        len /= 2;
+    }
+    for steps in 0..GREATEST_SMALL / STEP {
+        take(alloc, GREATEST_SMALL - STEP * steps, &mut held)?;
+    }
+    Ok(held)
+}
+
+/// What the call answers in each of [`RUNS`] runs, the first with no memory to be had and each later one with a little
+/// more; none where the allocator never refuses, as under a sanitizer.
+///
+/// Before these runs the call is made once with ample memory, so that the stack has grown to what the call takes: with
+/// no memory to be had it could not grow. For the rest of the test it has grown by 256 KiB more.
+///
+/// What one run gave back may serve a later one, so a call that makes several requests may be answered in one run and
+/// refused in the next.
+///
+/// ```text
+/// of a call that makes one request of 100 bytes: refused in the first seven runs, answered in all others
+/// ```
+pub fn outcomes<T: Copy, F: FnMut() -> T>(
+    alloc: Global,
+    mut call: F,
+) -> Result<Option<[T; RUNS]>, AllocError>
+    requires { F.IsAlwaysCallable call }
+{
+    let mut answers = [call(); RUNS];
+    let mut spare = block(alloc, SPARE)?;
+    grow_stack(&mut spare)?;
+    let held = take_all(alloc)?;
+    if block(alloc, STEP).is_ok() {
+        return Ok(None);
+    }
+    answers[0] = call();
+    drop(spare);
+    for run in 1..RUNS {
+        let rest = block(alloc, SPARE - STEP * run)?;
+        answers[run] = call();
+        drop(rest);
+    }
+    drop(held);
+    Ok(Some(answers))
+}
+
+#[cfg(test)]
+mod tests {
+    use super::*;
+    use std::test::Fail;
+
+    #[test]
+    fn one_request(rt: HostRuntime) -> Result<(), Fail> {
+        let alloc = rt.alloc();
+        if let Some(answers) = outcomes(alloc, || block(alloc, 100).is_ok())? {
+            let refused = answers.iter().take_while(|given| !**given).count();
+            assert_eq!(rt; refused, 7, "a request of 100 bytes");
+            assert!(rt;
+                answers[refused..].iter().all(|given| *given),
+                "a request of 100 bytes"
+            );
+        }
+        Ok(())
+    }
+
+    #[test]
+    fn no_request(rt: HostRuntime) -> Result<(), Fail> {
+        if let Some(answers) = outcomes(rt.alloc(), || true)? {
+            assert!(rt; answers == [true; RUNS], "no request");
+        }
+        Ok(())
+    }
+}
