@@ -1,0 +1,125 @@
+-- Facts of the addresses of a set, from those of the numbers of each family.
+use Rattle.std.proofs.Common.{◌+◌, ◌≡◌, ℕ, ◌^◌, ◌<◌, ◌≤◌, ◌↔◌, Bool, true, false, IsTrue, List, length, map}
+use Rattle.std.proofs.Common.{refl, ap, ◌∙◌, subst, subst₂, arith}
+use Rattle.std.proofs.lemmas.List.{length-map}
+use Rattle.ipnet_base.specs.Address.{Family, IPv4, IPv6, Address, IsAddress, IsBetween, width, greatest_number}
+use Rattle.ipnet_base.specs.Network.{Network, IsNetwork, InBlock, IsLeastOf, IsGreatestOf}
+use Rattle.ipnet_base.proofs.NetworkLaws.{block_is_between}
+use Rattle.ipnet_base.proofs.BlockLaws.{between_from_block, last_fits}
+use Rattle.ipnet_sets.specs.declared.set.IpSet.{IpSet}
+use Rattle.ipnet_sets.specs.declared.turns.Operation.{Operation}
+use Rattle.ipnet_sets.specs.Turns.{is_inside, combined, IsLeastInside, IsGreatestInside, by_family}
+use Rattle.ipnet_sets.specs.Members.{turns_of, is_member, IsMember}
+
+pub fits_below : (f : Family) (x : ℕ) → x ≤ greatest_number f → x < 2 ^ width f
+fits_below IPv4 x le = omega arith
+fits_below IPv6 x le = omega arith
+
+pub fits_to : (f : Family) (x : ℕ) → x < 2 ^ width f → x ≤ greatest_number f
+fits_to IPv4 x lt = omega arith
+fits_to IPv6 x lt = omega arith
+
+-- each address of a network's block is one of its family
+block_fits : (n : Network) → IsNetwork n → (x : Address) → InBlock n x → IsAddress x
+block_fits n valid x a =
+    omega (arith, (between_from_block n x a).to_end, last_fits n valid, ap (λ f. 2 ^ width f) a.same_family)
+
+-- the numbers of a slice that holds the turns of a family
+abbrev pub HasTurns : IpSet → Family → List ℕ → Type 0
+HasTurns s f slice = map (λ n. n) slice ≡ turns_of s f
+
+member_at : (s : IpSet) (f : Family) (slice : List ℕ) (n : ℕ) → HasTurns s f slice → n ≤ greatest_number f
+    → is_inside (map (λ n. n) slice) n ≡ true → IsMember s (record { family = f; number = n })
+member_at s f slice n e le h = record {
+  fits = fits_below f n le;
+  inside = subst (λ z. is_inside z n ≡ true) e h;
+}
+
+pub some_from_least : (s : IpSet) (f : Family) (slice : List ℕ) (n : ℕ) → HasTurns s f slice
+    → IsLeastInside f (map (λ n. n) slice) n → ((x : Address) → ¬ (IsMember s x)) → ⊥
+some_from_least s f slice n e h none =
+    none (record { family = f; number = n }) (member_at s f slice n e h.fits h.inside)
+
+pub some_from_greatest : (s : IpSet) (f : Family) (slice : List ℕ) (n : ℕ) → HasTurns s f slice
+    → IsGreatestInside f (map (λ n. n) slice) n → ((x : Address) → ¬ (IsMember s x)) → ⊥
+some_from_greatest s f slice n e h none =
+    none (record { family = f; number = n }) (member_at s f slice n e h.fits h.inside)
+
+-- a block lies in the set where its numbers are inside
+pub covers_block : (s : IpSet) (n : Network) (low high : Address) (slice : List ℕ) (first last : ℕ) (answer : Bool)
+    → IsNetwork n → IsLeastOf n low → IsGreatestOf n high → first ≡ low.number → last ≡ high.number
+    → HasTurns s n.family slice
+    → (IsTrue answer ↔ ((x : ℕ) → first ≤ x → x ≤ last → is_inside (map (λ n. n) slice) x ≡ true))
+    → IsTrue answer ↔ ((x : Address) → InBlock n x → IsMember s x)
+covers_block s n low high slice first last answer valid least greatest e f turns h = (
+  λ t x a.
+      let between : IsBetween n.family low.number high.number x = (block_is_between n low high x least greatest).0 a in
+      let inside : is_inside (turns_of s n.family) x.number ≡ true
+      = subst (λ z. is_inside z x.number ≡ true) turns
+      (h.0 t x.number (omega (arith, e, between.from_start)) (omega (arith, f, between.to_end))) in
+      record {
+        fits = block_fits n valid x a;
+        inside = ap (λ g. is_inside (turns_of s g) x.number) a.same_family ∙ inside;
+      },
+  λ all. h.1 (λ x le lf. ap (λ z. is_inside z x) turns ∙ (all (record { family = n.family; number = x })
+      ((block_is_between n low high (record { family = n.family; number = x }) least greatest).1
+      (record { of_family = refl; from_start = omega (arith, e, le); to_end = omega (arith, f, lf) }))).inside),
+)
+
+-- what an operation makes of two sets is empty where it makes nothing of the numbers of either family
+pub nothing_in_families : (operation : Operation) (s t : IpSet)
+    → ((x : ℕ) → x ≤ greatest_number IPv4
+    → combined operation (is_inside (turns_of s IPv4) x) (is_inside (turns_of t IPv4) x) ≡ false)
+    → ((x : ℕ) → x ≤ greatest_number IPv6
+    → combined operation (is_inside (turns_of s IPv6) x) (is_inside (turns_of t IPv6) x) ≡ false)
+    → (x : Address) → IsAddress x → combined operation (is_member s x) (is_member t x) ≡ false
+nothing_in_families operation s t h k x fits = go x.family x.number fits
+  where
+    go : (f : Family) (n : ℕ) → n < 2 ^ width f
+        → combined operation (is_inside (turns_of s f) n) (is_inside (turns_of t f) n) ≡ false
+    go IPv4 n l = h n (fits_to IPv4 n l)
+    go IPv6 n l = k n (fits_to IPv6 n l)
+
+pub nothing_of_family : (operation : Operation) (s t : IpSet) (f : Family)
+    → ((x : Address) → IsAddress x → combined operation (is_member s x) (is_member t x) ≡ false)
+    → (x : ℕ) → x ≤ greatest_number f
+    → combined operation (is_inside (turns_of s f) x) (is_inside (turns_of t f) x) ≡ false
+nothing_of_family operation s t f h x le = h (record { family = f; number = x }) (fits_below f x le)
+
+-- the same of the slices that hold the turns
+pub nothing_in_slices : (operation : Operation) (s t : IpSet) (f : Family) (slice other : List ℕ) (answer : Bool)
+    → HasTurns s f slice → HasTurns t f other
+    → (IsTrue answer ↔ ((x : ℕ) → x ≤ greatest_number f
+    → combined operation (is_inside (map (λ n. n) slice) x) (is_inside (map (λ n. n) other) x) ≡ false))
+    → IsTrue answer ↔ ((x : ℕ) → x ≤ greatest_number f
+    → combined operation (is_inside (turns_of s f) x) (is_inside (turns_of t f) x) ≡ false)
+nothing_in_slices operation s t f slice other answer e g h =
+    subst₂ (λ a b. IsTrue answer ↔ ((x : ℕ) → x ≤ greatest_number f
+    → combined operation (is_inside a x) (is_inside b x) ≡ false)) e g h
+
+-- the turns of what is made of two sets, by the lists that hold them
+pub no_more_turns : (a b : IpSet) (ipv4 ipv6 first4 first6 second4 second6 : List ℕ) → first4 ≡ a.ipv4.items
+    → first6 ≡ a.ipv6.items → second4 ≡ b.ipv4.items → second6 ≡ b.ipv6.items
+    → length ipv4 ≤ length first4 + length second4 → length ipv6 ≤ length first6 + length second6
+    → (f : Family) → length (by_family (map (λ n. n) ipv4) (map (λ n. n) ipv6) f)
+    ≤ length (turns_of a f) + length (turns_of b f)
+no_more_turns a b ipv4 ipv6 first4 first6 second4 second6 e4 e6 g4 g6 h k IPv4 =
+    omega (
+      arith,
+      h,
+      ap length e4,
+      ap length g4,
+      length-map ipv4 (λ n. n),
+      length-map a.ipv4.items (λ n. n),
+      length-map b.ipv4.items (λ n. n),
+    )
+no_more_turns a b ipv4 ipv6 first4 first6 second4 second6 e4 e6 g4 g6 h k IPv6 =
+    omega (
+      arith,
+      k,
+      ap length e6,
+      ap length g6,
+      length-map ipv6 (λ n. n),
+      length-map a.ipv6.items (λ n. n),
+      length-map b.ipv6.items (λ n. n),
+    )

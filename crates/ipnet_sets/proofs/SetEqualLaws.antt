@@ -1,0 +1,205 @@
+-- Sets are equal where they have the same addresses.
+use Rattle.std.proofs.Common.{◌≡◌, ℕ, ◌^◌, ◌<◌, ◌≤◌, ◌⊎◌, ◌↔◌, ◌&&◌, Bool, true, false, IsTrue}
+use Rattle.std.proofs.Common.{not}
+use Rattle.std.proofs.Common.{List, [], ◌∷◌, map, Less, Equal, Greater, Ordering, Option, Some}
+use Rattle.std.proofs.Common.{nat_cmp, nat_eq}
+use Rattle.std.proofs.Common.{refl, sym, ap, ap₂, ◌∙◌, arith, inl, inr, le-leb, eq-eqb}
+use Rattle.std.proofs.lemmas.Bool.{cases_lt, cases_order, cases_Bool, eqb-true, lt-leb}
+use Rattle.std.proofs.lemmas.Bool.Decides.{nat_tests}
+use Rattle.std.specs.Ordering.{ordering_then, partial_ordering_then}
+use Rattle.std.specs.Cmp.Lexicographic.{slice_cmp, slice_partial_cmp}
+use Rattle.ipnet_base.specs.Address.{Family, IPv4, IPv6, Address, IsAddress, width, greatest_number}
+use Rattle.ipnet_sets.specs.declared.set.IpSet.{IpSet}
+use Rattle.ipnet_sets.specs.Turns.{is_inside, AreTurns}
+use Rattle.ipnet_sets.specs.Members.{turns_of, is_member, IsMember, HaveSameAddresses}
+use Rattle.ipnet_sets.proofs.InsideLaws.{not_twice, inside_before}
+use Rattle.ipnet_sets.proofs.ExtendLaws.{least_inside_at}
+use Rattle.ipnet_sets.proofs.SetRangeLaws.{tail_turns, later}
+use Rattle.ipnet_sets.proofs.MemberLaws.{fits_below}
+use lib.Pointwise.{pointwise}
+
+same_answer : (a b : Bool) → ((a ≡ true) ↔ (b ≡ true)) → a ≡ b
+same_answer true b h = sym (h.0 refl)
+same_answer false b h = elim (cases_Bool b) [ inl e ↦ let never = h.1 e in absurd (cc) | inr e ↦ sym e ]
+
+-- at its first turn a set begins
+first_inside : (f : Family) (t : ℕ) (ts : List ℕ) → AreTurns f (t ∷ ts) → is_inside (t ∷ ts) t ≡ true
+first_inside f t ts h = (least_inside_at f (t ∷ ts) t h (omega arith) (λ d. refl)).inside
+
+-- and nothing is inside before it
+outside_first : (f : Family) (t : ℕ) (ts : List ℕ) (x : ℕ) → AreTurns f (t ∷ ts) → x < t → is_inside (t ∷ ts) x ≡ false
+outside_first f t ts x h lt =
+    rw (lt-leb t x lt) (inside_before ts x (λ k d l. omega (arith, later f t ts h k d l, lt)))
+
+-- there is one list of turns for each set of numbers
+same_turns : (f : Family) (ts us : List ℕ) → AreTurns f ts → AreTurns f us
+    → ((x : ℕ) → x ≤ greatest_number f → is_inside ts x ≡ is_inside us x) → ts ≡ us
+same_turns f [] [] a b same = refl
+same_turns f [] (u ∷ us) a b same =
+    let some = first_inside f u us b in
+    let none : false ≡ is_inside (u ∷ us) u = same u (b.fits 0 u (omega arith)) in
+    absurd (cc)
+same_turns f (t ∷ ts) [] a b same =
+    let some = first_inside f t ts a in
+    let none : is_inside (t ∷ ts) t ≡ false = same t (a.fits 0 t (omega arith)) in
+    absurd (cc)
+same_turns f (t ∷ ts) (u ∷ us) a b same = elim (cases_order t u) [
+  | inl e ↦ ap₂ (λ z zs. z ∷ zs) e (same_turns f ts us (tail_turns f t ts a) (tail_turns f u us b)
+      (λ x le. elim (cases_lt x t) [
+        | inl lt ↦ inside_before ts x (λ k d l. omega (arith, later f t ts a k d l, lt))
+            ∙ sym (inside_before us x (λ k d l. omega (arith, later f u us b k d l, lt, e)))
+        | inr ge ↦
+            let left : is_inside (t ∷ ts) x ≡ not (is_inside ts x) = rw (le-leb t x ge) refl in
+            let right : is_inside (u ∷ us) x ≡ not (is_inside us x) = rw (le-leb u x (omega (arith, ge, e))) refl in
+            sym (not_twice (is_inside ts x)) ∙ ap not (sym left ∙ same x le ∙ right) ∙ not_twice (is_inside us x)
+      ]))
+  | inr (inl lt) ↦
+      let some = first_inside f t ts a in
+      let none = outside_first f u us t b lt in
+      let both = same t (a.fits 0 t (omega arith)) in
+      absurd (cc)
+  | inr (inr gt) ↦
+      let some = first_inside f u us b in
+      let none = outside_first f t ts u a gt in
+      let both = same u (b.fits 0 u (omega arith)) in
+      absurd (cc)
+]
+
+same_turns_of : (a b : IpSet) (f : Family) → AreTurns f (turns_of a f) → AreTurns f (turns_of b f)
+    → HaveSameAddresses a b → turns_of a f ≡ turns_of b f
+same_turns_of a b f h k same = same_turns f (turns_of a f) (turns_of b f) h k
+    (λ x le.
+    let at : Address = record { family = f; number = x } in
+    let fits : IsAddress at = fits_below f x le in
+    same_answer (is_inside (turns_of a f) x) (is_inside (turns_of b f) x) (
+      λ e. ((same at).0 (record { fits = fits; inside = e })).inside,
+      λ e. ((same at).1 (record { fits = fits; inside = e })).inside,
+    ))
+
+-- words that hold the same numbers are the same
+words_are_numbers : (xs : List ℕ) → map (λ n. n) xs ≡ xs
+words_are_numbers [] = refl
+words_are_numbers (x ∷ xs) = ap (λ z. x ∷ z) (words_are_numbers xs)
+
+same_numbers : (xs ys : List ℕ) → map (λ n. n) xs ≡ map (λ n. n) ys → xs ≡ ys
+same_numbers xs ys e = sym (words_are_numbers xs) ∙ e ∙ words_are_numbers ys
+
+-- the words of the two sets are the same
+pub same_words : (a b : IpSet) → HaveSameAddresses a b → (a.ipv4.items ≡ b.ipv4.items) × (a.ipv6.items ≡ b.ipv6.items)
+same_words a b same = (
+  same_numbers a.ipv4.items b.ipv4.items
+      (same_turns_of a b IPv4 a.ipv4_turns b.ipv4_turns same),
+  same_numbers a.ipv6.items b.ipv6.items
+      (same_turns_of a b IPv6 a.ipv6_turns b.ipv6_turns same),
+)
+
+pub same_addresses : (a b : IpSet) → a.ipv4.items ≡ b.ipv4.items → a.ipv6.items ≡ b.ipv6.items → HaveSameAddresses a b
+same_addresses a b e g x = (
+  λ m. record { fits = m.fits; inside = sym (both x.family x.number) ∙ m.inside },
+  λ m. record { fits = m.fits; inside = both x.family x.number ∙ m.inside },
+)
+  where
+    both : (f : Family) (n : ℕ) → is_inside (turns_of a f) n ≡ is_inside (turns_of b f) n
+    both IPv4 n = ap (λ z. is_inside (map (λ n. n) z) n) e
+    both IPv6 n = ap (λ z. is_inside (map (λ n. n) z) n) g
+
+-- tests of lists of numbers
+numbers_equal : (x y : ℕ) → (nat_eq x y ≡ true) ↔ (x ≡ y)
+numbers_equal x y = (eqb-true x y, eq-eqb x y)
+
+both_true : (a b : Bool) → (a && b ≡ true) ↔ ((a ≡ true) × (b ≡ true))
+both_true true b = (λ e. (refl, e), λ e. e.1)
+both_true false b = (λ e. cc, λ e. cc)
+
+lists_equal : (xs ys : List ℕ) → (pointwise nat_eq xs ys ≡ true) ↔ (xs ≡ ys)
+lists_equal [] [] = (λ e. refl, λ e. refl)
+lists_equal [] (y ∷ ys) = (λ e. cc, λ e. cc)
+lists_equal (x ∷ xs) [] = (λ e. cc, λ e. cc)
+lists_equal (x ∷ xs) (y ∷ ys) =
+    let rest = lists_equal xs ys in
+    let both = both_true (nat_eq x y) (pointwise nat_eq xs ys) in (
+      λ e. ap₂ (λ z zs. z ∷ zs) ((numbers_equal x y).0 (both.0 e).0) (rest.0 (both.0 e).1),
+      λ e.
+          let head : x ≡ y = cc in
+          let tail : xs ≡ ys = cc in
+          both.1 ((numbers_equal x y).1 head, rest.1 tail),
+    )
+
+pub equal_by_addresses : (a b : IpSet) → (pointwise nat_eq a.ipv4.items b.ipv4.items
+    && pointwise nat_eq a.ipv6.items b.ipv6.items ≡ true) ↔ HaveSameAddresses a b
+equal_by_addresses a b =
+    let ipv4 = lists_equal a.ipv4.items b.ipv4.items in
+    let ipv6 = lists_equal a.ipv6.items b.ipv6.items in
+    let both = both_true (pointwise nat_eq a.ipv4.items b.ipv4.items) (pointwise nat_eq a.ipv6.items b.ipv6.items) in (
+      λ e. same_addresses a b (ipv4.0 (both.0 e).0) (ipv6.0 (both.0 e).1),
+      λ same. let words = same_words a b same in both.1 (ipv4.1 words.0, ipv6.1 words.1),
+    )
+
+tied : (x y : ℕ) → (nat_cmp x y ≡ Equal) ↔ (x ≡ y)
+tied x y = (λ e. grind (arith, nat_tests), λ e. grind (arith, nat_tests))
+
+then_equal : (a b : Ordering) → (ordering_then a b ≡ Equal) ↔ ((a ≡ Equal) × (b ≡ Equal))
+then_equal Less b = (λ e. cc, λ e. cc)
+then_equal Equal b = (λ e. (refl, e), λ e. e.1)
+then_equal Greater b = (λ e. cc, λ e. cc)
+
+lists_tied : (xs ys : List ℕ) → (slice_cmp nat_cmp xs ys ≡ Equal) ↔ (xs ≡ ys)
+lists_tied [] [] = (λ e. refl, λ e. refl)
+lists_tied [] (y ∷ ys) = (λ e. cc, λ e. cc)
+lists_tied (x ∷ xs) [] = (λ e. cc, λ e. cc)
+lists_tied (x ∷ xs) (y ∷ ys) =
+    let both = then_equal (nat_cmp x y) (slice_cmp nat_cmp xs ys) in
+    let rest = lists_tied xs ys in (
+      λ e. ap₂ (λ z zs. z ∷ zs) ((tied x y).0 (both.0 e).0) (rest.0 (both.0 e).1),
+      λ e.
+          let head : x ≡ y = cc in
+          let tail : xs ≡ ys = cc in
+          both.1 ((tied x y).1 head, rest.1 tail),
+    )
+
+pub tied_by_addresses : (a b : IpSet) → (ordering_then (slice_cmp nat_cmp a.ipv4.items b.ipv4.items)
+    (slice_cmp nat_cmp a.ipv6.items b.ipv6.items) ≡ Equal) ↔ HaveSameAddresses a b
+tied_by_addresses a b =
+    let ipv4 = lists_tied a.ipv4.items b.ipv4.items in
+    let ipv6 = lists_tied a.ipv6.items b.ipv6.items in
+    let both = then_equal (slice_cmp nat_cmp a.ipv4.items b.ipv4.items)
+    (slice_cmp nat_cmp a.ipv6.items b.ipv6.items) in (
+      λ e. same_addresses a b (ipv4.0 (both.0 e).0) (ipv6.0 (both.0 e).1),
+      λ same. let words = same_words a b same in both.1 (ipv4.1 words.0, ipv6.1 words.1),
+    )
+
+-- an address is in a set, or is not
+pub member_or_not : (s : IpSet) (x : Address) → IsMember s x ⊎ (IsMember s x → ⊥)
+member_or_not s x = elim (cases_lt x.number (2 ^ width x.family)) [
+  | inl fits ↦ elim (cases_Bool (is_member s x)) [
+    | inl e ↦ inl (record { fits = fits; inside = e })
+    | inr e ↦ inr (λ m. let inside = m.inside in cc)
+  ]
+  | inr out ↦ inr (λ m. omega (arith, out, m.fits))
+]
+
+pub equal_answer : (a b : IpSet) (answer : Bool) → answer ≡ (pointwise nat_eq a.ipv4.items b.ipv4.items
+    && pointwise nat_eq a.ipv6.items b.ipv6.items) → HaveSameAddresses a b → IsTrue answer
+equal_answer a b answer e same = e ∙ (equal_by_addresses a b).1 same
+
+partial_more : (o : Ordering) (rest : Option Ordering) (all : Ordering) → rest ≡ Some all
+    → partial_ordering_then (Some o) rest ≡ Some (ordering_then o all)
+partial_more Less rest all e = refl
+partial_more Equal rest all e = e
+partial_more Greater rest all e = refl
+
+partial_as_total : (xs ys : List ℕ)
+    → slice_partial_cmp (λ x y. Some (nat_cmp x y)) xs ys ≡ Some (slice_cmp nat_cmp xs ys)
+partial_as_total [] [] = refl
+partial_as_total [] (y ∷ ys) = refl
+partial_as_total (x ∷ xs) [] = refl
+partial_as_total (x ∷ xs) (y ∷ ys) =
+    partial_more (nat_cmp x y) (slice_partial_cmp (λ a b. Some (nat_cmp a b)) xs ys) (slice_cmp nat_cmp xs ys)
+    (partial_as_total xs ys)
+
+pub partial_of_sets : (a b c d : List ℕ) → partial_ordering_then (slice_partial_cmp (λ x y. Some (nat_cmp x y)) a b)
+    (slice_partial_cmp (λ x y. Some (nat_cmp x y)) c d)
+    ≡ Some (ordering_then (slice_cmp nat_cmp a b) (slice_cmp nat_cmp c d))
+partial_of_sets a b c d =
+    ap₂ partial_ordering_then (partial_as_total a b) (partial_as_total c d)
+    ∙ partial_more (slice_cmp nat_cmp a b) (Some (slice_cmp nat_cmp c d)) (slice_cmp nat_cmp c d) refl

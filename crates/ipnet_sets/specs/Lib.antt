@@ -1,0 +1,6 @@
+-- What the contracts of this crate cite.
+pub mod Turns
+pub mod Members
+pub mod SetRanges
+pub mod TurnRanges
+pub mod RangesLeft

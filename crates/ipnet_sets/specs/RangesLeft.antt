@@ -1,0 +1,10 @@
+-- The ranges that a value of the iterator still gives: all that contracts see of it.
+use Rattle.std.specs.Prelude.{List, map, ◌++◌}
+use Rattle.ipnet_base.specs.Address.{IPv4, IPv6}
+use Rattle.ipnet_base.specs.Ranges.{AddressRange}
+use Rattle.ipnet_sets.specs.declared.set_ranges.IpSetRanges.{IpSetRanges}
+use Rattle.ipnet_sets.specs.TurnRanges.{ranges_of}
+
+-- the IPv4 ranges that are left, then the IPv6 ones
+abbrev pub ranges_left : IpSetRanges → List AddressRange
+ranges_left r = ranges_of IPv4 (map (λ n. n) r.ipv4.now) ++ ranges_of IPv6 (map (λ n. n) r.ipv6.now)

@@ -1,0 +1,153 @@
+//! The numbers of addresses, as machine words of the width of their family.
+ghost use Rattle.std.specs.Prelude.{◌≡◌, ℕ, ◌+◌, ◌<◌, ◌≤◌, ◌↔◌, IsTrue};
+ghost use Rattle.ipnet_base.specs.Address.{Family, IPv4, IPv6, greatest_number, ip_address};
+ghost use Rattle.ipnet_base.specs.Blocks.{AreMaximalBlocks};
+ghost use Rattle.ipnet_base.specs.RangeOf.{ip_range};
+ghost use Rattle.ipnet.specs.SubnetsLeft.{ip_subnets_left};
+ghost use Rattle.ipnet_sets.specs.SetRanges.{range_of, IsInRange};
+
+use ipnet::{
+    IpAddr, IpAddrRange, IpSubnets, Ipv4Addr, Ipv4AddrRange, Ipv4Subnets, Ipv6Addr, Ipv6AddrRange,
+    Ipv6Subnets,
+};
+
+/// A machine word that holds the number of each address of one family.
+pub(crate) trait Number: Copy {
+    /// The family.
+    ghost family: { Family };
+
+    /// The number in the word.
+    ghost number: { Self → ℕ };
+
+    /// The number of the first address.
+    fn first() -> Self
+        ensures { number result ≡ 0 };
+
+    /// The number of the last address.
+    fn last() -> Self
+        ensures { number result ≡ greatest_number family };
+
+    /// The number after this one, which is not that of the last address.
+    fn next(self) -> Self
+        requires { number self < greatest_number family }
+        ensures { number result ≡ number self + 1 };
+
+    /// The number before this one, which is not that of the first address.
+    fn previous(self) -> Self
+        requires { 0 < number self }
+        ensures { number result + 1 ≡ number self };
+
+    /// Whether this number is below the other.
+    fn is_below(self, other: Self) -> bool
+        ensures { IsTrue result ↔ (number self < number other) };
+
+    /// How far the last number, which is not below this one, lies after it.
+    fn distance_to(self, last: Self) -> u128
+        requires { number self ≤ number last }
+        ensures { result + number self ≡ number last };
+
+    /// The address of the number.
+    fn address(self) -> IpAddr
+        ensures { ip_address result ≡ record { family = family; number = number self } };
+
+    /// The range of the addresses from this number to the last.
+    fn range_to(self, last: Self) -> IpAddrRange
+        ensures { ip_range result ≡ range_of family (number self) (number last) };
+
+    /// The walk over that range, by the fewest networks.
+    fn walk_to(self, last: Self) -> IpSubnets
+        ensures { AreMaximalBlocks (IsInRange (range_of family (number self) (number last))) 0
+            (ip_subnets_left result) };
+}
+
+impl Number for u32 {
+    ghost family = { IPv4 };
+
+    ghost number = { λ n. n };
+
+    fn first() -> u32 {
+        0
+    }
+
+    fn last() -> u32 {
+        u32::MAX
+    }
+
+    fn next(self) -> u32 {
+        self + 1
+    }
+
+    fn previous(self) -> u32 {
+        self - 1
+    }
+
+    fn is_below(self, other: u32) -> bool {
+        self < other
+    }
+
+    fn distance_to(self, last: u32) -> u128 {
+        u128::from(last - self)
+    }
+
+    fn address(self) -> IpAddr {
+        IpAddr::V4(Ipv4Addr::from_bits(self))
+    }
+
+    fn range_to(self, last: u32) -> IpAddrRange {
+        let start = Ipv4Addr::from_bits(self);
+        let end = Ipv4Addr::from_bits(last);
+        IpAddrRange::V4(Ipv4AddrRange::new(start, end))
+    }
+
+    fn walk_to(self, last: u32) -> IpSubnets {
+        let start = Ipv4Addr::from_bits(self);
+        let end = Ipv4Addr::from_bits(last);
+        IpSubnets::V4(Ipv4Subnets::new(start, end, 0))
+    }
+}
+
+impl Number for u128 {
+    ghost family = { IPv6 };
+
+    ghost number = { λ n. n };
+
+    fn first() -> u128 {
+        0
+    }
+
+    fn last() -> u128 {
+        u128::MAX
+    }
+
+    fn next(self) -> u128 {
+        self + 1
+    }
+
+    fn previous(self) -> u128 {
+        self - 1
+    }
+
+    fn is_below(self, other: u128) -> bool {
+        self < other
+    }
+
+    fn distance_to(self, last: u128) -> u128 {
+        last - self
+    }
+
+    fn address(self) -> IpAddr {
+        IpAddr::V6(Ipv6Addr::from_bits(self))
+    }
+
+    fn range_to(self, last: u128) -> IpAddrRange {
+        let start = Ipv6Addr::from_bits(self);
+        let end = Ipv6Addr::from_bits(last);
+        IpAddrRange::V6(Ipv6AddrRange::new(start, end))
+    }
+
+    fn walk_to(self, last: u128) -> IpSubnets {
+        let start = Ipv6Addr::from_bits(self);
+        let end = Ipv6Addr::from_bits(last);
+        IpSubnets::V6(Ipv6Subnets::new(start, end, 0))
+    }
+}

@@ -1,0 +1,439 @@
+//! Sets of addresses of both families.
+ghost use Rattle.std.specs.Prelude.{◌≡◌, ◌⊎◌, ◌↔◌, IsTrue, false, map, ◌++◌, IfOk, OnOk, IsNone, IfSome};
+ghost use Rattle.ipnet_base.specs.Address.{IPv4, IPv6, Address, IsAddress, ip_address};
+ghost use Rattle.ipnet_base.specs.Network.{InBlock};
+ghost use Rattle.ipnet_base.specs.Blocks.{IsCoveredBy, AreMaximalBlocks, AreAggregatedNeighbours};
+ghost use Rattle.ipnet.specs.NetworkOf.{ip_network};
+ghost use Rattle.ipnet.specs.SubnetsLeft.{ip_subnets_left};
+ghost use Rattle.ipnet_sets.specs.SetRanges.{AreRangesOf};
+ghost use Rattle.ipnet_sets.specs.TurnRanges.{ranges_of, HasBlocksAdded};
+ghost use Rattle.ipnet_sets.specs.Turns.{AreTurns, combined};
+
+use crate::number::Number;
+use crate::set_ranges::IpSetRanges;
+use crate::turns::{self, Operation};
+use ipnet::{IpAddr, IpNet, IpSubnets};
+use std::alloc::{AllocError, Global};
+use std::fmt;
+
+pub mod laws;
+
+/// A set of IPv4 and IPv6 addresses.
+///
+/// It is kept by the numbers at which it begins and ends, so a set that is a few ranges is small, however many
+/// addresses it has.
+///
+/// Sets are equal exactly where they have the same addresses; the order and the hash go by the addresses too.
+///
+/// ```text
+/// from 10.0.0.0/30 and 10.0.0.4/31: the addresses 10.0.0.0 to 10.0.0.5
+/// ```
+#[derive(PartialEq, Eq, PartialOrd, Ord, Hash, Drop)]
+pub struct IpSet {
+    ipv4: Vec<u32>,
+    ipv6: Vec<u128>,
+    ghost ipv4_turns: { AreTurns IPv4 (map (λ n. n) ipv4.items) },
+    ghost ipv6_turns: { AreTurns IPv6 (map (λ n. n) ipv6.items) },
+}
+
+/// Puts the networks of the ranges between the turns at the end of the list.
+fn push_networks<T: Number>(networks: &mut Vec<IpNet>, turns: &[T]) -> Result<(), AllocError>
+    requires { AreTurns T.family (map T.number turns.now) }
+    ensures { OnOk result (HasBlocksAdded (ranges_of T.family (map T.number turns.now))
+        (map ip_network networks.old.items) (map ip_network networks.new.items)) }
+{
+    let mut left = turns;
+    while let Some(range) = turns::first_range(left) {
+        push_walk(networks, range.first.walk_to(range.last))?;
+        left = turns::after_first_range(left);
+    }
+    Ok(())
+}
+
+/// Puts the networks of the walk at the end of the list.
+fn push_walk(networks: &mut Vec<IpNet>, walk: IpSubnets) -> Result<(), AllocError>
+    ensures { OnOk result (map ip_network networks.new.items
+        ≡ map ip_network networks.old.items ++ ip_subnets_left walk) }
+{
+    for network in walk {
+        networks.push(network)?;
+    }
+    Ok(())
+}
+
+impl IpSet {
+    ghost use Rattle.ipnet_sets.specs.RangesLeft.{ranges_left};
+    ghost use Rattle.ipnet_sets.specs.Members.{is_member, IsMember, IsMemberOf, IsCountOf, HasNoMoreTurns};
+    ghost use Rattle.ipnet_sets.specs.Members.{IsFirstOf, IsLastOf, IsFromTo};
+
+    /// The set with no address.
+    pub fn new(alloc: Global) -> IpSet
+        ensures { (x : Address) → ¬ (IsMember result x) }
+    {
+        IpSet {
+            ipv4: Vec::new(alloc),
+            ipv6: Vec::new(alloc),
+        }
+    }
+
+    /// The set of the addresses from the first to the last, both of them in it.
+    ///
+    /// It is empty where the start is above the end, or the two are of different families. The error is want of
+    /// memory.
+    ///
+    /// ```text
+    /// from 10.0.0.3 to 10.0.0.8: 10.0.0.3, 10.0.0.4, 10.0.0.5, 10.0.0.6, 10.0.0.7, 10.0.0.8
+    /// from 10.0.0.8 to 10.0.0.3: no address
+    /// ```
+    pub fn from_range(alloc: Global, start: IpAddr, end: IpAddr) -> Result<IpSet, AllocError>
+        ensures { IfOk result (λ s. (x : Address) → IsAddress x
+            → IsMember s x ↔ IsFromTo (ip_address start) (ip_address end) x) }
+    {
+        let mut set = IpSet::new(alloc);
+        match (start, end) {
+            (IpAddr::V4(start), IpAddr::V4(end)) => {
+                set.ipv4 = turns::from_range(alloc, start.to_bits(), end.to_bits())?;
+            }
+            (IpAddr::V6(start), IpAddr::V6(end)) => {
+                set.ipv6 = turns::from_range(alloc, start.to_bits(), end.to_bits())?;
+            }
+            _ => {}
+        }
+        Ok(set)
+    }
+
+    /// The set of the addresses of the networks, which are an aggregate: each comes after those before.
+    fn from_aggregate(alloc: Global, networks: &[IpNet]) -> Result<IpSet, AllocError>
+        requires { AreAggregatedNeighbours (map ip_network networks.now) }
+        ensures { IfOk result (λ s. (x : Address) → IsMember s x ↔ IsCoveredBy (map ip_network networks.now) x) }
+    {
+        let mut ipv4 = Vec::new(alloc);
+        let mut ipv6 = Vec::new(alloc);
+        for network in networks {
+            match network {
+                IpNet::V4(network) => turns::add_range(
+                    &mut ipv4,
+                    network.network().to_bits(),
+                    network.broadcast().to_bits(),
+                )?,
+                IpNet::V6(network) => turns::add_range(
+                    &mut ipv6,
+                    network.network().to_bits(),
+                    network.broadcast().to_bits(),
+                )?,
+            }
+        }
+        Ok(IpSet { ipv4, ipv6 })
+    }
+
+    /// The set of the addresses that lie in the networks' blocks. Order, repeats, overlaps and host bits of the list
+    /// do not matter. The error is want of memory.
+    ///
+    /// ```text
+    /// 10.0.0.0/30, 10.0.0.4/31: 10.0.0.0-10.0.0.5
+    /// ```
+    pub fn from_networks(alloc: Global, networks: &Vec<IpNet>) -> Result<IpSet, AllocError>
+        ensures { IfOk result (λ s. (x : Address)
+            → IsMember s x ↔ IsCoveredBy (map ip_network networks.now.items) x) }
+    {
+        let list = IpNet::aggregate(alloc, networks)?;
+        IpSet::from_aggregate(alloc, list.as_slice())
+    }
+
+    /// The set that the operation makes of this one and the other.
+    fn combined(
+        &self,
+        alloc: Global,
+        operation: Operation,
+        other: &IpSet,
+    ) -> Result<IpSet, AllocError>
+        ensures members { IfOk result (λ s. (x : Address)
+            → is_member s x ≡ combined operation (is_member self.now x) (is_member other.now x)) }
+        ensures turns { IfOk result (λ s. HasNoMoreTurns s self.now other.now) }
+    {
+        let ipv4 = turns::combine(
+            alloc,
+            operation,
+            self.ipv4.as_slice(),
+            other.ipv4.as_slice(),
+        )?;
+        let ipv6 = turns::combine(
+            alloc,
+            operation,
+            self.ipv6.as_slice(),
+            other.ipv6.as_slice(),
+        )?;
+        Ok(IpSet { ipv4, ipv6 })
+    }
+
+    /// The addresses that are in this set or in the other. The error is want of memory.
+    ///
+    /// ```text
+    /// 10.0.0.0-10.0.0.5 and 10.0.0.3-10.0.0.9: 10.0.0.0-10.0.0.9
+    /// ```
+    pub fn union(&self, alloc: Global, other: &IpSet) -> Result<IpSet, AllocError>
+        ensures members { IfOk result (λ s. (x : Address)
+            → IsMember s x ↔ (IsMember self.now x ⊎ IsMember other.now x)) }
+        ensures turns { IfOk result (λ s. HasNoMoreTurns s self.now other.now) }
+    {
+        self.combined(alloc, Operation::Union, other)
+    }
+
+    /// The addresses that are in this set and in the other. The error is want of memory.
+    ///
+    /// ```text
+    /// 10.0.0.0-10.0.0.5 and 10.0.0.3-10.0.0.9: 10.0.0.3-10.0.0.5
+    /// ```
+    pub fn intersection(&self, alloc: Global, other: &IpSet) -> Result<IpSet, AllocError>
+        ensures members { IfOk result (λ s. (x : Address)
+            → IsMember s x ↔ (IsMember self.now x × IsMember other.now x)) }
+        ensures turns { IfOk result (λ s. HasNoMoreTurns s self.now other.now) }
+    {
+        self.combined(alloc, Operation::Intersection, other)
+    }
+
+    /// The addresses that are in this set and not in the other. The error is want of memory.
+    ///
+    /// ```text
+    /// 10.0.0.0-10.0.0.5 and 10.0.0.3-10.0.0.9: 10.0.0.0-10.0.0.2
+    /// ```
+    pub fn difference(&self, alloc: Global, other: &IpSet) -> Result<IpSet, AllocError>
+        ensures members { IfOk result (λ s. (x : Address)
+            → IsMember s x ↔ (IsMember self.now x × ¬ (IsMember other.now x))) }
+        ensures turns { IfOk result (λ s. HasNoMoreTurns s self.now other.now) }
+    {
+        self.combined(alloc, Operation::Difference, other)
+    }
+
+    /// The addresses that are in one of the two sets alone. The error is want of memory.
+    ///
+    /// ```text
+    /// 10.0.0.0-10.0.0.5 and 10.0.0.3-10.0.0.9: 10.0.0.0-10.0.0.2 and 10.0.0.6-10.0.0.9
+    /// ```
+    pub fn symmetric_difference(&self, alloc: Global, other: &IpSet) -> Result<IpSet, AllocError>
+        ensures members { IfOk result (λ s. (x : Address) → IsMember s x
+            ↔ ((IsMember self.now x × ¬ (IsMember other.now x)) ⊎ (IsMember other.now x × ¬ (IsMember self.now x)))) }
+        ensures turns { IfOk result (λ s. HasNoMoreTurns s self.now other.now) }
+    {
+        self.combined(alloc, Operation::SymmetricDifference, other)
+    }
+
+    /// The addresses of both families that are not in this set. The error is want of memory.
+    ///
+    /// ```text
+    /// of no address: 0.0.0.0-255.255.255.255 and ::-ffff:ffff:ffff:ffff:ffff:ffff:ffff:ffff
+    /// ```
+    pub fn complement(&self, alloc: Global) -> Result<IpSet, AllocError>
+        ensures { IfOk result (λ s. (x : Address) → IsAddress x → IsMember s x ↔ ¬ (IsMember self.now x)) }
+    {
+        let not_both = Operation::SymmetricDifference;
+        let ipv4 = turns::combine(alloc, not_both, self.ipv4.as_slice(), &[0])?;
+        let ipv6 = turns::combine(alloc, not_both, self.ipv6.as_slice(), &[0])?;
+        Ok(IpSet { ipv4, ipv6 })
+    }
+
+    /// Whether the address is in the set. Takes no memory; the time grows with the logarithm of the number of ranges.
+    ///
+    /// An IPv4 address and the IPv6 address that maps it are two addresses.
+    ///
+    /// ```text
+    /// 10.0.0.0-10.0.0.5 contains 10.0.0.5, and neither 10.0.0.6 nor ::ffff:10.0.0.5
+    /// ```
+    pub fn contains(&self, ip: &IpAddr) -> bool
+        ensures { IsTrue result ↔ IsMember self.now (ip_address ip.now) }
+    {
+        match ip {
+            IpAddr::V4(ip) => turns::contains(self.ipv4.as_slice(), ip.to_bits()),
+            IpAddr::V6(ip) => turns::contains(self.ipv6.as_slice(), ip.to_bits()),
+        }
+    }
+
+    /// Whether every address of the network's block is in the set. Takes no memory; the time grows with the logarithm
+    /// of the number of ranges.
+    ///
+    /// ```text
+    /// 10.0.0.0-10.0.0.5 covers 10.0.0.4/31, and does not cover 10.0.0.4/30
+    /// ```
+    pub fn covers(&self, network: &IpNet) -> bool
+        ensures { IsTrue result ↔ ((x : Address) → InBlock (ip_network network.now) x → IsMember self.now x) }
+    {
+        match network {
+            IpNet::V4(network) => turns::covers(
+                self.ipv4.as_slice(),
+                network.network().to_bits(),
+                network.broadcast().to_bits(),
+            ),
+            IpNet::V6(network) => turns::covers(
+                self.ipv6.as_slice(),
+                network.network().to_bits(),
+                network.broadcast().to_bits(),
+            ),
+        }
+    }
+
+    /// Whether the operation makes the empty set of this one and the other.
+    fn makes_nothing(&self, operation: Operation, other: &IpSet) -> bool
+        ensures { IsTrue result ↔ ((x : Address) → IsAddress x
+            → combined operation (is_member self.now x) (is_member other.now x) ≡ false) }
+    {
+        turns::makes_nothing(operation, self.ipv4.as_slice(), other.ipv4.as_slice())
+            && turns::makes_nothing(operation, self.ipv6.as_slice(), other.ipv6.as_slice())
+    }
+
+    /// Whether every address of this set is in the other. Takes no memory.
+    ///
+    /// ```text
+    /// 10.0.0.1-10.0.0.3 is a subset of 10.0.0.0-10.0.0.5; the empty set is one of each set
+    /// ```
+    pub fn is_subset(&self, other: &IpSet) -> bool
+        ensures { IsTrue result ↔ ((x : Address) → IsMember self.now x → IsMember other.now x) }
+    {
+        self.makes_nothing(Operation::Difference, other)
+    }
+
+    /// Whether no address is in both sets. Takes no memory.
+    ///
+    /// ```text
+    /// 10.0.0.0-10.0.0.5 and 10.0.0.6-10.0.0.9 are disjoint; 10.0.0.0-10.0.0.5 and 10.0.0.5-10.0.0.9 are not
+    /// ```
+    pub fn is_disjoint(&self, other: &IpSet) -> bool
+        ensures { IsTrue result ↔ ((x : Address) → IsMember self.now x → ¬ (IsMember other.now x)) }
+    {
+        self.makes_nothing(Operation::Intersection, other)
+    }
+
+    /// Whether the set has no address. Takes no memory.
+    ///
+    /// ```text
+    /// from 10.0.0.8 to 10.0.0.3: true; from 10.0.0.8 to 10.0.0.8: false
+    /// ```
+    pub fn is_empty(&self) -> bool
+        ensures { IsTrue result ↔ ((x : Address) → ¬ (IsMember self.now x)) }
+    {
+        self.first().is_none()
+    }
+
+    /// The ranges of the set: the fewest that have together its addresses, IPv4 before IPv6 and ascending, no two of
+    /// them touching. Takes no memory.
+    ///
+    /// ```text
+    /// of 10.0.0.0/30, 10.0.0.4/31, fd00::/126: 10.0.0.0 to 10.0.0.5, fd00:: to fd00::3
+    /// ```
+    pub fn ranges(&self) -> IpSetRanges<'_>
+        ensures { AreRangesOf (IsMember self.now) (ranges_left result) }
+    {
+        IpSetRanges {
+            ipv4: self.ipv4.as_slice(),
+            ipv6: self.ipv6.as_slice(),
+        }
+    }
+
+    /// The networks of the set: the maximal blocks that lie in it, which are the fewest networks that have together its
+    /// addresses, without host bits and in order. Sets with the same addresses give the same list, and the networks of
+    /// a set made from a list are its aggregate. The error is want of memory.
+    ///
+    /// ```text
+    /// of 10.0.0.0 to 10.0.0.5: 10.0.0.0/30, 10.0.0.4/31
+    /// ```
+    pub fn networks(&self, alloc: Global) -> Result<Vec<IpNet>, AllocError>
+        ensures { IfOk result (λ list. AreMaximalBlocks (IsMember self.now) 0 (map ip_network list.items)) }
+    {
+        let mut networks = Vec::new(alloc);
+        push_networks(&mut networks, self.ipv4.as_slice())?;
+        push_networks(&mut networks, self.ipv6.as_slice())?;
+        Ok(networks)
+    }
+
+    /// How many IPv4 addresses the set has: 0 to 2^32.
+    ///
+    /// ```text
+    /// of 10.0.0.0-10.0.0.5: 6; of 0.0.0.0/0: 4294967296; of fd00::/8: 0
+    /// ```
+    pub fn ipv4_count(&self) -> u64
+        ensures { IsCountOf (IsMemberOf IPv4 self.now) result }
+    {
+        turns::count(self.ipv4.as_slice()) as u64
+    }
+
+    /// How many IPv6 addresses the set has: 0 to 2^128 - 1, or `None` where it has all of them, 2^128.
+    ///
+    /// ```text
+    /// of fd00::/126: Some(4); of 10.0.0.0/8: Some(0); of ::/0: None
+    /// ```
+    pub fn ipv6_count(&self) -> Option<u128>
+        ensures none { IsNone result ↔ ((x : Address) → IsAddress x → x.family ≡ IPv6 → IsMember self.now x) }
+        ensures some { IfSome result (IsCountOf (IsMemberOf IPv6 self.now)) }
+    {
+        if turns::is_whole(self.ipv6.as_slice()) {
+            return None;
+        }
+        Some(turns::count(self.ipv6.as_slice()))
+    }
+
+    /// The first address of the set, IPv4 before IPv6, or `None` if it has none.
+    ///
+    /// ```text
+    /// of fd00::/126 and 10.0.0.0/30: Some(10.0.0.0)
+    /// ```
+    pub fn first(&self) -> Option<IpAddr>
+        ensures none { IsNone result ↔ ((x : Address) → ¬ (IsMember self.now x)) }
+        ensures some { IfSome result (λ a. IsFirstOf (IsMember self.now) (ip_address a)) }
+    {
+        match turns::first(self.ipv4.as_slice()) {
+            Some(number) => Some(number.address()),
+            None => {
+                let number = turns::first(self.ipv6.as_slice())?;
+                Some(number.address())
+            }
+        }
+    }
+
+    /// The last address of the set, IPv6 after IPv4, or `None` if it has none.
+    ///
+    /// ```text
+    /// of fd00::/126 and 10.0.0.0/30: Some(fd00::3)
+    /// ```
+    pub fn last(&self) -> Option<IpAddr>
+        ensures none { IsNone result ↔ ((x : Address) → ¬ (IsMember self.now x)) }
+        ensures some { IfSome result (λ a. IsLastOf (IsMember self.now) (ip_address a)) }
+    {
+        match turns::last(self.ipv6.as_slice()) {
+            Some(number) => Some(number.address()),
+            None => {
+                let number = turns::last(self.ipv4.as_slice())?;
+                Some(number.address())
+            }
+        }
+    }
+}
+
+impl Clone for IpSet {
+    ghost use Rattle.ipnet_sets.specs.Members.{IsMember};
+
+    ghost is_clone = { λ s t. (x : Address) → IsMember t x ↔ IsMember s x };
+
+    /// A set with the same addresses. The error is want of memory.
+    fn clone(&self) -> Result<IpSet, AllocError> {
+        let ipv4 = self.ipv4.clone()?;
+        let ipv6 = self.ipv6.clone()?;
+        Ok(IpSet { ipv4, ipv6 })
+    }
+}
+
+/// Writes the ranges of the set, as `{10.0.0.0-10.0.0.5, fd00::-fd00::3}`.
+impl fmt::Debug for IpSet {
+    fn fmt<W: fmt::Write>(&self, f: &mut fmt::Formatter<W>) -> fmt::Result {
+        f.write_str("{")?;
+        let mut is_first = true;
+        for range in self.ranges() {
+            if let (Some(start), Some(end)) = (range.min(), range.max()) {
+                if !is_first {
+                    f.write_str(", ")?;
+                }
+                is_first = false;
+                write!(f, "{start}-{end}")?;
+            }
+        }
+        f.write_str("}")
+    }
+}

@@ -1,0 +1,48 @@
+//! The ranges of a set, one after the other.
+ghost use Rattle.std.specs.Prelude.{map};
+ghost use Rattle.std.specs.Iterator.{YieldsFirstBy, item_count};
+ghost use Rattle.ipnet_base.specs.Address.{IPv4, IPv6};
+ghost use Rattle.ipnet_base.specs.RangeOf.{ip_range};
+ghost use Rattle.ipnet_sets.specs.Turns.{AreTurns};
+
+use crate::number::Number;
+use crate::turns;
+use ipnet::IpAddrRange;
+use std::iter::FusedIterator;
+
+/// The ranges of a set: the fewest ranges that have together its addresses, IPv4 before IPv6 and ascending. No two of
+/// them touch. Made by `IpSet::ranges`; takes no memory.
+///
+/// ```text
+/// of 10.0.0.0/30, 10.0.0.4/31, fd00::/126: 10.0.0.0 to 10.0.0.5, then fd00:: to fd00::3, then None
+/// ```
+#[derive(Clone, Copy)]
+pub struct IpSetRanges<'a> {
+    pub(crate) ipv4: &'a [u32],
+    pub(crate) ipv6: &'a [u128],
+    ghost ipv4_turns: { AreTurns IPv4 (map (λ n. n) ipv4.now) },
+    ghost ipv6_turns: { AreTurns IPv6 (map (λ n. n) ipv6.now) },
+}
+
+impl Iterator for IpSetRanges<'_> {
+    type Item = IpAddrRange;
+
+    ghost use Rattle.ipnet_sets.specs.RangesLeft.{ranges_left};
+
+    ghost next_gives = { YieldsFirstBy ip_range ranges_left };
+
+    ghost remaining = { item_count ranges_left };
+
+    /// The first range that is left, or `None`, then and ever after, if none is.
+    fn next(&mut self) -> Option<IpAddrRange> {
+        if let Some(range) = turns::first_range(self.ipv4) {
+            self.ipv4 = turns::after_first_range(self.ipv4);
+            return Some(range.first.range_to(range.last));
+        }
+        let range = turns::first_range(self.ipv6)?;
+        self.ipv6 = turns::after_first_range(self.ipv6);
+        Some(range.first.range_to(range.last))
+    }
+}
+
+impl FusedIterator for IpSetRanges<'_> {}

@@ -1,0 +1,335 @@
+//! Sets of the numbers of one family, each as its turns: the ascending list of the numbers at which it begins or ends.
+//! A number is inside where an odd number of the turns are at most it. An end at the family's last number is left out.
+ghost use Rattle.std.specs.Prelude.{◌≡◌, ℕ, ◌+◌, ◌^◌, ◌<◌, ◌≤◌, ◌⊎◌, ◌↔◌, IsTrue, true, false, not, List, [], ◌∷◌};
+ghost use Rattle.std.specs.Prelude.{length, map, drop, All, IfOk, OnOk, IsNone, IfSome};
+ghost use Rattle.ipnet_base.specs.Address.{greatest_number};
+ghost use Rattle.ipnet_sets.specs.Turns.{is_inside, combined, AreTurns, IsTurn, IsSplitAt, IsOpenedAt, IsExtended};
+ghost use Rattle.ipnet_sets.specs.SetRanges.{range_of};
+ghost use Rattle.ipnet_sets.specs.TurnRanges.{ranges_of, count_of};
+ghost use Rattle.ipnet_sets.specs.Turns.{EndsWith, IsLeastInside, IsGreatestInside};
+
+use crate::number::Number;
+use std::alloc::{AllocError, Global};
+
+/// What is made of two sets.
+#[derive(Clone, Copy)]
+pub(crate) enum Operation {
+    /// What is in either set.
+    Union,
+    /// What is in both sets.
+    Intersection,
+    /// What is in the first set and not in the second.
+    Difference,
+    /// What is in one of the sets alone.
+    SymmetricDifference,
+}
+
+/// Whether the operation takes a number that is, or is not, in the first set and in the second.
+fn takes(operation: Operation, first: bool, second: bool) -> bool
+    ensures { result ≡ combined operation first second }
+{
+    match operation {
+        Operation::Union => first || second,
+        Operation::Intersection => first && second,
+        Operation::Difference => first && !second,
+        Operation::SymmetricDifference => first != second,
+    }
+}
+
+/// Whether one is true and the other false.
+fn differ(first: bool, second: bool) -> bool
+    ensures differ { result ≡ true → first ≡ not second }
+    ensures same { result ≡ false → first ≡ second }
+{
+    first != second
+}
+
+/// The next number at which one of two sets turns, and the places after it in both lists.
+#[derive(Clone, Copy)]
+struct Turn<T> {
+    number: T,
+    first: usize,
+    second: usize,
+}
+
+/// The least of the turns from these places on.
+fn next_turn<T: Number>(first: &[T], first_at: usize, second: &[T], second_at: usize) -> Turn<T>
+    requires first_within { first_at ≤ length first.now }
+    requires second_within { second_at ≤ length second.now }
+    requires some { (first_at < length first.now) ⊎ (second_at < length second.now) }
+    ensures { IsTurn (map T.number first.now) first_at (map T.number second.now) second_at
+        (T.number result.number) result.first result.second }
+{
+    if first_at == first.len() {
+        return Turn {
+            number: second[second_at],
+            first: first_at,
+            second: second_at + 1,
+        };
+    }
+    if second_at == second.len() {
+        return Turn {
+            number: first[first_at],
+            first: first_at + 1,
+            second: second_at,
+        };
+    }
+    let one = first[first_at];
+    let other = second[second_at];
+    if one.is_below(other) {
+        return Turn {
+            number: one,
+            first: first_at + 1,
+            second: second_at,
+        };
+    }
+    if other.is_below(one) {
+        return Turn {
+            number: other,
+            first: first_at,
+            second: second_at + 1,
+        };
+    }
+    Turn {
+        number: one,
+        first: first_at + 1,
+        second: second_at + 1,
+    }
+}
+
+/// The set that the operation makes of two. The turns of it are some of theirs.
+pub(crate) fn combine<T: Number>(
+    alloc: Global,
+    operation: Operation,
+    first: &[T],
+    second: &[T],
+) -> Result<Vec<T>, AllocError>
+    requires first { AreTurns T.family (map T.number first.now) }
+    requires second { AreTurns T.family (map T.number second.now) }
+    ensures turns { IfOk result (λ turns. AreTurns T.family (map T.number turns.items)) }
+    ensures members { IfOk result (λ turns. (x : ℕ) → is_inside (map T.number turns.items) x
+        ≡ combined operation (is_inside (map T.number first.now) x) (is_inside (map T.number second.now) x)) }
+    ensures no_more { IfOk result (λ turns. length turns.items ≤ length first.now + length second.now) }
+{
+    let mut turns = Vec::new(alloc);
+    let mut first_at = 0;
+    let mut second_at = 0;
+    while first_at < first.len() || second_at < second.len() {
+        let turn = next_turn(first, first_at, second, second_at);
+        first_at = turn.first;
+        second_at = turn.second;
+        let inside = takes(operation, first_at % 2 == 1, second_at % 2 == 1);
+        if differ(inside, turns.len() % 2 == 1) {
+            turns.push(turn.number)?;
+        }
+    }
+    Ok(turns)
+}
+
+/// Whether the operation makes the empty set of the two.
+pub(crate) fn makes_nothing<T: Number>(operation: Operation, first: &[T], second: &[T]) -> bool
+    requires first { AreTurns T.family (map T.number first.now) }
+    requires second { AreTurns T.family (map T.number second.now) }
+    ensures { IsTrue result ↔ ((x : ℕ) → x ≤ greatest_number T.family
+        → combined operation (is_inside (map T.number first.now) x) (is_inside (map T.number second.now) x) ≡ false) }
+{
+    let mut first_at = 0;
+    let mut second_at = 0;
+    while first_at < first.len() || second_at < second.len() {
+        let turn = next_turn(first, first_at, second, second_at);
+        first_at = turn.first;
+        second_at = turn.second;
+        if takes(operation, first_at % 2 == 1, second_at % 2 == 1) {
+            return false;
+        }
+    }
+    true
+}
+
+/// How many of the turns are at most the number, by halving the list.
+fn turns_up_to<T: Number>(turns: &[T], number: T) -> usize
+    requires { AreTurns T.family (map T.number turns.now) }
+    ensures { IsSplitAt (map T.number turns.now) (T.number number) result }
+{
+    let mut low = 0;
+    let mut high = turns.len();
+    while low < high {
+        let middle = low + (high - low) / 2;
+        let turn = turns[middle];
+        if number.is_below(turn) {
+            high = middle;
+        } else {
+            low = middle + 1;
+        }
+    }
+    low
+}
+
+/// Whether the number is in the set.
+pub(crate) fn contains<T: Number>(turns: &[T], number: T) -> bool
+    requires { AreTurns T.family (map T.number turns.now) }
+    ensures { result ≡ is_inside (map T.number turns.now) (T.number number) }
+{
+    turns_up_to(turns, number) % 2 == 1
+}
+
+/// Whether all numbers from the first to the last are in the set.
+pub(crate) fn covers<T: Number>(turns: &[T], first: T, last: T) -> bool
+    requires turns { AreTurns T.family (map T.number turns.now) }
+    requires ordered { T.number first ≤ T.number last }
+    ensures { IsTrue result ↔ ((x : ℕ) → T.number first ≤ x → x ≤ T.number last
+        → is_inside (map T.number turns.now) x ≡ true) }
+{
+    let place = turns_up_to(turns, first);
+    place % 2 == 1 && (place == turns.len() || last.is_below(turns[place]))
+}
+
+/// Whether the set, whose turns are at most the number, ends just before it.
+fn ends_before<T: Number>(turns: &[T], first: T) -> bool
+    requires turns { AreTurns T.family (map T.number turns.now) }
+    requires after { All (λ t. t ≤ T.number first) (map T.number turns.now) }
+    ensures ends { result ≡ true → EndsWith (map T.number turns.now) (T.number first) }
+    ensures earlier { result ≡ false → All (λ t. t < T.number first) (map T.number turns.now) }
+{
+    !turns.is_empty() && !turns[turns.len() - 1].is_below(first)
+}
+
+/// Adds all numbers from the first on, which come after those of the set: where the set ends just before the first,
+/// that end is taken away.
+fn open_at<T: Number>(turns: &mut Vec<T>, first: T) -> Result<(), AllocError>
+    requires turns { AreTurns T.family (map T.number turns.old.items) }
+    requires after { All (λ t. t ≤ T.number first) (map T.number turns.old.items) }
+    requires outside { is_inside (map T.number turns.old.items) (T.number first) ≡ false }
+    requires fits { T.number first ≤ greatest_number T.family }
+    ensures { OnOk result (IsOpenedAt T.family (map T.number turns.old.items) (T.number first)
+        (map T.number turns.new.items)) }
+{
+    if ends_before(turns.as_slice(), first) {
+        turns.pop();
+    } else {
+        turns.push(first)?;
+    }
+    Ok(())
+}
+
+/// Adds the numbers from the first to the last, which come after those of the set.
+pub(crate) fn add_range<T: Number>(turns: &mut Vec<T>, first: T, last: T) -> Result<(), AllocError>
+    requires turns { AreTurns T.family (map T.number turns.old.items) }
+    requires after { All (λ t. t ≤ T.number first) (map T.number turns.old.items) }
+    requires outside { is_inside (map T.number turns.old.items) (T.number first) ≡ false }
+    requires ordered { T.number first ≤ T.number last }
+    requires fits { T.number last ≤ greatest_number T.family }
+    ensures { OnOk result (IsExtended T.family (map T.number turns.old.items) (T.number first) (T.number last)
+        (map T.number turns.new.items)) }
+{
+    open_at(turns, first)?;
+    if last.is_below(T::last()) {
+        turns.push(last.next())?;
+    }
+    Ok(())
+}
+
+/// The set of the numbers from the first to the last; it is empty where the first is above the last.
+pub(crate) fn from_range<T: Number>(alloc: Global, first: T, last: T) -> Result<Vec<T>, AllocError>
+    requires { T.number last ≤ greatest_number T.family }
+    ensures turns { IfOk result (λ turns. AreTurns T.family (map T.number turns.items)) }
+    ensures members { IfOk result (λ turns. (x : ℕ) → x ≤ greatest_number T.family
+        → (is_inside (map T.number turns.items) x ≡ true) ↔ ((T.number first ≤ x) × (x ≤ T.number last))) }
+{
+    let mut turns = Vec::new(alloc);
+    if !last.is_below(first) {
+        add_range(&mut turns, first, last)?;
+    }
+    Ok(turns)
+}
+
+/// The least number of the set.
+pub(crate) fn first<T: Number>(turns: &[T]) -> Option<T>
+    requires { AreTurns T.family (map T.number turns.now) }
+    ensures none { IsNone result ↔ ((x : ℕ) → x ≤ greatest_number T.family
+        → is_inside (map T.number turns.now) x ≡ false) }
+    ensures some { IfSome result (λ n. IsLeastInside T.family (map T.number turns.now) (T.number n)) }
+{
+    if turns.is_empty() {
+        return None;
+    }
+    Some(turns[0])
+}
+
+/// The greatest number of the set.
+pub(crate) fn last<T: Number>(turns: &[T]) -> Option<T>
+    requires { AreTurns T.family (map T.number turns.now) }
+    ensures none { IsNone result ↔ ((x : ℕ) → x ≤ greatest_number T.family
+        → is_inside (map T.number turns.now) x ≡ false) }
+    ensures some { IfSome result (λ n. IsGreatestInside T.family (map T.number turns.now) (T.number n)) }
+{
+    if turns.is_empty() {
+        return None;
+    }
+    if turns.len() % 2 == 1 {
+        return Some(T::last());
+    }
+    Some(turns[turns.len() - 1].previous())
+}
+
+/// The numbers from a first to a last one.
+#[derive(Clone, Copy)]
+pub(crate) struct NumberRange<T> {
+    pub(crate) first: T,
+    pub(crate) last: T,
+}
+
+/// The first range of the set.
+pub(crate) fn first_range<T: Number>(turns: &[T]) -> Option<NumberRange<T>>
+    requires { AreTurns T.family (map T.number turns.now) }
+    ensures none { IsNone result ↔ (turns.now ≡ []) }
+    ensures some { IfSome result (λ r. ranges_of T.family (map T.number turns.now)
+        ≡ range_of T.family (T.number r.first) (T.number r.last)
+        ∷ ranges_of T.family (map T.number (drop 2 turns.now))) }
+{
+    if turns.is_empty() {
+        return None;
+    }
+    let first = turns[0];
+    if turns.len() == 1 {
+        return Some(NumberRange {
+            first,
+            last: T::last(),
+        });
+    }
+    let last = turns[1].previous();
+    Some(NumberRange { first, last })
+}
+
+/// The turns after those of the first range.
+pub(crate) fn after_first_range<T>(turns: &[T]) -> &[T]
+    ensures { result.now ≡ drop 2 turns.now }
+{
+    if turns.len() <= 2 {
+        return &[];
+    }
+    &turns[2..]
+}
+
+/// Whether every number of the family is in the set.
+pub(crate) fn is_whole<T: Number>(turns: &[T]) -> bool
+    requires { AreTurns T.family (map T.number turns.now) }
+    ensures { IsTrue result ↔ (count_of (ranges_of T.family (map T.number turns.now)) ≡ greatest_number T.family + 1) }
+{
+    turns.len() == 1 && !T::first().is_below(turns[0])
+}
+
+/// How many numbers are in the set.
+pub(crate) fn count<T: Number>(turns: &[T]) -> u128
+    requires turns { AreTurns T.family (map T.number turns.now) }
+    requires fits { count_of (ranges_of T.family (map T.number turns.now)) < 2 ^ 128 }
+    ensures { result ≡ count_of (ranges_of T.family (map T.number turns.now)) }
+{
+    let mut total = 0;
+    let mut left = turns;
+    while let Some(range) = first_range(left) {
+        total += range.first.distance_to(range.last) + 1;
+        left = after_first_range(left);
+    }
+    total
+}
