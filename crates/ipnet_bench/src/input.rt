@@ -1,7 +1,7 @@
 //! What the tasks work on: texts and networks that are read, and what is made from them.
 
 use crate::error::BenchError;
-use ipnet::{IpNet, Ipv4Net, Ipv6Net};
+use ipnet::{IpAddr, IpNet, Ipv4Net, Ipv6Net};
 use std::alloc::{AllocError, Global};
 use std::io::{BufRead, BufReader};
 
@@ -80,6 +80,29 @@ pub fn inner_networks(alloc: Global, networks: &[IpNet]) -> Result<Vec<IpNet>, A
         }
     }
     Ok(inner)
+}
+
+/// Every second network, the first among them, and the others.
+pub fn halves(alloc: Global, networks: &[IpNet]) -> Result<(Vec<IpNet>, Vec<IpNet>), AllocError> {
+    let mut first = Vec::new(alloc);
+    let mut second = Vec::new(alloc);
+    for network in networks {
+        if first.len() == second.len() {
+            first.push(*network)?;
+        } else {
+            second.push(*network)?;
+        }
+    }
+    Ok((first, second))
+}
+
+/// The last address of each network.
+pub fn last_addresses(alloc: Global, networks: &[IpNet]) -> Result<Vec<IpAddr>, AllocError> {
+    let mut addresses = Vec::with_capacity(alloc, networks.len())?;
+    for network in networks {
+        addresses.push(network.broadcast())?;
+    }
+    Ok(addresses)
 }
 
 /// Ten texts that repeat a piece this many times: more than one, so that no call stands for another.

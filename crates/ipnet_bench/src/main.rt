@@ -11,7 +11,10 @@ mod measure;
 mod work;
 
 use crate::error::BenchError;
+use crate::work::SetOperation;
+use ipnet::IpNet;
 use ipnet_base::{Ipv4Addr, Ipv6Addr};
+use ipnet_sets::IpSet;
 use std::alloc::Global;
 use std::env;
 use std::process::ExitCode;
@@ -74,6 +77,24 @@ fn without_input(
     Ok(true)
 }
 
+/// A set operation on every second network and the others.
+fn combine(
+    rt: &(impl Print + Clock),
+    alloc: Global,
+    task: &str,
+    operation: SetOperation,
+    networks: &Vec<IpNet>,
+) -> Result<(), BenchError> {
+    let (first, second) = input::halves(alloc, networks.as_slice())?;
+    let work = work::Combine {
+        alloc,
+        operation,
+        first,
+        second,
+    };
+    measure::report(rt, alloc, task, work)
+}
+
 /// The tasks over the networks that are read.
 fn over_networks(
     rt: &(impl Print + Clock + Input),
@@ -108,6 +129,15 @@ fn over_networks(
                     inner,
                 },
             )
+        }
+        "union" => combine(rt, alloc, task, SetOperation::Union, &networks),
+        "intersection" => combine(rt, alloc, task, SetOperation::Intersection, &networks),
+        "difference" => combine(rt, alloc, task, SetOperation::Difference, &networks),
+        "set_contains" => {
+            let addresses = input::last_addresses(alloc, networks.as_slice())?;
+            let (half, _) = input::halves(alloc, networks.as_slice())?;
+            let set = IpSet::from_networks(alloc, &half)?;
+            measure::report(rt, alloc, task, work::SetContains { set, addresses })
         }
         "print" => {
             let text = String::new(alloc);

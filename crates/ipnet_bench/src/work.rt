@@ -3,6 +3,7 @@
 use crate::measure::Work;
 use ipnet::{IpNet, Ipv4Net, Ipv4Subnets, Ipv6Net, Ipv6Subnets};
 use ipnet_base::{IpAddr, Ipv4Addr, Ipv4AddrRange, Ipv6Addr, Ipv6AddrRange};
+use ipnet_sets::IpSet;
 use std::alloc::{AllocError, Global};
 use std::fmt::Write;
 
@@ -317,6 +318,69 @@ impl Work for Refuse {
                 if text.as_str().parse::<IpNet>().is_err() {
                     check = check.wrapping_add(1);
                 }
+            }
+        }
+        Ok(check)
+    }
+}
+
+/// What is made of two sets.
+#[derive(Clone, Copy)]
+pub enum SetOperation {
+    Union,
+    Intersection,
+    Difference,
+}
+
+/// A set operation on two lists, from networks to networks.
+#[derive(Drop)]
+pub struct Combine {
+    pub alloc: Global,
+    pub operation: SetOperation,
+    pub first: Vec<IpNet>,
+    pub second: Vec<IpNet>,
+}
+
+impl Work for Combine {
+    fn items(&self) -> usize {
+        self.first.len().saturating_add(self.second.len())
+    }
+
+    fn run(&mut self) -> Result<u64, AllocError> {
+        let first = IpSet::from_networks(self.alloc, &self.first)?;
+        let second = IpSet::from_networks(self.alloc, &self.second)?;
+        let set = match self.operation {
+            SetOperation::Union => first.union(self.alloc, &second)?,
+            SetOperation::Intersection => first.intersection(self.alloc, &second)?,
+            SetOperation::Difference => first.difference(self.alloc, &second)?,
+        };
+        let networks = set.networks(self.alloc)?;
+        let mut check = networks.len() as u64;
+        for network in &networks {
+            check = mixed(check, folded(network.addr()));
+            check = mixed(check, u64::from(network.prefix_len()));
+        }
+        Ok(check)
+    }
+}
+
+/// Whether each address is in the set.
+#[derive(Drop)]
+pub struct SetContains {
+    pub set: IpSet,
+    pub addresses: Vec<IpAddr>,
+}
+
+impl Work for SetContains {
+    fn items(&self) -> usize {
+        self.addresses.len()
+    }
+
+    fn run(&mut self) -> Result<u64, AllocError> {
+        let mut check: u64 = 0;
+        for address in &self.addresses {
+            if self.set.contains(address) {
+                check = check.wrapping_add(1);
             }
         }
         Ok(check)

@@ -4,6 +4,8 @@
 mod number;
 pub mod set;
 mod set_ranges;
+#[cfg(test)]
+mod tests;
 mod turns;
 
 pub use set::IpSet;
