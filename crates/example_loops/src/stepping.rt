@@ -1,4 +1,6 @@
 //! Single calls of `next`, with all that they promise, and code over any iterator.
+//!
+//! A fact that no call carries is a law, a function that does nothing: who needs it calls it.
 ghost use Rattle.std.specs.Prelude.{◌≡◌, ◌<◌, ◌↔◌, ◌+◌, length, IfSome, IfNone, IsNone, option_map};
 ghost use Rattle.std.specs.Iterator.{YieldsFirstBy, IsFinite};
 ghost use Rattle.ipnet.specs.Address.{Address, IPv4, ipv4_address, ip_address};
@@ -10,6 +12,7 @@ ghost use Rattle.ipnet.specs.NetworkOf.{ipv4_network, ip_network};
 ghost use Rattle.ipnet.specs.SubnetsLeft.{IsWalkOf, ipv4_subnet_range, ipv4_subnets_left};
 ghost use Rattle.ipnet.specs.SubnetsLeft.{ip_subnet_range, ip_subnets_left};
 
+use ipnet::subnets::walk_laws::{ip_walk_is_of_its_range, ipv4_walk_is_of_its_range};
 use ipnet::{IpAddr, IpAddrRange, IpNet, IpSubnets, Ipv4Addr, Ipv4AddrRange, Ipv4Net, Ipv4Subnets};
 
 /// The next network of a walk: the first of its list, the largest at its start, and what is left after it.
@@ -23,6 +26,7 @@ pub fn ipv4_next_network(walk: &mut Ipv4Subnets) -> Option<Ipv4Net>
     ensures over { IsNone result ↔ ((ipv4_subnet_range walk.old).end < (ipv4_subnet_range walk.old).start) }
     ensures unchanged { IfNone result (walk.new ≡ walk.old) }
 {
+    ipv4_walk_is_of_its_range(*walk);
     walk.next()
 }
 
@@ -34,12 +38,13 @@ pub fn ip_next_network(walk: &mut IpSubnets) -> Option<IpNet>
     ensures walk { IsWalkOf (ip_subnet_range walk.old) (ip_subnets_left walk.old) }
     ensures unchanged { IfNone result (walk.new ≡ walk.old) }
 {
+    ip_walk_is_of_its_range(*walk);
     walk.next()
 }
 
 /// The next network, by the name of the trait's method.
 pub fn ipv4_next_by_trait_name(walk: &mut Ipv4Subnets) -> Option<Ipv4Net>
-    ensures walk { IsWalkOf (ipv4_subnet_range walk.old) (ipv4_subnets_left walk.old) }
+    ensures steps { YieldsFirstBy ipv4_network ipv4_subnets_left walk.old result walk.new }
     ensures unchanged { IfNone result (walk.new ≡ walk.old) }
 {
     Iterator::next(walk)
@@ -49,7 +54,6 @@ pub fn ipv4_next_by_trait_name(walk: &mut Ipv4Subnets) -> Option<Ipv4Net>
 pub fn ipv4_second_network(walk: &mut Ipv4Subnets) -> Option<Ipv4Net>
     ensures two { IfSome result (λ _.
         length (ipv4_subnets_left walk.old) ≡ length (ipv4_subnets_left walk.new) + 2) }
-    ensures rest { IsWalkOf (ipv4_subnet_range walk.new) (ipv4_subnets_left walk.new) }
 {
     walk.next()?;
     walk.next()

@@ -10,7 +10,10 @@ ghost use Rattle.ipnet.specs.NetworkParts.{IsSubnetOfLength};
 ghost use Rattle.ipnet.specs.SubnetsLeft.{ipv4_subnets_left};
 ghost use Rattle.example_pools.specs.declared.PlanError.TheVariants.{PrefixLen, TooFew, Memory};
 
+pub mod pool;
+
 use ipnet::{Ipv4Net, Ipv4Subnets, PrefixLenError};
+pub use pool::Pool;
 use std::alloc::{AllocError, Global};
 use thiserror::Error;
 

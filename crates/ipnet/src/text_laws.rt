@@ -1,4 +1,5 @@
-//! Facts of the definitions of texts that no call carries: each function does nothing, and its contract is the fact.
+//! Facts of texts that no call carries: the contract of each function is the fact. Three of them print a network and
+//! read it back; the others do nothing.
 ghost use Rattle.std.specs.Prelude.{◌≡◌, ℕ, List, ◌↔◌, ◌++◌, drop, codes, Ok};
 ghost use Rattle.std.specs.Net.Addr.{IsIpv4Mapped, octets_of};
 ghost use Rattle.std.specs.Net.Grammar.{IsDotted, IsColonHex};

@@ -2,10 +2,10 @@
 -- second. And networks that are known to be maximal, and to cover the set, are all its maximal blocks.
 use Rattle.std.proofs.Common.{◌≡◌, ℕ, ◌≤◌, ◌⊎◌, List, ◌++◌, Contains, All, refl, sym, ap, subst, arith, inl, inr}
 use Rattle.std.proofs.lemmas.List.Elements.{Contains-append_left, Contains-append_right, Contains-append_cases}
-use Rattle.ipnet_base.specs.Address.{Address, family_index}
+use Rattle.ipnet_base.specs.Address.{Address, family_index, IsAddressBefore}
 use Rattle.ipnet_base.specs.Network.{Network, InBlock, IsTruncated, IsBefore}
 use Rattle.ipnet_base.specs.Blocks.{IsCoveredBy, IsInside, IsMaximal, IsAscending, AreMaximalBlocks, IsAggregateOf}
-use Rattle.ipnet_base.specs.Blocks.{IsInEither, ComesBefore, AreSeparated}
+use Rattle.ipnet_base.specs.Blocks.{IsInEither, AreSeparated}
 use Rattle.ipnet_base.proofs.BlockLaws.{own, own_in, block_between}
 use Rattle.ipnet_base.proofs.ListLaws.{all_at, pairs_append}
 use Rattle.ipnet_base.proofs.CoverLaws.{covering_member, cover_append}
@@ -13,12 +13,12 @@ use Rattle.ipnet_base.proofs.ShortestLaws.{one_maximal}
 use Rattle.ipnet_base.proofs.SupernetLaws.{AreMaximalBlocks-same_set}
 
 -- an address comes before none of its family with a number that is no greater
-not_before : (x y : Address) → ComesBefore x y → x.family ≡ y.family → y.number ≤ x.number → ⊥
+not_before : (x y : Address) → IsAddressBefore x y → x.family ≡ y.family → y.number ≤ x.number → ⊥
 not_before x y (inl h) same le = omega (arith, h, ap family_index same)
 not_before x y (inr h) same le = omega (arith, h.1, le)
 
 -- networks whose own addresses come one before the other stand so too
-before_from_own : (n k : Network) → ComesBefore (own n) (own k) → IsBefore n k
+before_from_own : (n k : Network) → IsAddressBefore (own n) (own k) → IsBefore n k
 before_from_own n k (inl h) = inl h
 before_from_own n k (inr h) = inr (h.0, inl h.1)
 

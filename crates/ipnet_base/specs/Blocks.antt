@@ -3,7 +3,7 @@
 use Rattle.std.specs.Prelude.{◌≡◌, ℕ, ◌<◌, ◌≤◌, ◌↔◌, ◌⊎◌, List, length, map, Contains, All, AllPairs, Any}
 use Rattle.std.specs.Prelude.{IsPermutation}
 use Rattle.std.specs.List.{AllAdjacentBelow}
-use Rattle.ipnet_base.specs.Address.{Address, family_index}
+use Rattle.ipnet_base.specs.Address.{Address, IsAddressBefore, family_index}
 use Rattle.ipnet_base.specs.Network.{Network, IsNetwork, InBlock, IsSubnetOf, AreDisjoint, IsTruncated, AreHalves}
 use Rattle.ipnet_base.specs.Network.{IsBefore, truncation}
 
@@ -99,14 +99,10 @@ pub record AreAggregatedNeighbours (networks : List Network) : Type 0 where
 abbrev pub IsInEither : (Address → Type 0) → (Address → Type 0) → Address → Type 0
 IsInEither First Second x = First x ⊎ Second x
 
--- IPv4 addresses come before IPv6 addresses, and in a family the smaller number comes first
-abbrev pub ComesBefore : Address → Address → Type 0
-ComesBefore x y = (family_index x.family < family_index y.family) ⊎ ((x.family ≡ y.family) × (x.number < y.number))
-
 -- The first set comes before the second, and the two are not adjacent: no block has addresses of both and of no others.
 pub record AreSeparated (First Second : Address → Type 0) : Type 0 where
   -- every address of the first set comes before every address of the second
-  pub before : (x y : Address) → First x → Second y → ComesBefore x y
+  pub before : (x y : Address) → First x → Second y → IsAddressBefore x y
   -- between two of one family there is an address that is in neither set
   pub gap : (x y : Address) → First x → Second y → x.family ≡ y.family
       → (z : Address) × (z.family ≡ x.family) × (x.number < z.number) × (z.number < y.number)

@@ -7,20 +7,25 @@ use std::process::Abort;
 use std::test::Fail;
 
 const ROWS: &str = "
-both families, overlaps, host bits | [10.0.0.0/24, 10.0.1.0/24, 10.0.1.1/24, 10.0.1.2/24, 10.0.2.0/24, 10.1.0.0/24, 10.1.1.0/24, 192.168.0.0/24, 192.168.1.0/24, 192.168.2.0/24, 192.168.3.0/24, fd00::/32, fd00:1::/32, fd00:2::/32] | [10.0.0.0/23, 10.0.2.0/24, 10.1.0.0/23, 192.168.0.0/22, fd00::/31, fd00:2::/32]
-an answer again                    | [10.0.0.0/23, 10.0.2.0/24, 10.1.0.0/23, 192.168.0.0/22, fd00::/31, fd00:2::/32] | [10.0.0.0/23, 10.0.2.0/24, 10.1.0.0/23, 192.168.0.0/22, fd00::/31, fd00:2::/32]
-the list of the README             | [10.0.0.0/24, 10.0.1.0/24, 10.0.1.1/24, 10.0.1.2/24, 10.0.2.0/24, 10.1.0.0/24, 10.1.1.0/24, 192.168.0.0/24, 192.168.1.0/24, 192.168.2.0/24, 192.168.3.0/24, fd00::/32, fd00:1::/32] | [10.0.0.0/23, 10.0.2.0/24, 10.1.0.0/23, 192.168.0.0/22, fd00::/31]
+both families, overlaps, host bits | [10.0.0.0/24, 10.0.1.0/24, 10.0.1.1/24, 10.0.1.2/24, 10.0.2.0/24, 10.1.0.0/24, \
+    10.1.1.0/24, 192.168.0.0/24, 192.168.1.0/24, 192.168.2.0/24, 192.168.3.0/24, fd00::/32, fd00:1::/32, \
+    fd00:2::/32] | [10.0.0.0/23, 10.0.2.0/24, 10.1.0.0/23, 192.168.0.0/22, fd00::/31, fd00:2::/32]
+an answer again | [10.0.0.0/23, 10.0.2.0/24, 10.1.0.0/23, 192.168.0.0/22, fd00::/31, fd00:2::/32] | [10.0.0.0/23, \
+    10.0.2.0/24, 10.1.0.0/23, 192.168.0.0/22, fd00::/31, fd00:2::/32]
+the list of the README | [10.0.0.0/24, 10.0.1.0/24, 10.0.1.1/24, 10.0.1.2/24, 10.0.2.0/24, 10.1.0.0/24, 10.1.1.0/24, \
+    192.168.0.0/24, 192.168.1.0/24, 192.168.2.0/24, 192.168.3.0/24, fd00::/32, fd00:1::/32] | [10.0.0.0/23, \
+    10.0.2.0/24, 10.1.0.0/23, 192.168.0.0/22, fd00::/31]
 no networks                        | []                                                           | []
-beside the greatest address, IPv4  | [255.255.255.252/31, 255.255.255.254/32]                     | [255.255.255.252/31, 255.255.255.254/32]
+beside the greatest address, IPv4 | [255.255.255.252/31, 255.255.255.254/32] | [255.255.255.252/31, 255.255.255.254/32]
 the greatest address inside        | [128.0.0.0/1, 255.255.255.255/32]                            | [128.0.0.0/1]
 halves of both families            | [8000::/1, ::/1, 128.0.0.0/1, 0.0.0.0/1]                     | [0.0.0.0/0, ::/0]
 a join that joins again            | [10.0.0.128/25, 10.0.0.64/26, 10.0.0.0/26]                   | [10.0.0.0/24]
-adjacent and not aligned           | [10.0.1.0/24, 10.0.2.0/24]                                   | [10.0.1.0/24, 10.0.2.0/24]
+adjacent and not aligned | [10.0.1.0/24, 10.0.2.0/24] | [10.0.1.0/24, 10.0.2.0/24]
 nested at one address              | [10.0.0.0/24, 10.0.0.0/25]                                   | [10.0.0.0/24]
 halves with host bits              | [10.0.0.128/25, 10.0.0.9/25]                                 | [10.0.0.0/24]
 repeated                           | [10.0.1.0/24, 10.0.1.0/24]                                   | [10.0.1.0/24]
 halves and their supernet          | [10.128.0.0/9, 10.0.0.0/8, 10.0.0.0/9]                       | [10.0.0.0/8]
-neighbours of two supernets        | [10.0.0.128/25, 10.0.1.0/25]                                 | [10.0.0.128/25, 10.0.1.0/25]
+neighbours of two supernets | [10.0.0.128/25, 10.0.1.0/25] | [10.0.0.128/25, 10.0.1.0/25]
 whole families, IPv6 first         | [::/0, 0.0.0.0/0]                                            | [0.0.0.0/0, ::/0]
 the upper half                     | [128.0.0.0/1]                                                | [128.0.0.0/1]
 two halves, IPv4                   | [0.0.0.0/1, 128.0.0.0/1]                                     | [0.0.0.0/0]
@@ -28,13 +33,18 @@ two halves, IPv6                   | [::/1, 8000::/1]                           
 one before the greatest            | [255.255.255.254/32]                                         | [255.255.255.254/32]
 the greatest address               | [255.255.255.255/32]                                         | [255.255.255.255/32]
 the upper half, IPv6               | [8000::/1]                                                   | [8000::/1]
-one before the greatest, IPv6      | [ffff:ffff:ffff:ffff:ffff:ffff:ffff:fffe/128]                | [ffff:ffff:ffff:ffff:ffff:ffff:ffff:fffe/128]
-the greatest address, IPv6         | [ffff:ffff:ffff:ffff:ffff:ffff:ffff:ffff/128]                | [ffff:ffff:ffff:ffff:ffff:ffff:ffff:ffff/128]
-beside the greatest address, IPv6  | [ffff:ffff:ffff:ffff:ffff:ffff:ffff:fffc/127, ffff:ffff:ffff:ffff:ffff:ffff:ffff:fffe/128] | [ffff:ffff:ffff:ffff:ffff:ffff:ffff:fffc/127, ffff:ffff:ffff:ffff:ffff:ffff:ffff:fffe/128]
-three quarters of a /16            | [fd00::/18, fd00:4000::/18, fd00:8000::/18]                  | [fd00::/17, fd00:8000::/18]
-threes of both families            | [10.0.0.0/24, 10.0.1.0/24, 10.0.2.0/24, fd00::/18, fd00:4000::/18, fd00:8000::/18] | [10.0.0.0/23, 10.0.2.0/24, fd00::/17, fd00:8000::/18]
+one before the greatest, IPv6 | [ffff:ffff:ffff:ffff:ffff:ffff:ffff:fffe/128] | \
+    [ffff:ffff:ffff:ffff:ffff:ffff:ffff:fffe/128]
+the greatest address, IPv6 | [ffff:ffff:ffff:ffff:ffff:ffff:ffff:ffff/128] | \
+    [ffff:ffff:ffff:ffff:ffff:ffff:ffff:ffff/128]
+beside the greatest address, IPv6 | [ffff:ffff:ffff:ffff:ffff:ffff:ffff:fffc/127, \
+    ffff:ffff:ffff:ffff:ffff:ffff:ffff:fffe/128] | [ffff:ffff:ffff:ffff:ffff:ffff:ffff:fffc/127, \
+    ffff:ffff:ffff:ffff:ffff:ffff:ffff:fffe/128]
+three quarters of a /16 | [fd00::/18, fd00:4000::/18, fd00:8000::/18] | [fd00::/17, fd00:8000::/18]
+threes of both families | [10.0.0.0/24, 10.0.1.0/24, 10.0.2.0/24, fd00::/18, fd00:4000::/18, fd00:8000::/18] | \
+    [10.0.0.0/23, 10.0.2.0/24, fd00::/17, fd00:8000::/18]
 host bits                          | [10.0.0.5/24]                                                | [10.0.0.0/24]
-mapped addresses stay IPv6         | [::ffff:10.0.0.0/104, 10.0.0.0/8]                            | [10.0.0.0/8, ::ffff:10.0.0.0/104]
+mapped addresses stay IPv6 | [::ffff:10.0.0.0/104, 10.0.0.0/8] | [10.0.0.0/8, ::ffff:10.0.0.0/104]
 ";
 
 /// The aggregate by the family's own call, where all are of one family.

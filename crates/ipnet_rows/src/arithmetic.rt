@@ -10,11 +10,12 @@ const ROWS: &str = "
 sum past the greatest, IPv4             | 255.255.255.254 | saturating_add | 5               | 255.255.255.255
 sum to the greatest, IPv4               | 255.255.255.254 | saturating_add | 1               | 255.255.255.255
 sum, IPv6                               | fd00::ffff      | saturating_add | 1               | fd00::1:0
-sum past the greatest, IPv6             | ffff:ffff:ffff:ffff:ffff:ffff:ffff:fffe | saturating_add | 5 | ffff:ffff:ffff:ffff:ffff:ffff:ffff:ffff
+sum past the greatest, IPv6 | ffff:ffff:ffff:ffff:ffff:ffff:ffff:fffe | saturating_add | 5 | \
+    ffff:ffff:ffff:ffff:ffff:ffff:ffff:ffff
 difference of addresses, IPv4           | 192.168.1.100   | saturating_sub | 192.168.1.5     | 95
 difference of addresses below 0, IPv4   | 0.0.0.0         | saturating_sub | 192.168.1.5     | 0
 difference of a number, IPv4            | 192.168.1.100   | saturating_sub | 101             | 192.168.0.255
-difference of addresses, IPv6           | fd01::          | saturating_sub | fd00::          | 5192296858534827628530496329220096
+difference of addresses, IPv6 | fd01:: | saturating_sub | fd00:: | 5192296858534827628530496329220096
 difference of a number below 0, IPv6    | ::4             | saturating_sub | 5               | ::
 and, IPv6                               | fd00:1234::1    | bitand         | ffff::          | fd00::
 and with a number, IPv6                 | fd00:1234::1    | bitand         | 65535           | ::1

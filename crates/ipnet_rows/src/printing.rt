@@ -17,7 +17,8 @@ least mapped address            | [0, 0, 0, 0, 0, 65535, 0, 0]                  
 number 2^64                     | [0, 0, 0, 1, 0, 0, 0, 0]                                 | 64  | 0:0:0:1::/64
 IPv4                            | [10, 1, 1, 0]                                            | 24  | 10.1.1.0/24
 longest text, IPv4              | [255, 255, 255, 255]                                     | 32  | 255.255.255.255/32
-longest text, IPv6              | [65535, 65535, 65535, 65535, 65535, 65535, 65535, 65535] | 128 | ffff:ffff:ffff:ffff:ffff:ffff:ffff:ffff/128
+longest text, IPv6 | [65535, 65535, 65535, 65535, 65535, 65535, 65535, 65535] | 128 | \
+    ffff:ffff:ffff:ffff:ffff:ffff:ffff:ffff/128
 a longer run behind a shorter   | [0, 0, 1, 0, 0, 0, 1, 0]                                 | 64  | 0:0:1::1:0/64
 compatible address in groups    | [0, 0, 0, 0, 0, 0, 258, 772]                             | 96  | ::102:304/96
 one before the mapped addresses | [0, 0, 0, 0, 0, 65534, 0, 0]                             | 128 | ::fffe:0:0/128

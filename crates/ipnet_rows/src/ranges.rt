@@ -12,42 +12,55 @@ const IN_TURN: &str = "
 nth first                            | 10.0.0.0 | 10.0.0.3 | nth(0) | 10.0.0.0 | 10.0.0.1, 10.0.0.3
 nth last                             | 10.0.0.0 | 10.0.0.3 | nth(3) | 10.0.0.3 | 0.0.0.1, 0.0.0.0
 nth past                             | 10.0.0.0 | 10.0.0.3 | nth(4) | None | 0.0.0.1, 0.0.0.0
-nth in turn                          | 10.0.0.0 | 10.0.0.3 | nth(1), nth(1), nth(0) | 10.0.0.1, 10.0.0.3, None | 0.0.0.1, 0.0.0.0
+nth in turn | 10.0.0.0 | 10.0.0.3 | nth(1), nth(1), nth(0) | 10.0.0.1, 10.0.0.3, None | 0.0.0.1, 0.0.0.0
 nth in turn, IPv6                    | fd00:: | fd00::3 | nth(1), nth(1), nth(0) | fd00::1, fd00::3, None | ::1, ::
 next after nth past                  | 10.0.0.0 | 10.0.0.3 | nth(99), next() | None, None | 0.0.0.1, 0.0.0.0
 nth_back first                       | 10.0.0.0 | 10.0.0.3 | nth_back(0) | 10.0.0.3 | 10.0.0.0, 10.0.0.2
 nth_back last                        | 10.0.0.0 | 10.0.0.3 | nth_back(3) | 10.0.0.0 | 0.0.0.1, 0.0.0.0
 nth_back past                        | 10.0.0.0 | 10.0.0.3 | nth_back(4) | None | 0.0.0.1, 0.0.0.0
-nth_back in turn                     | 10.0.0.0 | 10.0.0.3 | nth_back(1), nth_back(1), nth_back(0) | 10.0.0.2, 10.0.0.0, None | 0.0.0.1, 0.0.0.0
+nth_back in turn | 10.0.0.0 | 10.0.0.3 | nth_back(1), nth_back(1), nth_back(0) | 10.0.0.2, 10.0.0.0, None | 0.0.0.1, \
+    0.0.0.0
 next after nth_back past             | 10.0.0.0 | 10.0.0.3 | nth_back(99), next() | None, None | 0.0.0.1, 0.0.0.0
 next after nth_back past, IPv6       | fd00:: | fd00::3 | nth_back(99), next() | None, None | ::1, ::
-from both ends                       | 10.0.0.0 | 10.0.0.3 | next(), next_back(), next(), next_back(), next() | 10.0.0.0, 10.0.0.3, 10.0.0.1, 10.0.0.2, None | 0.0.0.1, 0.0.0.0
-all of four                          | 10.0.0.0 | 10.0.0.3 | next(), next(), next(), next(), next() | 10.0.0.0, 10.0.0.1, 10.0.0.2, 10.0.0.3, None | 0.0.0.1, 0.0.0.0
-all of four from the back            | 10.0.0.0 | 10.0.0.3 | next_back(), next_back(), next_back(), next_back(), next_back() | 10.0.0.3, 10.0.0.2, 10.0.0.1, 10.0.0.0, None | 0.0.0.1, 0.0.0.0
-nth_back in turn, IPv6               | fd00:: | fd00::3 | nth_back(1), nth_back(1), nth_back(0) | fd00::2, fd00::, None | ::1, ::
+from both ends | 10.0.0.0 | 10.0.0.3 | next(), next_back(), next(), next_back(), next() | 10.0.0.0, 10.0.0.3, \
+    10.0.0.1, 10.0.0.2, None | 0.0.0.1, 0.0.0.0
+all of four | 10.0.0.0 | 10.0.0.3 | next(), next(), next(), next(), next() | 10.0.0.0, 10.0.0.1, 10.0.0.2, 10.0.0.3, \
+    None | 0.0.0.1, 0.0.0.0
+all of four from the back | 10.0.0.0 | 10.0.0.3 | next_back(), next_back(), next_back(), next_back(), next_back() | \
+    10.0.0.3, 10.0.0.2, 10.0.0.1, 10.0.0.0, None | 0.0.0.1, 0.0.0.0
+nth_back in turn, IPv6 | fd00:: | fd00::3 | nth_back(1), nth_back(1), nth_back(0) | fd00::2, fd00::, None | ::1, ::
 the address 0 alone                  | 0.0.0.0 | 0.0.0.0 | next(), next() | 0.0.0.0, None | 0.0.0.1, 0.0.0.0
 the address 0 alone, IPv6            | :: | :: | next(), next() | ::, None | ::1, ::
 next of an empty range               | 0.0.0.5 | 0.0.0.3 | next() | None | 0.0.0.5, 0.0.0.3
 nth of an empty range                | 0.0.0.5 | 0.0.0.3 | nth(0) | None | 0.0.0.1, 0.0.0.0
 last of all IPv4 addresses           | 0.0.0.0 | 255.255.255.255 | nth(4294967295) | 255.255.255.255 | 0.0.0.1, 0.0.0.0
-the two greatest, IPv4               | 255.255.255.254 | 255.255.255.255 | next(), next_back(), next() | 255.255.255.254, 255.255.255.255, None | 0.0.0.1, 0.0.0.0
-the two greatest, IPv6               | ffff:ffff:ffff:ffff:ffff:ffff:ffff:fffe | ffff:ffff:ffff:ffff:ffff:ffff:ffff:ffff | next(), next(), next() | ffff:ffff:ffff:ffff:ffff:ffff:ffff:fffe, ffff:ffff:ffff:ffff:ffff:ffff:ffff:ffff, None | ::1, ::
-far into all IPv6 addresses          | :: | ffff:ffff:ffff:ffff:ffff:ffff:ffff:ffff | nth(18446744073709551615) | ::ffff:ffff:ffff:ffff | 0:0:0:1::, ffff:ffff:ffff:ffff:ffff:ffff:ffff:ffff
-far back from all IPv6 addresses     | :: | ffff:ffff:ffff:ffff:ffff:ffff:ffff:ffff | nth_back(18446744073709551615) | ffff:ffff:ffff:ffff:: | ::, ffff:ffff:ffff:fffe:ffff:ffff:ffff:ffff
-all of four, IPv6                    | fd00:: | fd00::3 | next(), next(), next(), next(), next() | fd00::, fd00::1, fd00::2, fd00::3, None | ::1, ::
+the two greatest, IPv4 | 255.255.255.254 | 255.255.255.255 | next(), next_back(), next() | 255.255.255.254, \
+    255.255.255.255, None | 0.0.0.1, 0.0.0.0
+the two greatest, IPv6 | ffff:ffff:ffff:ffff:ffff:ffff:ffff:fffe | ffff:ffff:ffff:ffff:ffff:ffff:ffff:ffff | next(), \
+    next(), next() | ffff:ffff:ffff:ffff:ffff:ffff:ffff:fffe, ffff:ffff:ffff:ffff:ffff:ffff:ffff:ffff, None | ::1, ::
+far into all IPv6 addresses | :: | ffff:ffff:ffff:ffff:ffff:ffff:ffff:ffff | nth(18446744073709551615) | \
+    ::ffff:ffff:ffff:ffff | 0:0:0:1::, ffff:ffff:ffff:ffff:ffff:ffff:ffff:ffff
+far back from all IPv6 addresses | :: | ffff:ffff:ffff:ffff:ffff:ffff:ffff:ffff | nth_back(18446744073709551615) | \
+    ffff:ffff:ffff:ffff:: | ::, ffff:ffff:ffff:fffe:ffff:ffff:ffff:ffff
+all of four, IPv6 | fd00:: | fd00::3 | next(), next(), next(), next(), next() | fd00::, fd00::1, fd00::2, fd00::3, \
+    None | ::1, ::
 ";
 
 /// The start, the end, the size hint, the count or `not allowed`, the least and the greatest address.
 const WHOLE: &str = "
-whole calls on four                  | 10.0.0.0 | 10.0.0.3                                | (4, Some(4)) | 4 | Some(10.0.0.0) | Some(10.0.0.3)
-whole calls on four, IPv6            | fd00::   | fd00::3                                 | (4, Some(4)) | 4 | Some(fd00::) | Some(fd00::3)
-whole calls on none                  | 0.0.0.5  | 0.0.0.3                                 | (0, Some(0)) | 0 | None | None
-whole calls on one                   | ::       | ::                                      | (1, Some(1)) | 1 | Some(::) | Some(::)
-whole calls on all IPv4 addresses    | 0.0.0.0  | 255.255.255.255                         | (4294967296, Some(4294967296)) | 4294967296 | Some(0.0.0.0) | Some(255.255.255.255)
-greatest count                       | ::       | ::ffff:ffff:ffff:fffe                   | (18446744073709551615, Some(18446744073709551615)) | 18446744073709551615 | Some(::) | Some(::ffff:ffff:ffff:fffe)
-one past the greatest count          | ::       | ::ffff:ffff:ffff:ffff                   | (18446744073709551615, None) | not allowed | Some(::) | Some(::ffff:ffff:ffff:ffff)
-half of all IPv6 addresses and one   | ::       | 8000::                                  | (18446744073709551615, None) | not allowed | Some(::) | Some(8000::)
-whole calls on all IPv6 addresses    | ::       | ffff:ffff:ffff:ffff:ffff:ffff:ffff:ffff | (18446744073709551615, None) | not allowed | Some(::) | Some(ffff:ffff:ffff:ffff:ffff:ffff:ffff:ffff)
+whole calls on four | 10.0.0.0 | 10.0.0.3 | (4, Some(4)) | 4 | Some(10.0.0.0) | Some(10.0.0.3)
+whole calls on four, IPv6 | fd00:: | fd00::3 | (4, Some(4)) | 4 | Some(fd00::) | Some(fd00::3)
+whole calls on none | 0.0.0.5 | 0.0.0.3 | (0, Some(0)) | 0 | None | None
+whole calls on one | :: | :: | (1, Some(1)) | 1 | Some(::) | Some(::)
+whole calls on all IPv4 addresses | 0.0.0.0 | 255.255.255.255 | (4294967296, Some(4294967296)) | 4294967296 | \
+    Some(0.0.0.0) | Some(255.255.255.255)
+greatest count | :: | ::ffff:ffff:ffff:fffe | (18446744073709551615, Some(18446744073709551615)) | \
+    18446744073709551615 | Some(::) | Some(::ffff:ffff:ffff:fffe)
+one past the greatest count | :: | ::ffff:ffff:ffff:ffff | (18446744073709551615, None) | not allowed | Some(::) | \
+    Some(::ffff:ffff:ffff:ffff)
+half of all IPv6 addresses and one | :: | 8000:: | (18446744073709551615, None) | not allowed | Some(::) | Some(8000::)
+whole calls on all IPv6 addresses | :: | ffff:ffff:ffff:ffff:ffff:ffff:ffff:ffff | (18446744073709551615, None) | \
+    not allowed | Some(::) | Some(ffff:ffff:ffff:ffff:ffff:ffff:ffff:ffff)
 ";
 
 /// What the call of this text answers, by the type of the range's family.

@@ -10,17 +10,18 @@ IPv4                                             | 10.1.1.0/24                | 
 IPv6                                             | fd00::/24                  | fd00::/24                | fd00::/24
 least, IPv4                                      | 0.0.0.0/0                  | 0.0.0.0/0                | 0.0.0.0/0
 least, IPv6                                      | ::/0                       | ::/0                     | ::/0
-eight groups, longest length                     | 1:2:3:4:5:6:7:8/128        | 1:2:3:4:5:6:7:8/128      | 1:2:3:4:5:6:7:8/128
-mapped address                                   | ::ffff:1.2.3.4/128         | ::ffff:1.2.3.4/128       | ::ffff:1.2.3.4/128
-compression of no group, inside                  | 1:2:3:4:5:6:7::8/64        | refused                  | 1:2:3:4:5:6:7:8/64
-compression of no group, in front                | ::1:2:3:4:5:6:7:8/128      | refused                  | 1:2:3:4:5:6:7:8/128
-compression of no group, before a dotted address | 1:2:3:4:5:6::1.2.3.4/128   | refused                  | 1:2:3:4:5:6:102:304/128
-compression of one group                         | 1:2:3:4:5:6:7::/128        | 1:2:3:4:5:6:7:0/128      | 1:2:3:4:5:6:7:0/128
+eight groups, longest length | 1:2:3:4:5:6:7:8/128 | 1:2:3:4:5:6:7:8/128 | 1:2:3:4:5:6:7:8/128
+mapped address | ::ffff:1.2.3.4/128 | ::ffff:1.2.3.4/128 | ::ffff:1.2.3.4/128
+compression of no group, inside | 1:2:3:4:5:6:7::8/64 | refused | 1:2:3:4:5:6:7:8/64
+compression of no group, in front | ::1:2:3:4:5:6:7:8/128 | refused | 1:2:3:4:5:6:7:8/128
+compression of no group, before a dotted address | 1:2:3:4:5:6::1.2.3.4/128 | refused | 1:2:3:4:5:6:102:304/128
+compression of one group | 1:2:3:4:5:6:7::/128 | 1:2:3:4:5:6:7:0/128 | 1:2:3:4:5:6:7:0/128
 compression behind eight groups                  | 1:2:3:4:5:6:7:8::/64       | refused                  | refused
 compression behind seven groups, dotted tail     | 1:2:3:4:5:6:7::1.2.3.4/128 | refused                  | refused
 two compressions                                 | 1::2::3/64                 | refused                  | refused
-six groups, dotted tail                          | 1:2:3:4:5:6:1.2.3.4/128    | 1:2:3:4:5:6:102:304/128  | 1:2:3:4:5:6:102:304/128
-six groups, dotted tail that starts as a group   | 1:2:3:4:5:6:77.1.2.3/128   | 1:2:3:4:5:6:4d01:203/128 | 1:2:3:4:5:6:4d01:203/128
+six groups, dotted tail | 1:2:3:4:5:6:1.2.3.4/128 | 1:2:3:4:5:6:102:304/128 | 1:2:3:4:5:6:102:304/128
+six groups, dotted tail that starts as a group | 1:2:3:4:5:6:77.1.2.3/128 | 1:2:3:4:5:6:4d01:203/128 | \
+    1:2:3:4:5:6:4d01:203/128
 seven groups, dotted tail                        | 1:2:3:4:5:6:7:10.0.0.1/64  | refused                  | refused
 dotted tail of a compression                     | ::1.2.3.4/96               | ::102:304/96             | ::102:304/96
 dotted address before a compression              | 1.2.3.4::/96               | refused                  | refused
@@ -29,9 +30,9 @@ octet above 255 in a dotted tail                 | ::300.1.2.3/128            | 
 hexadecimal octet in a dotted tail               | ::1a.2.3.4/128             | refused                  | refused
 octet of four digits in a dotted tail            | ::0001.2.3.4/128           | refused                  | refused
 octet with a leading zero in a dotted tail       | ::010.0.0.1/96             | refused                  | ::a00:1/96
-capitals and leading zeros in groups             | ::FFFF:0102:0304/128       | ::ffff:1.2.3.4/128       | ::ffff:1.2.3.4/128
-two runs of zero groups                          | 2001:db8:0:0:1:0:0:1/64    | 2001:db8::1:0:0:1/64     | 2001:db8::1:0:0:1/64
-one zero group                                   | 1:0:2:3:4:5:6:7/64         | 1:0:2:3:4:5:6:7/64       | 1:0:2:3:4:5:6:7/64
+capitals and leading zeros in groups | ::FFFF:0102:0304/128 | ::ffff:1.2.3.4/128 | ::ffff:1.2.3.4/128
+two runs of zero groups | 2001:db8:0:0:1:0:0:1/64 | 2001:db8::1:0:0:1/64 | 2001:db8::1:0:0:1/64
+one zero group | 1:0:2:3:4:5:6:7/64 | 1:0:2:3:4:5:6:7/64 | 1:0:2:3:4:5:6:7/64
 group that is no octet                           | 256::/16                   | 256::/16                 | 256::/16
 group that could be an octet                     | 10::/8                     | 10::/8                   | 10::/8
 octet above 255, then a compression              | 256.0::/16                 | refused                  | refused

@@ -8,36 +8,47 @@ use std::test::Fail;
 
 /// The start, the end and the least length, the items, the stored ends after them.
 const ITEMS: &str = "
-to an end inside                  | 10.0.0.0                                | 10.0.0.239                              | 0   | [10.0.0.0/25, 10.0.0.128/26, 10.0.0.192/27, 10.0.0.224/28] | 10.0.0.240, 10.0.0.239
-to an end inside, least length 26 | 10.0.0.0                                | 10.0.0.239                              | 26  | [10.0.0.0/26, 10.0.0.64/26, 10.0.0.128/26, 10.0.0.192/27, 10.0.0.224/28] | 10.0.0.240, 10.0.0.239
-start above end, IPv4             | 0.0.0.1                                 | 0.0.0.0                                 | 0   | []                                       | 0.0.0.1, 0.0.0.0
-the greatest address, IPv4        | 255.255.255.255                         | 255.255.255.255                         | 0   | [255.255.255.255/32]                     | 255.255.255.255, 0.0.0.0
-a whole family, least length 1    | 0.0.0.0                                 | 255.255.255.255                         | 1   | [0.0.0.0/1, 128.0.0.0/1]                 | 255.255.255.255, 0.0.0.0
-up and down                       | 0.0.0.1                                 | 0.0.0.6                                 | 0   | [0.0.0.1/32, 0.0.0.2/31, 0.0.0.4/31, 0.0.0.6/32] | 0.0.0.7, 0.0.0.0
-up and down, least length 32      | 0.0.0.1                                 | 0.0.0.6                                 | 32  | [0.0.0.1/32, 0.0.0.2/32, 0.0.0.3/32, 0.0.0.4/32, 0.0.0.5/32, 0.0.0.6/32] | 0.0.0.7, 0.0.0.0
-a block, least length one more    | 10.0.0.0                                | 10.0.0.255                              | 25  | [10.0.0.0/25, 10.0.0.128/25]             | 10.0.1.0, 10.0.0.255
-the address 0, IPv4               | 0.0.0.0                                 | 0.0.0.0                                 | 0   | [0.0.0.0/32]                             | 0.0.0.1, 0.0.0.0
-a whole family, IPv4              | 0.0.0.0                                 | 255.255.255.255                         | 0   | [0.0.0.0/0]                              | 255.255.255.255, 0.0.0.0
-the two least addresses           | 0.0.0.0                                 | 0.0.0.1                                 | 0   | [0.0.0.0/31]                             | 0.0.0.2, 0.0.0.1
-the three least addresses         | 0.0.0.0                                 | 0.0.0.2                                 | 0   | [0.0.0.0/31, 0.0.0.2/32]                 | 0.0.0.3, 0.0.0.0
-least length 30                   | 0.0.0.0                                 | 0.0.0.10                                | 30  | [0.0.0.0/30, 0.0.0.4/30, 0.0.0.8/31, 0.0.0.10/32] | 0.0.0.11, 0.0.0.0
-the three greatest addresses      | 255.255.255.253                         | 255.255.255.255                         | 0   | [255.255.255.253/32, 255.255.255.254/31] | 255.255.255.255, 0.0.0.0
-the address 0, IPv6               | ::                                      | ::                                      | 0   | [::/128]                                 | ::1, ::
-the two least addresses, IPv6     | ::                                      | ::1                                     | 0   | [::/127]                                 | ::2, ::1
-the three least addresses, IPv6   | ::                                      | ::2                                     | 0   | [::/127, ::2/128]                        | ::3, ::
-a whole family, IPv6              | ::                                      | ffff:ffff:ffff:ffff:ffff:ffff:ffff:ffff | 0   | [::/0]                                   | ffff:ffff:ffff:ffff:ffff:ffff:ffff:ffff, ::
-the greatest address, IPv6        | ffff:ffff:ffff:ffff:ffff:ffff:ffff:ffff | ffff:ffff:ffff:ffff:ffff:ffff:ffff:ffff | 0   | [ffff:ffff:ffff:ffff:ffff:ffff:ffff:ffff/128] | ffff:ffff:ffff:ffff:ffff:ffff:ffff:ffff, ::
-start above end, IPv6             | ::1                                     | ::                                      | 0   | []                                       | ::1, ::
-least length 126                  | ::                                      | ::a                                     | 126 | [::/126, ::4/126, ::8/127, ::a/128]      | ::b, ::
-least length 26, IPv6             | fd00::                                  | fd00:ef:ffff:ffff:ffff:ffff:ffff:ffff   | 26  | [fd00::/26, fd00:40::/26, fd00:80::/26, fd00:c0::/27, fd00:e0::/28] | fd00:f0::, fd00:ef:ffff:ffff:ffff:ffff:ffff:ffff
+to an end inside | 10.0.0.0 | 10.0.0.239 | 0 | [10.0.0.0/25, 10.0.0.128/26, 10.0.0.192/27, 10.0.0.224/28] | \
+    10.0.0.240, 10.0.0.239
+to an end inside, least length 26 | 10.0.0.0 | 10.0.0.239 | 26 | [10.0.0.0/26, 10.0.0.64/26, 10.0.0.128/26, \
+    10.0.0.192/27, 10.0.0.224/28] | 10.0.0.240, 10.0.0.239
+start above end, IPv4 | 0.0.0.1 | 0.0.0.0 | 0 | [] | 0.0.0.1, 0.0.0.0
+the greatest address, IPv4 | 255.255.255.255 | 255.255.255.255 | 0 | [255.255.255.255/32] | 255.255.255.255, 0.0.0.0
+a whole family, least length 1 | 0.0.0.0 | 255.255.255.255 | 1 | [0.0.0.0/1, 128.0.0.0/1] | 255.255.255.255, 0.0.0.0
+up and down | 0.0.0.1 | 0.0.0.6 | 0 | [0.0.0.1/32, 0.0.0.2/31, 0.0.0.4/31, 0.0.0.6/32] | 0.0.0.7, 0.0.0.0
+up and down, least length 32 | 0.0.0.1 | 0.0.0.6 | 32 | [0.0.0.1/32, 0.0.0.2/32, 0.0.0.3/32, 0.0.0.4/32, 0.0.0.5/32, \
+    0.0.0.6/32] | 0.0.0.7, 0.0.0.0
+a block, least length one more | 10.0.0.0 | 10.0.0.255 | 25 | [10.0.0.0/25, 10.0.0.128/25] | 10.0.1.0, 10.0.0.255
+the address 0, IPv4 | 0.0.0.0 | 0.0.0.0 | 0 | [0.0.0.0/32] | 0.0.0.1, 0.0.0.0
+a whole family, IPv4 | 0.0.0.0 | 255.255.255.255 | 0 | [0.0.0.0/0] | 255.255.255.255, 0.0.0.0
+the two least addresses | 0.0.0.0 | 0.0.0.1 | 0 | [0.0.0.0/31] | 0.0.0.2, 0.0.0.1
+the three least addresses | 0.0.0.0 | 0.0.0.2 | 0 | [0.0.0.0/31, 0.0.0.2/32] | 0.0.0.3, 0.0.0.0
+least length 30 | 0.0.0.0 | 0.0.0.10 | 30 | [0.0.0.0/30, 0.0.0.4/30, 0.0.0.8/31, 0.0.0.10/32] | 0.0.0.11, 0.0.0.0
+the three greatest addresses | 255.255.255.253 | 255.255.255.255 | 0 | [255.255.255.253/32, 255.255.255.254/31] | \
+    255.255.255.255, 0.0.0.0
+the address 0, IPv6 | :: | :: | 0 | [::/128] | ::1, ::
+the two least addresses, IPv6 | :: | ::1 | 0 | [::/127] | ::2, ::1
+the three least addresses, IPv6 | :: | ::2 | 0 | [::/127, ::2/128] | ::3, ::
+a whole family, IPv6 | :: | ffff:ffff:ffff:ffff:ffff:ffff:ffff:ffff | 0 | [::/0] | \
+    ffff:ffff:ffff:ffff:ffff:ffff:ffff:ffff, ::
+the greatest address, IPv6 | ffff:ffff:ffff:ffff:ffff:ffff:ffff:ffff | ffff:ffff:ffff:ffff:ffff:ffff:ffff:ffff | 0 | \
+    [ffff:ffff:ffff:ffff:ffff:ffff:ffff:ffff/128] | ffff:ffff:ffff:ffff:ffff:ffff:ffff:ffff, ::
+start above end, IPv6 | ::1 | :: | 0 | [] | ::1, ::
+least length 126 | :: | ::a | 126 | [::/126, ::4/126, ::8/127, ::a/128] | ::b, ::
+least length 26, IPv6 | fd00:: | fd00:ef:ffff:ffff:ffff:ffff:ffff:ffff | 26 | [fd00::/26, fd00:40::/26, fd00:80::/26, \
+    fd00:c0::/27, fd00:e0::/28] | fd00:f0::, fd00:ef:ffff:ffff:ffff:ffff:ffff:ffff
 ";
 
 /// The start, the end and the least length, how many items, the first and the last of them, the stored ends after.
 const COUNTS: &str = "
-as many as there can be, IPv4 | 0.0.0.1 | 255.255.255.254                         | 0 | 62  | 0.0.0.1/32 | 255.255.255.254/32                       | 255.255.255.255, 0.0.0.0
-as many as there can be, IPv6 | ::1     | ffff:ffff:ffff:ffff:ffff:ffff:ffff:fffe | 0 | 254 | ::1/128    | ffff:ffff:ffff:ffff:ffff:ffff:ffff:fffe/128 | ffff:ffff:ffff:ffff:ffff:ffff:ffff:ffff, ::
-all but the greatest, IPv4    | 0.0.0.0 | 255.255.255.254                         | 0 | 32  | 0.0.0.0/1  | 255.255.255.254/32                       | 255.255.255.255, 0.0.0.0
-all but the greatest, IPv6    | ::      | ffff:ffff:ffff:ffff:ffff:ffff:ffff:fffe | 0 | 128 | ::/1       | ffff:ffff:ffff:ffff:ffff:ffff:ffff:fffe/128 | ffff:ffff:ffff:ffff:ffff:ffff:ffff:ffff, ::
+as many as there can be, IPv4 | 0.0.0.1 | 255.255.255.254 | 0 | 62 | 0.0.0.1/32 | 255.255.255.254/32 | \
+    255.255.255.255, 0.0.0.0
+as many as there can be, IPv6 | ::1 | ffff:ffff:ffff:ffff:ffff:ffff:ffff:fffe | 0 | 254 | ::1/128 | \
+    ffff:ffff:ffff:ffff:ffff:ffff:ffff:fffe/128 | ffff:ffff:ffff:ffff:ffff:ffff:ffff:ffff, ::
+all but the greatest, IPv4 | 0.0.0.0 | 255.255.255.254 | 0 | 32 | 0.0.0.0/1 | 255.255.255.254/32 | 255.255.255.255, \
+    0.0.0.0
+all but the greatest, IPv6 | :: | ffff:ffff:ffff:ffff:ffff:ffff:ffff:fffe | 0 | 128 | ::/1 | \
+    ffff:ffff:ffff:ffff:ffff:ffff:ffff:fffe/128 | ffff:ffff:ffff:ffff:ffff:ffff:ffff:ffff, ::
 ";
 
 /// What the walk gives next, by the type of its family.

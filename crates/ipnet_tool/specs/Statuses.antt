@@ -1,5 +1,4 @@
 -- The exit status of each failure that the program reports.
--- Private contracts alone cite these.
 use Rattle.std.specs.Prelude.{ℕ}
 use Rattle.ipnet_tool.specs.declared.program.Failure.{Failure}
 use Rattle.ipnet_tool.specs.declared.program.Failure.TheVariants.{Arguments, Unreadable, NotUtf8, Memory, Line}

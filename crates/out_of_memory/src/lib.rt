@@ -20,8 +20,23 @@ const GREATEST_SMALL: usize = 1040;
 /// More blocks than all memory has.
 const MOST_BLOCKS: usize = 100_000;
 
+/// How much of the stack a test takes beside what its call takes.
+const STACK: usize = 262_144;
+
 fn block(alloc: Global, len: usize) -> Result<Vec<u8>, AllocError> {
     Vec::with_capacity(alloc, len)
+}
+
+/// Takes much of the stack once: where no memory is to be had it can't grow, nor later where blocks stay beside it.
+///
+/// Some of what was written there goes into the block, so that no compiler leaves it out.
+fn grow_stack(block: &mut Vec<u8>) -> Result<(), AllocError> {
+    let mut room = [0u8; STACK];
+    for at in 0..STACK {
+        room[at] = (at % 251) as u8;
+    }
+    let from = block.capacity().min(STACK - STEP);
+    block.extend_from_slice(&room[from..from + STEP])
 }
 
 /// Takes blocks of this size until one is refused.
@@ -56,7 +71,7 @@ fn take_all(alloc: Global) -> Result<Vec<Vec<u8>>, AllocError> {
 /// more; none where the allocator never refuses, as under a sanitizer.
 ///
 /// Before these runs the call is made once with ample memory, so that the stack has grown to what the call takes: with
-/// no memory to be had it could not grow.
+/// no memory to be had it could not grow. For the rest of the test it has grown by 256 KiB more.
 ///
 /// What one run gave back may serve a later one, so a call that makes several requests may be answered in one run and
 /// refused in the next.
@@ -71,7 +86,8 @@ pub fn outcomes<T: Copy, F: FnMut() -> T>(
     requires { F.IsAlwaysCallable call }
 {
     let mut answers = [call(); RUNS];
-    let spare = block(alloc, SPARE)?;
+    let mut spare = block(alloc, SPARE)?;
+    grow_stack(&mut spare)?;
     let held = take_all(alloc)?;
     if block(alloc, STEP).is_ok() {
         return Ok(None);
