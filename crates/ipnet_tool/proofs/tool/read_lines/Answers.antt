@@ -102,14 +102,3 @@ returns-in_default-clause-bad_at_once c = λ number h.
     (subst (λ z. StartsWithBadLine grammar z later) c.first_line.ensures.lines at) in
     let same : c.lines.number + 1 ≡ number = omega (arith, is, one) in
     cc
-
-pub returns-in_default-push-clause-bad_at_once : goal.returns-in_default-push-clause-bad_at_once
-returns-in_default-push-clause-bad_at_once c = λ number h.
-    let grammar = c.args.grammar in
-    let line = c.first_line.result.0.now in
-    let behind = lines_of c.first_line.result.1.now in
-    let (later, is, at) = c.lines.invariant.at_once number h in
-    let (bad, one) =
-    bad_here grammar line behind later (some_bytes (length line) c.if-not-is_empty.ensures)
-    (subst (λ z. IsBadAtOnce grammar z later) c.first_line.ensures.lines at) in
-    absurd (bad.1 (ip_network c.in-Ok.network) ((c.in-Ok.ensures.ok c.in-Ok.network).0 refl))
