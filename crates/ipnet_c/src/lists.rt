@@ -5,7 +5,8 @@ ghost use Rattle.ipnet.specs.Lines.{lines_of, AreNetworksOf, IsFirstBadLine};
 ghost use Rattle.ipnet.specs.NetworkOf.{ip_network};
 ghost use Rattle.ipnet_tool.specs.Answers.{StartsWithBadLine};
 
-use ipnet::IpNet;
+use crate::networks::read_network;
+use ipnet::{Grammar, IpNet};
 use ipnet_tool::ToolError;
 use std::alloc::Global;
 
@@ -39,7 +40,7 @@ pub(crate) fn read_networks(alloc: Global, text: &str) -> Result<Vec<IpNet>, Too
         rest = after;
         number += 1;
         if !line.is_empty() {
-            let Ok(network) = line.parse::<IpNet>() else {
+            let Ok(network) = read_network(line, Grammar::Strict) else {
                 return Err(ToolError::Line(number));
             };
             let Ok(()) = networks.push(network) else {

@@ -3,12 +3,38 @@
 //! The bytes of a network are a byte for the family, 0 for IPv4 and 1 for IPv6, the octets of the address, the most
 //! significant first and host bits and all, and the prefix length: 6 bytes, or 18.
 ghost use Rattle.ipnet.specs.declared.parser.Grammar.TheVariants.{Strict, Legacy};
+ghost use Rattle.ipnet.specs.NetworkOf.{ip_network};
+ghost use Rattle.ipnet.specs.NetworkTexts.{IsNetworkText, ReadsNetwork};
 ghost use Rattle.ipnet_c.specs.Replies.{IsParseReply, IsPrintReply};
 
 use crate::buffers::write_answer;
 use crate::statuses::{NOT_A_NETWORK, NOT_UTF8, status_of};
-use ipnet::IpNet;
+use ipnet::parser::AddrParseError;
+use ipnet::{Grammar, IpNet};
 use std::str;
+
+/// The network that the text writes in this grammar.
+pub(crate) fn read_network(text: &str, grammar: Grammar) -> Result<IpNet, AddrParseError>
+    ensures { ReadsNetwork ip_network (IsNetworkText grammar) text.now result }
+{
+    match grammar {
+        Grammar::Strict => text.parse::<IpNet>(),
+        Grammar::Legacy => IpNet::parse_legacy(text),
+    }
+}
+
+/// The bytes of the network that the text writes in this grammar, into the buffer.
+fn parse(text: &[u8], grammar: Grammar, buffer: &mut [u8], count: &mut usize) -> u8
+    ensures { IsParseReply grammar text.now buffer.old buffer.new count.old count.new result }
+{
+    let Ok(text) = str::from_utf8(text) else {
+        return NOT_UTF8;
+    };
+    let Ok(network) = read_network(text, grammar) else {
+        return NOT_A_NETWORK;
+    };
+    write_answer(&network.to_bytes(), buffer, count)
+}
 
 /// The bytes of the network that the text writes in the strict grammar, into the buffer, and their number, 6 or 18,
 /// into `count`. Takes no memory.
@@ -27,13 +53,7 @@ use std::str;
 pub extern "C" fn ipnet_parse(text: &[u8], buffer: &mut [u8], count: &mut usize) -> u8
     ensures { IsParseReply Strict text.now buffer.old buffer.new count.old count.new result }
 {
-    let Ok(text) = str::from_utf8(text) else {
-        return NOT_UTF8;
-    };
-    let Ok(network) = text.parse::<IpNet>() else {
-        return NOT_A_NETWORK;
-    };
-    write_answer(&network.to_bytes(), buffer, count)
+    parse(text, Grammar::Strict, buffer, count)
 }
 
 /// The same for a text of the legacy grammar, whose octets and lengths may have leading zeros, and whose "::" may stand
@@ -46,13 +66,7 @@ pub extern "C" fn ipnet_parse(text: &[u8], buffer: &mut [u8], count: &mut usize)
 pub extern "C" fn ipnet_parse_legacy(text: &[u8], buffer: &mut [u8], count: &mut usize) -> u8
     ensures { IsParseReply Legacy text.now buffer.old buffer.new count.old count.new result }
 {
-    let Ok(text) = str::from_utf8(text) else {
-        return NOT_UTF8;
-    };
-    let Ok(network) = IpNet::parse_legacy(text) else {
-        return NOT_A_NETWORK;
-    };
-    write_answer(&network.to_bytes(), buffer, count)
+    parse(text, Grammar::Legacy, buffer, count)
 }
 
 /// The canonical text of the network that the bytes stand for, into the buffer, and its length, at most 43 bytes, into

@@ -45,7 +45,7 @@ lines-preserved-in-Ok-push c =
       count = omega (arith, c.first_line.ensures.shorter);
       networks = λ more h.
           subst (AreNetworksOf Strict (lines_of c.args.text.now))
-          (moved c.lines.networks.items c.push.new.self.items c.in-Ok.network more c.in-Ok-push.ensures)
+          (moved c.lines.networks.items c.push.new.self.items c.in-Ok.network more c.in-Ok-push.ensures.items)
           (c.lines.invariant.networks (n ∷ more)
           (rw cut (network_line Strict line after n more some ((c.in-Ok.ensures.ok c.in-Ok.network).0 refl) h)));
       bad_line = λ later h. rw append_one
