@@ -108,7 +108,7 @@ class Random(unittest.TestCase):
         for _ in range(TRIALS):
             networks = random_list(self.rng)
             others = collapsed(networks) if self.rng.random() < 0.5 else random_list(self.rng)
-            wanted = collapsed(networks) == collapsed(map(ipaddress.ip_interface, others))
+            wanted = collapsed(networks) == collapsed([ipaddress.ip_interface(each) for each in others])
             answers.append(ipnet_proved.same_addresses(networks, others))
             self.assertEqual(answers[-1], wanted, (networks, others))
         self.assertEqual(set(answers), {True, False})
