@@ -1,0 +1,192 @@
+/* Makes every call of bindings/rows.txt, and compares. Its argument is that file. */
+#include "ipnet.h"
+
+#include <stdbool.h>
+#include <stdio.h>
+#include <stdlib.h>
+#include <string.h>
+
+#define UNTOUCHED 0xa5
+#define MOST 256
+
+/* Bytes of a row, in memory of just that length, so that a sanitizer sees a read past their end. */
+struct bytes {
+    uint8_t *at;
+    size_t len;
+};
+
+struct row {
+    char function[32], status[32];
+    struct bytes first, second, answer;
+    bool has_number;
+    size_t number;
+};
+
+typedef uint8_t into_buffer(const uint8_t *, size_t, uint8_t *, size_t, size_t *);
+typedef uint8_t yes_or_no(const uint8_t *, size_t, const uint8_t *, size_t, uint8_t *, size_t *);
+
+static const struct {
+    const char *name;
+    into_buffer *call;
+} into_buffers[] = {
+    {"aggregate_text", ipnet_aggregate_text}, {"aggregate_text_legacy", ipnet_aggregate_text_legacy},
+    {"parse", ipnet_parse},                   {"parse_legacy", ipnet_parse_legacy},
+    {"print", ipnet_print},
+};
+
+static const struct {
+    const char *name;
+    yes_or_no *call;
+} yes_or_nos[] = {{"same_addresses", ipnet_same_addresses}, {"is_covered", ipnet_is_covered}};
+
+static const char *const statuses[] = {
+    "OK",           "BAD_LINE",       "NOT_UTF8",        "OUT_OF_MEMORY",     "BUFFER_TOO_SHORT", "NOT_A_NETWORK",
+    "WRONG_LENGTH", "UNKNOWN_FAMILY", "PREFIX_TOO_LONG", "BAD_LINE_IN_OTHER", "OTHER_NOT_UTF8",
+};
+
+static unsigned rows, calls, faults;
+
+static void fail(const struct row *row, const char *what)
+{
+    faults++;
+    printf("row %u, %s: %s\n", rows, row->function, what);
+}
+
+static void *exactly(size_t len)
+{
+    void *at = malloc(len > 0 ? len : 1);
+    if (at == NULL) {
+        abort();
+    }
+    return at;
+}
+
+/* The bytes of a field in quotes, and where it ends. */
+static const char *unquoted(const char *field, struct bytes *bytes)
+{
+    uint8_t buffer[MOST];
+    size_t len = 0;
+    for (field++; *field != '"'; field++) {
+        unsigned byte = (uint8_t)*field;
+        if (byte == '\\') {
+            field++;
+            byte = *field == 'n' ? '\n' : '\r';
+            if (*field == 'x') {
+                sscanf(field + 1, "%2x", &byte);
+                field += 2;
+            }
+        }
+        buffer[len++] = (uint8_t)byte;
+    }
+    bytes->len = len;
+    bytes->at = exactly(len);
+    memcpy(bytes->at, buffer, len);
+    return field + 1;
+}
+
+static bool read_row(const char *line, struct row *row)
+{
+    int at = 0;
+    if (sscanf(line, "%31s | %n", row->function, &at) != 1 || row->function[0] == '#') {
+        return false;
+    }
+    line = unquoted(line + at, &row->first) + strlen(" | ");
+    line = unquoted(line, &row->second) + strlen(" | ");
+    sscanf(line, "%31s |%n", row->status, &at);
+    line += at;
+    row->answer = (struct bytes){NULL, 0};
+    row->has_number = sscanf(line, " %zu", &row->number) == 1;
+    if (strncmp(line, " \"", 2) == 0) {
+        unquoted(line + 1, &row->answer);
+    }
+    return true;
+}
+
+static bool all_untouched(const uint8_t *at, size_t len)
+{
+    while (len > 0 && at[len - 1] == UNTOUCHED) {
+        len--;
+    }
+    return len == 0;
+}
+
+/* One call with a buffer of this length: what it must answer follows from the row and the length. */
+static void call_into_buffer(const struct row *row, into_buffer *call, size_t buffer_len)
+{
+    bool ok = strcmp(row->status, "OK") == 0, fits = row->answer.len <= buffer_len;
+    const char *wanted = ok && !fits ? "BUFFER_TOO_SHORT" : row->status;
+    size_t count = 77, wanted_count = ok ? row->answer.len : row->has_number ? row->number : 77;
+    uint8_t *buffer = exactly(buffer_len);
+    memset(buffer, UNTOUCHED, buffer_len);
+    uint8_t status = call(row->first.at, row->first.len, buffer, buffer_len, &count);
+    calls++;
+    if (status >= sizeof statuses / sizeof *statuses || strcmp(statuses[status], wanted) != 0) {
+        fail(row, "another status");
+    } else if (count != wanted_count) {
+        fail(row, "another number");
+    } else if (ok && fits && memcmp(buffer, row->answer.at, count) != 0) {
+        fail(row, "another answer");
+    }
+    size_t written = ok && fits ? row->answer.len : 0;
+    if (!all_untouched(buffer + written, buffer_len - written)) {
+        fail(row, "more is written than the answer");
+    }
+    free(buffer);
+}
+
+static void call_yes_or_no(const struct row *row, yes_or_no *call)
+{
+    bool ok = strcmp(row->status, "OK") == 0;
+    uint8_t answer = 77, wanted_answer = ok ? (uint8_t)row->number : 77;
+    size_t line = 77, wanted_line = !ok && row->has_number ? row->number : 77;
+    uint8_t status = call(row->first.at, row->first.len, row->second.at, row->second.len, &answer, &line);
+    calls++;
+    if (status >= sizeof statuses / sizeof *statuses || strcmp(statuses[status], row->status) != 0) {
+        fail(row, "another status");
+    } else if (answer != wanted_answer || line != wanted_line) {
+        fail(row, "another answer");
+    }
+}
+
+static void try_row(const struct row *row)
+{
+    unsigned before = calls;
+    for (size_t i = 0; i < sizeof into_buffers / sizeof *into_buffers; i++) {
+        if (strcmp(into_buffers[i].name, row->function) == 0) {
+            for (size_t len = 0; len <= row->answer.len + 2; len++) {
+                call_into_buffer(row, into_buffers[i].call, len);
+            }
+        }
+    }
+    for (size_t i = 0; i < sizeof yes_or_nos / sizeof *yes_or_nos; i++) {
+        if (strcmp(yes_or_nos[i].name, row->function) == 0) {
+            call_yes_or_no(row, yes_or_nos[i].call);
+        }
+    }
+    if (calls == before) {
+        fail(row, "no such function");
+    }
+}
+
+int main(int words, char **word)
+{
+    char line[4 * MOST];
+    FILE *file = words == 2 ? fopen(word[1], "r") : NULL;
+    if (file == NULL) {
+        fputs("rows: takes the file of rows\n", stderr);
+        return 2;
+    }
+    while (fgets(line, sizeof line, file) != NULL) {
+        struct row row;
+        if (read_row(line, &row)) {
+            rows++;
+            try_row(&row);
+            free(row.first.at);
+            free(row.second.at);
+            free(row.answer.at);
+        }
+    }
+    fclose(file);
+    printf("%u rows, %u calls, %u faults\n", rows, calls, faults);
+    return rows == 0 || faults > 0;
+}

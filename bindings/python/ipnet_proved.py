@@ -1,0 +1,213 @@
+"""Lists of IP networks aggregated and compared, by a library whose answers are proved.
+
+The work is done by the shared library libipnet.so, made of code in Rattle, which is Rust with contracts: each of its
+functions is proved to answer as its contract says. What is proved there and what is trusted, this module among it,
+stands in docs/C.md of the repository. `bindings/build` makes the library; the environment variable IPNET_LIB names the
+folder that has it, where it is not bindings/out.
+
+A list is a text with one network a line, or any iterable of networks; a network is a text, as "10.1.1.0/24", or an
+object of the standard module ipaddress: a network, an interface (an address with its host bits and a prefix length),
+or an address, which stands for the network of its full length.
+
+>>> aggregate_text("10.0.1.0/24\\n10.0.0.0/24\\n")
+'10.0.0.0/23\\n'
+>>> aggregate(["10.0.1.0/24", ipaddress.ip_network("10.0.0.0/24"), ipaddress.ip_address("fd00::1")])
+[IPv4Network('10.0.0.0/23'), IPv6Network('fd00::1/128')]
+>>> same_addresses("10.0.0.0/25\\n10.0.0.128/25", ["10.0.0.7/24"])
+True
+>>> is_covered(["10.0.0.0/25", "10.0.0.128/25"], "10.0.0.0/24")
+True
+>>> aggregate_text("10.0.0.0/24\\n\\nx\\n")
+Traceback (most recent call last):
+    ...
+ipnet_proved.BadLine: line 3: invalid IP address syntax
+"""
+import ctypes
+import ipaddress
+import os
+
+__all__ = [
+    "aggregate", "aggregate_text", "same_addresses", "is_covered", "parse", "canonical_text", "BadLine", "NotANetwork",
+]
+
+OK = 0
+BAD_LINE = 1
+NOT_UTF8 = 2
+OUT_OF_MEMORY = 3
+BUFFER_TOO_SHORT = 4
+NOT_A_NETWORK = 5
+WRONG_LENGTH = 6
+UNKNOWN_FAMILY = 7
+PREFIX_TOO_LONG = 8
+BAD_LINE_IN_OTHER = 9
+OTHER_NOT_UTF8 = 10
+
+MAX_BYTES = 18
+MAX_TEXT = 43
+
+
+class BadLine(ValueError):
+    """A line is neither empty nor a network: `line` is its number, counted from 1 with the empty ones, and `other`
+    tells whether it stands in the second of two lists."""
+
+    def __init__(self, line, other=False):
+        super().__init__(f"line {line}{' of the other list' if other else ''}: invalid IP address syntax")
+        self.line = line
+        self.other = other
+
+
+class NotANetwork(ValueError):
+    """The text, or the bytes, are those of no network."""
+
+
+def _load():
+    """The library, its functions declared as in include/ipnet.h."""
+    here = os.path.dirname(os.path.abspath(__file__))
+    folder = os.environ.get("IPNET_LIB", os.path.join(here, "..", "out"))
+    library = ctypes.CDLL(os.path.join(folder, "libipnet.so"))
+    read, size, number = ctypes.c_char_p, ctypes.c_size_t, ctypes.POINTER(ctypes.c_size_t)
+    byte = ctypes.POINTER(ctypes.c_uint8)
+    into_buffer = [read, size, read, size, number]
+    declared = {
+        "ipnet_aggregate_text": into_buffer,
+        "ipnet_aggregate_text_legacy": into_buffer,
+        "ipnet_same_addresses": [read, size, read, size, byte, number],
+        "ipnet_is_covered": [read, size, read, size, byte, number],
+        "ipnet_parse": into_buffer,
+        "ipnet_parse_legacy": into_buffer,
+        "ipnet_print": into_buffer,
+    }
+    for name, types in declared.items():
+        function = getattr(library, name)
+        function.argtypes = types
+        function.restype = ctypes.c_uint8
+    return library
+
+
+_library = _load()
+
+
+def _refuse(status, line):
+    """Raises what stands for a status."""
+    if status == BAD_LINE:
+        raise BadLine(line)
+    if status == BAD_LINE_IN_OTHER:
+        raise BadLine(line, other=True)
+    if status in (NOT_UTF8, OTHER_NOT_UTF8):
+        raise NotANetwork("the text is not UTF-8")
+    if status == OUT_OF_MEMORY:
+        raise MemoryError()
+    if status == PREFIX_TOO_LONG:
+        raise NotANetwork("invalid IP prefix length")
+    raise NotANetwork("invalid IP address syntax")
+
+
+def _into_buffer(function, data, room):
+    """What the call writes into a buffer of at least this room."""
+    count = ctypes.c_size_t(0)
+    while True:
+        buffer = ctypes.create_string_buffer(max(room, 1))
+        status = function(data, len(data), buffer, len(buffer), ctypes.byref(count))
+        if status == OK:
+            return ctypes.string_at(buffer, count.value)
+        if status != BUFFER_TOO_SHORT:
+            _refuse(status, count.value)
+        room = count.value
+
+
+def _yes_or_no(function, data, more):
+    """The answer of a call that tells yes or no."""
+    answer, line = ctypes.c_uint8(0), ctypes.c_size_t(0)
+    status = function(data, len(data), more, len(more), ctypes.byref(answer), ctypes.byref(line))
+    if status != OK:
+        _refuse(status, line.value)
+    return answer.value == 1
+
+
+def _line(network):
+    """A network as text."""
+    if isinstance(network, (ipaddress.IPv4Address, ipaddress.IPv6Address)) and not hasattr(network, "network"):
+        return f"{network}/{network.max_prefixlen}"
+    return str(network)
+
+
+def _text(networks):
+    """A list as text, in bytes: a surrogate, which no text in UTF-8 has, is refused by the library and not here."""
+    if isinstance(networks, bytes):
+        return networks
+    if not isinstance(networks, str):
+        lines = [_line(network) for network in networks]
+        for number, line in enumerate(lines, 1):
+            if not line or "\n" in line:
+                raise BadLine(number)
+        networks = "\n".join(lines)
+    return networks.encode("utf-8", "surrogatepass")
+
+
+def _bytes(network):
+    """A network's bytes: a byte for the family, the octets, the prefix length."""
+    if isinstance(network, (str, bytes)):
+        return _into_buffer(_library.ipnet_parse, _text(network), MAX_BYTES)
+    if isinstance(network, (ipaddress.IPv4Network, ipaddress.IPv6Network)):
+        octets, prefix_len = network.network_address.packed, network.prefixlen
+    elif hasattr(network, "network"):
+        octets, prefix_len = network.ip.packed, network.network.prefixlen
+    else:
+        octets, prefix_len = network.packed, network.max_prefixlen
+    return bytes([network.version == 6]) + octets + bytes([prefix_len])
+
+
+def aggregate_text(text, legacy=False):
+    """The shortest list of networks over exactly the addresses of the text's networks, as text, one a line: truncated,
+    IPv4 first, ascending, each once. With `legacy`, numbers may have leading zeros.
+
+    >>> aggregate_text("10.0.0.0/24\\n10.0.01.0/24\\n", legacy=True)
+    '10.0.0.0/23\\n'
+    """
+    function = _library.ipnet_aggregate_text_legacy if legacy else _library.ipnet_aggregate_text
+    data = _text(text)
+    return _into_buffer(function, data, len(data) + 1).decode("ascii")
+
+
+def aggregate(networks):
+    """The same of any list, as networks of ipaddress."""
+    return [ipaddress.ip_network(line) for line in aggregate_text(networks).splitlines()]
+
+
+def same_addresses(networks, others):
+    """Whether the two lists cover the same addresses.
+
+    >>> same_addresses(["10.0.0.0/25"], ["10.0.0.0/24"])
+    False
+    """
+    return _yes_or_no(_library.ipnet_same_addresses, _text(networks), _text(others))
+
+
+def is_covered(networks, network):
+    """Whether the list covers every address of the network, also where no one network of the list has them all.
+
+    >>> is_covered("10.0.0.0/25\\n", ipaddress.ip_address("10.0.0.200"))
+    False
+    """
+    return _yes_or_no(_library.ipnet_is_covered, _text(networks), _bytes(network))
+
+
+def parse(text, legacy=False):
+    """The network that a text writes, as an interface of ipaddress, which keeps the host bits.
+
+    >>> parse("010.0.0.1/08", legacy=True)
+    IPv4Interface('10.0.0.1/8')
+    """
+    function = _library.ipnet_parse_legacy if legacy else _library.ipnet_parse
+    data = _into_buffer(function, _text(text), MAX_BYTES)
+    kind = ipaddress.IPv6Interface if data[0] else ipaddress.IPv4Interface
+    return kind((data[1:-1], data[-1]))
+
+
+def canonical_text(network):
+    """The canonical text of a network: its address by RFC 5952 with the host bits, "/", and the prefix length.
+
+    >>> canonical_text("FD00:0::9/32")
+    'fd00::9/32'
+    """
+    return _into_buffer(_library.ipnet_print, _bytes(network), MAX_TEXT).decode("ascii")

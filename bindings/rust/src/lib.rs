@@ -1,0 +1,247 @@
+//! Lists of IP networks aggregated and compared, by a library whose answers are proved.
+//!
+//! The work is done by the static library `libipnet.a`, written in Rattle, which is Rust with contracts: each of its
+//! functions is proved to answer as its contract says. What is proved there and what is trusted, this crate among it,
+//! stands in `docs/C.md` of the repository. This crate lends it texts and buffers, and hands on its answers and its
+//! refusals. Nothing here panics, and no memory of the library outlives a call.
+//!
+//! ```
+//! use ipnet_proved::{aggregate_text, Error, Network};
+//!
+//! assert_eq!(aggregate_text("10.0.1.0/24\n10.0.0.0/24\n")?, "10.0.0.0/23\n");
+//! assert_eq!(aggregate_text("10.0.0.0/24\n\nx\n"), Err(Error::BadLine(3)));
+//!
+//! let network: Network = "10.0.0.7/24".parse()?;
+//! assert_eq!(network.to_string(), "10.0.0.7/24");
+//! # Ok::<(), Error>(())
+//! ```
+
+mod raw;
+
+use std::fmt;
+use std::net::{IpAddr, Ipv4Addr, Ipv6Addr};
+use std::str::FromStr;
+
+/// Why there is no answer.
+#[derive(Clone, Copy, Debug, PartialEq, Eq, Hash)]
+pub enum Error {
+    /// The line of this number, counted from 1 with the empty ones, is the first that is neither empty nor a network.
+    BadLine(usize),
+    /// The same, in the second of two texts; the first has no such line.
+    BadLineInOther(usize),
+    /// The text of one network writes none.
+    NotANetwork,
+    /// The prefix length is above the width of the address: 32, or 128.
+    PrefixTooLong,
+    /// `malloc` or `realloc` gave no memory.
+    OutOfMemory,
+}
+
+impl fmt::Display for Error {
+    fn fmt(&self, f: &mut fmt::Formatter<'_>) -> fmt::Result {
+        match self {
+            Error::BadLine(number) => write!(f, "line {number}: invalid IP address syntax"),
+            Error::BadLineInOther(number) => {
+                write!(f, "line {number} of the other text: invalid IP address syntax")
+            }
+            Error::NotANetwork => f.write_str("invalid IP address syntax"),
+            Error::PrefixTooLong => f.write_str("invalid IP prefix length"),
+            Error::OutOfMemory => f.write_str("out of memory"),
+        }
+    }
+}
+
+impl std::error::Error for Error {}
+
+/// An IP network: an address, host bits and all, and a prefix length within its width.
+///
+/// ```
+/// use ipnet_proved::{Error, Network};
+///
+/// let network: Network = "fd00::9/32".parse()?;
+/// assert_eq!(network.address(), "fd00::9".parse::<std::net::IpAddr>().unwrap());
+/// assert_eq!(network.prefix_len(), 32);
+/// assert_eq!("10.0.0.0/33".parse::<Network>(), Err(Error::NotANetwork));
+/// # Ok::<(), Error>(())
+/// ```
+#[derive(Clone, Copy, Debug, PartialEq, Eq, PartialOrd, Ord, Hash)]
+pub struct Network {
+    address: IpAddr,
+    prefix_len: u8,
+}
+
+impl Network {
+    /// The network of the address, which keeps its host bits, and the prefix length. [`Error::PrefixTooLong`] where the
+    /// length is above 32, or 128.
+    pub fn new(address: IpAddr, prefix_len: u8) -> Result<Network, Error> {
+        let width = if address.is_ipv4() { 32 } else { 128 };
+        if prefix_len > width {
+            return Err(Error::PrefixTooLong);
+        }
+        Ok(Network { address, prefix_len })
+    }
+
+    /// The network that the text writes in the legacy grammar, which takes leading zeros, as `010.0.0.1/08`, and reads
+    /// them as decimal. [`FromStr`] reads the strict grammar.
+    pub fn parse_legacy(text: &str) -> Result<Network, Error> {
+        raw::parse(text, raw::ipnet_parse_legacy).and_then(|bytes| Network::from_bytes(bytes.as_slice()))
+    }
+
+    /// The address, with its host bits.
+    pub fn address(&self) -> IpAddr {
+        self.address
+    }
+
+    /// The prefix length.
+    pub fn prefix_len(&self) -> u8 {
+        self.prefix_len
+    }
+
+    fn to_bytes(self) -> raw::Bytes {
+        let mut bytes = raw::Bytes::default();
+        match self.address {
+            IpAddr::V4(address) => {
+                bytes.push(0);
+                bytes.extend(&address.octets());
+            }
+            IpAddr::V6(address) => {
+                bytes.push(1);
+                bytes.extend(&address.octets());
+            }
+        }
+        bytes.push(self.prefix_len);
+        bytes
+    }
+
+    fn from_bytes(bytes: &[u8]) -> Result<Network, Error> {
+        match bytes {
+            [0, a, b, c, d, prefix_len] => Network::new(Ipv4Addr::new(*a, *b, *c, *d).into(), *prefix_len),
+            [1, octets @ .., prefix_len] => match <[u8; 16]>::try_from(octets) {
+                Ok(octets) => Network::new(Ipv6Addr::from(octets).into(), *prefix_len),
+                Err(_) => Err(Error::NotANetwork),
+            },
+            _ => Err(Error::NotANetwork),
+        }
+    }
+}
+
+/// The network of one address, at full length.
+impl From<IpAddr> for Network {
+    fn from(address: IpAddr) -> Network {
+        let prefix_len = if address.is_ipv4() { 32 } else { 128 };
+        Network { address, prefix_len }
+    }
+}
+
+impl From<Ipv4Addr> for Network {
+    fn from(address: Ipv4Addr) -> Network {
+        IpAddr::from(address).into()
+    }
+}
+
+impl From<Ipv6Addr> for Network {
+    fn from(address: Ipv6Addr) -> Network {
+        IpAddr::from(address).into()
+    }
+}
+
+/// Reads the strict grammar: an address, "/" and a prefix length, with no leading zero in a decimal number.
+impl FromStr for Network {
+    type Err = Error;
+
+    fn from_str(text: &str) -> Result<Network, Error> {
+        raw::parse(text, raw::ipnet_parse).and_then(|bytes| Network::from_bytes(bytes.as_slice()))
+    }
+}
+
+/// Writes the canonical text: the address by RFC 5952, "/", and the prefix length.
+impl fmt::Display for Network {
+    fn fmt(&self, f: &mut fmt::Formatter<'_>) -> fmt::Result {
+        raw::print(self.to_bytes().as_slice(), |text| f.pad(text))
+    }
+}
+
+/// The shortest list of networks over exactly the addresses of the text's networks, one network a line.
+///
+/// The text has one network a line, in the strict grammar; empty lines are skipped. The answer is truncated, IPv4
+/// first, ascending, each network once, each followed by `\n`.
+///
+/// ```
+/// use ipnet_proved::{aggregate_text, Error};
+///
+/// assert_eq!(aggregate_text("fd00::/32\n10.0.0.128/25\n10.0.0.7/25\n")?, "10.0.0.0/24\nfd00::/32\n");
+/// # Ok::<(), Error>(())
+/// ```
+pub fn aggregate_text(text: &str) -> Result<String, Error> {
+    raw::aggregate(text, raw::ipnet_aggregate_text)
+}
+
+/// The same for a text in the legacy grammar. The answer is strict text.
+///
+/// ```
+/// use ipnet_proved::{aggregate_text_legacy, Error};
+///
+/// assert_eq!(aggregate_text_legacy("10.0.0.0/24\n10.0.01.0/24\n")?, "10.0.0.0/23\n");
+/// # Ok::<(), Error>(())
+/// ```
+pub fn aggregate_text_legacy(text: &str) -> Result<String, Error> {
+    raw::aggregate(text, raw::ipnet_aggregate_text_legacy)
+}
+
+/// Whether the two texts, in the strict grammar, cover the same addresses.
+///
+/// ```
+/// use ipnet_proved::{same_addresses_text, Error};
+///
+/// assert!(same_addresses_text("10.0.0.0/25\n10.0.0.128/25\n", "10.0.0.7/24\n")?);
+/// assert_eq!(same_addresses_text("", "x"), Err(Error::BadLineInOther(1)));
+/// # Ok::<(), Error>(())
+/// ```
+pub fn same_addresses_text(text: &str, other: &str) -> Result<bool, Error> {
+    raw::same_addresses(text, other)
+}
+
+/// Whether the text, in the strict grammar, covers every address of the network: also where no one network of the text
+/// has them all. An address is asked as the network of its full length.
+///
+/// ```
+/// use ipnet_proved::{is_covered_text, Error, Network};
+/// use std::net::Ipv4Addr;
+///
+/// let list = "10.0.0.0/25\n10.0.0.128/25\n";
+/// assert!(is_covered_text(list, "10.0.0.0/24".parse::<Network>()?)?);
+/// assert!(!is_covered_text(list, Ipv4Addr::new(10, 0, 1, 0))?);
+/// # Ok::<(), Error>(())
+/// ```
+pub fn is_covered_text(text: &str, network: impl Into<Network>) -> Result<bool, Error> {
+    raw::is_covered(text, network.into().to_bytes().as_slice())
+}
+
+/// The networks as text, one a line.
+fn lines(networks: &[Network]) -> String {
+    networks.iter().map(|network| format!("{network}\n")).collect()
+}
+
+/// [`aggregate_text`] of networks.
+///
+/// ```
+/// use ipnet_proved::{aggregate, Error, Network};
+/// use std::net::Ipv4Addr;
+///
+/// let hosts = [Ipv4Addr::new(10, 0, 0, 1).into(), Ipv4Addr::new(10, 0, 0, 0).into()];
+/// assert_eq!(aggregate(&hosts)?, ["10.0.0.0/31".parse::<Network>()?]);
+/// # Ok::<(), Error>(())
+/// ```
+pub fn aggregate(networks: &[Network]) -> Result<Vec<Network>, Error> {
+    aggregate_text(&lines(networks))?.lines().map(str::parse).collect()
+}
+
+/// [`same_addresses_text`] of networks.
+pub fn same_addresses(networks: &[Network], others: &[Network]) -> Result<bool, Error> {
+    same_addresses_text(&lines(networks), &lines(others))
+}
+
+/// [`is_covered_text`] of networks.
+pub fn is_covered(networks: &[Network], network: impl Into<Network>) -> Result<bool, Error> {
+    is_covered_text(&lines(networks), network)
+}

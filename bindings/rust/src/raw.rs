@@ -1,0 +1,194 @@
+//! The functions of `include/ipnet.h`, and safe calls of them. All `unsafe` of this crate stands here.
+use crate::Error;
+use std::{fmt, str};
+
+const OK: u8 = 0;
+const BAD_LINE: u8 = 1;
+const OUT_OF_MEMORY: u8 = 3;
+const BUFFER_TOO_SHORT: u8 = 4;
+const NOT_A_NETWORK: u8 = 5;
+const PREFIX_TOO_LONG: u8 = 8;
+const BAD_LINE_IN_OTHER: u8 = 9;
+
+/// The most bytes of one network, and of its text.
+const MAX_BYTES: usize = 18;
+const MAX_TEXT: usize = 43;
+
+/// A text, its length, a buffer, its length, and where the number goes.
+type IntoBuffer = unsafe extern "C" fn(*const u8, usize, *mut u8, usize, *mut usize) -> u8;
+
+extern "C" {
+    pub fn ipnet_aggregate_text(
+        text: *const u8,
+        text_len: usize,
+        buffer: *mut u8,
+        buffer_len: usize,
+        count: *mut usize,
+    ) -> u8;
+    pub fn ipnet_aggregate_text_legacy(
+        text: *const u8,
+        text_len: usize,
+        buffer: *mut u8,
+        buffer_len: usize,
+        count: *mut usize,
+    ) -> u8;
+    fn ipnet_same_addresses(
+        text: *const u8,
+        text_len: usize,
+        other: *const u8,
+        other_len: usize,
+        same: *mut u8,
+        line: *mut usize,
+    ) -> u8;
+    fn ipnet_is_covered(
+        text: *const u8,
+        text_len: usize,
+        network: *const u8,
+        network_len: usize,
+        covered: *mut u8,
+        line: *mut usize,
+    ) -> u8;
+    pub fn ipnet_parse(
+        text: *const u8,
+        text_len: usize,
+        buffer: *mut u8,
+        buffer_len: usize,
+        count: *mut usize,
+    ) -> u8;
+    pub fn ipnet_parse_legacy(
+        text: *const u8,
+        text_len: usize,
+        buffer: *mut u8,
+        buffer_len: usize,
+        count: *mut usize,
+    ) -> u8;
+    fn ipnet_print(
+        network: *const u8,
+        network_len: usize,
+        buffer: *mut u8,
+        buffer_len: usize,
+        count: *mut usize,
+    ) -> u8;
+}
+
+/// The bytes of one network.
+#[derive(Default)]
+pub struct Bytes {
+    bytes: [u8; MAX_BYTES],
+    len: usize,
+}
+
+impl Bytes {
+    pub fn push(&mut self, byte: u8) {
+        self.extend(&[byte]);
+    }
+
+    /// At most 18 bytes are ever put in: a byte for the family, 4 or 16 octets, and a prefix length.
+    pub fn extend(&mut self, more: &[u8]) {
+        self.bytes[self.len..self.len + more.len()].copy_from_slice(more);
+        self.len += more.len();
+    }
+
+    pub fn as_slice(&self) -> &[u8] {
+        &self.bytes[..self.len]
+    }
+}
+
+/// The error of a status, with the line that is told beside it. Statuses of texts that are not UTF-8 never come from a
+/// `str`, and those of bytes that are no network's never from a [`crate::Network`].
+fn error_of(status: u8, line: usize) -> Error {
+    match status {
+        BAD_LINE => Error::BadLine(line),
+        BAD_LINE_IN_OTHER => Error::BadLineInOther(line),
+        OUT_OF_MEMORY => Error::OutOfMemory,
+        PREFIX_TOO_LONG => Error::PrefixTooLong,
+        _ => Error::NotANetwork,
+    }
+}
+
+/// The status, and the number beside it.
+fn call(into_buffer: IntoBuffer, text: &[u8], buffer: &mut [u8]) -> (u8, usize) {
+    let mut count = 0;
+    // SAFETY: the pointers and lengths are those of two slices and a variable that live through the call and, since two
+    // of them are borrowed mutably, do not overlap. A pointer of a slice or a variable is never null.
+    let status =
+        unsafe { into_buffer(text.as_ptr(), text.len(), buffer.as_mut_ptr(), buffer.len(), &mut count) };
+    (status, count)
+}
+
+/// A list aggregated. The answer is mostly shorter than the list. Where it is longer, as `::ffff:0.0.0.0/96` of
+/// `::ffff:0:0/96`, the first call tells the length that it needs.
+pub fn aggregate(text: &str, into_buffer: IntoBuffer) -> Result<String, Error> {
+    let mut buffer = Vec::new();
+    grow(&mut buffer, text.len() + 1)?;
+    loop {
+        let (status, count) = call(into_buffer, text.as_bytes(), &mut buffer);
+        match status {
+            OK => {
+                buffer.truncate(count);
+                // Canonical text is ASCII.
+                return String::from_utf8(buffer).map_err(|_| Error::NotANetwork);
+            }
+            BUFFER_TOO_SHORT => grow(&mut buffer, count)?,
+            _ => return Err(error_of(status, count)),
+        }
+    }
+}
+
+/// Makes the buffer this long.
+fn grow(buffer: &mut Vec<u8>, len: usize) -> Result<(), Error> {
+    buffer.try_reserve_exact(len - buffer.len()).map_err(|_| Error::OutOfMemory)?;
+    buffer.resize(len, 0);
+    Ok(())
+}
+
+/// The bytes of the network that the text writes.
+pub fn parse(text: &str, into_buffer: IntoBuffer) -> Result<Bytes, Error> {
+    let mut bytes = Bytes::default();
+    let (status, count) = call(into_buffer, text.as_bytes(), &mut bytes.bytes);
+    match status {
+        OK => {
+            bytes.len = count;
+            Ok(bytes)
+        }
+        NOT_A_NETWORK => Err(Error::NotANetwork),
+        _ => Err(error_of(status, count)),
+    }
+}
+
+/// Hands the network's text to `write`.
+pub fn print(network: &[u8], write: impl FnOnce(&str) -> fmt::Result) -> fmt::Result {
+    let mut buffer = [0; MAX_TEXT];
+    let (status, count) = call(ipnet_print, network, &mut buffer);
+    let text = buffer.get(..count).map(str::from_utf8);
+    match (status, text) {
+        (OK, Some(Ok(text))) => write(text),
+        _ => Err(fmt::Error),
+    }
+}
+
+/// Whether two lists cover the same addresses.
+pub fn same_addresses(text: &str, other: &str) -> Result<bool, Error> {
+    let (mut same, mut line) = (0, 0);
+    // SAFETY: as in `call`; the two texts are read alone, and may be one.
+    let status = unsafe {
+        ipnet_same_addresses(text.as_ptr(), text.len(), other.as_ptr(), other.len(), &mut same, &mut line)
+    };
+    match status {
+        OK => Ok(same == 1),
+        _ => Err(error_of(status, line)),
+    }
+}
+
+/// Whether a list covers every address of the network.
+pub fn is_covered(text: &str, network: &[u8]) -> Result<bool, Error> {
+    let (mut covered, mut line) = (0, 0);
+    // SAFETY: as in `call`.
+    let status = unsafe {
+        ipnet_is_covered(text.as_ptr(), text.len(), network.as_ptr(), network.len(), &mut covered, &mut line)
+    };
+    match status {
+        OK => Ok(covered == 1),
+        _ => Err(error_of(status, line)),
+    }
+}

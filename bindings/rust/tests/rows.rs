@@ -1,0 +1,150 @@
+//! The rows of `bindings/rows.txt`.
+use ipnet_proved::{
+    aggregate_text, aggregate_text_legacy, is_covered_text, same_addresses_text, Error, Network,
+};
+use std::net::{Ipv4Addr, Ipv6Addr};
+use std::fs;
+
+/// What a row wants, or what a call gave.
+#[derive(Debug, PartialEq)]
+enum Answer {
+    Text(String),
+    Network(Network),
+    Yes(bool),
+}
+
+struct Row {
+    function: String,
+    first: Vec<u8>,
+    second: Vec<u8>,
+    status: String,
+    answer: String,
+}
+
+/// The bytes of a field in quotes, and what stands after it.
+fn unquoted(field: &str) -> (Vec<u8>, &str) {
+    let mut bytes = Vec::new();
+    let mut rest = field.strip_prefix('"').expect("a quote");
+    loop {
+        let (byte, len) = match rest.as_bytes() {
+            [b'"', ..] => return (bytes, &rest[1..]),
+            [b'\\', b'n', ..] => (b'\n', 2),
+            [b'\\', b'r', ..] => (b'\r', 2),
+            [b'\\', b'x', ..] => (u8::from_str_radix(&rest[2..4], 16).unwrap(), 4),
+            [byte, ..] => (*byte, 1),
+            [] => panic!("a quote is missing: {field}"),
+        };
+        bytes.push(byte);
+        rest = &rest[len..];
+    }
+}
+
+fn row(line: &str) -> Row {
+    let (function, rest) = line.split_once(" | ").unwrap();
+    let (first, rest) = unquoted(rest);
+    let (second, rest) = unquoted(rest.strip_prefix(" | ").unwrap());
+    let (status, answer) = rest.strip_prefix(" | ").unwrap().split_once(" |").unwrap();
+    Row {
+        function: function.to_owned(),
+        first,
+        second,
+        status: status.to_owned(),
+        answer: answer.trim_start().to_owned(),
+    }
+}
+
+/// The network of its bytes, where it can be one.
+fn network(bytes: &[u8]) -> Result<Network, Error> {
+    match bytes {
+        [0, a, b, c, d, len] => Network::new(Ipv4Addr::new(*a, *b, *c, *d).into(), *len),
+        [1, octets @ .., len] => {
+            let octets = <[u8; 16]>::try_from(octets).map_err(|_| Error::NotANetwork)?;
+            Network::new(Ipv6Addr::from(octets).into(), *len)
+        }
+        _ => Err(Error::NotANetwork),
+    }
+}
+
+fn wanted(row: &Row) -> Result<Answer, Error> {
+    let number = || row.answer.parse::<usize>().unwrap();
+    match row.status.as_str() {
+        "OK" => match row.function.as_str() {
+            "same_addresses" | "is_covered" => Ok(Answer::Yes(number() == 1)),
+            "parse" | "parse_legacy" => network(&unquoted(&row.answer).0).map(Answer::Network),
+            _ => Ok(Answer::Text(String::from_utf8(unquoted(&row.answer).0).unwrap())),
+        },
+        "BAD_LINE" => Err(Error::BadLine(number())),
+        "BAD_LINE_IN_OTHER" => Err(Error::BadLineInOther(number())),
+        "PREFIX_TOO_LONG" => Err(Error::PrefixTooLong),
+        _ => Err(Error::NotANetwork),
+    }
+}
+
+/// What the call gives, where both of its texts are texts.
+fn given(row: &Row) -> Option<Result<Answer, Error>> {
+    let first = std::str::from_utf8(&row.first);
+    let second = std::str::from_utf8(&row.second);
+    Some(match row.function.as_str() {
+        "aggregate_text" => aggregate_text(first.ok()?).map(Answer::Text),
+        "aggregate_text_legacy" => aggregate_text_legacy(first.ok()?).map(Answer::Text),
+        "same_addresses" => same_addresses_text(first.ok()?, second.ok()?).map(Answer::Yes),
+        "is_covered" => {
+            network(&row.second).and_then(|n| is_covered_text(first.unwrap_or(""), n)).map(Answer::Yes)
+        }
+        "parse" => first.ok()?.parse().map(Answer::Network),
+        "parse_legacy" => Network::parse_legacy(first.ok()?).map(Answer::Network),
+        "print" => network(&row.first).map(|n| Answer::Text(n.to_string())),
+        other => panic!("no function {other}"),
+    })
+}
+
+#[test]
+fn rows() {
+    let path = concat!(env!("CARGO_MANIFEST_DIR"), "/../rows.txt");
+    let mut tried = 0;
+    for line in fs::read_to_string(path).unwrap().lines() {
+        if line.is_empty() || line.starts_with('#') {
+            continue;
+        }
+        let row = row(line);
+        // A `&str` is always UTF-8.
+        if row.status != "NOT_UTF8" && row.status != "OTHER_NOT_UTF8" {
+            if let Some(given) = given(&row) {
+                tried += 1;
+                assert_eq!(given, wanted(&row), "{line}");
+            }
+        }
+    }
+    assert!(tried > 40, "{tried} rows");
+}
+
+#[test]
+fn lists_of_networks() {
+    let parsed = |texts: &[&str]| texts.iter().map(|t| t.parse().unwrap()).collect::<Vec<Network>>();
+    let halves = parsed(&["10.0.0.128/25", "fd00::/32", "10.0.0.9/25"]);
+    let whole = parsed(&["10.0.0.0/24", "fd00::/32"]);
+    assert_eq!(ipnet_proved::aggregate(&halves), Ok(whole.clone()));
+    assert_eq!(ipnet_proved::aggregate(&[]), Ok(vec![]));
+    assert_eq!(ipnet_proved::same_addresses(&halves, &whole), Ok(true));
+    assert_eq!(ipnet_proved::same_addresses(&halves, &whole[..1]), Ok(false));
+    assert_eq!(ipnet_proved::is_covered(&halves, whole[0]), Ok(true));
+    assert_eq!(ipnet_proved::is_covered(&halves, Ipv4Addr::new(10, 0, 1, 0)), Ok(false));
+}
+
+#[test]
+fn threads() {
+    let list: String = (0..1000).map(|i| format!("10.{}.{}.0/24\n", i / 256, i % 256)).collect();
+    let alone = aggregate_text(&list).unwrap();
+    std::thread::scope(|scope| {
+        for _ in 0..4 {
+            scope.spawn(|| assert_eq!(aggregate_text(&list).as_ref(), Ok(&alone)));
+        }
+    });
+}
+
+#[test]
+fn errors_in_words() {
+    assert_eq!(Error::BadLine(3).to_string(), "line 3: invalid IP address syntax");
+    assert_eq!(Network::new(Ipv4Addr::LOCALHOST.into(), 33), Err(Error::PrefixTooLong));
+    assert_eq!(format!("{:>12}|", "10.0.0.0/8".parse::<Network>().unwrap()), "  10.0.0.0/8|");
+}

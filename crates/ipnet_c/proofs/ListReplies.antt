@@ -1,0 +1,187 @@
+-- Replies to lists of networks.
+use Rattle.std.proofs.Common.{◌≡◌, ℕ, ◌⊎◌, ◌↔◌, List, [], ◌∷◌, map, Result, Ok, Err, String, Global, string_bytes}
+use Rattle.std.proofs.Common.{inl, inr, refl, subst, IsUtf8, Bool, IsTrue}
+use Rattle.std.specs.Int.{from_bool}
+use Rattle.ipnet.specs.Network.{Network}
+use Rattle.ipnet.specs.Blocks.{HaveSameCover}
+use Rattle.ipnet.specs.Bytes.{HasWrongTaggedLen, HasUnknownVariant, HasLongTaggedPrefix}
+use Rattle.ipnet.specs.NetworkOf.{ip_network}
+use Rattle.ipnet.specs.Lines.{lines_of, AreNetworksOf, IsFirstBadLine}
+use Rattle.ipnet.specs.declared.compact.CompactError.{CompactError}
+use Rattle.ipnet.specs.declared.compact.CompactError.TheVariants.{Length, Variant, Prefix}
+use Rattle.ipnet.specs.declared.net.IpNet.{IpNet}
+use Rattle.ipnet.specs.declared.parser.Grammar.{Grammar}
+use Rattle.ipnet.specs.declared.parser.Grammar.TheVariants.{Strict}
+use Rattle.ipnet.proofs.LineLaws.{none_bad, all_good}
+use Rattle.ipnet_tool.specs.Answers.{IsTextAnswer, StartsWithBadLine}
+use Rattle.ipnet_tool.specs.declared.tool.ToolError.TheVariants as ToolErrors
+use Rattle.ipnet_c.specs.Buffers.{IsWritten, IsTooLong}
+use Rattle.ipnet_c.specs.Replies.{IsAggregateReply, IsSameAddressesReply, IsCoveredReply, AreBytesOf, IsBlockCoveredBy}
+use Rattle.ipnet_c.proofs.StatusLaws.{differ, not_other, yes_exactly}
+
+-- no line is bad before memory is needed
+abbrev pub IsGoodAtOnce : Grammar → List ℕ → Type 0
+IsGoodAtOnce grammar text = (number : ℕ) → ¬ (StartsWithBadLine grammar (lines_of text) number)
+
+pub good_at_once : (grammar : Grammar) (text : List ℕ) (networks : List Network)
+    → AreNetworksOf grammar (lines_of text) networks → IsGoodAtOnce grammar text
+good_at_once grammar text networks written number h = none_bad grammar (lines_of text) networks number written h.first
+
+-- the lines of an empty text write no network
+pub none_of_none : (text : List ℕ) (list : List IpNet) → AreNetworksOf Strict (lines_of text) (map ip_network list)
+    → text ≡ [] → list ≡ []
+none_of_none [] [] written e = refl
+none_of_none [] (n ∷ list) written e = absurd cc
+none_of_none (b ∷ text) list written e = absurd cc
+
+-- ---- a list aggregated
+
+-- the tool's answer, written where there is room
+pub aggregated : (grammar : Grammar) (text bytes old new : List ℕ) (count_old count status : ℕ) (answer : String Global)
+    → IsUtf8 text → IsTextAnswer grammar text (Ok answer) → bytes ≡ string_bytes answer
+    → (status ≡ 0) ⊎ (status ≡ 4)
+    → (status ≡ 0 → IsWritten bytes old new count) → (status ≡ 4 → IsTooLong bytes old new count)
+    → IsAggregateReply grammar text old new count_old count status
+aggregated grammar text bytes old new count_old count status answer utf8 told bytes_are known ok short = record {
+  known = elim known [ inl e ↦ inl e | inr e ↦ inr (inl e) ];
+  ok = λ e. (string_bytes answer, told.answer, subst (λ b. IsWritten b old new count) bytes_are (ok e));
+  too_short = λ e. (string_bytes answer, told.answer, subst (λ b. IsTooLong b old new count) bytes_are (short e));
+  bad_line = λ e. absurd (not_other status 1 known refl refl e);
+  not_utf8 = (λ e. absurd (not_other status 2 known refl refl e), λ invalid. absurd (invalid utf8));
+  buffer_kept = λ not_ok. elim known [ inl e ↦ absurd (not_ok e) | inr e ↦ (short e).kept ];
+  count_kept = λ e. elim e [
+    | inl e ↦ absurd (not_other status 2 known refl refl e)
+    | inr e ↦ absurd (not_other status 3 known refl refl e)
+  ];
+  empty = λ none e. not_other status 3 known refl refl e;
+  bad_at_once = λ number u h. let clash = told.bad_at_once number h in absurd cc;
+}
+
+-- want of memory in the tool
+pub not_aggregated : (grammar : Grammar) (text buffer : List ℕ) (count : ℕ) → IsUtf8 text
+    → IsTextAnswer grammar text (Err ToolErrors.Memory) → IsAggregateReply grammar text buffer buffer count count 3
+not_aggregated grammar text buffer count utf8 told = record {
+  known = inr (inr (inr (inr refl)));
+  ok = λ e. absurd (differ 3 0 refl e);
+  too_short = λ e. absurd (differ 3 4 refl e);
+  bad_line = λ e. absurd (differ 3 1 refl e);
+  not_utf8 = (λ e. absurd (differ 3 2 refl e), λ invalid. absurd (invalid utf8));
+  buffer_kept = λ e. refl;
+  count_kept = λ e. refl;
+  empty = λ none e. told.empty none;
+  bad_at_once = λ number u h. let clash = told.bad_at_once number h in absurd cc;
+}
+
+-- ---- two lists compared
+
+pub compared : (text other : List ℕ) (same_old same line : ℕ) (networks others : List Network) (answer : Bool)
+    → IsUtf8 text → IsUtf8 other → AreNetworksOf Strict (lines_of text) networks
+    → AreNetworksOf Strict (lines_of other) others → IsTrue answer ↔ HaveSameCover networks others
+    → same ≡ from_bool answer → IsSameAddressesReply text other same_old same line line 0
+compared text other same_old same line networks others answer utf8 utf8_other written written_other h told = record {
+  known = inl refl;
+  ok = λ e. (networks, others, written, written_other, yes_exactly (HaveSameCover networks others) answer same h told);
+  bad_line = λ e. absurd (differ 0 1 refl e);
+  bad_line_in_other = λ e. absurd (differ 0 9 refl e);
+  not_utf8 = (λ e. absurd (differ 0 2 refl e), λ invalid. absurd (invalid utf8));
+  other_not_utf8 = (λ e. absurd (differ 0 10 refl e), λ invalid. absurd (invalid.1 utf8_other));
+  same_kept = λ not_ok. absurd (not_ok refl);
+  line_kept = λ a b. refl;
+  empty = λ a b. refl;
+  bad_at_once = λ number a b h. absurd (good_at_once Strict text networks written number h);
+}
+
+pub other_refused : (text other : List ℕ) (same line_old line : ℕ) (networks : List Network) → IsUtf8 text
+    → IsUtf8 other → AreNetworksOf Strict (lines_of text) networks → IsFirstBadLine Strict (lines_of other) line
+    → ¬ (other ≡ []) → IsSameAddressesReply text other same same line_old line 9
+other_refused text other same line_old line networks utf8 utf8_other written bad some = record {
+  known = inr (inr (inl refl));
+  ok = λ e. absurd (differ 9 0 refl e);
+  bad_line = λ e. absurd (differ 9 1 refl e);
+  bad_line_in_other = λ e. (bad, all_good Strict (lines_of text) networks written);
+  not_utf8 = (λ e. absurd (differ 9 2 refl e), λ invalid. absurd (invalid utf8));
+  other_not_utf8 = (λ e. absurd (differ 9 10 refl e), λ invalid. absurd (invalid.1 utf8_other));
+  same_kept = λ e. refl;
+  line_kept = λ a b. absurd (b refl);
+  empty = λ a b. absurd (some b);
+  bad_at_once = λ number a b h. absurd (good_at_once Strict text networks written number h);
+}
+
+pub not_compared : (text other : List ℕ) (same line : ℕ) → IsUtf8 text → IsUtf8 other → (text ≡ [] → ¬ (other ≡ []))
+    → IsGoodAtOnce Strict text → IsSameAddressesReply text other same same line line 3
+not_compared text other same line utf8 utf8_other some good = record {
+  known = inr (inr (inr (inr (inr refl))));
+  ok = λ e. absurd (differ 3 0 refl e);
+  bad_line = λ e. absurd (differ 3 1 refl e);
+  bad_line_in_other = λ e. absurd (differ 3 9 refl e);
+  not_utf8 = (λ e. absurd (differ 3 2 refl e), λ invalid. absurd (invalid utf8));
+  other_not_utf8 = (λ e. absurd (differ 3 10 refl e), λ invalid. absurd (invalid.1 utf8_other));
+  same_kept = λ e. refl;
+  line_kept = λ a b. refl;
+  empty = λ a b. absurd (some a b);
+  bad_at_once = λ number a b h. absurd (good number h);
+}
+
+-- ---- a list asked for a network
+
+-- what reading bytes tells of their faults
+record TellsFaults (bytes : List ℕ) (result : Result IpNet CompactError) : Type 0 where
+  pub length : (result ≡ Err Length) ↔ HasWrongTaggedLen bytes
+  pub variant : (result ≡ Err Variant) ↔ HasUnknownVariant bytes
+  pub prefix : (result ≡ Err Prefix) ↔ HasLongTaggedPrefix bytes
+
+pub told_whether_covered : (text bytes : List ℕ) (covered_old covered line : ℕ) (networks : List Network) (net : IpNet)
+    (answer : Bool) → TellsFaults bytes (Ok net) → AreBytesOf bytes (ip_network net) → IsUtf8 text
+    → AreNetworksOf Strict (lines_of text) networks → IsTrue answer ↔ IsBlockCoveredBy networks (ip_network net)
+    → covered ≡ from_bool answer → IsCoveredReply text bytes covered_old covered line line 0
+told_whether_covered text bytes covered_old covered line networks net answer faults is utf8 written h told = record {
+  known = inl refl;
+  ok = λ e. (
+    networks,
+    ip_network net,
+    written,
+    is,
+    yes_exactly (IsBlockCoveredBy networks (ip_network net)) answer covered h told,
+  );
+  bad_line = λ e. absurd (differ 0 1 refl e);
+  not_utf8 = (λ e. absurd (differ 0 2 refl e), λ invalid. absurd (invalid.1 utf8));
+  wrong_length = (λ e. absurd (differ 0 6 refl e), λ wrong. let clash = faults.length.1 wrong in absurd cc);
+  unknown_family = (λ e. absurd (differ 0 7 refl e), λ wrong. let clash = faults.variant.1 wrong in absurd cc);
+  prefix_too_long = (λ e. absurd (differ 0 8 refl e), λ wrong. let clash = faults.prefix.1 wrong in absurd cc);
+  covered_kept = λ not_ok. absurd (not_ok refl);
+  line_kept = λ e. refl;
+  empty = λ none e. differ 0 3 refl e;
+  bad_at_once = λ number n a b first. absurd (good_at_once Strict text networks written number first);
+}
+
+pub told_not_utf8 : (text bytes : List ℕ) (covered line : ℕ) (net : IpNet) → TellsFaults bytes (Ok net)
+    → AreBytesOf bytes (ip_network net) → ¬ (IsUtf8 text) → IsCoveredReply text bytes covered covered line line 2
+told_not_utf8 text bytes covered line net faults is invalid = record {
+  known = inr (inr (inl refl));
+  ok = λ e. absurd (differ 2 0 refl e);
+  bad_line = λ e. absurd (differ 2 1 refl e);
+  not_utf8 = (λ e. ((ip_network net, is), invalid), λ h. refl);
+  wrong_length = (λ e. absurd (differ 2 6 refl e), λ wrong. let clash = faults.length.1 wrong in absurd cc);
+  unknown_family = (λ e. absurd (differ 2 7 refl e), λ wrong. let clash = faults.variant.1 wrong in absurd cc);
+  prefix_too_long = (λ e. absurd (differ 2 8 refl e), λ wrong. let clash = faults.prefix.1 wrong in absurd cc);
+  covered_kept = λ e. refl;
+  line_kept = λ e. refl;
+  empty = λ none e. differ 2 3 refl e;
+  bad_at_once = λ number n a utf8 h. absurd (invalid utf8);
+}
+
+pub told_out_of_memory : (text bytes : List ℕ) (covered line : ℕ) (net : IpNet) → TellsFaults bytes (Ok net)
+    → IsUtf8 text → ¬ (text ≡ []) → IsGoodAtOnce Strict text → IsCoveredReply text bytes covered covered line line 3
+told_out_of_memory text bytes covered line net faults utf8 some good = record {
+  known = inr (inr (inr (inr (inr (inr refl)))));
+  ok = λ e. absurd (differ 3 0 refl e);
+  bad_line = λ e. absurd (differ 3 1 refl e);
+  not_utf8 = (λ e. absurd (differ 3 2 refl e), λ invalid. absurd (invalid.1 utf8));
+  wrong_length = (λ e. absurd (differ 3 6 refl e), λ wrong. let clash = faults.length.1 wrong in absurd cc);
+  unknown_family = (λ e. absurd (differ 3 7 refl e), λ wrong. let clash = faults.variant.1 wrong in absurd cc);
+  prefix_too_long = (λ e. absurd (differ 3 8 refl e), λ wrong. let clash = faults.prefix.1 wrong in absurd cc);
+  covered_kept = λ e. refl;
+  line_kept = λ e. refl;
+  empty = λ none. absurd (some none);
+  bad_at_once = λ number n a b h. absurd (good number h);
+}

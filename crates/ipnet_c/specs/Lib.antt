@@ -1,0 +1,4 @@
+-- What the contracts of this crate cite.
+pub mod Statuses
+pub mod Buffers
+pub mod Replies

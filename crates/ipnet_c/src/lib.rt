@@ -1,0 +1,10 @@
+//! The proved library for callers in C, and in languages that call C: a static library with these functions under
+//! their own names, declared in `include/ipnet.h`.
+#![tactic(auto)]
+
+pub mod aggregates;
+mod buffers;
+pub mod covers;
+mod lists;
+pub mod networks;
+mod statuses;
