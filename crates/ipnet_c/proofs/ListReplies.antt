@@ -125,7 +125,7 @@ not_compared text other same line utf8 utf8_other some good = record {
 -- ---- a list asked for a network
 
 -- what reading bytes tells of their faults
-record TellsFaults (bytes : List ℕ) (result : Result IpNet CompactError) : Type 0 where
+pub record TellsFaults (bytes : List ℕ) (result : Result IpNet CompactError) : Type 0 where
   pub length : (result ≡ Err Length) ↔ HasWrongTaggedLen bytes
   pub variant : (result ≡ Err Variant) ↔ HasUnknownVariant bytes
   pub prefix : (result ≡ Err Prefix) ↔ HasLongTaggedPrefix bytes
