@@ -97,8 +97,8 @@ pub fn masks_add_up()
         → netmask_number f prefix_len + hostmask_number f prefix_len ≡ greatest_number f }
 {}
 
-/// The netmask of a length has its ones at the places of the prefix, and the host mask at all others; and an address lies
-/// in a block exactly where it has the network's bits at the ones of the netmask.
+/// The netmask of a length has its ones at the places of the prefix, and the host mask at all others; and an address
+/// lies in a block exactly where it has the network's bits at the ones of the netmask.
 pub fn masks_mark_the_prefix()
     ensures netmask { (f : Family) (prefix_len i : ℕ) → prefix_len ≤ width f → i < width f
         → (bit (netmask_number f prefix_len) i ≡ 1) ↔ (width f - prefix_len ≤ i) }
@@ -177,8 +177,8 @@ pub fn aggregate_is_canonical()
     ensures disjoint { (networks answer : List Network) → IsAggregateOf answer networks → ArePairwiseDisjoint answer }
 {}
 
-/// Two lists have equal aggregates exactly where they cover the same addresses. Of one aggregate, and the lists that it
-/// is of, `IsCanonicalAggregateOf` says this; here it is said of two.
+/// Two lists have equal aggregates exactly where they cover the same addresses. `IsCanonicalAggregateOf` says this of
+/// one aggregate and the lists that it is of; here it is said of two.
 pub fn equal_aggregates_are_equal_covers()
     ensures { (networks others answer other : List Network) → All IsNetwork networks → All IsNetwork others
         → IsAggregateOf answer networks → IsAggregateOf other others
@@ -186,7 +186,8 @@ pub fn equal_aggregates_are_equal_covers()
 {}
 
 /// Order, repeats and host bits of a list do not change its aggregate: lists with the same truncated members have the
-/// same aggregate. `IsCanonicalAggregateOf` says this of lists of networks; here it is said of all lists, and both ways.
+/// same aggregate. `IsCanonicalAggregateOf` says this of the aggregate of a list of networks; here it is said of any two
+/// lists, both ways.
 pub fn order_repeats_and_host_bits_do_not_matter()
     ensures { (networks others answer : List Network)
         → ((n : Network) → Contains (map truncation networks) n ↔ Contains (map truncation others) n)

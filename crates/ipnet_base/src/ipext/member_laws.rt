@@ -127,8 +127,9 @@ pub fn ipv6_range_gives_its_addresses(
     ensures count { ⟦<Ipv6AddrRange as Iterator>⟧.remaining old ≡ at_most (address_count (ipv6_range old)) }
 {}
 
-/// As an iterator a range of either family gives, of the addresses that are left, the first from the front and the last from the
-/// back, and leaves the others; both calls may be made at any time, and as many addresses come as are left.
+/// As an iterator a range of either family gives, of the addresses that are left, the first from the front and the
+/// last from the back, and leaves the others; both calls may be made at any time, and as many addresses come as are
+/// left.
 pub fn ip_range_gives_its_addresses(old: IpAddrRange, answer: Option<IpAddr>, new: IpAddrRange)
     ensures next { ⟦<IpAddrRange as Iterator>⟧.next_gives old answer new
         ↔ YieldsFirstBy ip_address ip_addresses old answer new }
