@@ -186,8 +186,8 @@ pub fn equal_aggregates_are_equal_covers()
 {}
 
 /// Order, repeats and host bits of a list do not change its aggregate: lists with the same truncated members have the
-/// same aggregate. `IsCanonicalAggregateOf` says this of the aggregate of a list of networks; here it is said of any two
-/// lists, both ways.
+/// same aggregate. `IsCanonicalAggregateOf` says this of the aggregate of a list of networks; here it is said of any
+/// two lists, both ways.
 pub fn order_repeats_and_host_bits_do_not_matter()
     ensures { (networks others answer : List Network)
         → ((n : Network) → Contains (map truncation networks) n ↔ Contains (map truncation others) n)
