@@ -7,7 +7,7 @@ use Rattle.std.specs.Int.{w32, w128, from_be_bytes}
 use Rattle.ipnet_base.specs.Address.{Family, IPv4, IPv6, width, family_index}
 use Rattle.ipnet_base.specs.Network.{Network, IsNetwork}
 use Rattle.ipnet.specs.CanonicalTexts.{address_octets}
-use Rattle.ipnet.specs.Results.{IsOkExactlyAt}
+use Rattle.ipnet_base.specs.Results.{IsOkExactlyAt}
 use Rattle.ipnet.specs.Bytes.{network_bytes, octet_count, HasUnknownVariant}
 use Rattle.ipnet_base.proofs.DigitLaws.{number_back}
 use Rattle.ipnet.proofs.NumberOctets.{sixteen_again}

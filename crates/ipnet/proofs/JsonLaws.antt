@@ -4,7 +4,7 @@ use Rattle.serde_json.specs.Data.{Data, null, boolean, number, string, array, ob
 use Rattle.serde_json.specs.Find.{as_str}
 use Rattle.ipnet_base.specs.Network.{Network}
 use Rattle.ipnet.specs.NetworkTexts.{ReadsNetwork}
-use Rattle.ipnet.specs.Results.{IsOkExactlyAt}
+use Rattle.ipnet_base.specs.Results.{IsOkExactlyAt}
 use Rattle.ipnet.specs.JsonTexts.{IsNetworkJson, IsNotJsonString, IsJsonStringOfNoNetwork}
 use Rattle.ipnet.specs.declared.json.JsonError.{JsonError}
 use Rattle.ipnet.specs.declared.json.JsonError.TheVariants.{NotString, Syntax}

@@ -7,7 +7,6 @@ pub mod AddressTexts
 pub mod NetworkTexts
 pub mod CanonicalTexts
 pub mod Lines
-pub mod Results
 pub mod Bytes
 pub mod JsonTexts
 pub mod ReaderSteps
@@ -22,3 +21,4 @@ pub use Rattle.ipnet_base.specs.Ranges
 pub use Rattle.ipnet_base.specs.RangeOf
 pub use Rattle.ipnet_base.specs.Arithmetic
 pub use Rattle.ipnet_base.specs.Values
+pub use Rattle.ipnet_base.specs.Results

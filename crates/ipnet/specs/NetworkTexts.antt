@@ -7,7 +7,7 @@ use Rattle.ipnet_base.specs.Network.{Network}
 use Rattle.ipnet.specs.declared.parser.Grammar.{Grammar}
 use Rattle.ipnet.specs.Numerals.{IsDecimal}
 use Rattle.ipnet.specs.AddressTexts.{IsIpv4AddressText, IsIpv6AddressText}
-use Rattle.ipnet.specs.Results.{IsOkExactlyAt}
+use Rattle.ipnet_base.specs.Results.{IsOkExactlyAt}
 
 -- The text writes this IPv4 network: an IPv4 address, "/" and a length of at most two digits (RFC 4632, section
 -- 3.1). The network's number is the octets, the most significant first, host bits and all.

@@ -2,7 +2,7 @@
 ghost use Rattle.std.specs.Prelude.{◌≡◌, ◌≢◌, ◌+◌, ◌≤◌, ◌↔◌, [], ◌∷◌, ◌++◌, length};
 ghost use Rattle.ipnet_base.specs.Address.{IPv4, IPv6};
 ghost use Rattle.ipnet.specs.NetworkOf.{ipv4_network, ipv6_network, ip_network};
-ghost use Rattle.ipnet.specs.Results.{IsOkExactlyAt};
+ghost use Rattle.ipnet_base.specs.Results.{IsOkExactlyAt};
 ghost use Rattle.ipnet.specs.Bytes.{network_bytes, tagged_network_bytes, HasWrongLen, HasLongPrefix};
 ghost use Rattle.ipnet.specs.Bytes.{HasWrongTaggedLen, HasUnknownVariant, HasLongTaggedPrefix};
 

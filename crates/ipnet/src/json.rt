@@ -5,7 +5,7 @@ ghost use Rattle.serde_json.specs.View.{view};
 ghost use Rattle.ipnet.specs.NetworkOf.{ipv4_network, ipv6_network, ip_network};
 ghost use Rattle.ipnet.specs.declared.parser.Grammar.TheVariants.{Strict};
 ghost use Rattle.ipnet.specs.NetworkTexts.{IsNetworkText, IsIpv4NetworkText, IsIpv6NetworkText};
-ghost use Rattle.ipnet.specs.Results.{IsOkExactlyAt};
+ghost use Rattle.ipnet_base.specs.Results.{IsOkExactlyAt};
 ghost use Rattle.ipnet.specs.JsonTexts.{network_json, IsNetworkJson, IsNotJsonString, IsJsonStringOfNoNetwork};
 
 pub mod laws;

@@ -11,6 +11,7 @@ ghost use Rattle.ipnet_base.specs.Network.{AreSiblings, AreHalves, IsBefore, tru
 ghost use Rattle.ipnet_base.specs.Blocks.{IsCoveredBy, HaveSameCover, IsMaximal, AreMaximalBlocks, ArePairwiseDisjoint};
 ghost use Rattle.ipnet_base.specs.Blocks.{IsExactCover, IsShortestCover, IsAggregateOf, IsCanonicalAggregateOf};
 ghost use Rattle.ipnet_base.specs.Blocks.{AreAggregatedNeighbours, IsAscending, IsInEither, AreSeparated};
+ghost use Rattle.ipnet_base.specs.Arithmetic.{bit};
 ghost use Rattle.ipnet_base.specs.Subnets.{IsLargestSubnetAt};
 ghost use Rattle.ipnet_base.specs.Masks.{netmask_number, hostmask_number, IsNetmaskOf};
 
@@ -96,6 +97,18 @@ pub fn masks_add_up()
         → netmask_number f prefix_len + hostmask_number f prefix_len ≡ greatest_number f }
 {}
 
+/// The netmask of a length has its ones at the places of the prefix, and the host mask at all others; and an address
+/// lies in a block exactly where it has the network's bits at the ones of the netmask.
+pub fn masks_mark_the_prefix()
+    ensures netmask { (f : Family) (prefix_len i : ℕ) → prefix_len ≤ width f → i < width f
+        → (bit (netmask_number f prefix_len) i ≡ 1) ↔ (width f - prefix_len ≤ i) }
+    ensures hostmask { (f : Family) (prefix_len i : ℕ) → prefix_len ≤ width f → i < width f
+        → (bit (hostmask_number f prefix_len) i ≡ 1) ↔ (i < width f - prefix_len) }
+    ensures block { (n : Network) (x : Address) → IsNetwork n → IsAddress x → x.family ≡ n.family
+        → InBlock n x ↔ ((i : ℕ) → i < width n.family → bit (netmask_number n.family n.prefix_len) i ≡ 1
+        → bit x.number i ≡ bit n.number i) }
+{}
+
 /// A number is the netmask of one length at most.
 pub fn netmask_has_one_length()
     ensures { (f : Family) (number p q : ℕ) → IsNetmaskOf f number p → IsNetmaskOf f number q → p ≡ q }
@@ -164,7 +177,8 @@ pub fn aggregate_is_canonical()
     ensures disjoint { (networks answer : List Network) → IsAggregateOf answer networks → ArePairwiseDisjoint answer }
 {}
 
-/// Two lists have equal aggregates exactly where they cover the same addresses.
+/// Two lists have equal aggregates exactly where they cover the same addresses. `IsCanonicalAggregateOf` says this of
+/// one aggregate and the lists that it is of; here it is said of two.
 pub fn equal_aggregates_are_equal_covers()
     ensures { (networks others answer other : List Network) → All IsNetwork networks → All IsNetwork others
         → IsAggregateOf answer networks → IsAggregateOf other others
@@ -172,7 +186,8 @@ pub fn equal_aggregates_are_equal_covers()
 {}
 
 /// Order, repeats and host bits of a list do not change its aggregate: lists with the same truncated members have the
-/// same aggregate.
+/// same aggregate. `IsCanonicalAggregateOf` says this of the aggregate of a list of networks; here it is said of any
+/// two lists, both ways.
 pub fn order_repeats_and_host_bits_do_not_matter()
     ensures { (networks others answer : List Network)
         → ((n : Network) → Contains (map truncation networks) n ↔ Contains (map truncation others) n)

@@ -1,9 +1,9 @@
 //! Netmasks, read as prefix lengths (RFC 4632, section 3.1).
-ghost use Rattle.std.specs.Prelude.{◌≡◌, ◌≤◌, ◌↔◌, ℕ, IsErr};
-ghost use Rattle.std.specs.declared.result.Result.TheVariants.{Ok};
+ghost use Rattle.std.specs.Prelude.{◌≡◌, ◌≤◌};
 ghost use Rattle.std.specs.Net.Addr.{ipv4_bits, ipv6_bits};
 ghost use Rattle.ipnet_base.specs.Address.{IPv4, IPv6, ip_address};
 ghost use Rattle.ipnet_base.specs.Masks.{netmask_number, IsNetmaskOf};
+ghost use Rattle.ipnet_base.specs.Results.{IsOkExactlyAt};
 
 pub mod laws;
 
@@ -51,8 +51,7 @@ fn ipv6_netmask(prefix_len: u32) -> u128
 /// 255.0.255.0       Err(PrefixLenError)
 /// ```
 pub fn ipv4_mask_to_prefix(mask: Ipv4Addr) -> Result<u8, PrefixLenError>
-    ensures exact { (p : ℕ) → (result ≡ Ok p) ↔ IsNetmaskOf IPv4 (ipv4_bits mask) p }
-    ensures refused { IsErr result ↔ ((p : ℕ) → ¬ (IsNetmaskOf IPv4 (ipv4_bits mask) p)) }
+    ensures { IsOkExactlyAt result (IsNetmaskOf IPv4 (ipv4_bits mask)) }
 {
     let number = mask.to_bits();
     let ones = number.leading_ones();
@@ -74,8 +73,7 @@ pub fn ipv4_mask_to_prefix(mask: Ipv4Addr) -> Result<u8, PrefixLenError>
 /// 0:0:ffff::         Err(PrefixLenError)
 /// ```
 pub fn ipv6_mask_to_prefix(mask: Ipv6Addr) -> Result<u8, PrefixLenError>
-    ensures exact { (p : ℕ) → (result ≡ Ok p) ↔ IsNetmaskOf IPv6 (ipv6_bits mask) p }
-    ensures refused { IsErr result ↔ ((p : ℕ) → ¬ (IsNetmaskOf IPv6 (ipv6_bits mask) p)) }
+    ensures { IsOkExactlyAt result (IsNetmaskOf IPv6 (ipv6_bits mask)) }
 {
     let number = mask.to_bits();
     let ones = number.leading_ones();
@@ -94,10 +92,7 @@ pub fn ipv6_mask_to_prefix(mask: Ipv6Addr) -> Result<u8, PrefixLenError>
 /// ::ffff        Err(PrefixLenError)
 /// ```
 pub fn ip_mask_to_prefix(mask: IpAddr) -> Result<u8, PrefixLenError>
-    ensures exact { let a = ip_address mask in
-        (p : ℕ) → (result ≡ Ok p) ↔ IsNetmaskOf a.family a.number p }
-    ensures refused { let a = ip_address mask in
-        IsErr result ↔ ((p : ℕ) → ¬ (IsNetmaskOf a.family a.number p)) }
+    ensures { let a = ip_address mask in IsOkExactlyAt result (IsNetmaskOf a.family a.number) }
 {
     match mask {
         IpAddr::V4(mask) => ipv4_mask_to_prefix(mask),

@@ -81,9 +81,10 @@ pub fn ip_ranges_clone()
     ensures { ClonesExactly ⟦<IpAddrRange as Clone>⟧.is_clone ⟦<IpAddrRange as Clone>⟧.is_infallible }
 {}
 
-/// Ranges of each type are fused iterators, which answer `None` ever after `None`, and `Debug` writes them.
+/// Ranges of each type are `Copy`, and fused iterators, which answer `None` ever after `None`; and they have a `Debug`,
+/// whose text no contract tells.
 //
-// The contract says nothing: it is the body that is not compiled where one of the six is missing.
+// The contract says nothing: it is the body that is not compiled where one of the nine is missing.
 pub fn ranges_are_fused_and_debug(ipv4: &Ipv4AddrRange, ipv6: &Ipv6AddrRange, ip: &IpAddrRange) {
     is_fused_and_debug(ipv4);
     is_fused_and_debug(ipv6);
@@ -91,4 +92,4 @@ pub fn ranges_are_fused_and_debug(ipv4: &Ipv4AddrRange, ipv6: &Ipv6AddrRange, ip
 }
 
 /// Nothing: it can be called for such types alone.
-fn is_fused_and_debug<R: FusedIterator + Debug>(_: &R) {}
+fn is_fused_and_debug<R: Copy + FusedIterator + Debug>(_: &R) {}

@@ -1,16 +1,21 @@
 //! What the members of public traits say of each implementation: the output of each arithmetic operation is the sum,
-//! the difference, or the operation bit by bit, of the addresses' numbers, and a range made from another is that range.
+//! the difference, or the operation bit by bit, of the addresses' numbers; a range made from another is that range; and
+//! as an iterator a range gives its addresses from both ends.
 //!
 //! A contract with a member in it, as `IpAdd::saturating_add` has it, says no more than the member does: here that is
 //! held to the definitions.
 ghost use Rattle.std.specs.Prelude.{◌≡◌, ◌↔◌};
+ghost use Rattle.std.specs.Iterator.{YieldsFirstBy, YieldsLastBy, at_most};
 ghost use Rattle.std.specs.Net.Addr.{ipv4_bits, ipv6_bits};
-ghost use Rattle.ipnet_base.specs.Address.{IPv4, IPv6};
+ghost use Rattle.ipnet_base.specs.Address.{IPv4, IPv6, ipv4_address, ipv6_address, ip_address};
 ghost use Rattle.ipnet_base.specs.declared.ipext.ip_range.IpAddrRange.TheVariants.{V4, V6};
 ghost use Rattle.ipnet_base.specs.Arithmetic.{saturating_sum, saturating_difference, IsBitwiseAnd, IsBitwiseOr};
+ghost use Rattle.ipnet_base.specs.Ranges.{address_count};
+ghost use Rattle.ipnet_base.specs.RangeOf.{ipv4_range, ipv6_range, ip_range};
+ghost use Rattle.ipnet_base.specs.RangeOf.{ipv4_addresses, ipv6_addresses, ip_addresses};
 
 use super::{IpAdd, IpAddrRange, IpBitAnd, IpBitOr, IpSub, Ipv4AddrRange, Ipv6AddrRange};
-use crate::addr::{Ipv4Addr, Ipv6Addr};
+use crate::addr::{IpAddr, Ipv4Addr, Ipv6Addr};
 
 /// An IPv4 address and a number have the sum of their numbers, saturated at 255.255.255.255.
 pub fn ipv4_sum_saturates(a: Ipv4Addr, b: u32, sum: Ipv4Addr)
@@ -88,4 +93,49 @@ pub fn ipv6_or_is_bitwise(a: Ipv6Addr, b: Ipv6Addr, number: u128, together: Ipv6
 pub fn ip_range_from_is_same(ipv4: Ipv4AddrRange, ipv6: Ipv6AddrRange, range: IpAddrRange)
     ensures from_ipv4 { ⟦<IpAddrRange as From<Ipv4AddrRange>>⟧.from_gives ipv4 range ↔ (range ≡ V4 ipv4) }
     ensures from_ipv6 { ⟦<IpAddrRange as From<Ipv6AddrRange>>⟧.from_gives ipv6 range ↔ (range ≡ V6 ipv6) }
+{}
+
+/// As an iterator an IPv4 range gives, of the addresses that are left, the first from the front and the last from the
+/// back, and leaves the others; both calls may be made at any time, and as many addresses come as are left.
+pub fn ipv4_range_gives_its_addresses(
+    old: Ipv4AddrRange,
+    answer: Option<Ipv4Addr>,
+    new: Ipv4AddrRange,
+)
+    ensures next { ⟦<Ipv4AddrRange as Iterator>⟧.next_gives old answer new
+        ↔ YieldsFirstBy ipv4_address ipv4_addresses old answer new }
+    ensures next_back { ⟦<Ipv4AddrRange as DoubleEndedIterator>⟧.next_back_gives old answer new
+        ↔ YieldsLastBy ipv4_address ipv4_addresses old answer new }
+    ensures at_any_time { ⟦<Ipv4AddrRange as Iterator>⟧.can_next old
+        × ⟦<Ipv4AddrRange as DoubleEndedIterator>⟧.can_next_back old }
+    ensures count { ⟦<Ipv4AddrRange as Iterator>⟧.remaining old ≡ at_most (address_count (ipv4_range old)) }
+{}
+
+/// As an iterator an IPv6 range gives, of the addresses that are left, the first from the front and the last from the
+/// back, and leaves the others; both calls may be made at any time, and as many addresses come as are left.
+pub fn ipv6_range_gives_its_addresses(
+    old: Ipv6AddrRange,
+    answer: Option<Ipv6Addr>,
+    new: Ipv6AddrRange,
+)
+    ensures next { ⟦<Ipv6AddrRange as Iterator>⟧.next_gives old answer new
+        ↔ YieldsFirstBy ipv6_address ipv6_addresses old answer new }
+    ensures next_back { ⟦<Ipv6AddrRange as DoubleEndedIterator>⟧.next_back_gives old answer new
+        ↔ YieldsLastBy ipv6_address ipv6_addresses old answer new }
+    ensures at_any_time { ⟦<Ipv6AddrRange as Iterator>⟧.can_next old
+        × ⟦<Ipv6AddrRange as DoubleEndedIterator>⟧.can_next_back old }
+    ensures count { ⟦<Ipv6AddrRange as Iterator>⟧.remaining old ≡ at_most (address_count (ipv6_range old)) }
+{}
+
+/// As an iterator a range of either family gives, of the addresses that are left, the first from the front and the
+/// last from the back, and leaves the others; both calls may be made at any time, and as many addresses come as are
+/// left.
+pub fn ip_range_gives_its_addresses(old: IpAddrRange, answer: Option<IpAddr>, new: IpAddrRange)
+    ensures next { ⟦<IpAddrRange as Iterator>⟧.next_gives old answer new
+        ↔ YieldsFirstBy ip_address ip_addresses old answer new }
+    ensures next_back { ⟦<IpAddrRange as DoubleEndedIterator>⟧.next_back_gives old answer new
+        ↔ YieldsLastBy ip_address ip_addresses old answer new }
+    ensures at_any_time { ⟦<IpAddrRange as Iterator>⟧.can_next old
+        × ⟦<IpAddrRange as DoubleEndedIterator>⟧.can_next_back old }
+    ensures count { ⟦<IpAddrRange as Iterator>⟧.remaining old ≡ at_most (address_count (ip_range old)) }
 {}

@@ -1,4 +1,9 @@
-//! What holds of all values of `PrefixLenError`. Each law is a function with nothing to run, whose contract is the law.
+//! What holds of all values of `PrefixLenError`, and which masks are refused. Each law is a function with nothing to
+//! run, whose contract is the law.
+ghost use Rattle.std.specs.Prelude.{◌↔◌, ℕ, IsErr};
+ghost use Rattle.ipnet_base.specs.Address.{Family};
+ghost use Rattle.ipnet_base.specs.Masks.{IsNetmaskOf};
+ghost use Rattle.ipnet_base.specs.Results.{IsOkExactlyAt};
 ghost use Rattle.ipnet_base.specs.Values.{EqualsExactly, ClonesExactly};
 
 use super::PrefixLenError;
@@ -11,4 +16,11 @@ pub fn prefix_len_errors_compare_by_value()
 /// The clone of the error is the error, and is never refused.
 pub fn prefix_len_errors_clone()
     ensures { ClonesExactly ⟦<PrefixLenError as Clone>⟧.is_clone ⟦<PrefixLenError as Clone>⟧.is_infallible }
+{}
+
+/// What reads a mask, and is `Ok` of the length of the netmask alone, refuses a number exactly where it is the netmask
+/// of no length.
+pub fn masks_of_no_length_are_refused(prefix_len: Result<u8, PrefixLenError>)
+    ensures { (f : Family) (number : ℕ) → IsOkExactlyAt prefix_len (IsNetmaskOf f number)
+        → IsErr prefix_len ↔ ((p : ℕ) → ¬ (IsNetmaskOf f number p)) }
 {}

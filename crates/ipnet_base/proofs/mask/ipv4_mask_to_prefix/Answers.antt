@@ -6,8 +6,8 @@ use Rattle.ipnet_base.specs.Masks.{IsNetmaskOf}
 use Rattle.ipnet_base.proofs.MaskLaws.{ones_of_netmask, no_netmask}
 use Rattle.ipnet_base.proofs.mask.ipv4_mask_to_prefix.Goals as goal
 
-pub returns-then-number-ipv4_netmask-clause-exact : goal.returns-then-number-ipv4_netmask-clause-exact
-returns-then-number-ipv4_netmask-clause-exact c = λ p.
+pub returns-then-number-ipv4_netmask : goal.returns-then-number-ipv4_netmask
+returns-then-number-ipv4_netmask c = λ p.
     let number = ipv4_bits c.args.mask in
     let ones = c.leading_ones-ones.result in
     let mask : IsNetmaskOf IPv4 number ones = record { fits = search rules; is_mask = cc } in (
@@ -15,16 +15,9 @@ returns-then-number-ipv4_netmask-clause-exact c = λ p.
       λ m. let same : ones ≡ p = cc (ones_of_netmask IPv4 w32 number p refl m) in cc,
     )
 
-pub returns-else-number-ipv4_netmask-clause-exact : goal.returns-else-number-ipv4_netmask-clause-exact
-returns-else-number-ipv4_netmask-clause-exact c = λ p. (
+pub returns-else-number-ipv4_netmask : goal.returns-else-number-ipv4_netmask
+returns-else-number-ipv4_netmask c = λ p. (
   λ e. cc,
   λ m. absurd (no_netmask IPv4 w32 (ipv4_bits c.args.mask) c.leading_ones-ones.result c.ipv4_netmask.result refl (cc)
       c.ipv4_netmask.ensures (λ e. c.if-number-ipv4_netmask.false (cc)) p m),
-)
-
-pub returns-else-number-ipv4_netmask-clause-refused : goal.returns-else-number-ipv4_netmask-clause-refused
-returns-else-number-ipv4_netmask-clause-refused c = (
-  λ _ p m. no_netmask IPv4 w32 (ipv4_bits c.args.mask) c.leading_ones-ones.result c.ipv4_netmask.result refl (cc)
-      c.ipv4_netmask.ensures (λ e. c.if-number-ipv4_netmask.false (cc)) p m,
-  λ _. refl,
 )

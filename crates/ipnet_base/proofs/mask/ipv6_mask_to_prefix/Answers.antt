@@ -6,8 +6,8 @@ use Rattle.ipnet_base.specs.Masks.{IsNetmaskOf}
 use Rattle.ipnet_base.proofs.MaskLaws.{ones_of_netmask, no_netmask}
 use Rattle.ipnet_base.proofs.mask.ipv6_mask_to_prefix.Goals as goal
 
-pub returns-then-number-ipv6_netmask-clause-exact : goal.returns-then-number-ipv6_netmask-clause-exact
-returns-then-number-ipv6_netmask-clause-exact c = λ p.
+pub returns-then-number-ipv6_netmask : goal.returns-then-number-ipv6_netmask
+returns-then-number-ipv6_netmask c = λ p.
     let number = ipv6_bits c.args.mask in
     let ones = c.leading_ones-ones.result in
     let mask : IsNetmaskOf IPv6 number ones = record { fits = search rules; is_mask = cc } in (
@@ -15,16 +15,9 @@ returns-then-number-ipv6_netmask-clause-exact c = λ p.
       λ m. let same : ones ≡ p = cc (ones_of_netmask IPv6 w128 number p refl m) in cc,
     )
 
-pub returns-else-number-ipv6_netmask-clause-exact : goal.returns-else-number-ipv6_netmask-clause-exact
-returns-else-number-ipv6_netmask-clause-exact c = λ p. (
+pub returns-else-number-ipv6_netmask : goal.returns-else-number-ipv6_netmask
+returns-else-number-ipv6_netmask c = λ p. (
   λ e. cc,
   λ m. absurd (no_netmask IPv6 w128 (ipv6_bits c.args.mask) c.leading_ones-ones.result c.ipv6_netmask.result refl (cc)
       c.ipv6_netmask.ensures (λ e. c.if-number-ipv6_netmask.false (cc)) p m),
-)
-
-pub returns-else-number-ipv6_netmask-clause-refused : goal.returns-else-number-ipv6_netmask-clause-refused
-returns-else-number-ipv6_netmask-clause-refused c = (
-  λ _ p m. no_netmask IPv6 w128 (ipv6_bits c.args.mask) c.leading_ones-ones.result c.ipv6_netmask.result refl (cc)
-      c.ipv6_netmask.ensures (λ e. c.if-number-ipv6_netmask.false (cc)) p m,
-  λ _. refl,
 )

@@ -8,6 +8,6 @@ use Rattle.std.proofs.Common.{refl}
 pub returns : goal.returns
 returns c =
     let n = ip_network c.args.network.now in
-    (c.ip_mask_to_prefix.ensures.exact n.prefix_len).1
+    (c.ip_mask_to_prefix.ensures n.prefix_len).1
     (subst (λ x. IsNetmaskOf x.family x.number n.prefix_len) (sym c.netmask.ensures)
     (record { fits = (ip_valid c.args.network.now).prefix_fits; is_mask = refl }))

@@ -1,4 +1,4 @@
--- What the results of readers say.
+-- What contracts say of a `Result` that is right for one value.
 use Rattle.std.specs.Prelude.{◌≡◌, ◌↔◌, Result, Ok}
 
 -- `Ok` of a value exactly where the value has the property
