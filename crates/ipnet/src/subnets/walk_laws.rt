@@ -57,31 +57,31 @@ pub fn ip_walk_stays_over()
         IsNone first → IsNone second × (after ≡ before) }
 {}
 
-/// Each call of `next` on an IPv4 walk gives the first of the networks that it still gives, and leaves the others; it can
-/// be called on every walk, and no more come than these.
-pub fn ipv4_walk_gives_its_networks(before: Ipv4Subnets, after: Ipv4Subnets, answer: Option<Ipv4Net>)
-    ensures next { ⟦<Ipv4Subnets as Iterator>⟧.next_gives before answer after
-        ↔ YieldsFirstBy ipv4_network ipv4_subnets_left before answer after }
-    ensures can_next { ⟦<Ipv4Subnets as Iterator>⟧.can_next before }
-    ensures remaining { ⟦<Ipv4Subnets as Iterator>⟧.remaining before ≡ item_count ipv4_subnets_left before }
+/// As an iterator an IPv4 walk gives, of the networks that are left to it, the first, and leaves the others; the call may be made at
+/// any time, and no more networks come than are left.
+pub fn ipv4_walk_gives_its_networks(old: Ipv4Subnets, answer: Option<Ipv4Net>, new: Ipv4Subnets)
+    ensures next { ⟦<Ipv4Subnets as Iterator>⟧.next_gives old answer new
+        ↔ YieldsFirstBy ipv4_network ipv4_subnets_left old answer new }
+    ensures at_any_time { ⟦<Ipv4Subnets as Iterator>⟧.can_next old }
+    ensures count { ⟦<Ipv4Subnets as Iterator>⟧.remaining old ≡ item_count ipv4_subnets_left old }
 {}
 
-/// Each call of `next` on an IPv6 walk gives the first of the networks that it still gives, and leaves the others; it can
-/// be called on every walk, and no more come than these.
-pub fn ipv6_walk_gives_its_networks(before: Ipv6Subnets, after: Ipv6Subnets, answer: Option<Ipv6Net>)
-    ensures next { ⟦<Ipv6Subnets as Iterator>⟧.next_gives before answer after
-        ↔ YieldsFirstBy ipv6_network ipv6_subnets_left before answer after }
-    ensures can_next { ⟦<Ipv6Subnets as Iterator>⟧.can_next before }
-    ensures remaining { ⟦<Ipv6Subnets as Iterator>⟧.remaining before ≡ item_count ipv6_subnets_left before }
+/// As an iterator an IPv6 walk gives, of the networks that are left to it, the first, and leaves the others; the call may be made at
+/// any time, and no more networks come than are left.
+pub fn ipv6_walk_gives_its_networks(old: Ipv6Subnets, answer: Option<Ipv6Net>, new: Ipv6Subnets)
+    ensures next { ⟦<Ipv6Subnets as Iterator>⟧.next_gives old answer new
+        ↔ YieldsFirstBy ipv6_network ipv6_subnets_left old answer new }
+    ensures at_any_time { ⟦<Ipv6Subnets as Iterator>⟧.can_next old }
+    ensures count { ⟦<Ipv6Subnets as Iterator>⟧.remaining old ≡ item_count ipv6_subnets_left old }
 {}
 
-/// Each call of `next` on a walk of either family gives the first of the networks that it still gives, and leaves the others; it can
-/// be called on every walk, and no more come than these.
-pub fn ip_walk_gives_its_networks(before: IpSubnets, after: IpSubnets, answer: Option<IpNet>)
-    ensures next { ⟦<IpSubnets as Iterator>⟧.next_gives before answer after
-        ↔ YieldsFirstBy ip_network ip_subnets_left before answer after }
-    ensures can_next { ⟦<IpSubnets as Iterator>⟧.can_next before }
-    ensures remaining { ⟦<IpSubnets as Iterator>⟧.remaining before ≡ item_count ip_subnets_left before }
+/// As an iterator a walk of either family gives, of the networks that are left to it, the first, and leaves the others; the call may be made at
+/// any time, and no more networks come than are left.
+pub fn ip_walk_gives_its_networks(old: IpSubnets, answer: Option<IpNet>, new: IpSubnets)
+    ensures next { ⟦<IpSubnets as Iterator>⟧.next_gives old answer new
+        ↔ YieldsFirstBy ip_network ip_subnets_left old answer new }
+    ensures at_any_time { ⟦<IpSubnets as Iterator>⟧.can_next old }
+    ensures count { ⟦<IpSubnets as Iterator>⟧.remaining old ≡ item_count ip_subnets_left old }
 {}
 
 /// A walk of either family that is made from a walk of one family is that walk.
