@@ -7,4 +7,5 @@ use Rattle.ipnet.proofs.json.laws.ip_json_reads_back.Goals as goal
 pub returns : goal.returns
 returns c =
     let n = c.args.network.now in
-    (c.from_json.ensures.ok n).1 (_, c.in_ok-to_json.ensures, canonical_is_read Strict (ip_network n) (ip_valid n))
+    let writes = canonical_is_read Strict (ip_network n) (ip_valid n) in
+    (c.from_json.ensures.ok n).1 (_, c.in_ok-to_json.ensures, writes)

@@ -9,4 +9,5 @@ use Rattle.ipnet.proofs.json.laws.ipv4_json_reads_back.Goals as goal
 pub returns : goal.returns
 returns c =
     let n = c.args.network.now in
-    (c.from_json.ensures.ok n).1 (_, c.in_ok-to_json.ensures, of_ipv4 Strict _ (ipv4_network n) refl (canonical_is_read Strict (ipv4_network n) (ipv4_valid n)))
+    let writes = of_ipv4 Strict _ (ipv4_network n) refl (canonical_is_read Strict (ipv4_network n) (ipv4_valid n)) in
+    (c.from_json.ensures.ok n).1 (_, c.in_ok-to_json.ensures, writes)

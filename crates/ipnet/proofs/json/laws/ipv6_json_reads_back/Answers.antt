@@ -9,4 +9,5 @@ use Rattle.ipnet.proofs.json.laws.ipv6_json_reads_back.Goals as goal
 pub returns : goal.returns
 returns c =
     let n = c.args.network.now in
-    (c.from_json.ensures.ok n).1 (_, c.in_ok-to_json.ensures, of_ipv6 Strict _ (ipv6_network n) refl (canonical_is_read Strict (ipv6_network n) (ipv6_valid n)))
+    let writes = of_ipv6 Strict _ (ipv6_network n) refl (canonical_is_read Strict (ipv6_network n) (ipv6_valid n)) in
+    (c.from_json.ensures.ok n).1 (_, c.in_ok-to_json.ensures, writes)
