@@ -1,5 +1,6 @@
 //! The program, over any reader and writers.
-ghost use Rattle.std.specs.Prelude.{◌≡◌, ◌≤◌, ◌⊎◌, ◌↔◌, ℕ, List, IfOk, IfErr, IfSome, IfNone, OnOk};
+ghost use Rattle.std.specs.Prelude.{◌≡◌, ◌≤◌, ◌⊎◌, ◌↔◌, ℕ, List, drop, IfOk, IfErr, IfSome, IfNone, OnOk};
+ghost use Rattle.std.specs.Vec.Iter.{into_iter_items};
 ghost use Rattle.std.specs.Io.{StartsWith};
 ghost use Rattle.std.specs.Io.KnownBytes.{Appends, Consumes, IsAtEnd, Keeps};
 ghost use Rattle.ipnet.specs.declared.parser.Grammar.{Grammar};
@@ -12,8 +13,11 @@ use ipnet::Grammar;
 use std::alloc::Global;
 use std::env::Env;
 use std::io::{ErrorKind, Read, Write};
+use std::vec::IntoIter;
 use std::{env, str};
 use thiserror::Error;
+
+pub mod laws;
 
 /// How many bytes are asked for in one read.
 const PIECE: usize = 65536;
@@ -145,12 +149,21 @@ pub fn arguments<R: Env + AllocGlobal>(rt: &R) -> Result<Vec<String>, Failure>
 {
     match env::args(rt) {
         Ok(args) => {
-            let words = args.skip(1).collect::<Vec<String>>(rt.alloc());
+            let words = after_name(args).collect::<Vec<String>>(rt.alloc());
             words.map_err(|_| Failure::Memory)
         }
         Err(error) if error.kind() == ErrorKind::OutOfMemory => Err(Failure::Memory),
         Err(_) => Err(Failure::Arguments),
     }
+}
+
+/// The words without the first, where there is one.
+fn after_name(words: IntoIter<String>) -> IntoIter<String>
+    ensures { into_iter_items result ≡ drop 1 (into_iter_items words) }
+{
+    let mut rest = words;
+    let _name = rest.next();
+    rest
 }
 
 /// Reports the failure in one line, ignoring a failed write, and returns its exit status, as the table of [`run`]

@@ -24,8 +24,8 @@ loop-preserved g c =
                 (take w.in-Ok.count (drop written bytes)) c.loop.invariant.front taken);
           }
       | in-Err+else-ne w ↦ record {
-          within = omega (arith, c.loop.invariant.within, w.written-is);
-          front = rw w.written-is (Appends-kept (held c.args.out.now) (held c.loop.out) (held c.write.new.self)
-              (take written bytes) c.loop.invariant.front w.in-Err.ensures.bytes);
-        }
+        within = omega (arith, c.loop.invariant.within, w.written-is);
+        front = rw w.written-is (Appends-kept (held c.args.out.now) (held c.loop.out) (held c.write.new.self)
+            (take written bytes) c.loop.invariant.front w.in-Err.ensures.bytes);
+      }
     ]
