@@ -212,7 +212,7 @@ fn writers(rt: HostRuntime) -> Result<(), Fail> {
 
 #[test]
 fn writer_that_cannot_be_flushed(rt: HostRuntime) -> Result<(), Fail> {
-    let mut input = ByteReader::whole(b"::/0\n");
+    let mut input = ByteReader::whole(b"10.0.0.0/24\n");
     let mut out = ArrayWriter::never_flushed();
     let mut faults = ArrayWriter::whole();
     let status = run(rt.alloc(), &[], &mut input, &mut out, &mut faults);
