@@ -75,8 +75,8 @@ pub fn ipv6_walk_gives_its_networks(old: Ipv6Subnets, answer: Option<Ipv6Net>, n
     ensures count { ⟦<Ipv6Subnets as Iterator>⟧.remaining old ≡ item_count ipv6_subnets_left old }
 {}
 
-/// As an iterator a walk of either family gives the first of the networks that are left to it, and leaves the others; the
-/// call may be made at any time, and no more networks come than are left.
+/// As an iterator a walk of either family gives the first of the networks that are left to it, and leaves the others;
+/// the call may be made at any time, and no more networks come than are left.
 pub fn ip_walk_gives_its_networks(old: IpSubnets, answer: Option<IpNet>, new: IpSubnets)
     ensures next { ⟦<IpSubnets as Iterator>⟧.next_gives old answer new
         ↔ YieldsFirstBy ip_network ip_subnets_left old answer new }
