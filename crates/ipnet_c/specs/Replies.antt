@@ -29,8 +29,8 @@ pub record IsAggregateReply (grammar : Grammar) (text old new : List ℕ) (count
   -- what keeps its bytes: the buffer, unless the answer stands in it, and the number, where there is none to tell
   pub buffer_kept : status ≢ statuses.ok → new ≡ old
   pub count_kept : (status ≡ statuses.not_utf8) ⊎ (status ≡ statuses.out_of_memory) → count ≡ count_old
-  -- what needs no memory: an empty text, and one whose first line that is not empty is bad
-  pub empty : text ≡ [] → status ≢ statuses.out_of_memory
+  -- what needs no memory: a text of empty lines alone, and one whose first line that is not empty is bad
+  pub empty : All (λ line. line ≡ []) (lines_of text) → status ≢ statuses.out_of_memory
   pub bad_at_once : (number : ℕ) → IsUtf8 text → StartsWithBadLine grammar (lines_of text) number
       → status ≡ statuses.bad_line
 
@@ -52,8 +52,9 @@ pub record IsSameAddressesReply (text other : List ℕ) (same_old same line_old 
   pub other_not_utf8 : (status ≡ statuses.other_not_utf8) ↔ (IsUtf8 text × ¬ (IsUtf8 other))
   pub same_kept : status ≢ statuses.ok → same ≡ same_old
   pub line_kept : status ≢ statuses.bad_line → status ≢ statuses.bad_line_in_other → line ≡ line_old
-  -- what needs no memory: two empty texts, and a first text whose first line that is not empty is bad
-  pub empty : text ≡ [] → other ≡ [] → status ≡ statuses.ok
+  -- what needs no memory: two texts of empty lines alone, and a first text whose first line that is not empty is bad
+  pub empty : All (λ line. line ≡ []) (lines_of text) → All (λ line. line ≡ []) (lines_of other)
+      → status ≡ statuses.ok
   pub bad_at_once : (number : ℕ) → IsUtf8 text → IsUtf8 other → StartsWithBadLine Strict (lines_of text) number
       → status ≡ statuses.bad_line
 
@@ -82,8 +83,8 @@ pub record IsCoveredReply (text bytes : List ℕ) (covered_old covered line_old 
   pub prefix_too_long : (status ≡ statuses.prefix_too_long) ↔ HasLongTaggedPrefix bytes
   pub covered_kept : status ≢ statuses.ok → covered ≡ covered_old
   pub line_kept : status ≢ statuses.bad_line → line ≡ line_old
-  -- what needs no memory: an empty text, and one whose first line that is not empty is bad
-  pub empty : text ≡ [] → status ≢ statuses.out_of_memory
+  -- what needs no memory: a text of empty lines alone, and one whose first line that is not empty is bad
+  pub empty : All (λ line. line ≡ []) (lines_of text) → status ≢ statuses.out_of_memory
   pub bad_at_once : (number : ℕ) (n : Network) → AreBytesOf bytes n → IsUtf8 text
       → StartsWithBadLine Strict (lines_of text) number → status ≡ statuses.bad_line
 
