@@ -144,17 +144,23 @@ fn minimum_prefix_length_of_a_walk(rt: HostRuntime) {
     for min_prefix_len in 0..=255u8 {
         if min_prefix_len <= 32 {
             let mut walk = Ipv4Subnets::new(ipv4, ipv4, min_prefix_len);
-            assert_eq!(rt; walk.next(), Some(Ipv4Net::new_assert(ipv4, 32)), "{label}");
-            assert_eq!(rt; walk.next(), None, "{label}");
+            let only = Some(Ipv4Net::new_assert(ipv4, 32));
+            assert_eq!(rt; walk.next(), only, "{label}: {min_prefix_len}, IPv4");
+            assert_eq!(rt;
+                walk.next(),
+                None,
+                "{label}: {min_prefix_len}, IPv4, the end"
+            );
         }
         if min_prefix_len <= 128 {
             let mut walk = Ipv6Subnets::new(ipv6, ipv6, min_prefix_len);
+            let only = Some(Ipv6Net::new_assert(ipv6, 128));
+            assert_eq!(rt; walk.next(), only, "{label}: {min_prefix_len}, IPv6");
             assert_eq!(rt;
                 walk.next(),
-                Some(Ipv6Net::new_assert(ipv6, 128)),
-                "{label}"
+                None,
+                "{label}: {min_prefix_len}, IPv6, the end"
             );
-            assert_eq!(rt; walk.next(), None, "{label}");
         }
     }
 }
@@ -166,8 +172,8 @@ fn count_of_a_range(rt: HostRuntime) {
     let range = ip_range(&rt, "fd00::", "fd00::ff");
     match range.size_hint() {
         (_, Some(_)) => assert_eq!(rt; range.count(), 256, "{label}"),
-        (_, None) => assert!(rt; false, "{label}"),
+        (_, None) => panic!(rt; "{label}: no upper bound"),
     }
     let (_, upper) = ip_range(&rt, "::", "ffff:ffff:ffff:ffff:ffff:ffff:ffff:ffff").size_hint();
-    assert_eq!(rt; upper, None, "{label}");
+    assert_eq!(rt; upper, None, "{label}: all IPv6 addresses");
 }

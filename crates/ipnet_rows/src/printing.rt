@@ -112,17 +112,29 @@ fn addresses(rt: HostRuntime) {
 fn check_formatter<N: Display + Debug>(rt: &impl Abort, network: &N, text: &str) {
     let label = "printing: width of the formatter is dropped";
     let mut buffer = ArrayString::<43>::new();
-    assert!(rt; write!(buffer, "{:>30}", network).is_ok(), "{label}");
-    assert_eq!(rt; buffer.as_str(), text, "{label}");
+    assert!(rt;
+        write!(buffer, "{:>30}", network).is_ok(),
+        "{label}: no room, width"
+    );
+    assert_eq!(rt; buffer.as_str(), text, "{label}: width");
     buffer.clear();
-    assert!(rt; write!(buffer, "{:*^30}", network).is_ok(), "{label}");
-    assert_eq!(rt; buffer.as_str(), text, "{label}");
+    assert!(rt;
+        write!(buffer, "{:*^30}", network).is_ok(),
+        "{label}: no room, fill"
+    );
+    assert_eq!(rt; buffer.as_str(), text, "{label}: fill");
     buffer.clear();
-    assert!(rt; write!(buffer, "{:<30?}", network).is_ok(), "{label}");
-    assert_eq!(rt; buffer.as_str(), text, "{label}");
+    assert!(rt;
+        write!(buffer, "{:<30?}", network).is_ok(),
+        "{label}: no room, width of Debug"
+    );
+    assert_eq!(rt; buffer.as_str(), text, "{label}: width of Debug");
     buffer.clear();
-    assert!(rt; write!(buffer, "{:#?}", network).is_ok(), "{label}");
-    assert_eq!(rt; buffer.as_str(), text, "{label}");
+    assert!(rt;
+        write!(buffer, "{:#?}", network).is_ok(),
+        "{label}: no room, flag of Debug"
+    );
+    assert_eq!(rt; buffer.as_str(), text, "{label}: flag of Debug");
 }
 
 #[test]
