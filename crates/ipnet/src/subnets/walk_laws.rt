@@ -57,8 +57,8 @@ pub fn ip_walk_stays_over()
         IsNone first → IsNone second × (after ≡ before) }
 {}
 
-/// As an iterator an IPv4 walk gives, of the networks that are left to it, the first, and leaves the others; the call may be made at
-/// any time, and no more networks come than are left.
+/// As an iterator an IPv4 walk gives, of the networks that are left to it, the first, and leaves the others; the call may
+/// be made at any time, and no more networks come than are left.
 pub fn ipv4_walk_gives_its_networks(old: Ipv4Subnets, answer: Option<Ipv4Net>, new: Ipv4Subnets)
     ensures next { ⟦<Ipv4Subnets as Iterator>⟧.next_gives old answer new
         ↔ YieldsFirstBy ipv4_network ipv4_subnets_left old answer new }
@@ -66,8 +66,8 @@ pub fn ipv4_walk_gives_its_networks(old: Ipv4Subnets, answer: Option<Ipv4Net>, n
     ensures count { ⟦<Ipv4Subnets as Iterator>⟧.remaining old ≡ item_count ipv4_subnets_left old }
 {}
 
-/// As an iterator an IPv6 walk gives, of the networks that are left to it, the first, and leaves the others; the call may be made at
-/// any time, and no more networks come than are left.
+/// As an iterator an IPv6 walk gives, of the networks that are left to it, the first, and leaves the others; the call may
+/// be made at any time, and no more networks come than are left.
 pub fn ipv6_walk_gives_its_networks(old: Ipv6Subnets, answer: Option<Ipv6Net>, new: Ipv6Subnets)
     ensures next { ⟦<Ipv6Subnets as Iterator>⟧.next_gives old answer new
         ↔ YieldsFirstBy ipv6_network ipv6_subnets_left old answer new }
@@ -75,8 +75,8 @@ pub fn ipv6_walk_gives_its_networks(old: Ipv6Subnets, answer: Option<Ipv6Net>, n
     ensures count { ⟦<Ipv6Subnets as Iterator>⟧.remaining old ≡ item_count ipv6_subnets_left old }
 {}
 
-/// As an iterator a walk of either family gives, of the networks that are left to it, the first, and leaves the others; the call may be made at
-/// any time, and no more networks come than are left.
+/// As an iterator a walk of either family gives, of the networks that are left to it, the first, and leaves the others;
+/// the call may be made at any time, and no more networks come than are left.
 pub fn ip_walk_gives_its_networks(old: IpSubnets, answer: Option<IpNet>, new: IpSubnets)
     ensures next { ⟦<IpSubnets as Iterator>⟧.next_gives old answer new
         ↔ YieldsFirstBy ip_network ip_subnets_left old answer new }
