@@ -1,13 +1,13 @@
 -- Lemmas that the proofs of this crate share.
-pub mod FrontLaws
-pub mod JoinedLaws
-pub mod EqualLaws
-pub mod SubnetsLaws
-pub mod SubnetCountLaws
 pub mod NumberLaws
 pub mod HostLaws
 pub mod NetOrderLaws
+pub mod SubnetsLaws
+pub mod SubnetCountLaws
 pub mod WalkValueLaws
+pub mod FrontLaws
+pub mod JoinedLaws
+pub mod EqualLaws
 pub use Rattle.ipnet_base.proofs.BlockLaws
 pub mod NumberOctets
 pub mod DigitTexts

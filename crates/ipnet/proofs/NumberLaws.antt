@@ -1,23 +1,16 @@
--- What the functions on numbers behind the network types compute, at the width of either family.
+-- What the functions on numbers compute that the bodies of the network types call, at the width of either family.
 use Rattle.std.proofs.Common.{◌≡◌, ◌≢◌, ℕ, ◌+◌, ◌-◌, ◌*◌, ◌/◌, ◌^◌, ◌<◌, ◌≤◌, ◌↔◌, refl, sym, ap, ◌∙◌, subst, arith}
-use Rattle.std.proofs.Common.{inl, inr, IsTrue, true, false, eqb, eqb-true, eq-eqb, bit_xor, shr-shr, List, Contains}
+use Rattle.std.proofs.Common.{inl, inr, IsTrue, true, false, eqb, eqb-true, eq-eqb, bit_xor, shr-shr}
 use Rattle.std.proofs.Math.Nat.{div-eq_of_lt}
 use Rattle.std.proofs.lemmas.Nat.{xor_shr}
 use Rattle.std.specs.Int.Bits.{xor_self, xor_zero_l, xor_zero_r, xor_assoc}
 use Rattle.std.proofs.lemmas.Bool.{cases_eq}
-use Rattle.ipnet_base.specs.Address.{Address, width, IsBetween, address_at}
-use Rattle.ipnet_base.specs.Network.{Network, IsNetwork, host_bits, InBlock, IsSubnetOf, AreHalves, IsLeastOf}
-use Rattle.ipnet_base.specs.Network.{IsGreatestOf, IsTruncationOf, IsSupernetOf, truncation, first_of, last_of}
-use Rattle.ipnet_base.specs.Blocks.{IsMaximal, AreMaximalBlocks}
-use Rattle.ipnet_base.specs.Subnets.{SubnetRange}
-use Rattle.ipnet_base.proofs.BlockLaws.{own, own_in, first_from_least, last_from_greatest, nested}
-use Rattle.ipnet_base.proofs.BlockLaws.{bits_from_subnet, same_network, same_from_block}
-use Rattle.ipnet_base.proofs.ExactCoverLaws.{maximal_blocks_apart}
-use Rattle.ipnet_base.proofs.ListLaws.{all_at}
+use Rattle.ipnet_base.specs.Address.{width, address_at}
+use Rattle.ipnet_base.specs.Network.{Network, IsNetwork, host_bits, InBlock, IsSubnetOf, AreHalves}
+use Rattle.ipnet_base.specs.Network.{IsTruncationOf, IsSupernetOf, truncation}
+use Rattle.ipnet_base.proofs.BlockLaws.{own, own_in, nested, bits_from_subnet, same_network}
 use Rattle.ipnet_base.proofs.NetworkLaws.{IsTruncationOf-truncation}
 use Rattle.ipnet_base.proofs.SupernetLaws.{supernet, IsSupernetOf-supernet}
-use Rattle.ipnet.specs.NetworkParts.{IsSubnetOfLength, AreSubnetsOfLength, IsBlockRange}
-use Rattle.ipnet.proofs.SubnetCountLaws.{AreOfLength, subnets_of_length}
 
 -- Numbers are equal where no bit tells them apart.
 xor_none : (a b : ℕ) → (bit_xor a b ≡ 0) ↔ (a ≡ b)
@@ -143,62 +136,3 @@ truncation_from_numbers t n len number u same number_is t_is =
     t_is ∙ same_network (record { family = n.family; number = number; prefix_len = len }) (truncation n) refl kept
     same in
     subst (λ m. IsTruncationOf m n) (sym whole) (IsTruncationOf-truncation n u)
-
--- The walk from the least address of a network to the greatest, under a least length from the network's own on, is
--- all networks of that length inside.
-pub AreSubnetsOfLength-from_walk : (n : Network) (q : ℕ) (networks : List Network) (low high : Address) → IsNetwork n
-    → n.prefix_len ≤ q → q ≤ width n.family
-    → IsLeastOf n low → IsGreatestOf n high → AreMaximalBlocks (IsBetween n.family low.number high.number) q networks
-    → AreSubnetsOfLength n q networks
-AreSubnetsOfLength-from_walk n q networks low high u longer fits least greatest walk = record {
-  ascending = walk.ascending;
-  members = λ k. (to k, from k);
-  disjoint = maximal_blocks_apart (InBlock n) q networks counted.0;
-  count = counted.1.1;
-  blocks = counted.0;
-}
-  where
-    counted : AreMaximalBlocks (InBlock n) q networks × AreOfLength q (2 ^ (q - n.prefix_len)) networks
-    counted = subnets_of_length n q networks u longer fits
-        (subst (λ z. AreMaximalBlocks (IsBetween n.family (first_of n) z) q networks)
-        (last_from_greatest n high greatest)
-        (subst (λ z. AreMaximalBlocks (IsBetween n.family z high.number) q networks) (first_from_least n low least)
-        walk))
-
-    to : (k : Network) → Contains networks k → IsSubnetOfLength n q k
-    to k c =
-        let m : IsMaximal (InBlock n) q k = (counted.0.members k).0 c in
-        record {
-          network = m.inside.network;
-          truncated = m.inside.truncated;
-          of_length =
-              all_at (λ k. k.prefix_len ≡ q) networks counted.1.0 k c;
-          within = m.inside.within;
-        }
-
-    from : (k : Network) → IsSubnetOfLength n q k → Contains networks k
-    from k h = (counted.0.members k).1 (record {
-      inside =
-          record {
-            network = h.network;
-            truncated = h.truncated;
-            long_enough = omega (arith, h.of_length);
-            within =
-                h.within;
-          };
-      largest = λ m i s.
-          let shared : InBlock m (own k) = s (own k) (own_in k) in
-          let bits : host_bits m ≤ host_bits k =
-          omega (arith, i.long_enough, h.of_length, ap width shared.same_family) in
-          same_from_block m k i.network h.network i.truncated h.truncated
-          (nested m k (own k) shared (own_in k) bits, s);
-    })
-
-pub IsBlockRange-from_ends : (n : Network) (q : ℕ) (range : SubnetRange) (low high : Address) → IsLeastOf n low
-    → IsGreatestOf n high
-    → range ≡ record { family = n.family; start = low.number; end = high.number; min_prefix_len = q }
-    → IsBlockRange n q range
-IsBlockRange-from_ends n q range low high l g e x y p r =
-    let start : low.number ≡ x.number = first_from_least n low l ∙ sym (first_from_least n x p) in
-    let end : high.number ≡ y.number = last_from_greatest n high g ∙ sym (last_from_greatest n y r) in
-    e ∙ (λ i. record { family = n.family; start = start i; end = end i; min_prefix_len = q })

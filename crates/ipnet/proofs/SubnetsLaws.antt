@@ -24,11 +24,11 @@ use Rattle.ipnet.specs.declared.subnets.ipv4_subnets.Ipv4Subnets.{Ipv4Subnets}
 use Rattle.ipnet.specs.declared.subnets.ipv6_subnets.Ipv6Subnets.{Ipv6Subnets}
 
 -- the list is the maximal blocks of the range
-abbrev pub AreLeft : SubnetRange → List Network → Type 0
+abbrev AreLeft : SubnetRange → List Network → Type 0
 AreLeft range networks = AreMaximalBlocks (IsInRange range) range.min_prefix_len networks
 
 -- the maximal blocks of a range are all that a walk is to be
-pub IsWalkOf-from_blocks : (range : SubnetRange) (networks : List Network) → range.end < 2 ^ width range.family
+IsWalkOf-from_blocks : (range : SubnetRange) (networks : List Network) → range.end < 2 ^ width range.family
     → range.min_prefix_len ≤ width range.family
     → AreLeft range networks → IsWalkOf range networks
 IsWalkOf-from_blocks range networks end_fits short blocks = record {
@@ -96,7 +96,7 @@ nothing_left range networks blocks past =
     (AreMaximalBlocks-nil (IsInRange range) range.min_prefix_len (λ x b. omega (arith, past, b.from_start, b.to_end)))
 
 -- the block at the start of a range ends within it
-pub last_within : (range : SubnetRange) (n : Network)
+last_within : (range : SubnetRange) (n : Network)
     → IsLargestSubnetAt range.family range.start range.end range.min_prefix_len n
     → (range.start ≤ last_of n) × (last_of n ≤ range.end)
 last_within range n step =
@@ -107,7 +107,7 @@ greatest_above_zero : (f : Family) → 0 < greatest_number f
 greatest_above_zero IPv4 = lit< tt
 greatest_above_zero IPv6 = lit< tt
 
--- what the stored end becomes: 0 where nothing lies behind the block, else the end before
+-- what the stored end becomes: 0 where nothing lies after the block, else the end before
 abbrev EndBecomes : (old new : SubnetRange) (last : ℕ) → Type 0
 EndBecomes old new last =
     ((new.end ≡ 0) × (old.end ≤ last)) ⊎ ((new.end ≡ old.end) × (last < greatest_number old.family))
@@ -127,14 +127,14 @@ end_becomes old new last fits from to advanced =
       ]
     ]
 
--- the stored ends after a block hold exactly what lies behind it
-left_behind : (old new : SubnetRange) (last : ℕ) → IsAdvancedPast last old new → EndBecomes old new last
+-- the stored ends after a block hold exactly what lies after it
+left_after : (old new : SubnetRange) (last : ℕ) → IsAdvancedPast last old new → EndBecomes old new last
     → (x : Address) → IsInRange new x ↔ IsBetween old.family (last + 1) old.end x
-left_behind old new last advanced (inl h) x = (
+left_after old new last advanced (inl h) x = (
   λ b. absurd (omega (arith, h, advanced.start, b.from_start, b.to_end, greatest_above_zero old.family)),
   λ b. absurd (omega (arith, h, b.from_start, b.to_end)),
 )
-left_behind old new last advanced (inr h) x = (
+left_after old new last advanced (inr h) x = (
   λ b. record {
     of_family = b.of_family ∙ advanced.family;
     from_start = omega (arith, h, advanced.start, b.from_start);
@@ -155,13 +155,13 @@ pub left_advanced : (old new : SubnetRange) (n : Network) (networks rest : List 
     → AreLeft old networks → AreLeft new rest → networks ≡ n ∷ rest
 left_advanced old new n networks rest fits step advanced before after =
     let within = last_within old n step in
-    let behind : AreMaximalBlocks (IsInRange new) old.min_prefix_len rest =
+    let later : AreMaximalBlocks (IsInRange new) old.min_prefix_len rest =
     subst (λ m. AreMaximalBlocks (IsInRange new) m rest) advanced.min_prefix_len after in
     AreMaximalBlocks-unique (IsInRange old) old.min_prefix_len networks (n ∷ rest) before
     (AreMaximalBlocks-step old.family old.start old.end old.min_prefix_len n rest step
     (AreMaximalBlocks-same_set (IsInRange new) (IsBetween old.family (last_of n + 1) old.end) old.min_prefix_len rest
-    (left_behind old new (last_of n) advanced
-    (end_becomes old new (last_of n) (omega (arith, fits)) within.0 within.1 advanced)) behind))
+    (left_after old new (last_of n) advanced
+    (end_becomes old new (last_of n) (omega (arith, fits)) within.0 within.1 advanced)) later))
 
 -- the greatest address of a block has its last number
 pub greatest_is_last : (n : Network) (x : Address) → IsGreatestOf n x → x.number ≡ last_of n

@@ -11,12 +11,12 @@ use Rattle.ipnet.specs.declared.subnets.IpSubnets.TheVariants as Ip
 use Rattle.ipnet.specs.declared.subnets.ipv4_subnets.Ipv4Subnets.{Ipv4Subnets}
 use Rattle.ipnet.specs.declared.subnets.ipv6_subnets.Ipv6Subnets.{Ipv6Subnets}
 
--- the IPv4 range from start to end, to be tiled by networks of at least this length
+-- the IPv4 range from start to end, to be tiled by networks of at least this prefix length
 abbrev pub ipv4_range_of : (start end min_prefix_len : ℕ) → SubnetRange
 ipv4_range_of start end min_prefix_len =
     record { family = IPv4; start = start; end = end; min_prefix_len = min_prefix_len }
 
--- the IPv6 range from start to end, to be tiled by networks of at least this length
+-- the IPv6 range from start to end, to be tiled by networks of at least this prefix length
 abbrev pub ipv6_range_of : (start end min_prefix_len : ℕ) → SubnetRange
 ipv6_range_of start end min_prefix_len =
     record { family = IPv6; start = start; end = end; min_prefix_len = min_prefix_len }
@@ -32,7 +32,7 @@ pub record IsWalkOf (range : SubnetRange) (networks : List Network) : Type 0 whe
   pub apart : ArePairwiseDisjoint networks
   -- together they have the addresses of the range and no other, and no fewer networks have
   pub shortest : IsShortestCover (IsInRange range) range.min_prefix_len networks
-  -- without a least length they are few: at most 62 for IPv4, 254 for IPv6
+  -- under the minimum prefix length 0 they are few: at most 62 for IPv4, 254 for IPv6
   pub few : range.min_prefix_len ≡ 0 → length networks ≤ 2 * width range.family - 2
 
 -- What `next` of a type of walks does beside giving the first of its list, where network_of is the network that an
@@ -43,7 +43,8 @@ pub record IsSubnetStep {S A : Type 0} (network_of : A → Network) (range_of : 
   -- what std wants of each call of `next`: the list gets shorter
   pub progress : MakesProgress (λ _. ⊤) (item_count left) old answer new
   pub open progress use *
-  -- the largest network that starts at the start, ends at or before the end and has at least the least length
+  -- the largest network that starts at the start, ends at or before the end and has at least the minimum prefix
+  -- length
   pub largest : IfSome answer (λ n. IsLargestSubnetAt (range_of old).family (range_of old).start (range_of old).end
       (range_of old).min_prefix_len (network_of n))
   -- the stored ends that it leaves

@@ -68,11 +68,11 @@ pub(crate) trait Net: Copy + Ord {
 
 /// An IP network of either family.
 ///
-/// An IPv4 network stands before every IPv6 one; within a family networks are ordered by the address, host
-/// bits and all, and then by the length.
+/// An IPv4 network stands before every IPv6 one; within a family networks are ordered by the address, host bits and
+/// all, and then by the prefix length.
 ///
 /// ```text
-/// 10.0.0.1/24 is the address 10.0.0.1 with the length 24, and another network than 10.0.0.0/24 of the same block
+/// 10.0.0.1/24 is 10.0.0.1 with the prefix length 24, and another network than 10.0.0.0/24 of the same block
 /// 255.255.255.255/32 stands before ::/0, and 10.0.0.0/8 before 10.0.0.0/24
 /// ```
 #[derive(Clone, Copy, PartialEq, Eq, PartialOrd, Ord, Hash)]
@@ -88,9 +88,9 @@ impl IpNet {
     ghost use Rattle.ipnet_base.specs.RangeOf.{ip_range};
     ghost use Rattle.ipnet.specs.SubnetsLeft.{ip_subnet_range, ip_subnets_left};
 
-    /// The network of the address and the length; the address keeps its host bits.
+    /// The network of the address and the prefix length; the address keeps its host bits.
     ///
-    /// An error where the length is above the width of the address: 32 or 128.
+    /// An error where the prefix length is above the width of the address: 32 or 128.
     ///
     /// ```text
     /// IpNet::new(10.1.1.7, 24) is 10.1.1.7/24, and IpNet::new(10.1.1.7, 33) an error
@@ -105,8 +105,8 @@ impl IpNet {
         }
     }
 
-    /// The network of the address and a length that the caller knows to be at most its width, 32 or 128;
-    /// `new` is the test.
+    /// The network of the address and a prefix length that the caller knows to be at most its width, 32 or 128; `new`
+    /// is the test.
     ///
     /// ```text
     /// IpNet::new_assert(10.1.1.7, 32) is 10.1.1.7/32, and IpNet::new_assert(fd00::7, 33) is fd00::7/33
@@ -121,10 +121,10 @@ impl IpNet {
         }
     }
 
-    /// The network of the address and the length that the netmask says; the address keeps its host bits.
+    /// The network of the address and the prefix length that the netmask says; the address keeps its host bits.
     ///
-    /// The families of the two are not compared: an IPv4 address goes with an IPv6 mask of at most 32 ones, an
-    /// IPv6 address with any IPv4 mask. An error where the mask is none, or its length above the width of the
+    /// The families of the two are not compared: an IPv4 address goes with an IPv6 mask of at most 32 ones, an IPv6
+    /// address with any IPv4 mask. An error where the mask is none, or its prefix length above the width of the
     /// address.
     ///
     /// ```text
@@ -238,7 +238,7 @@ impl IpNet {
         }
     }
 
-    /// The network without its host bits: the same block and length, and the least address of the block.
+    /// The network without its host bits: the same block and prefix length, and the least address of the block.
     ///
     /// ```text
     /// 192.168.12.34/16 becomes 192.168.0.0/16
@@ -252,7 +252,7 @@ impl IpNet {
         }
     }
 
-    /// The network that is one bit shorter and contains this one, without host bits; none at length 0.
+    /// The network that is one bit shorter and contains this one, without host bits; none at prefix length 0.
     ///
     /// ```text
     /// that of 172.16.0.0/12 is 172.0.0.0/11
@@ -267,9 +267,9 @@ impl IpNet {
         }
     }
 
-    /// Whether both are of one family and have one length above 0 and one supernet.
+    /// Whether both are of one family and have one prefix length above 0 and one supernet.
     ///
-    /// So each network of length above 0 is its own sibling, and host bits do not matter.
+    /// So each network of prefix length above 0 is its own sibling, and host bits do not matter.
     ///
     /// ```text
     /// 10.1.0.0/24 and 10.1.1.0/24 are siblings, 10.1.1.0/24 and 10.1.2.0/24 are not
@@ -284,9 +284,9 @@ impl IpNet {
         }
     }
 
-    /// The addresses that hosts may have: all of the block, but in an IPv4 network of a length below 31 neither its
-    /// least address nor its greatest, which stand for the network and for all of its hosts (RFC 1122, section
-    /// 3.2.1.3). At length 31 both are hosts (RFC 3021), and at length 32 the one address is.
+    /// The addresses that hosts may have: all of the block, but in an IPv4 network of a prefix length below 31 neither
+    /// its least address nor its greatest, which stand for the network and for all of its hosts (RFC 1122, section
+    /// 3.2.1.3). At prefix length 31 both are hosts (RFC 3021), and at 32 the one address is.
     ///
     /// ```text
     /// 10.0.0.0/30: 10.0.0.1, 10.0.0.2; 10.0.0.0/31: 10.0.0.0, 10.0.0.1; fd00::/127: fd00::, fd00::1
@@ -300,9 +300,10 @@ impl IpNet {
         }
     }
 
-    /// The walk over all networks of this length in the block, ascending; there are 2^(new - own length) of them.
+    /// The walk over all networks of this prefix length in the block, ascending; there are 2^(new - own prefix length)
+    /// of them.
     ///
-    /// An error where the new length is below this network's own, or above the width, 32 or 128.
+    /// An error where the new prefix length is below this network's own, or above the width, 32 or 128.
     ///
     /// ```text
     /// 10.0.0.0/24 at 26: 10.0.0.0/26, 10.0.0.64/26, 10.0.0.128/26, 10.0.0.192/26; at 23 an error
@@ -401,7 +402,7 @@ impl From<IpAddr> for IpNet {
 
     ghost from_gives = { λ ip n. ip_network n ≡ network_at (ip_address ip) (width (ip_address ip).family) };
 
-    /// The network of this one address: the length is 32 or 128.
+    /// The network of this one address: the prefix length is 32 or 128.
     fn from(ip: IpAddr) -> IpNet {
         match ip {
             IpAddr::V4(ip) => IpNet::V4(Ipv4Net::from(ip)),

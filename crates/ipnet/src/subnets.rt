@@ -1,4 +1,8 @@
 //! Walks: the fewest networks that tile a range of addresses, in ascending order.
+//!
+//! A walk is an iterator. It goes over a range from its first address to its last, and each call of `next` gives the
+//! largest network that starts at the address that it has come to, ends within the range and has at least the minimum
+//! prefix length. A walk is made of two addresses and this length, or by `subnets` of a network.
 ghost use Rattle.std.specs.Prelude.{◌≡◌};
 ghost use Rattle.std.specs.Iterator.{YieldsFirstBy, item_count};
 ghost use Rattle.ipnet.specs.NetworkOf.{ip_network};
@@ -23,8 +27,8 @@ pub use ipv6_subnets::Ipv6Subnets;
 /// before every IPv6 one.
 ///
 /// ```text
-/// 10.0.0.0 to 10.0.0.239, least length 0: 10.0.0.0/25, 10.0.0.128/26, 10.0.0.192/27, 10.0.0.224/28
-/// subnets of fd00::/16 at 18:             fd00::/18, fd00:4000::/18, fd00:8000::/18, fd00:c000::/18
+/// 10.0.0.0 to 10.0.0.239, min_prefix_len 0: 10.0.0.0/25, 10.0.0.128/26, 10.0.0.192/27, 10.0.0.224/28
+/// subnets of fd00::/16 at 18:               fd00::/18, fd00:4000::/18, fd00:8000::/18, fd00:c000::/18
 /// ```
 #[derive(Clone, Copy, PartialEq, Eq, PartialOrd, Ord, Hash, Debug)]
 pub enum IpSubnets {

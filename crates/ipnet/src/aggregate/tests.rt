@@ -76,7 +76,7 @@ fn networks<N: Listed>(rt: &impl Abort, alloc: Global, texts: &str) -> Result<Ve
     repeated(rt, alloc, texts, 1)
 }
 
-/// How many runs were refused: the first ones, some but not all, and none behind the first with an answer.
+/// How many runs were refused: the first ones, some but not all, and none after the first with an answer.
 fn refused_runs(rt: &impl Abort, answers: &[bool; RUNS], label: &str) -> usize {
     let refused = answers.iter().take_while(|given| !**given).count();
     assert!(rt; 0 < refused && refused < RUNS, "{label}: {refused}");

@@ -13,15 +13,16 @@ use ipnet_base::{Ipv4Addr, Ipv4AddrRange, PrefixLenError, ipv4_mask_to_prefix};
 
 /// An IPv4 network: an address, with its host bits, and a prefix length of at most 32.
 ///
-/// Networks are ordered by the address, host bits and all, and then by the length.
+/// Networks are ordered by the address, host bits and all, and then by the prefix length.
 ///
 /// ```text
-/// 10.0.0.1/24 is the address 10.0.0.1 with the length 24, and another network than 10.0.0.0/24 of the same block
+/// 10.0.0.1/24 is 10.0.0.1 with the prefix length 24, and another network than 10.0.0.0/24 of the same block
 /// 10.0.0.0/8 stands before 10.0.0.0/24, and 10.0.0.0/32 before 10.0.0.1/8
 /// ```
 //
-// Number and length share one word, the number in the upper half and the length in the lower, so that the order of
-// words is the order of networks: sorting, most of the time of `aggregate`, moves and compares single words.
+// Number and prefix length share one word, the number in the upper half and the prefix length in the lower, so that
+// the order of words is the order of networks: sorting, most of the time of `aggregate`, moves and compares single
+// words.
 #[derive(Clone, Copy, PartialEq, Eq, PartialOrd, Ord, Hash)]
 pub struct Ipv4Net {
     word: u64,
@@ -29,7 +30,7 @@ pub struct Ipv4Net {
     ghost prefix_fits: { word % 2 ^ 32 ≤ 32 },
 }
 
-/// The number of the netmask of this length.
+/// The number of the netmask of this prefix length.
 //
 // `ipnet_base` has one of its own, for reading masks: to share this line it would have to be public there.
 fn netmask_number(prefix_len: u32) -> u32
@@ -39,7 +40,7 @@ fn netmask_number(prefix_len: u32) -> u32
     !hostmask_number(prefix_len)
 }
 
-/// The number of the host mask of this length.
+/// The number of the host mask of this prefix length.
 fn hostmask_number(prefix_len: u32) -> u32
     requires { prefix_len ≤ 32 }
     ensures { result ≡ 2 ^ (32 - prefix_len) - 1 }
@@ -49,7 +50,7 @@ fn hostmask_number(prefix_len: u32) -> u32
 
 /// The leading bits of the number, as many as a prefix of this length has.
 //
-// A word wider than the number, since at length 0 all of its bits are shifted out.
+// A word wider than the number, since at prefix length 0 all of its bits are shifted out.
 fn prefix_of(number: u32, prefix_len: u32) -> u64
     requires { prefix_len ≤ 32 }
     ensures { result ≡ number / 2 ^ (32 - prefix_len) }
@@ -69,9 +70,9 @@ impl Ipv4Net {
     ghost use Rattle.ipnet_base.specs.RangeOf.{ipv4_range};
     ghost use Rattle.ipnet.specs.SubnetsLeft.{ipv4_subnet_range, ipv4_subnets_left};
 
-    /// The network of the address and the length; the address keeps its host bits.
+    /// The network of the address and the prefix length; the address keeps its host bits.
     ///
-    /// An error where the length is above 32.
+    /// An error where the prefix length is above 32.
     ///
     /// ```text
     /// Ipv4Net::new(10.1.1.7, 24) is 10.1.1.7/24, and Ipv4Net::new(10.1.1.7, 33) an error
@@ -86,7 +87,7 @@ impl Ipv4Net {
         Ok(Ipv4Net::new_assert(ip, prefix_len))
     }
 
-    /// The network of the address and a length that the caller knows to be at most 32; `new` is the test.
+    /// The network of the address and a prefix length that the caller knows to be at most 32; `new` is the test.
     ///
     /// ```text
     /// Ipv4Net::new_assert(10.1.1.7, 24) is 10.1.1.7/24
@@ -98,7 +99,7 @@ impl Ipv4Net {
         Ipv4Net::from_number(ip.to_bits(), u32::from(prefix_len))
     }
 
-    /// The network of the address and the length that the netmask says; the address keeps its host bits.
+    /// The network of the address and the prefix length that the netmask says; the address keeps its host bits.
     ///
     /// An error where the mask is not ones followed by zeros.
     ///
@@ -178,7 +179,7 @@ impl Ipv4Net {
     pub fn network(&self) -> Ipv4Addr
         ensures { IsLeastOf (ipv4_network self.now) (ipv4_address result) }
     {
-        address_of(self.leading_number(self.leading_bits()))
+        address_of(self.masked(self.leading_bits()))
     }
 
     /// The greatest address of the block.
@@ -192,7 +193,7 @@ impl Ipv4Net {
         address_of(self.last_number())
     }
 
-    /// The network without its host bits: the same block and length, and the least address of the block.
+    /// The network without its host bits: the same block and prefix length, and the least address of the block.
     ///
     /// ```text
     /// 192.168.12.34/16 becomes 192.168.0.0/16
@@ -201,10 +202,10 @@ impl Ipv4Net {
         ensures { IsTruncationOf (ipv4_network result) (ipv4_network self.now) }
     {
         let len = self.leading_bits();
-        Ipv4Net::from_number(self.leading_number(len), len)
+        Ipv4Net::from_number(self.masked(len), len)
     }
 
-    /// The network that is one bit shorter and contains this one, without host bits; none at length 0.
+    /// The network that is one bit shorter and contains this one, without host bits; none at prefix length 0.
     ///
     /// ```text
     /// that of 172.16.0.0/12 is 172.0.0.0/11
@@ -219,9 +220,9 @@ impl Ipv4Net {
         Some(self.joined())
     }
 
-    /// Whether both have one length above 0 and one supernet.
+    /// Whether both have one prefix length above 0 and one supernet.
     ///
-    /// So each network of length above 0 is its own sibling, and host bits do not matter.
+    /// So each network of prefix length above 0 is its own sibling, and host bits do not matter.
     ///
     /// ```text
     /// 10.1.0.0/24 and 10.1.1.0/24 are siblings, 10.1.1.0/24 and 10.1.2.0/24 are not
@@ -233,12 +234,12 @@ impl Ipv4Net {
         if len == 0 || len != other.leading_bits() {
             return false;
         }
-        self.leading_number(len - 1) == other.leading_number(len - 1)
+        self.masked(len - 1) == other.masked(len - 1)
     }
 
-    /// The addresses that hosts may have: all of the block, but at a length below 31 neither its least address nor
-    /// its greatest, which stand for the network and for all of its hosts (RFC 1122, section 3.2.1.3). At length 31
-    /// both are hosts (RFC 3021), and at length 32 the one address is.
+    /// The addresses that hosts may have: all of the block, but at a prefix length below 31 neither its least address
+    /// nor its greatest, which stand for the network and for all of its hosts (RFC 1122, section 3.2.1.3). At prefix
+    /// length 31 both are hosts (RFC 3021), and at 32 the one address is.
     ///
     /// ```text
     /// 10.0.0.0/30: 10.0.0.1, 10.0.0.2; 10.0.0.0/31: 10.0.0.0, 10.0.0.1; 10.0.0.7/32: 10.0.0.7
@@ -250,14 +251,15 @@ impl Ipv4Net {
         if len >= 31 {
             return Ipv4AddrRange::new(self.network(), self.broadcast());
         }
-        let first = self.leading_number(len) + 1;
+        let first = self.masked(len) + 1;
         let last = self.last_number() - 1;
         Ipv4AddrRange::new(address_of(first), address_of(last))
     }
 
-    /// The walk over all networks of this length in the block, ascending; there are 2^(new - own length) of them.
+    /// The walk over all networks of this prefix length in the block, ascending; there are 2^(new - own prefix length)
+    /// of them.
     ///
-    /// An error where the new length is below this network's own, or above 32.
+    /// An error where the new prefix length is below this network's own, or above 32.
     ///
     /// ```text
     /// 10.0.0.0/24 at 26: 10.0.0.0/26, 10.0.0.64/26, 10.0.0.128/26, 10.0.0.192/26; at 23 an error
@@ -288,7 +290,7 @@ impl Ipv4Net {
         Contains::contains(self, other)
     }
 
-    /// The network of this number and this length.
+    /// The network of this number and this prefix length.
     pub(crate) fn from_number(number: u32, prefix_len: u32) -> Ipv4Net
         requires { prefix_len ≤ 32 }
         ensures { ipv4_network result ≡ ipv4_network_of number prefix_len }
@@ -305,15 +307,15 @@ impl Ipv4Net {
         (self.word >> 32) as u32
     }
 
-    /// The prefix length, as shifts take it.
+    /// The prefix length as `u32`: what shifts take their count in, so that no use has to convert it.
     pub(crate) fn leading_bits(&self) -> u32
         ensures { result ≡ (ipv4_network self.now).prefix_len }
     {
         (self.word & 0xffff_ffff) as u32
     }
 
-    /// The number of the address without the bits behind a prefix of this length.
-    pub(crate) fn leading_number(&self, prefix_len: u32) -> u32
+    /// The number of the address without the bits after a prefix of this length.
+    pub(crate) fn masked(&self, prefix_len: u32) -> u32
         requires { prefix_len ≤ 32 }
         ensures { result ≡ (ipv4_network self.now).number / 2 ^ (32 - prefix_len) * 2 ^ (32 - prefix_len) }
     {
@@ -374,7 +376,7 @@ impl From<Ipv4Addr> for Ipv4Net {
 
     ghost from_gives = { λ ip n. ipv4_network n ≡ network_at (ipv4_address ip) 32 };
 
-    /// The network of this one address: the length is 32.
+    /// The network of this one address: the prefix length is 32.
     fn from(ip: Ipv4Addr) -> Ipv4Net {
         Ipv4Net::new_assert(ip, 32)
     }
@@ -411,6 +413,6 @@ impl Net for Ipv4Net {
 
     fn joined(&self) -> Ipv4Net {
         let shorter = self.leading_bits() - 1;
-        Ipv4Net::from_number(self.leading_number(shorter), shorter)
+        Ipv4Net::from_number(self.masked(shorter), shorter)
     }
 }

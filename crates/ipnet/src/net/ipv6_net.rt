@@ -1,4 +1,4 @@
-//! IPv6 networks: their parts, blocks and subnets, in bit operations on the number and the length.
+//! IPv6 networks: their parts, blocks and subnets, in bit operations on the number and the prefix length.
 ghost use Rattle.std.specs.Prelude.{◌≡◌, ◌-◌, ◌*◌, ◌/◌, ◌^◌, ◌<◌, ◌≤◌, ◌⊎◌, ◌↔◌, IsTrue, IsErr, IfOk, IsNone, IfSome};
 ghost use Rattle.ipnet_base.specs.Address.{IPv6, width, ipv6_address, address_at};
 ghost use Rattle.ipnet_base.specs.Network.{Network, IsLeastOf, IsGreatestOf, IsSubnetOf, InBlock, IsSupernetOf};
@@ -12,14 +12,14 @@ use ipnet_base::{Ipv6Addr, Ipv6AddrRange, PrefixLenError, ipv6_mask_to_prefix};
 
 /// An IPv6 network: an address, with its host bits, and a prefix length of at most 128.
 ///
-/// Networks are ordered by the address, host bits and all, and then by the length.
+/// Networks are ordered by the address, host bits and all, and then by the prefix length.
 ///
 /// ```text
-/// fd00::1/64 is the address fd00::1 with the length 64, and another network than fd00::/64 of the same block
+/// fd00::1/64 is fd00::1 with the prefix length 64, and another network than fd00::/64 of the same block
 /// fd00::/64 stands before fd00::/128, and fd00::/128 before fd00::1/64
 /// ```
 //
-// The number is kept as its two halves and the length in a word as wide as these: a network of three equal
+// The number is kept as its two halves and the prefix length in a word as wide as these: a network of three equal
 // words is sorted faster than one of 128 aligned bits and a byte.
 #[derive(Clone, Copy, PartialEq, Eq, PartialOrd, Ord, Hash)]
 pub struct Ipv6Net {
@@ -31,7 +31,7 @@ pub struct Ipv6Net {
     ghost prefix_fits: { prefix_len ≤ 128 },
 }
 
-/// The number of the netmask of this length.
+/// The number of the netmask of this prefix length.
 //
 // `ipnet_base` has one of its own, for reading masks: to share this line it would have to be public there.
 fn netmask_number(prefix_len: u32) -> u128
@@ -41,7 +41,7 @@ fn netmask_number(prefix_len: u32) -> u128
     !hostmask_number(prefix_len)
 }
 
-/// The number of the host mask of this length.
+/// The number of the host mask of this prefix length.
 fn hostmask_number(prefix_len: u32) -> u128
     requires { prefix_len ≤ 128 }
     ensures { result ≡ 2 ^ (128 - prefix_len) - 1 }
@@ -69,9 +69,9 @@ impl Ipv6Net {
     ghost use Rattle.ipnet_base.specs.RangeOf.{ipv6_range};
     ghost use Rattle.ipnet.specs.SubnetsLeft.{ipv6_subnet_range, ipv6_subnets_left};
 
-    /// The network of the address and the length; the address keeps its host bits.
+    /// The network of the address and the prefix length; the address keeps its host bits.
     ///
-    /// An error where the length is above 128.
+    /// An error where the prefix length is above 128.
     ///
     /// ```text
     /// Ipv6Net::new(fd00::7, 24) is fd00::7/24, and Ipv6Net::new(fd00::7, 129) an error
@@ -86,7 +86,7 @@ impl Ipv6Net {
         Ok(Ipv6Net::new_assert(ip, prefix_len))
     }
 
-    /// The network of the address and a length that the caller knows to be at most 128; `new` is the test.
+    /// The network of the address and a prefix length that the caller knows to be at most 128; `new` is the test.
     ///
     /// ```text
     /// Ipv6Net::new_assert(fd00::7, 24) is fd00::7/24
@@ -98,7 +98,7 @@ impl Ipv6Net {
         Ipv6Net::from_number(ip.to_bits(), u32::from(prefix_len))
     }
 
-    /// The network of the address and the length that the netmask says; the address keeps its host bits.
+    /// The network of the address and the prefix length that the netmask says; the address keeps its host bits.
     ///
     /// An error where the mask is not ones followed by zeros.
     ///
@@ -178,7 +178,7 @@ impl Ipv6Net {
     pub fn network(&self) -> Ipv6Addr
         ensures { IsLeastOf (ipv6_network self.now) (ipv6_address result) }
     {
-        address_of(self.leading_number(self.leading_bits()))
+        address_of(self.masked(self.leading_bits()))
     }
 
     /// The greatest address of the block.
@@ -192,7 +192,7 @@ impl Ipv6Net {
         address_of(self.last_number())
     }
 
-    /// The network without its host bits: the same block and length, and the least address of the block.
+    /// The network without its host bits: the same block and prefix length, and the least address of the block.
     ///
     /// ```text
     /// fd00::1:2:3:4/16 becomes fd00::/16
@@ -201,10 +201,10 @@ impl Ipv6Net {
         ensures { IsTruncationOf (ipv6_network result) (ipv6_network self.now) }
     {
         let len = self.leading_bits();
-        Ipv6Net::from_number(self.leading_number(len), len)
+        Ipv6Net::from_number(self.masked(len), len)
     }
 
-    /// The network that is one bit shorter and contains this one, without host bits; none at length 0.
+    /// The network that is one bit shorter and contains this one, without host bits; none at prefix length 0.
     ///
     /// ```text
     /// that of fd00:ff00::/24 is fd00:fe00::/23
@@ -219,9 +219,9 @@ impl Ipv6Net {
         Some(self.joined())
     }
 
-    /// Whether both have one length above 0 and one supernet.
+    /// Whether both have one prefix length above 0 and one supernet.
     ///
-    /// So each network of length above 0 is its own sibling, and host bits do not matter.
+    /// So each network of prefix length above 0 is its own sibling, and host bits do not matter.
     ///
     /// ```text
     /// fd00::/24 and fd00:100::/24 are siblings, fd00:100::/24 and fd00:200::/24 are not
@@ -233,7 +233,7 @@ impl Ipv6Net {
         if len == 0 || len != other.leading_bits() {
             return false;
         }
-        self.leading_number(len - 1) == other.leading_number(len - 1)
+        self.masked(len - 1) == other.masked(len - 1)
     }
 
     /// The addresses that hosts may have: all of the block.
@@ -247,9 +247,10 @@ impl Ipv6Net {
         Ipv6AddrRange::new(self.network(), self.broadcast())
     }
 
-    /// The walk over all networks of this length in the block, ascending; there are 2^(new - own length) of them.
+    /// The walk over all networks of this prefix length in the block, ascending; there are 2^(new - own prefix length)
+    /// of them.
     ///
-    /// An error where the new length is below this network's own, or above 128.
+    /// An error where the new prefix length is below this network's own, or above 128.
     ///
     /// ```text
     /// fd00::/16 at 18: fd00::/18, fd00:4000::/18, fd00:8000::/18, fd00:c000::/18; at 15 an error
@@ -280,7 +281,7 @@ impl Ipv6Net {
         Contains::contains(self, other)
     }
 
-    /// The network of this number and this length.
+    /// The network of this number and this prefix length.
     pub(crate) fn from_number(number: u128, prefix_len: u32) -> Ipv6Net
         requires { prefix_len ≤ 128 }
         ensures { ipv6_network result ≡ ipv6_network_of number prefix_len }
@@ -299,15 +300,15 @@ impl Ipv6Net {
         (u128::from(self.high) << 64) | u128::from(self.low)
     }
 
-    /// The prefix length, as shifts take it.
+    /// The prefix length as `u32`: what shifts take their count in, so that no use has to convert it.
     pub(crate) fn leading_bits(&self) -> u32
         ensures { result ≡ (ipv6_network self.now).prefix_len }
     {
         self.prefix_len as u32
     }
 
-    /// The number of the address without the bits behind a prefix of this length.
-    pub(crate) fn leading_number(&self, prefix_len: u32) -> u128
+    /// The number of the address without the bits after a prefix of this length.
+    pub(crate) fn masked(&self, prefix_len: u32) -> u128
         requires { prefix_len ≤ 128 }
         ensures { result ≡ (ipv6_network self.now).number / 2 ^ (128 - prefix_len) * 2 ^ (128 - prefix_len) }
     {
@@ -368,7 +369,7 @@ impl From<Ipv6Addr> for Ipv6Net {
 
     ghost from_gives = { λ ip n. ipv6_network n ≡ network_at (ipv6_address ip) 128 };
 
-    /// The network of this one address: the length is 128.
+    /// The network of this one address: the prefix length is 128.
     fn from(ip: Ipv6Addr) -> Ipv6Net {
         Ipv6Net::new_assert(ip, 128)
     }
@@ -405,6 +406,6 @@ impl Net for Ipv6Net {
 
     fn joined(&self) -> Ipv6Net {
         let shorter = self.leading_bits() - 1;
-        Ipv6Net::from_number(self.leading_number(shorter), shorter)
+        Ipv6Net::from_number(self.masked(shorter), shorter)
     }
 }

@@ -10,15 +10,15 @@ use std::iter::FusedIterator;
 use std::net::Ipv4Addr;
 
 /// A walk over a range of IPv4 addresses: the networks that tile it in ascending order, each the largest that
-/// starts behind the one before. They are the fewest networks, of at least a least prefix length, that have
+/// starts after the one before. They are the fewest networks, of at least a minimum prefix length, that have
 /// together exactly the addresses of the range.
 ///
 /// ```text
-/// 10.0.0.0 to 10.0.0.239, least length 0:  10.0.0.0/25, 10.0.0.128/26, 10.0.0.192/27, 10.0.0.224/28
-/// 10.0.0.0 to 10.0.0.239, least length 26: 10.0.0.0/26, 10.0.0.64/26, 10.0.0.128/26, 10.0.0.192/27, 10.0.0.224/28
+/// 10.0.0.0 to 10.0.0.239, min_prefix_len 0:  10.0.0.0/25, 10.0.0.128/26, 10.0.0.192/27, 10.0.0.224/28
+/// 10.0.0.0 to 10.0.0.239, min_prefix_len 26: 10.0.0.0/26, 10.0.0.64/26, 10.0.0.128/26, 10.0.0.192/27, 10.0.0.224/28
 /// ```
 ///
-/// Walks compare by what they store, the start, then the end, then the least length of what is left, and not
+/// Walks compare by what they store, the start, then the end, then the minimum prefix length of what is left, and not
 /// by the networks that they still give: two walks that are over may differ.
 #[derive(Clone, Copy, PartialEq, Eq, PartialOrd, Ord, Hash, Debug)]
 pub struct Ipv4Subnets {
@@ -35,7 +35,7 @@ pub struct Ipv4Subnets {
 }
 
 /// The prefix length of the largest block with no more addresses than the range, whose last number lies this
-/// distance behind its first.
+/// distance after its first.
 fn range_prefix_len(distance: u32) -> u32
     ensures fits { result ≤ 32 }
     ensures most { IsMostBits distance (32 - result) }
@@ -58,7 +58,7 @@ fn largest_prefix_len(start: u32, end: u32, min_prefix_len: u32) -> u32
     // No network may be larger than this one, and in a walk over the subnets of a network it always fits: a test that
     // a processor predicts, in place of counts that it has to wait for.
     let net = Ipv4Net::from_number(start, min_prefix_len);
-    if net.leading_number(min_prefix_len) == start && net.last_number() <= end {
+    if net.masked(min_prefix_len) == start && net.last_number() <= end {
         return min_prefix_len;
     }
     let by_range = range_prefix_len(end - start);
@@ -80,14 +80,14 @@ impl Ipv4Subnets {
     ghost use Rattle.ipnet.specs.SubnetsLeft.{IsWalkOf, ipv4_range_of, ipv4_subnet_range, ipv4_subnets_left};
 
     /// The walk from the first address to the last, both of them in the range, by networks whose prefix length is
-    /// at least `min_prefix_len`. A start above the end is the walk that gives nothing. Under the least length
-    /// 0 a walk gives at most 62 networks.
+    /// at least `min_prefix_len`. A start above the end is the walk that gives nothing. Under the minimum
+    /// prefix length 0 a walk gives at most 62 networks.
     ///
-    /// The caller sees to it that the least length is at most 32, as by `min_prefix_len <= 32`.
+    /// The caller sees to it that the minimum prefix length is at most 32, as by `min_prefix_len <= 32`.
     ///
     /// ```text
-    /// from 0.0.0.0 to 0.0.0.10, least length 30: 0.0.0.0/30, 0.0.0.4/30, 0.0.0.8/31, 0.0.0.10/32
-    /// from 0.0.0.1 to 0.0.0.0, least length 0:   nothing
+    /// from 0.0.0.0 to 0.0.0.10, min_prefix_len 30: 0.0.0.0/30, 0.0.0.4/30, 0.0.0.8/31, 0.0.0.10/32
+    /// from 0.0.0.1 to 0.0.0.0, min_prefix_len 0:   nothing
     /// ```
     pub fn new(start: Ipv4Addr, end: Ipv4Addr, min_prefix_len: u8) -> Ipv4Subnets
         requires { min_prefix_len ≤ 32 }
@@ -102,7 +102,7 @@ impl Ipv4Subnets {
         }
     }
 
-    /// Leaves what lies behind a block that ended at this number.
+    /// Leaves what lies after a block that ended at this number.
     fn advance_past(&mut self, last: u32)
         ensures { IsAdvancedPast last (ipv4_subnet_range self.old) (ipv4_subnet_range self.new) }
     {
@@ -123,11 +123,11 @@ impl Iterator for Ipv4Subnets {
 
     ghost remaining = { item_count ipv4_subnets_left };
 
-    /// The largest network that starts at the stored start, ends at or before the stored end and has a prefix of
-    /// at least the least length; or `None`, then and ever after, where the start lies above the end.
+    /// The largest network that starts at the stored start, ends at or before the stored end and has at least the
+    /// minimum prefix length; or `None`, then and ever after, where the start lies above the end.
     ///
-    /// The start becomes the address behind the network, held at the last address of all. The end becomes 0.0.0.0
-    /// where the network ended at that last address, or where the start was the end; otherwise it stays.
+    /// The start becomes the address after the network, and saturates at the last address of all. The end becomes
+    /// 0.0.0.0 where the network ended at that last address, or where the start was the end; otherwise it stays.
     fn next(&mut self) -> Option<Ipv4Net>
         ensures steps { YieldsFirstBy ipv4_network ipv4_subnets_left self.old result self.new }
         ensures goes { IsSubnetStep ipv4_network ipv4_subnet_range ipv4_subnets_left self.old result self.new }

@@ -10,15 +10,15 @@ use std::iter::FusedIterator;
 use std::net::Ipv6Addr;
 
 /// A walk over a range of IPv6 addresses: the networks that tile it in ascending order, each the largest that
-/// starts behind the one before. They are the fewest networks, of at least a least prefix length, that have
+/// starts after the one before. They are the fewest networks, of at least a minimum prefix length, that have
 /// together exactly the addresses of the range.
 ///
 /// ```text
-/// fd00:: to fd00::ef, least length 0:   fd00::/121, fd00::80/122, fd00::c0/123, fd00::e0/124
-/// fd00:: to fd00::ef, least length 122: fd00::/122, fd00::40/122, fd00::80/122, fd00::c0/123, fd00::e0/124
+/// fd00:: to fd00::ef, min_prefix_len 0:   fd00::/121, fd00::80/122, fd00::c0/123, fd00::e0/124
+/// fd00:: to fd00::ef, min_prefix_len 122: fd00::/122, fd00::40/122, fd00::80/122, fd00::c0/123, fd00::e0/124
 /// ```
 ///
-/// Walks compare by what they store, the start, then the end, then the least length of what is left, and not
+/// Walks compare by what they store, the start, then the end, then the minimum prefix length of what is left, and not
 /// by the networks that they still give: two walks that are over may differ.
 #[derive(Clone, Copy, PartialEq, Eq, PartialOrd, Ord, Hash, Debug)]
 pub struct Ipv6Subnets {
@@ -35,7 +35,7 @@ pub struct Ipv6Subnets {
 }
 
 /// The prefix length of the largest block with no more addresses than the range, whose last number lies this
-/// distance behind its first.
+/// distance after its first.
 fn range_prefix_len(distance: u128) -> u32
     ensures fits { result ≤ 128 }
     ensures most { IsMostBits distance (128 - result) }
@@ -58,7 +58,7 @@ fn largest_prefix_len(start: u128, end: u128, min_prefix_len: u32) -> u32
     // No network may be larger than this one, and in a walk over the subnets of a network it always fits: a test that
     // a processor predicts, in place of counts that it has to wait for.
     let net = Ipv6Net::from_number(start, min_prefix_len);
-    if net.leading_number(min_prefix_len) == start && net.last_number() <= end {
+    if net.masked(min_prefix_len) == start && net.last_number() <= end {
         return min_prefix_len;
     }
     let by_range = range_prefix_len(end - start);
@@ -80,14 +80,14 @@ impl Ipv6Subnets {
     ghost use Rattle.ipnet.specs.SubnetsLeft.{IsWalkOf, ipv6_range_of, ipv6_subnet_range, ipv6_subnets_left};
 
     /// The walk from the first address to the last, both of them in the range, by networks whose prefix length is
-    /// at least `min_prefix_len`. A start above the end is the walk that gives nothing. Under the least length
-    /// 0 a walk gives at most 254 networks.
+    /// at least `min_prefix_len`. A start above the end is the walk that gives nothing. Under the minimum
+    /// prefix length 0 a walk gives at most 254 networks.
     ///
-    /// The caller sees to it that the least length is at most 128, as by `min_prefix_len <= 128`.
+    /// The caller sees to it that the minimum prefix length is at most 128, as by `min_prefix_len <= 128`.
     ///
     /// ```text
-    /// from :: to ::a, least length 126: ::/126, ::4/126, ::8/127, ::a/128
-    /// from ::1 to ::, least length 0:   nothing
+    /// from :: to ::a, min_prefix_len 126: ::/126, ::4/126, ::8/127, ::a/128
+    /// from ::1 to ::, min_prefix_len 0:   nothing
     /// ```
     pub fn new(start: Ipv6Addr, end: Ipv6Addr, min_prefix_len: u8) -> Ipv6Subnets
         requires { min_prefix_len ≤ 128 }
@@ -102,7 +102,7 @@ impl Ipv6Subnets {
         }
     }
 
-    /// Leaves what lies behind a block that ended at this number.
+    /// Leaves what lies after a block that ended at this number.
     fn advance_past(&mut self, last: u128)
         ensures { IsAdvancedPast last (ipv6_subnet_range self.old) (ipv6_subnet_range self.new) }
     {
@@ -123,11 +123,11 @@ impl Iterator for Ipv6Subnets {
 
     ghost remaining = { item_count ipv6_subnets_left };
 
-    /// The largest network that starts at the stored start, ends at or before the stored end and has a prefix of
-    /// at least the least length; or `None`, then and ever after, where the start lies above the end.
+    /// The largest network that starts at the stored start, ends at or before the stored end and has at least the
+    /// minimum prefix length; or `None`, then and ever after, where the start lies above the end.
     ///
-    /// The start becomes the address behind the network, held at the last address of all. The end becomes `::`
-    /// where the network ended at that last address, or where the start was the end; otherwise it stays.
+    /// The start becomes the address after the network, and saturates at the last address of all. The end becomes
+    /// `::` where the network ended at that last address, or where the start was the end; otherwise it stays.
     fn next(&mut self) -> Option<Ipv6Net>
         ensures steps { YieldsFirstBy ipv6_network ipv6_subnets_left self.old result self.new }
         ensures goes { IsSubnetStep ipv6_network ipv6_subnet_range ipv6_subnets_left self.old result self.new }

@@ -1,3 +1,4 @@
+-- Each value is a network, and of networks `neighbours_iff_own_aggregate` says it.
 use Rattle.std.proofs.Common.{map}
 use Rattle.ipnet_base.specs.Network.{IsNetwork}
 use Rattle.ipnet_base.proofs.AggregateLaws.{neighbours_iff_own_aggregate}

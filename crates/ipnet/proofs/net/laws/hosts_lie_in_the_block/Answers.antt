@@ -1,3 +1,4 @@
+-- By whether the ends of the block are reserved, which family and prefix length tell.
 use Rattle.ipnet.proofs.HostLaws.{inner_hosts, whole_hosts, whole_from_31, whole_ipv6}
 use Rattle.ipnet.proofs.net.laws.hosts_lie_in_the_block.Goals as goal
 

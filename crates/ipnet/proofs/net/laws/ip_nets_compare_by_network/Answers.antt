@@ -1,3 +1,4 @@
+-- One value stands for each network, by `NetLaws`; order and hash go by the variant, then by what it holds.
 use Rattle.std.proofs.Common.{rules, refl}
 use Rattle.ipnet.specs.NetLaws.{ip_valid, ip_one_to_one}
 use Rattle.ipnet.specs.contracts.net.IpNetHash.TheImpl as IpNetHash

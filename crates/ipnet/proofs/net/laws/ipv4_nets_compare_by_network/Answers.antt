@@ -1,3 +1,4 @@
+-- One value stands for each network, by `NetLaws`; order and hash go by the words that store it.
 use Rattle.std.proofs.Common.{rules}
 use Rattle.ipnet.specs.NetLaws.{ipv4_valid, ipv4_one_to_one}
 use Rattle.ipnet.proofs.NetOrderLaws.{ipv4_ranks, ipv4_hash}

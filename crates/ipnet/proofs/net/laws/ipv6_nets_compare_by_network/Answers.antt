@@ -1,3 +1,4 @@
+-- One value stands for each network, by `NetLaws`; order and hash go by the words that store it.
 use Rattle.std.proofs.Common.{rules}
 use Rattle.ipnet.specs.NetLaws.{ipv6_valid, ipv6_one_to_one}
 use Rattle.ipnet.proofs.NetOrderLaws.{ipv6_ranks, ipv6_hash}

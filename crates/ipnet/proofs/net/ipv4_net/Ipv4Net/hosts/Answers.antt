@@ -1,3 +1,5 @@
+-- From prefix length 31 on the whole block; below it the two ends stand apart, so that neither sum nor difference
+-- leaves the block (`reserved_ends_are_apart`).
 use Rattle.ipnet_base.specs.Network.{first_of, last_of}
 use Rattle.std.proofs.Common.{◌≡◌, ℕ, ◌+◌, ◌-◌, ◌*◌, ◌/◌, ◌^◌, ◌<◌, ◌≤◌, ◌∙◌, refl, ap, arith}
 use Rattle.ipnet_base.specs.Address.{ipv4_address}
@@ -27,8 +29,8 @@ pub overflow_add-first : goal.overflow_add-first
 overflow_add-first c =
     let n = c.args.self.now in
     let first =
-    first_is n c.leading_bits-len.result c.leading_number-first.result c.leading_bits-len.ensures
-    c.leading_number-first.ensures in
+    first_is n c.leading_bits-len.result c.masked-first.result c.leading_bits-len.ensures
+    c.masked-first.ensures in
     let apart = ends_apart n c.leading_bits-len.result c.leading_bits-len.ensures c.if-len-ge31.false in
     omega (arith, first, apart.0, apart.1)
 
@@ -41,8 +43,8 @@ pub returns : goal.returns
 returns c =
     let n = c.args.self.now in
     let first =
-    first_is n c.leading_bits-len.result c.leading_number-first.result c.leading_bits-len.ensures
-    c.leading_number-first.ensures in
+    first_is n c.leading_bits-len.result c.masked-first.result c.leading_bits-len.ensures
+    c.masked-first.ensures in
     let apart = ends_apart n c.leading_bits-len.result c.leading_bits-len.ensures c.if-len-ge31.false in
     IsHostRange-inner (ipv4_network n) (ipv4_range c.new-2.result) refl (refl, omega arith)
     (c.new-2.ensures.start ∙ ap (λ x. x.number) c.address_of.ensures ∙ ap (λ a. a + 1) first)

@@ -1,9 +1,10 @@
+-- The walk that `new` makes of the block's ends gives the subnets, by `AreSubnetsOfLength-from_walk`.
 use Rattle.std.proofs.Common.{arith}
 use Rattle.ipnet_base.specs.Address.{ipv4_address}
 use Rattle.ipnet.specs.NetworkOf.{ipv4_network}
 use Rattle.ipnet.specs.NetLaws.{ipv4_valid}
 use Rattle.ipnet.specs.SubnetsLeft.{ipv4_subnet_range, ipv4_subnets_left}
-use Rattle.ipnet.proofs.NumberLaws.{AreSubnetsOfLength-from_walk, IsBlockRange-from_ends}
+use Rattle.ipnet.proofs.SubnetCountLaws.{AreSubnetsOfLength-from_walk, IsBlockRange-from_ends}
 use Rattle.ipnet.proofs.net.ipv4_net.Ipv4Net.subnets.Goals as goal
 
 pub returns-clause-walk : goal.returns-clause-walk

@@ -1,3 +1,4 @@
+-- The whole block: no IPv6 network has reserved ends.
 use Rattle.std.proofs.Common.{refl}
 use Rattle.ipnet_base.specs.Address.{ipv6_address}
 use Rattle.ipnet_base.specs.RangeOf.{ipv6_range}

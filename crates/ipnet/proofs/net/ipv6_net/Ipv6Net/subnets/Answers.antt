@@ -1,9 +1,10 @@
+-- The walk that `new` makes of the block's ends gives the subnets, by `AreSubnetsOfLength-from_walk`.
 use Rattle.std.proofs.Common.{arith}
 use Rattle.ipnet_base.specs.Address.{ipv6_address}
 use Rattle.ipnet.specs.NetworkOf.{ipv6_network}
 use Rattle.ipnet.specs.NetLaws.{ipv6_valid}
 use Rattle.ipnet.specs.SubnetsLeft.{ipv6_subnet_range, ipv6_subnets_left}
-use Rattle.ipnet.proofs.NumberLaws.{AreSubnetsOfLength-from_walk, IsBlockRange-from_ends}
+use Rattle.ipnet.proofs.SubnetCountLaws.{AreSubnetsOfLength-from_walk, IsBlockRange-from_ends}
 use Rattle.ipnet.proofs.net.ipv6_net.Ipv6Net.subnets.Goals as goal
 
 pub returns-clause-walk : goal.returns-clause-walk

@@ -1,3 +1,4 @@
+-- The number without its host bits and the prefix length make the truncation, by `truncation_from_numbers`.
 use Rattle.ipnet.specs.NetworkOf.{ipv6_network}
 use Rattle.ipnet.specs.NetLaws.{ipv6_valid}
 use Rattle.ipnet.proofs.NumberLaws.{truncation_from_numbers}
@@ -7,5 +8,5 @@ pub returns : goal.returns
 returns c =
     let n = c.args.self.now in
     truncation_from_numbers (ipv6_network c.from_number.result) (ipv6_network n) c.leading_bits-len.result
-    c.leading_number.result
-    (ipv6_valid n) c.leading_bits-len.ensures c.leading_number.ensures c.from_number.ensures
+    c.masked.result
+    (ipv6_valid n) c.leading_bits-len.ensures c.masked.ensures c.from_number.ensures

@@ -1,3 +1,4 @@
+-- The leading bits of `a ^ b` are 1 for halves alone, by `halves_test`.
 use Rattle.std.proofs.Common.{◌-◌, ◌/◌, ◌^◌, ◌∙◌, refl, ap₂, arith, bit_xor}
 use Rattle.ipnet.specs.NetworkOf.{ipv6_network}
 use Rattle.ipnet.specs.NetLaws.{ipv6_valid}

@@ -1,3 +1,4 @@
+-- The leading bits but the last, and the length less one, make the supernet, by `supernet_from_numbers`.
 use Rattle.std.proofs.Common.{◌-◌, arith}
 use Rattle.ipnet.specs.NetworkOf.{ipv6_network}
 use Rattle.ipnet.specs.NetLaws.{ipv6_valid}
@@ -8,5 +9,5 @@ pub returns : goal.returns
 returns c =
     let n = c.args.self.now in
     supernet_from_numbers (ipv6_network c.from_number.result) (ipv6_network n) (c.leading_bits-shorter.result - 1)
-    c.leading_number.result
-    (ipv6_valid n) (omega arith) c.leading_number.ensures c.from_number.ensures
+    c.masked.result
+    (ipv6_valid n) (omega arith) c.masked.ensures c.from_number.ensures

@@ -1,3 +1,5 @@
+-- The largest network and what the stored ends leave are the walk before, by `left_advanced`; a range without
+-- addresses has none (`nothing_left`).
 use Rattle.std.proofs.Common.{rules, ◌∙◌, sym, subst, ap, length}
 use Rattle.ipnet_base.specs.Subnets.{IsAdvancedPast}
 use Rattle.ipnet.specs.NetworkOf.{ipv6_network}

@@ -1,8 +1,9 @@
+-- The netmask takes the low bits away, by `and_mask_is`.
 use Rattle.std.proofs.Common.{◌-◌, ◌∙◌, ap₂, arith, bit_and}
 use Rattle.ipnet_base.proofs.MaskLaws.{and_mask_is}
 use Rattle.ipnet.specs.NetworkOf.{ipv4_network}
 use Rattle.ipnet.specs.NetLaws.{ipv4_valid}
-use Rattle.ipnet.proofs.net.ipv4_net.Ipv4Net.leading_number.Goals as goal
+use Rattle.ipnet.proofs.net.ipv4_net.Ipv4Net.masked.Goals as goal
 
 pub returns : goal.returns
 returns c =

@@ -1,8 +1,9 @@
+-- The netmask takes the low bits away, by `and_mask_is`.
 use Rattle.std.proofs.Common.{◌-◌, ◌∙◌, ap₂, arith, bit_and}
 use Rattle.ipnet_base.proofs.MaskLaws.{and_mask_is}
 use Rattle.ipnet.specs.NetworkOf.{ipv6_network}
 use Rattle.ipnet.specs.NetLaws.{ipv6_valid}
-use Rattle.ipnet.proofs.net.ipv6_net.Ipv6Net.leading_number.Goals as goal
+use Rattle.ipnet.proofs.net.ipv6_net.Ipv6Net.masked.Goals as goal
 
 pub returns : goal.returns
 returns c =
