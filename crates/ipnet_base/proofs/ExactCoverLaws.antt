@@ -36,7 +36,7 @@ maximal_blocks_apart InSet least networks blocks = pairs_from_members IsBefore A
 abbrev pub single : Address → Network
 single x = record { family = x.family; number = x.number; prefix_len = width x.family }
 
-pub single_has_one : (x y : Address) → InBlock (single x) y → y ≡ x
+single_has_one : (x y : Address) → InBlock (single x) y → y ≡ x
 single_has_one x y a = λ i. record { family = a.same_family i; number = same i }
   where
     closed : width x.family - width x.family ≡ 0
@@ -46,7 +46,7 @@ single_has_one x y a = λ i. record { family = a.same_family i; number = same i 
     same = sym (div-one y.number) ∙ subst (λ b. y.number / 2 ^ b ≡ x.number / 2 ^ b) closed a.same_prefix
         ∙ div-one x.number
 
-pub IsInside-single : (InSet : Address → Type 0) (least : ℕ) (x : Address) → IsAddress x → least ≤ width x.family
+IsInside-single : (InSet : Address → Type 0) (least : ℕ) (x : Address) → IsAddress x → least ≤ width x.family
     → InSet x → IsInside InSet least (single x)
 IsInside-single InSet least x fits short inside = record {
   network = record { address_fits = fits; prefix_fits = omega arith };
@@ -90,7 +90,7 @@ IsDecided-between f s e x =
     ]
 
 -- the maximal blocks of a range cover it, and no list of networks as long as they must be covers it by fewer
-pub IsExactCover-of_range : (f : Family) (s e m : ℕ) (networks : List Network) → e < 2 ^ width f → m ≤ width f
+IsExactCover-of_range : (f : Family) (s e m : ℕ) (networks : List Network) → e < 2 ^ width f → m ≤ width f
     → AreMaximalBlocks (IsBetween f s e) m networks → IsExactCover (IsBetween f s e) m networks
 IsExactCover-of_range f s e m networks fits short blocks =
     IsExactCover-of_maximal (IsBetween f s e) m networks (IsDecided-between f s e)

@@ -15,13 +15,6 @@ use Rattle.ipnet_base.proofs.BlockLaws.{last_from_greatest, IsLeastOf-first, IsG
 use Rattle.ipnet_base.proofs.BlockLaws.{number_from_truncated, same_network, same_from_block, IsTruncated-truncation}
 use Rattle.ipnet_base.proofs.BlockLaws.{IsNetwork-truncation, truncation_in, in_truncation, supernet_bits}
 
--- inclusion of blocks is reflexive and transitive
-pub IsSubnetOf-refl : (n : Network) → IsSubnetOf n n
-IsSubnetOf-refl n x a = a
-
-pub IsSubnetOf-trans : (n k l : Network) → IsSubnetOf n k → IsSubnetOf k l → IsSubnetOf n l
-IsSubnetOf-trans n k l s t x a = t x (s x a)
-
 -- blocks contain each other exactly where the truncations are equal
 pub same_block_iff_same_truncation : (n k : Network) → IsNetwork n → IsNetwork k
     → HaveSameBlock n k ↔ (truncation n ≡ truncation k)
@@ -60,9 +53,6 @@ truncation_from_relation t n h = same_network t (truncation n) there.same_family
     number =
         number_from_truncated t h.truncated ∙ ap (λ b. t.number / 2 ^ b * 2 ^ b) bits
         ∙ ap (λ q. q * 2 ^ host_bits n) there.same_prefix
-
-pub IsTruncationOf-unique : (s t n : Network) → IsTruncationOf s n → IsTruncationOf t n → s ≡ t
-IsTruncationOf-unique s t n h k = truncation_from_relation s n h ∙ sym (truncation_from_relation t n k)
 
 -- truncated twice is truncated once, and a truncated network is its own truncation
 pub truncation_twice : (n : Network) → truncation (truncation n) ≡ truncation n

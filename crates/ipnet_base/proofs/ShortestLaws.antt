@@ -19,7 +19,7 @@ use Rattle.ipnet_base.proofs.ListLaws.{pairs_tail, pairs_from_members, pair_at, 
 use Rattle.ipnet_base.proofs.UniqueLaws.{IsBefore-asymmetric}
 
 -- Each of the list xs has a partner in ys, and no two have one partner: then ys has one for each, and the rest.
-pub partners : {X Y : Type 0} (R : X → Y → Type 0) (xs : List X) (ys : List Y)
+partners : {X Y : Type 0} (R : X → Y → Type 0) (xs : List X) (ys : List Y)
     → ((x : X) → Contains xs x → (y : Y) × Contains ys y × R x y)
     → AllPairs (λ x z. (y : Y) → R x y → R z y → ⊥) xs
     → (chosen rest : List Y) × IsPermutation ys (chosen ++ rest) × AllZip R xs chosen

@@ -21,7 +21,7 @@ use Rattle.ipnet_base.proofs.CoverLaws.{cover_push, cover_permutation}
 use Rattle.ipnet_base.proofs.ListLaws.{any_from_contains, at_place}
 
 -- the order of networks
-pub IsBefore-transitive : (n k l : Network) → IsBefore n k → IsBefore k l → IsBefore n l
+IsBefore-transitive : (n k l : Network) → IsBefore n k → IsBefore k l → IsBefore n l
 IsBefore-transitive n k l (inl h) (inl i) = inl (omega arith)
 IsBefore-transitive n k l (inl h) (inr i) = inl (omega (arith, h, ap family_index i.0))
 IsBefore-transitive n k l (inr h) (inl i) = inl (omega (arith, i, ap family_index h.0))
@@ -35,13 +35,13 @@ IsBefore-transitive n k l (inr h) (inr i) = inr (h.0 ∙ i.0, both h.1 i.1)
     both (inr a) (inl b) = inl (omega arith)
     both (inr a) (inr b) = inr (a.0 ∙ b.0, omega arith)
 
-pub IsBeforeOrEqual-transitive : (n k l : Network) → IsBeforeOrEqual n k → IsBeforeOrEqual k l → IsBeforeOrEqual n l
+IsBeforeOrEqual-transitive : (n k l : Network) → IsBeforeOrEqual n k → IsBeforeOrEqual k l → IsBeforeOrEqual n l
 IsBeforeOrEqual-transitive n k l (inl e) h = subst (λ z. IsBeforeOrEqual z l) (sym e) h
 IsBeforeOrEqual-transitive n k l (inr h) (inl e) = inr (subst (IsBefore n) e h)
 IsBeforeOrEqual-transitive n k l (inr h) (inr i) = inr (IsBefore-transitive n k l h i)
 
 -- what stands no later and does not cover the next ends before it
-pub ends_before_next : (t n : Network) → IsNetwork t → IsNetwork n → IsTruncated t → IsTruncated n
+ends_before_next : (t n : Network) → IsNetwork t → IsNetwork n → IsTruncated t → IsTruncated n
     → IsBeforeOrEqual t n → (IsSubnetOf n t → ⊥) → LiesBefore t n
 ends_before_next t n u v tt_ tn (inl e) out = absurd (out (subst (λ z. IsSubnetOf z t) e (λ x a. a)))
 ends_before_next t n u v tt_ tn (inr (inl h)) out = inl h
@@ -68,7 +68,7 @@ stack_truncated : (xs : List Network) (n : Network) → AreJoined xs → IsTrunc
 stack_truncated xs n joined t = All-push IsTruncated xs n joined.truncated t
 
 -- what holds of neighbours holds with one more at the end, if it holds of the last and the new one
-pub adjacent_push : {X : Type 0} (R : X → X → Type 0) (xs : List X) (x : X) → AllAdjacentBelow R xs (length xs)
+adjacent_push : {X : Type 0} (R : X → X → Type 0) (xs : List X) (x : X) → AllAdjacentBelow R xs (length xs)
     → ((d : X) → 0 < length xs → R (get_or xs (length xs - 1) d) x)
     → AllAdjacentBelow R (xs ++ x ∷ []) (length (xs ++ x ∷ []))
 adjacent_push R xs x h last k d l =
@@ -112,12 +112,12 @@ supernet_start s t n u p h tr tn ends =
     let up : s.number ≤ t.number = p.truncated (own t) (p.contains (own t) (own_in t)) in
     elim (supernet_to_halves s t n u p h (own s) (own_in s)) [
       | inl a ↦ omega (arith, up, tr (own s) a)
-      | inr b ↦ omega (arith, up, tn (own s) b, behind ends)
+      | inr b ↦ omega (arith, up, tn (own s) b, starts_after ends)
     ]
   where
-    behind : LiesBefore t n → t.number < n.number
-    behind (inl i) = absurd (omega (arith, i, ap family_index h.siblings.same_family))
-    behind (inr i) = i.1 (own t) (own_in t)
+    starts_after : LiesBefore t n → t.number < n.number
+    starts_after (inl i) = absurd (omega (arith, i, ap family_index h.siblings.same_family))
+    starts_after (inr i) = i.1 (own t) (own_in t)
 
 -- what ends before the first half ends before the supernet, and the supernet stands before that half
 ends_before_supernet : (m s t : Network) → IsSupernetOf s t → s.number ≡ t.number → LiesBefore m t → LiesBefore m s
@@ -130,7 +130,7 @@ supernet_before : (s t : Network) → IsSupernetOf s t → s.number ≡ t.number
 supernet_before s t p e = inr (sym (p.contains (own t) (own_in t)).same_family, inr (e, omega (arith, p.shorter)))
 
 -- the last of a list that has one
-abbrev pub LastLiesBefore : List Network → Network → Type 0
+abbrev LastLiesBefore : List Network → Network → Type 0
 LastLiesBefore xs n = (d : Network) → 0 < length xs → LiesBefore (get_or xs (length xs - 1) d) n
 
 -- two halves at the end of a list cover what their supernet covers
@@ -215,7 +215,7 @@ list_of_first_whole given i list le h x =
       λ a. (h.cover x).1 (subst (λ z. IsCoveredBy z x) (sym all) a),
     )
 
--- Between two joins: the stack shows the conditions and ends before the next network, nothing stands behind
+-- Between two joins: the stack shows the conditions and ends before the next network, nothing stands after
 -- the network that came, and the cover is that of the old stack and that network.
 pub record IsJoining (old : List Network) (came : Network) (xs : List Network) (next : Network) : Type 0 where
   pub joined : AreJoined xs
@@ -302,7 +302,7 @@ stack_covers old came top joined order c sub = record {
     from x (inr a) = any_from_contains (λ m. InBlock m x) old top c (sub x a)
 
 -- the order of networks is total
-pub order_total : (n k : Network) → IsBeforeOrEqual n k ⊎ IsBefore k n
+order_total : (n k : Network) → IsBeforeOrEqual n k ⊎ IsBefore k n
 order_total n k =
     elim (cases_order (family_index n.family) (family_index k.family)) [
       | inr (inl lt) ↦ inl (inr (inl lt))

@@ -54,7 +54,7 @@ supernet_below s n k u p sub lt =
     (omega (arith, supernet_bits s n u p, lt))
 
 -- a network is maximal where its supernet is not inside
-pub IsMaximal-from_supernet : (InSet : Address → Type 0) (least : ℕ) (n : Network) → IsInside InSet least n
+IsMaximal-from_supernet : (InSet : Address → Type 0) (least : ℕ) (n : Network) → IsInside InSet least n
     → (0 < n.prefix_len → IsInside InSet least (supernet n) → ⊥) → IsMaximal InSet least n
 IsMaximal-from_supernet InSet least n inside no_supernet = record {
   inside = inside;

@@ -1,3 +1,4 @@
+-- To be maximal in a set speaks of its members alone; covers and ranges can be decided, and so have a test.
 use Rattle.ipnet_base.specs.Address.{IsAcceptedBy, IsBetween}
 use Rattle.ipnet_base.specs.Blocks.{IsCoveredBy}
 use Rattle.ipnet_base.proofs.SupernetLaws.{AreMaximalBlocks-same_set, IsDecided-cover}
