@@ -8,10 +8,12 @@ use Rattle.ipnet_base.specs.Blocks.{IsCoveredBy, HaveSameCover, IsExactCover, Is
 use Rattle.ipnet_base.specs.Blocks.{IsAggregateOf, IsCanonicalAggregateOf, AreAggregatedNeighbours}
 use Rattle.ipnet_base.proofs.BlockLaws.{between_from_block, last_fits}
 use Rattle.ipnet_base.proofs.ListLaws.{all_at}
-use Rattle.ipnet_base.proofs.UniqueLaws.{AreMaximalBlocks-unique, same_family_from_index}
+use Rattle.ipnet_base.proofs.UniqueLaws.{AreMaximalBlocks-unique}
+use Rattle.ipnet_base.proofs.OrderLaws.{same_family_from_index}
 use Rattle.ipnet_base.specs.Stack.{LiesBefore, AreJoined}
 use Rattle.ipnet_base.proofs.NeighbourLaws.{AreMaximalBlocks-from_neighbours}
-use Rattle.ipnet_base.proofs.SupernetLaws.{IsDecided-cover, blocks_cover, AreMaximalBlocks-same_set}
+use Rattle.ipnet_base.proofs.DecidedLaws.{IsDecided-cover}
+use Rattle.ipnet_base.proofs.SupernetLaws.{blocks_cover, AreMaximalBlocks-same_set}
 use Rattle.ipnet_base.proofs.SupernetLaws.{same_blocks_iff_same_cover, neighbours_from_blocks}
 use Rattle.ipnet_base.proofs.CoverLaws.{HaveSameCover-sym, HaveSameCover-trans, HaveSameCover-append}
 use Rattle.ipnet_base.proofs.CoverLaws.{cover_same_members, cover_truncation}

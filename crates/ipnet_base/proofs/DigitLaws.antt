@@ -1,5 +1,5 @@
 -- Numbers and their digits, the highest first: the order of digits is the order of the number that they write.
-use Rattle.std.proofs.Common.{◌≡◌, ℕ, ◌+◌, ◌*◌, ◌/◌, ◌%◌, ◌^◌, ◌<◌, ◌≤◌, List, [], ◌∷◌, length, slice_index, refl, sym}
+use Rattle.std.proofs.Common.{◌≡◌, ℕ, ◌+◌, ◌*◌, ◌/◌, ◌%◌, ◌^◌, ◌<◌, List, [], ◌∷◌, length, slice_index, refl, sym}
 use Rattle.std.proofs.Common.{ap, ◌∙◌, arith, zero, suc, inl, inr}
 use Rattle.std.specs.Bool.{⊤}
 use Rattle.std.specs.Int.{w32, w128, byte_at, bytes_high_first, to_be_bytes, from_be_bytes}
