@@ -1,4 +1,4 @@
-/* IP networks, proved: lists of networks aggregated and compared, and single networks read and printed.
+/* IP networks, proved: lists of networks aggregated, combined and compared, and single networks read and printed.
  *
  * Each function of this file has a contract, and a proof that its code keeps it, in crates/ipnet_c; docs/C.md says what
  * is proved and what is trusted. The functions take no locks, keep nothing from one call to the next, and may run in
@@ -89,6 +89,39 @@ uint8_t ipnet_aggregate_text_legacy(const uint8_t *text, size_t text_len, uint8_
  */
 uint8_t ipnet_same_addresses(const uint8_t *text, size_t text_len, const uint8_t *other, size_t other_len,
                              uint8_t *same, size_t *line);
+
+/* The union of two lists, in the strict grammar: the shortest list of networks over exactly the addresses of the one or
+ * of the other, in the form of the answer of ipnet_aggregate_text.
+ *
+ * OK                 the answer stands at the start of `buffer`, and `*count` is its length
+ * BUFFER_TOO_SHORT   `*count` is the length that the answer needs
+ * BAD_LINE           `*count` is the number of the first bad line of `text`
+ * BAD_LINE_IN_OTHER  `*count` is that of `other`, and `text` has none
+ * NOT_UTF8           exactly where `text` is not
+ * OTHER_NOT_UTF8     exactly where `text` is, and `other` is not
+ * OUT_OF_MEMORY      never for two empty texts, nor where the first line of `text` that is not empty is bad
+ *
+ * `buffer` changes at OK alone, and keeps what stands after the answer; `*count` keeps its value at the last three.
+ *
+ *     "10.0.0.0/25" and "10.0.0.128/25"   OK, 12, "10.0.0.0/24\n"
+ *     "10.0.0.0/25" and "\nx"             BAD_LINE_IN_OTHER, 2
+ */
+uint8_t ipnet_union_text(const uint8_t *text, size_t text_len, const uint8_t *other, size_t other_len, uint8_t *buffer,
+                         size_t buffer_len, size_t *count);
+
+/* The same over exactly the addresses of both lists.
+ *
+ *     "10.0.0.0/24" and "10.0.0.128/25\n10.0.1.0/24"   OK, 14, "10.0.0.128/25\n"
+ */
+uint8_t ipnet_intersection_text(const uint8_t *text, size_t text_len, const uint8_t *other, size_t other_len,
+                                uint8_t *buffer, size_t buffer_len, size_t *count);
+
+/* The same over exactly the addresses of the first list that are none of the other's.
+ *
+ *     "10.0.0.0/24" and "10.0.0.0/26"   OK, 27, "10.0.0.64/26\n10.0.0.128/25\n"
+ */
+uint8_t ipnet_difference_text(const uint8_t *text, size_t text_len, const uint8_t *other, size_t other_len,
+                              uint8_t *buffer, size_t buffer_len, size_t *count);
 
 /* Tells whether a list, in the strict grammar, covers every address of the network that the bytes stand for. So it does
  * too where no one network of the list has them all.

@@ -47,8 +47,10 @@ void __wrap_free(void *block)
 
 static const char list[] = "10.0.1.0/24\n\n10.0.0.0/24\nfd00::/32\n";
 static const char other[] = "10.0.0.0/23\nfd00::/32\n";
+static const char part[] = "10.0.0.0/24\nfd00::/33\n";
 static const uint8_t network[] = {0, 10, 0, 0, 0, 23};
-static const char answer[] = "10.0.0.0/23\nfd00::/32\n";
+static const char whole[] = "10.0.0.0/23\nfd00::/32\n";
+static const char rest[] = "10.0.1.0/24\nfd00:0:8000::/33\n";
 static const uint8_t *const text = (const uint8_t *)list;
 
 /* What a call is lent. */
@@ -67,6 +69,28 @@ static uint8_t aggregate_legacy(struct lent *lent)
     return ipnet_aggregate_text_legacy(text, strlen(list), lent->buffer, sizeof lent->buffer, &lent->number);
 }
 
+static uint8_t of_both(struct lent *lent, uint8_t (*call)(const uint8_t *, size_t, const uint8_t *, size_t, uint8_t *,
+                                                          size_t, size_t *))
+{
+    return call(text, strlen(list), (const uint8_t *)part, strlen(part), lent->buffer, sizeof lent->buffer,
+                &lent->number);
+}
+
+static uint8_t union_of(struct lent *lent)
+{
+    return of_both(lent, ipnet_union_text);
+}
+
+static uint8_t intersection(struct lent *lent)
+{
+    return of_both(lent, ipnet_intersection_text);
+}
+
+static uint8_t difference(struct lent *lent)
+{
+    return of_both(lent, ipnet_difference_text);
+}
+
 static uint8_t same_addresses(struct lent *lent)
 {
     return ipnet_same_addresses(text, strlen(list), (const uint8_t *)other, strlen(other), &lent->yes, &lent->number);
@@ -77,16 +101,28 @@ static uint8_t is_covered(struct lent *lent)
     return ipnet_is_covered(text, strlen(list), network, sizeof network, &lent->yes, &lent->number);
 }
 
-static int is_answered(const struct lent *lent, int writes_text)
+/* Each call, and the text that it answers; none where it answers yes. */
+static const struct {
+    const char *name;
+    uint8_t (*call)(struct lent *);
+    const char *answer;
+} calls[] = {
+    {"aggregate_text", aggregate, whole},   {"aggregate_text_legacy", aggregate_legacy, whole},
+    {"union_text", union_of, whole},        {"intersection_text", intersection, part},
+    {"difference_text", difference, rest},  {"same_addresses", same_addresses, NULL},
+    {"is_covered", is_covered, NULL},
+};
+
+static int is_answered(const struct lent *lent, const char *answer)
 {
-    if (writes_text) {
+    if (answer != NULL) {
         return lent->number == strlen(answer) && memcmp(lent->buffer, answer, strlen(answer)) == 0;
     }
     return lent->yes == 1;
 }
 
 /* How many growths had to be granted; -1 where a call did what it must not. */
-static long least_growths(uint8_t (*call)(struct lent *), int writes_text)
+static long least_growths(uint8_t (*call)(struct lent *), const char *answer)
 {
     for (long growths = 0; growths < 100; growths++) {
         struct lent before, lent;
@@ -100,7 +136,7 @@ static long least_growths(uint8_t (*call)(struct lent *), int writes_text)
             return -1;
         }
         if (status == IPNET_OK) {
-            return is_answered(&lent, writes_text) ? growths : -1;
+            return is_answered(&lent, answer) ? growths : -1;
         }
         if (status != IPNET_OUT_OF_MEMORY || memcmp(&lent, &before, sizeof lent) != 0) {
             return -1;
@@ -111,9 +147,13 @@ static long least_growths(uint8_t (*call)(struct lent *), int writes_text)
 
 int main(void)
 {
-    long aggregated = least_growths(aggregate, 1), legacy = least_growths(aggregate_legacy, 1);
-    long compared = least_growths(same_addresses, 0), covered = least_growths(is_covered, 0);
-    printf("growths: aggregate_text %ld, aggregate_text_legacy %ld, same_addresses %ld, is_covered %ld\n", aggregated,
-           legacy, compared, covered);
-    return aggregated < 1 || legacy < 1 || compared < 1 || covered < 1;
+    int faults = 0;
+    printf("growths:");
+    for (size_t i = 0; i < sizeof calls / sizeof *calls; i++) {
+        long growths = least_growths(calls[i].call, calls[i].answer);
+        printf("%s %s %ld", i == 0 ? "" : ",", calls[i].name, growths);
+        faults += growths < 1;
+    }
+    putchar('\n');
+    return faults > 0;
 }

@@ -23,15 +23,23 @@ struct row {
 };
 
 typedef uint8_t into_buffer(const uint8_t *, size_t, uint8_t *, size_t, size_t *);
+typedef uint8_t both_into_buffer(const uint8_t *, size_t, const uint8_t *, size_t, uint8_t *, size_t, size_t *);
 typedef uint8_t yes_or_no(const uint8_t *, size_t, const uint8_t *, size_t, uint8_t *, size_t *);
 
-static const struct {
+/* A function of one argument, or of two. */
+static const struct function {
     const char *name;
-    into_buffer *call;
+    into_buffer *of_one;
+    both_into_buffer *of_two;
 } into_buffers[] = {
-    {"aggregate_text", ipnet_aggregate_text}, {"aggregate_text_legacy", ipnet_aggregate_text_legacy},
-    {"parse", ipnet_parse},                   {"parse_legacy", ipnet_parse_legacy},
-    {"print", ipnet_print},
+    {"aggregate_text", ipnet_aggregate_text, NULL},
+    {"aggregate_text_legacy", ipnet_aggregate_text_legacy, NULL},
+    {"union_text", NULL, ipnet_union_text},
+    {"intersection_text", NULL, ipnet_intersection_text},
+    {"difference_text", NULL, ipnet_difference_text},
+    {"parse", ipnet_parse, NULL},
+    {"parse_legacy", ipnet_parse_legacy, NULL},
+    {"print", ipnet_print, NULL},
 };
 
 static const struct {
@@ -110,15 +118,25 @@ static bool all_untouched(const uint8_t *at, size_t len)
     return len == 0;
 }
 
+static uint8_t called(const struct row *row, const struct function *function, uint8_t *buffer, size_t buffer_len,
+                      size_t *count)
+{
+    if (function->of_two != NULL) {
+        return function->of_two(row->first.at, row->first.len, row->second.at, row->second.len, buffer, buffer_len,
+                                count);
+    }
+    return function->of_one(row->first.at, row->first.len, buffer, buffer_len, count);
+}
+
 /* One call with a buffer of this length: what it must answer follows from the row and the length. */
-static void call_into_buffer(const struct row *row, into_buffer *call, size_t buffer_len)
+static void call_into_buffer(const struct row *row, const struct function *function, size_t buffer_len)
 {
     bool ok = strcmp(row->status, "OK") == 0, fits = row->answer.len <= buffer_len;
     const char *wanted = ok && !fits ? "BUFFER_TOO_SHORT" : row->status;
     size_t count = 77, wanted_count = ok ? row->answer.len : row->has_number ? row->number : 77;
     uint8_t *buffer = exactly(buffer_len);
     memset(buffer, UNTOUCHED, buffer_len);
-    uint8_t status = call(row->first.at, row->first.len, buffer, buffer_len, &count);
+    uint8_t status = called(row, function, buffer, buffer_len, &count);
     calls++;
     if (status >= sizeof statuses / sizeof *statuses || strcmp(statuses[status], wanted) != 0) {
         fail(row, "another status");
@@ -154,7 +172,7 @@ static void try_row(const struct row *row)
     for (size_t i = 0; i < sizeof into_buffers / sizeof *into_buffers; i++) {
         if (strcmp(into_buffers[i].name, row->function) == 0) {
             for (size_t len = 0; len <= row->answer.len + 2; len++) {
-                call_into_buffer(row, into_buffers[i].call, len);
+                call_into_buffer(row, &into_buffers[i], len);
             }
         }
     }

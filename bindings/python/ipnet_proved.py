@@ -1,4 +1,4 @@
-"""Lists of IP networks aggregated and compared, by a library whose answers are proved.
+"""Lists of IP networks aggregated, combined and compared, by a library whose answers are proved.
 
 The work is done by the shared library libipnet.so, made of code in Rattle, which is Rust with contracts: each of its
 functions is proved to answer as its contract says. What is proved there and what is trusted, this module among it,
@@ -13,6 +13,8 @@ or an address, which stands for the network of its full length.
 '10.0.0.0/23\\n'
 >>> aggregate(["10.0.1.0/24", ipaddress.ip_network("10.0.0.0/24"), ipaddress.ip_address("fd00::1")])
 [IPv4Network('10.0.0.0/23'), IPv6Network('fd00::1/128')]
+>>> difference(["10.0.0.0/24"], ["10.0.0.0/26"])
+[IPv4Network('10.0.0.64/26'), IPv4Network('10.0.0.128/25')]
 >>> same_addresses("10.0.0.0/25\\n10.0.0.128/25", ["10.0.0.7/24"])
 True
 >>> is_covered(["10.0.0.0/25", "10.0.0.128/25"], "10.0.0.0/24")
@@ -27,7 +29,8 @@ import ipaddress
 import os
 
 __all__ = [
-    "aggregate", "aggregate_text", "same_addresses", "is_covered", "parse", "canonical_text", "BadLine", "NotANetwork",
+    "aggregate", "aggregate_text", "union", "union_text", "intersection", "intersection_text", "difference",
+    "difference_text", "same_addresses", "is_covered", "parse", "canonical_text", "BadLine", "NotANetwork",
 ]
 
 OK = 0
@@ -71,6 +74,9 @@ def _load():
     declared = {
         "ipnet_aggregate_text": into_buffer,
         "ipnet_aggregate_text_legacy": into_buffer,
+        "ipnet_union_text": [read, size, read, size, read, size, number],
+        "ipnet_intersection_text": [read, size, read, size, read, size, number],
+        "ipnet_difference_text": [read, size, read, size, read, size, number],
         "ipnet_same_addresses": [read, size, read, size, byte, number],
         "ipnet_is_covered": [read, size, read, size, byte, number],
         "ipnet_parse": into_buffer,
@@ -102,12 +108,13 @@ def _refuse(status, line):
     raise NotANetwork("invalid IP address syntax")
 
 
-def _into_buffer(function, data, room):
-    """What the call writes into a buffer of at least this room."""
+def _into_buffer(function, room, *texts):
+    """What the call, of these texts or bytes, writes into a buffer of at least this room."""
+    given = [each for data in texts for each in (data, len(data))]
     count = ctypes.c_size_t(0)
     while True:
         buffer = ctypes.create_string_buffer(max(room, 1))
-        status = function(data, len(data), buffer, len(buffer), ctypes.byref(count))
+        status = function(*given, buffer, len(buffer), ctypes.byref(count))
         if status == OK:
             return ctypes.string_at(buffer, count.value)
         if status != BUFFER_TOO_SHORT:
@@ -147,7 +154,7 @@ def _text(networks):
 def _bytes(network):
     """A network's bytes: a byte for the family, the octets, the prefix length."""
     if isinstance(network, (str, bytes)):
-        return _into_buffer(_library.ipnet_parse, _text(network), MAX_BYTES)
+        return _into_buffer(_library.ipnet_parse, MAX_BYTES, _text(network))
     if isinstance(network, (ipaddress.IPv4Network, ipaddress.IPv6Network)):
         octets, prefix_len = network.network_address.packed, network.prefixlen
     elif hasattr(network, "network"):
@@ -166,12 +173,70 @@ def aggregate_text(text, legacy=False):
     """
     function = _library.ipnet_aggregate_text_legacy if legacy else _library.ipnet_aggregate_text
     data = _text(text)
-    return _into_buffer(function, data, len(data) + 1).decode("ascii")
+    return _into_buffer(function, len(data) + 1, data).decode("ascii")
 
 
 def aggregate(networks):
     """The same of any list, as networks of ipaddress."""
-    return [ipaddress.ip_network(line) for line in aggregate_text(networks).splitlines()]
+    return _networks(aggregate_text(networks))
+
+
+def _networks(text):
+    """The networks of an answer."""
+    return [ipaddress.ip_network(line) for line in text.splitlines()]
+
+
+def _combined(function, networks, others):
+    """What the function makes of two lists."""
+    data, more = _text(networks), _text(others)
+    return _into_buffer(function, len(data) + len(more) + 1, data, more).decode("ascii")
+
+
+def union_text(networks, others):
+    """The shortest list of networks over exactly the addresses of the one list or of the other, as text, in the form of
+    the answer of aggregate_text.
+
+    >>> union_text("10.0.0.0/25\\n", "10.0.0.128/25\\n")
+    '10.0.0.0/24\\n'
+    """
+    return _combined(_library.ipnet_union_text, networks, others)
+
+
+def intersection_text(networks, others):
+    """The same over exactly the addresses of both lists.
+
+    >>> intersection_text("10.0.0.0/24\\n", "10.0.0.128/25\\n10.0.1.0/24\\n")
+    '10.0.0.128/25\\n'
+    """
+    return _combined(_library.ipnet_intersection_text, networks, others)
+
+
+def difference_text(networks, others):
+    """The same over exactly the addresses of the first list that are none of the other's.
+
+    >>> difference_text("10.0.0.0/24\\n", "10.0.0.0/26\\n")
+    '10.0.0.64/26\\n10.0.0.128/25\\n'
+    """
+    return _combined(_library.ipnet_difference_text, networks, others)
+
+
+def union(networks, others):
+    """The union of two lists, as networks of ipaddress."""
+    return _networks(union_text(networks, others))
+
+
+def intersection(networks, others):
+    """The intersection of two lists, as networks of ipaddress."""
+    return _networks(intersection_text(networks, others))
+
+
+def difference(networks, others):
+    """The difference of two lists, as networks of ipaddress.
+
+    >>> difference("10.0.0.0/31", [ipaddress.ip_address("10.0.0.1")])
+    [IPv4Network('10.0.0.0/32')]
+    """
+    return _networks(difference_text(networks, others))
 
 
 def same_addresses(networks, others):
@@ -199,7 +264,7 @@ def parse(text, legacy=False):
     IPv4Interface('10.0.0.1/8')
     """
     function = _library.ipnet_parse_legacy if legacy else _library.ipnet_parse
-    data = _into_buffer(function, _text(text), MAX_BYTES)
+    data = _into_buffer(function, MAX_BYTES, _text(text))
     kind = ipaddress.IPv6Interface if data[0] else ipaddress.IPv4Interface
     return kind((data[1:-1], data[-1]))
 
@@ -210,4 +275,4 @@ def canonical_text(network):
     >>> canonical_text("FD00:0::9/32")
     'fd00::9/32'
     """
-    return _into_buffer(_library.ipnet_print, _bytes(network), MAX_TEXT).decode("ascii")
+    return _into_buffer(_library.ipnet_print, MAX_TEXT, _bytes(network)).decode("ascii")

@@ -44,6 +44,8 @@ def called(function, first, second):
     """What the row's call gives, in the form of the row's answer."""
     if function.startswith("aggregate_text"):
         return ipnet_proved.aggregate_text(first, legacy=function.endswith("legacy")).encode()
+    if function in ("union_text", "intersection_text", "difference_text"):
+        return getattr(ipnet_proved, function)(first, second).encode()
     if function == "same_addresses":
         return int(ipnet_proved.same_addresses(first, second))
     if function == "is_covered":
@@ -72,7 +74,7 @@ class Rows(unittest.TestCase):
                 else:
                     with self.assertRaises(NotANetwork):
                         called(function, first, second)
-        self.assertGreater(tried, 40)
+        self.assertGreater(tried, 70)
 
 
 def random_network(rng, version):
@@ -88,10 +90,29 @@ def random_list(rng):
     return [random_network(rng, rng.choice((4, 4, 6))) for _ in range(rng.randrange(40))]
 
 
-def collapsed(networks):
+def collapsed(interfaces):
     """The aggregate by ipaddress."""
-    families = ([n.network for n in networks if n.version == version] for version in (4, 6))
+    return collapsed_networks([each.network for each in interfaces])
+
+
+def collapsed_networks(networks):
+    families = ([network for network in networks if network.version == version] for version in (4, 6))
     return [network for family in families for network in ipaddress.collapse_addresses(family)]
+
+
+def without(networks, others):
+    """The networks without the addresses of the others, by ipaddress."""
+    for other in others:
+        networks = [rest for network in networks for rest in left(network, other)]
+    return networks
+
+
+def left(network, other):
+    if network.version != other.version or not network.overlaps(other):
+        return [network]
+    if network.subnet_of(other):
+        return []
+    return network.address_exclude(other)
 
 
 class Random(unittest.TestCase):
@@ -102,6 +123,19 @@ class Random(unittest.TestCase):
         for _ in range(TRIALS):
             networks = random_list(self.rng)
             self.assertEqual(ipnet_proved.aggregate(networks), collapsed(networks), networks)
+
+    def test_sets(self):
+        kept = []
+        for _ in range(TRIALS):
+            networks, others = random_list(self.rng), random_list(self.rng)
+            blocks, other_blocks = collapsed(networks), collapsed(others)
+            rest = without(blocks, other_blocks)
+            shared = without(blocks, rest)
+            self.assertEqual(ipnet_proved.union(networks, others), collapsed_networks([*blocks, *other_blocks]))
+            self.assertEqual(ipnet_proved.intersection(networks, others), collapsed_networks(shared))
+            self.assertEqual(ipnet_proved.difference(networks, others), collapsed_networks(rest))
+            kept.append((bool(rest), bool(shared)))
+        self.assertEqual(set(kept), {(False, False), (False, True), (True, False), (True, True)})
 
     def test_same_addresses(self):
         answers = []
@@ -160,6 +194,8 @@ class Arguments(unittest.TestCase):
 
     def test_an_answer_longer_than_its_text(self):
         self.assertEqual(ipnet_proved.aggregate_text("::ffff:0:0/96"), "::ffff:0.0.0.0/96\n")
+        whole, last = ipaddress.ip_network("::/0"), ipaddress.ip_network("ffff:" * 7 + "ffff/128")
+        self.assertEqual(ipnet_proved.difference([whole], [last]), sorted(whole.address_exclude(last)))
 
 
 if __name__ == "__main__":

@@ -1,4 +1,4 @@
-//! Lists of IP networks aggregated and compared, by a library whose answers are proved.
+//! Lists of IP networks aggregated, combined and compared, by a library whose answers are proved.
 //!
 //! The work is done by the static library `libipnet.a`, written in Rattle, which is Rust with contracts: each of its
 //! functions is proved to answer as its contract says. What is proved there and what is trusted, this crate among it,
@@ -188,6 +188,45 @@ pub fn aggregate_text_legacy(text: &str) -> Result<String, Error> {
     raw::aggregate(text, raw::ipnet_aggregate_text_legacy)
 }
 
+/// The union of two texts, in the strict grammar: the shortest list of networks over exactly the addresses of the one
+/// or of the other, in the form of the answer of [`aggregate_text`].
+///
+/// ```
+/// use ipnet_proved::{union_text, Error};
+///
+/// assert_eq!(union_text("10.0.0.0/25\n", "10.0.0.128/25\n")?, "10.0.0.0/24\n");
+/// assert_eq!(union_text("", "x"), Err(Error::BadLineInOther(1)));
+/// # Ok::<(), Error>(())
+/// ```
+pub fn union_text(text: &str, other: &str) -> Result<String, Error> {
+    raw::combine(text, other, raw::ipnet_union_text)
+}
+
+/// The same over exactly the addresses of both texts.
+///
+/// ```
+/// use ipnet_proved::{intersection_text, Error};
+///
+/// assert_eq!(intersection_text("10.0.0.0/24\n", "10.0.0.128/25\n10.0.1.0/24\n")?, "10.0.0.128/25\n");
+/// # Ok::<(), Error>(())
+/// ```
+pub fn intersection_text(text: &str, other: &str) -> Result<String, Error> {
+    raw::combine(text, other, raw::ipnet_intersection_text)
+}
+
+/// The same over exactly the addresses of the first text that are none of the other's. The answer can have many more
+/// networks than the texts.
+///
+/// ```
+/// use ipnet_proved::{difference_text, Error};
+///
+/// assert_eq!(difference_text("10.0.0.0/24\n", "10.0.0.0/26\n")?, "10.0.0.64/26\n10.0.0.128/25\n");
+/// # Ok::<(), Error>(())
+/// ```
+pub fn difference_text(text: &str, other: &str) -> Result<String, Error> {
+    raw::combine(text, other, raw::ipnet_difference_text)
+}
+
 /// Whether the two texts, in the strict grammar, cover the same addresses.
 ///
 /// ```
@@ -222,6 +261,11 @@ fn lines(networks: &[Network]) -> String {
     networks.iter().map(|network| format!("{network}\n")).collect()
 }
 
+/// The networks of an answer.
+fn parsed(text: &str) -> Result<Vec<Network>, Error> {
+    text.lines().map(str::parse).collect()
+}
+
 /// [`aggregate_text`] of networks.
 ///
 /// ```
@@ -233,7 +277,30 @@ fn lines(networks: &[Network]) -> String {
 /// # Ok::<(), Error>(())
 /// ```
 pub fn aggregate(networks: &[Network]) -> Result<Vec<Network>, Error> {
-    aggregate_text(&lines(networks))?.lines().map(str::parse).collect()
+    parsed(&aggregate_text(&lines(networks))?)
+}
+
+/// [`union_text`] of networks.
+///
+/// ```
+/// use ipnet_proved::{union, Error, Network};
+///
+/// let halves: [Network; 2] = ["10.0.0.0/25".parse()?, "10.0.0.128/25".parse()?];
+/// assert_eq!(union(&halves[..1], &halves[1..])?, ["10.0.0.0/24".parse::<Network>()?]);
+/// # Ok::<(), Error>(())
+/// ```
+pub fn union(networks: &[Network], others: &[Network]) -> Result<Vec<Network>, Error> {
+    parsed(&union_text(&lines(networks), &lines(others))?)
+}
+
+/// [`intersection_text`] of networks.
+pub fn intersection(networks: &[Network], others: &[Network]) -> Result<Vec<Network>, Error> {
+    parsed(&intersection_text(&lines(networks), &lines(others))?)
+}
+
+/// [`difference_text`] of networks.
+pub fn difference(networks: &[Network], others: &[Network]) -> Result<Vec<Network>, Error> {
+    parsed(&difference_text(&lines(networks), &lines(others))?)
 }
 
 /// [`same_addresses_text`] of networks.

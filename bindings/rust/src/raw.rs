@@ -17,6 +17,9 @@ const MAX_TEXT: usize = 43;
 /// A text, its length, a buffer, its length, and where the number goes.
 type IntoBuffer = unsafe extern "C" fn(*const u8, usize, *mut u8, usize, *mut usize) -> u8;
 
+/// The same of two texts.
+type BothIntoBuffer = unsafe extern "C" fn(*const u8, usize, *const u8, usize, *mut u8, usize, *mut usize) -> u8;
+
 extern "C" {
     pub fn ipnet_aggregate_text(
         text: *const u8,
@@ -28,6 +31,33 @@ extern "C" {
     pub fn ipnet_aggregate_text_legacy(
         text: *const u8,
         text_len: usize,
+        buffer: *mut u8,
+        buffer_len: usize,
+        count: *mut usize,
+    ) -> u8;
+    pub fn ipnet_union_text(
+        text: *const u8,
+        text_len: usize,
+        other: *const u8,
+        other_len: usize,
+        buffer: *mut u8,
+        buffer_len: usize,
+        count: *mut usize,
+    ) -> u8;
+    pub fn ipnet_intersection_text(
+        text: *const u8,
+        text_len: usize,
+        other: *const u8,
+        other_len: usize,
+        buffer: *mut u8,
+        buffer_len: usize,
+        count: *mut usize,
+    ) -> u8;
+    pub fn ipnet_difference_text(
+        text: *const u8,
+        text_len: usize,
+        other: *const u8,
+        other_len: usize,
         buffer: *mut u8,
         buffer_len: usize,
         count: *mut usize,
@@ -116,13 +146,13 @@ fn call(into_buffer: IntoBuffer, text: &[u8], buffer: &mut [u8]) -> (u8, usize) 
     (status, count)
 }
 
-/// A list aggregated. The answer is mostly shorter than the list. Where it is longer, as `::ffff:0.0.0.0/96` of
-/// `::ffff:0:0/96`, the first call tells the length that it needs.
-pub fn aggregate(text: &str, into_buffer: IntoBuffer) -> Result<String, Error> {
+/// The text that a call writes, which has mostly no more bytes than those that it is given. Where it has more, as
+/// `::ffff:0.0.0.0/96` for `::ffff:0:0/96`, the first call tells the length that it needs.
+fn answer(given_len: usize, call: impl Fn(&mut [u8]) -> (u8, usize)) -> Result<String, Error> {
     let mut buffer = Vec::new();
-    grow(&mut buffer, text.len() + 1)?;
+    grow(&mut buffer, given_len.saturating_add(1))?;
     loop {
-        let (status, count) = call(into_buffer, text.as_bytes(), &mut buffer);
+        let (status, count) = call(&mut buffer);
         match status {
             OK => {
                 buffer.truncate(count);
@@ -133,6 +163,31 @@ pub fn aggregate(text: &str, into_buffer: IntoBuffer) -> Result<String, Error> {
             _ => return Err(error_of(status, count)),
         }
     }
+}
+
+/// A list aggregated.
+pub fn aggregate(text: &str, into_buffer: IntoBuffer) -> Result<String, Error> {
+    answer(text.len(), |buffer| call(into_buffer, text.as_bytes(), buffer))
+}
+
+/// A set made of two lists.
+pub fn combine(text: &str, other: &str, into_buffer: BothIntoBuffer) -> Result<String, Error> {
+    answer(text.len().saturating_add(other.len()), |buffer| {
+        let mut count = 0;
+        // SAFETY: as in `call`; the two texts are read alone, and may be one.
+        let status = unsafe {
+            into_buffer(
+                text.as_ptr(),
+                text.len(),
+                other.as_ptr(),
+                other.len(),
+                buffer.as_mut_ptr(),
+                buffer.len(),
+                &mut count,
+            )
+        };
+        (status, count)
+    })
 }
 
 /// Makes the buffer this long.

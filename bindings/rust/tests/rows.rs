@@ -1,6 +1,7 @@
 //! The rows of `bindings/rows.txt`.
 use ipnet_proved::{
-    aggregate_text, aggregate_text_legacy, is_covered_text, same_addresses_text, Error, Network,
+    aggregate_text, aggregate_text_legacy, difference_text, intersection_text, is_covered_text,
+    same_addresses_text, union_text, Error, Network,
 };
 use std::net::{Ipv4Addr, Ipv6Addr};
 use std::fs;
@@ -87,6 +88,9 @@ fn given(row: &Row) -> Option<Result<Answer, Error>> {
     Some(match row.function.as_str() {
         "aggregate_text" => aggregate_text(first.ok()?).map(Answer::Text),
         "aggregate_text_legacy" => aggregate_text_legacy(first.ok()?).map(Answer::Text),
+        "union_text" => union_text(first.ok()?, second.ok()?).map(Answer::Text),
+        "intersection_text" => intersection_text(first.ok()?, second.ok()?).map(Answer::Text),
+        "difference_text" => difference_text(first.ok()?, second.ok()?).map(Answer::Text),
         "same_addresses" => same_addresses_text(first.ok()?, second.ok()?).map(Answer::Yes),
         "is_covered" => {
             network(&row.second).and_then(|n| is_covered_text(first.unwrap_or(""), n)).map(Answer::Yes)
@@ -115,7 +119,7 @@ fn rows() {
             }
         }
     }
-    assert!(tried > 40, "{tried} rows");
+    assert!(tried > 70, "{tried} rows");
 }
 
 #[test]
@@ -125,10 +129,27 @@ fn lists_of_networks() {
     let whole = parsed(&["10.0.0.0/24", "fd00::/32"]);
     assert_eq!(ipnet_proved::aggregate(&halves), Ok(whole.clone()));
     assert_eq!(ipnet_proved::aggregate(&[]), Ok(vec![]));
+    let ipv4 = parsed(&["10.0.0.0/24"]);
+    let ipv6 = parsed(&["fd00::/32"]);
+    assert_eq!(ipnet_proved::union(&ipv6, &ipv4), Ok(whole.clone()));
+    assert_eq!(ipnet_proved::intersection(&halves, &ipv4), Ok(ipv4.clone()));
+    assert_eq!(ipnet_proved::difference(&halves, &ipv4), Ok(ipv6));
     assert_eq!(ipnet_proved::same_addresses(&halves, &whole), Ok(true));
     assert_eq!(ipnet_proved::same_addresses(&halves, &whole[..1]), Ok(false));
     assert_eq!(ipnet_proved::is_covered(&halves, whole[0]), Ok(true));
     assert_eq!(ipnet_proved::is_covered(&halves, Ipv4Addr::new(10, 0, 1, 0)), Ok(false));
+}
+
+#[test]
+fn an_answer_longer_than_its_texts() {
+    let rest = difference_text("0.0.0.0/0\n", "255.255.255.255/32\n").unwrap();
+    let wanted: String = (0..32).map(|i| format!("{}/{}\n", wanted_block(i), i + 1)).collect();
+    assert_eq!(rest, wanted);
+}
+
+/// The block of length i + 1 beside the last address: i ones, then zeros.
+fn wanted_block(i: u32) -> Ipv4Addr {
+    Ipv4Addr::from(!(u64::from(u32::MAX) >> i) as u32)
 }
 
 #[test]

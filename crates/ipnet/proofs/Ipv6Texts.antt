@@ -389,7 +389,7 @@ two_colons : (text one two : List ℕ) → read_byte 58 text ≡ Some one → re
 two_colons text one two e₁ e₂ = read_byte_sound 58 text one e₁ ∙ ap (λ t. 58 ∷ t) (read_byte_sound 58 one two e₂)
 
 short_head : (grammar : Grammar) (n : ℕ) → n ≤ 7 → n ≤ most_written_groups grammar
-short_head Strict n h = h
+short_head Strict n h = omega arith
 short_head Legacy n h = omega arith
 
 empty_run : (ds : List ℕ) → (length ds == 0) ≡ true → ds ≡ []

@@ -7,13 +7,12 @@ use Rattle.std.proofs.lemmas.List.{length-map, map_more, get_or-map}
 use Rattle.std.proofs.lemmas.List.Elements.{All-map}
 use Rattle.ipnet_base.specs.Address.{family_index}
 use Rattle.ipnet_base.specs.Network.{Network, IsNetwork, IsTruncated, AreHalves, truncation, last_of}
-use Rattle.ipnet_base.specs.Blocks.{IsCoveredBy, HaveSameCover, IsAggregateOf, AreAggregatedNeighbours}
+use Rattle.ipnet_base.specs.Blocks.{IsCoveredBy, HaveSameCover, IsAggregateOf}
 use Rattle.ipnet_base.proofs.BlockLaws.{between_from_block, number_from_truncated, truncated_from_number}
 use Rattle.ipnet_base.specs.Stack.{LiesBefore, AreJoined}
 use Rattle.ipnet_base.proofs.NeighbourLaws.{ends_by_numbers, AreMaximalBlocks-from_neighbours}
 use Rattle.ipnet_base.proofs.SupernetLaws.{AreMaximalBlocks-same_set, neighbours_from_blocks}
 use Rattle.ipnet_base.proofs.StackLaws.{neighbours_push}
-use Rattle.ipnet_base.proofs.AggregateLaws.{AreJoined-from_neighbours, AreAggregatedNeighbours-from_joined}
 use Rattle.ipnet.proofs.FrontLaws.{front_length, front_last}
 
 -- what holds of each value as it is read holds of a list of them
@@ -94,14 +93,6 @@ pub joined_is_own : (networks : List Network) → All IsNetwork networks → Are
     ↔ IsAggregateOf networks networks
 joined_is_own networks valid joined = (λ h. AreMaximalBlocks-from_neighbours networks valid joined, λ h. refl)
 
-pub joined_is_neighbours : (networks : List Network) → AreJoined networks → IsTrue true
-    ↔ AreAggregatedNeighbours networks
-joined_is_neighbours networks joined = (λ h. AreAggregatedNeighbours-from_joined networks joined, λ h. refl)
-
 pub unjoined_is_not_own : (networks : List Network) → (AreJoined networks → ⊥) → IsTrue false
     ↔ IsAggregateOf networks networks
 unjoined_is_not_own networks never = (λ h. cc, λ h. absurd (never (neighbours_from_blocks networks h)))
-
-pub unjoined_is_not_neighbours : (networks : List Network) → (AreJoined networks → ⊥) → IsTrue false
-    ↔ AreAggregatedNeighbours networks
-unjoined_is_not_neighbours networks never = (λ h. cc, λ h. absurd (never (AreJoined-from_neighbours networks h)))

@@ -5,6 +5,7 @@ pub mod EqualLaws
 pub mod SubnetsLaws
 pub mod SubnetCountLaws
 pub mod NumberLaws
+pub mod HostLaws
 pub mod NetOrderLaws
 pub mod WalkValueLaws
 pub use Rattle.ipnet_base.proofs.BlockLaws

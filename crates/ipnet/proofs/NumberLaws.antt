@@ -2,7 +2,7 @@
 use Rattle.std.proofs.Common.{◌≡◌, ◌≢◌, ℕ, ◌+◌, ◌-◌, ◌*◌, ◌/◌, ◌^◌, ◌<◌, ◌≤◌, ◌↔◌, refl, sym, ap, ◌∙◌, subst, arith}
 use Rattle.std.proofs.Common.{inl, inr, IsTrue, true, false, eqb, eqb-true, eq-eqb, bit_xor, shr-shr, List, Contains}
 use Rattle.std.proofs.Math.Nat.{div-eq_of_lt}
-use Rattle.std.proofs.lemmas.Nat.{pow_below, xor_shr}
+use Rattle.std.proofs.lemmas.Nat.{xor_shr}
 use Rattle.std.specs.Int.Bits.{xor_self, xor_zero_l, xor_zero_r, xor_assoc}
 use Rattle.std.proofs.lemmas.Bool.{cases_eq}
 use Rattle.ipnet_base.specs.Address.{Address, width, IsBetween, address_at}
@@ -10,14 +10,13 @@ use Rattle.ipnet_base.specs.Network.{Network, IsNetwork, host_bits, InBlock, IsS
 use Rattle.ipnet_base.specs.Network.{IsGreatestOf, IsTruncationOf, IsSupernetOf, truncation, first_of, last_of}
 use Rattle.ipnet_base.specs.Blocks.{IsMaximal, AreMaximalBlocks}
 use Rattle.ipnet_base.specs.Subnets.{SubnetRange}
-use Rattle.ipnet_base.specs.Ranges.{AddressRange}
-use Rattle.ipnet_base.proofs.BlockLaws.{own, own_in, last_fits, first_from_least, last_from_greatest, nested}
+use Rattle.ipnet_base.proofs.BlockLaws.{own, own_in, first_from_least, last_from_greatest, nested}
 use Rattle.ipnet_base.proofs.BlockLaws.{bits_from_subnet, same_network, same_from_block}
 use Rattle.ipnet_base.proofs.ExactCoverLaws.{maximal_blocks_apart}
 use Rattle.ipnet_base.proofs.ListLaws.{all_at}
 use Rattle.ipnet_base.proofs.NetworkLaws.{IsTruncationOf-truncation}
 use Rattle.ipnet_base.proofs.SupernetLaws.{supernet, IsSupernetOf-supernet}
-use Rattle.ipnet.specs.NetworkParts.{IsSubnetOfLength, AreSubnetsOfLength, IsBlockRange, HasReservedEnds, IsHostRange}
+use Rattle.ipnet.specs.NetworkParts.{IsSubnetOfLength, AreSubnetsOfLength, IsBlockRange}
 use Rattle.ipnet.proofs.SubnetCountLaws.{AreOfLength, subnets_of_length}
 
 -- Numbers are equal where no bit tells them apart.
@@ -203,31 +202,3 @@ IsBlockRange-from_ends n q range low high l g e x y p r =
     let start : low.number ≡ x.number = first_from_least n low l ∙ sym (first_from_least n x p) in
     let end : high.number ≡ y.number = last_from_greatest n high g ∙ sym (last_from_greatest n y r) in
     e ∙ (λ i. record { family = n.family; start = start i; end = end i; min_prefix_len = q })
-
--- The hosts of a network: from its least to its greatest address, or between these two.
-pub IsHostRange-whole : (n : Network) (hosts : AddressRange) (low high : Address) → hosts.family ≡ n.family
-    → ¬ (HasReservedEnds n)
-    → IsLeastOf n low → IsGreatestOf n high → hosts.start ≡ low.number → hosts.end ≡ high.number → IsHostRange n hosts
-IsHostRange-whole n hosts low high f none l g start end = record {
-  family = f;
-  inner = λ reserved. absurd (none reserved);
-  whole = λ _ x y p q. (
-    start ∙ first_from_least n low l ∙ sym (first_from_least n x p),
-    end ∙ last_from_greatest n high g ∙ sym (last_from_greatest n y q),
-  );
-}
-
-pub IsHostRange-inner : (n : Network) (hosts : AddressRange) → hosts.family ≡ n.family → HasReservedEnds n
-    → hosts.start ≡ first_of n + 1 → hosts.end + 1 ≡ last_of n → IsHostRange n hosts
-IsHostRange-inner n hosts f reserved start end = record {
-  family = f;
-  inner = λ _ x y p q. (start ∙ ap (λ a. a + 1) (sym (first_from_least n x p)), end ∙ sym (last_from_greatest n y q));
-  whole = λ none. absurd (none reserved);
-}
-
--- a block below length 31 has two addresses between its ends
-pub reserved_ends_are_apart : (n : Network) → IsNetwork n → HasReservedEnds n
-    → (first_of n + 2 ≤ last_of n) × (last_of n < 2 ^ width n.family)
-reserved_ends_are_apart n u reserved =
-    let bits : 1 < host_bits n = omega (arith, reserved.1, ap width reserved.0) in
-    (omega (arith, pow_below 1 (host_bits n) bits), last_fits n u)

@@ -1,18 +1,20 @@
 //! Facts of texts that no call carries: the contract of each function is the fact. Three of them print a network and
 //! read it back; the others do nothing.
 ghost use Rattle.std.specs.Prelude.{◌≡◌, ℕ, List, ◌↔◌, ◌++◌, drop, codes, Ok};
-ghost use Rattle.std.specs.Net.Addr.{IsIpv4Mapped, octets_of};
+ghost use Rattle.std.specs.Net.Addr.{ipv4_octets, ipv4_bits, ipv6_segments, ipv6_bits, IsIpv4Mapped, octets_of};
 ghost use Rattle.std.specs.Net.Grammar.{IsDotted, IsColonHex};
 ghost use Rattle.std.specs.Net.Text.{ipv4_text, ipv6_text};
+ghost use Rattle.ipnet_base.specs.Address.{IPv4, IPv6};
 ghost use Rattle.ipnet_base.specs.Network.{Network, IsNetwork};
 ghost use Rattle.ipnet.specs.declared.parser.Grammar.TheVariants.{Strict, Legacy};
 ghost use Rattle.ipnet.specs.AddressTexts.{IsIpv4AddressText, IsIpv6AddressText, IsGroups, EndsInIpv4, IsCompressed};
 ghost use Rattle.ipnet.specs.NetworkTexts.{IsNetworkText, IsIpv4NetworkText, IsIpv6NetworkText};
-ghost use Rattle.ipnet.specs.CanonicalTexts.{canonical_text, IsShortened};
+ghost use Rattle.ipnet.specs.CanonicalTexts.{address_text, canonical_text, IsShortened};
 ghost use Rattle.ipnet.specs.Lines.{AreNetworksOf, IsFirstBadLine};
 
 use crate::net::{IpNet, Ipv4Net, Ipv6Net};
 use crate::parser::{AddrParseError, Grammar};
+use std::net::{Ipv4Addr, Ipv6Addr};
 
 /// In either grammar a text writes one network at most, whose number and length are in the range of its family.
 pub fn one_network()
@@ -96,6 +98,18 @@ pub fn ip_text_reads_back(network: &IpNet, grammar: Grammar) -> Result<IpNet, Ad
 pub fn prints_apart()
     ensures { (m n : Network) → IsNetwork m → IsNetwork n
         → (canonical_text m ≡ canonical_text n) ↔ (m ≡ n) }
+{}
+
+/// The text of an IPv4 address is the same by its number, as in the text of a network, and by its octets, as
+/// `ipv4_addr_text` gives it.
+pub fn ipv4_address_text_is_of_octets(addr: Ipv4Addr)
+    ensures { address_text IPv4 (ipv4_bits addr) ≡ ipv4_text (ipv4_octets addr) }
+{}
+
+/// The text of an IPv6 address is the same by its number, as in the text of a network, and by its groups, as
+/// `ipv6_addr_text` gives it.
+pub fn ipv6_address_text_is_of_groups(addr: Ipv6Addr)
+    ensures { address_text IPv6 (ipv6_bits addr) ≡ ipv6_text (ipv6_segments addr) }
 {}
 
 /// The canonical text of an IPv6 address, by its groups: in dotted form behind `::ffff:` where the address is

@@ -3,3 +3,4 @@ pub mod CoveredBlocks
 pub mod StatusLaws
 pub mod NetworkReplies
 pub mod ListReplies
+pub mod SetReplies

@@ -1,12 +1,17 @@
 -- Replies to lists of networks.
 use Rattle.std.proofs.Common.{◌≡◌, ℕ, ◌⊎◌, ◌↔◌, List, [], ◌∷◌, map, Result, Ok, Err, String, Global, string_bytes}
-use Rattle.std.proofs.Common.{inl, inr, refl, subst, IsUtf8, Bool, IsTrue}
+use Rattle.std.proofs.Common.{inl, inr, refl, subst, IsUtf8, Bool, true, false, IsTrue, All, ◌==◌, if◌then◌else◌, arith}
+use Rattle.std.proofs.Common.{eqb-true}
+use Rattle.std.proofs.lemmas.List.Elements.{All-head, All-tail}
+use Rattle.std.proofs.lemmas.Str.{IsUtf8-from_ascii}
+use Rattle.std.proofs.lemmas.Str.Ascii.{IsAscii-nil, IsAscii-cons}
 use Rattle.std.specs.Int.{from_bool}
+use Rattle.std.specs.Str.{IsAscii}
 use Rattle.ipnet.specs.Network.{Network}
 use Rattle.ipnet.specs.Blocks.{HaveSameCover}
 use Rattle.ipnet.specs.Bytes.{HasWrongTaggedLen, HasUnknownVariant, HasLongTaggedPrefix}
 use Rattle.ipnet.specs.NetworkOf.{ip_network}
-use Rattle.ipnet.specs.Lines.{lines_of, AreNetworksOf, IsFirstBadLine}
+use Rattle.ipnet.specs.Lines.{lines_of, onto_first_line, AreNetworksOf, IsFirstBadLine}
 use Rattle.ipnet.specs.declared.compact.CompactError.{CompactError}
 use Rattle.ipnet.specs.declared.compact.CompactError.TheVariants.{Length, Variant, Prefix}
 use Rattle.ipnet.specs.declared.net.IpNet.{IpNet}
@@ -27,12 +32,43 @@ pub good_at_once : (grammar : Grammar) (text : List ℕ) (networks : List Networ
     → AreNetworksOf grammar (lines_of text) networks → IsGoodAtOnce grammar text
 good_at_once grammar text networks written number h = none_bad grammar (lines_of text) networks number written h.first
 
--- the lines of an empty text write no network
-pub none_of_none : (text : List ℕ) (list : List IpNet) → AreNetworksOf Strict (lines_of text) (map ip_network list)
-    → text ≡ [] → list ≡ []
-none_of_none [] [] written e = refl
-none_of_none [] (n ∷ list) written e = absurd cc
-none_of_none (b ∷ text) list written e = absurd cc
+-- the text has empty lines alone
+abbrev pub IsBlank : List ℕ → Type 0
+IsBlank text = All (λ line. line ≡ []) (lines_of text)
+
+-- empty lines write no network
+pub none_of_none : (lines : List (List ℕ)) (list : List IpNet) → AreNetworksOf Strict lines (map ip_network list)
+    → All (λ line. line ≡ []) lines → list ≡ []
+none_of_none [] [] written h = refl
+none_of_none [] (n ∷ list) written h = absurd cc
+none_of_none ([] ∷ lines) list written h = none_of_none lines list written (All-tail (λ line. line ≡ []) [] lines h)
+none_of_none ((b ∷ line) ∷ lines) list written h =
+    let none : b ∷ line ≡ [] = All-head (λ line. line ≡ []) (b ∷ line) lines h in
+    absurd cc
+
+-- a text of empty lines alone is ASCII, and so UTF-8
+not_blank : (b : ℕ) (lines : List (List ℕ)) → ¬ (All (λ line. line ≡ []) (onto_first_line b lines))
+not_blank b [] h =
+    let none : b ∷ [] ≡ [] = All-head (λ line. line ≡ []) (b ∷ []) [] h in
+    absurd cc
+not_blank b (line ∷ lines) h =
+    let none : b ∷ line ≡ [] = All-head (λ line. line ≡ []) (b ∷ line) lines h in
+    absurd cc
+
+ascii_first : (b : ℕ) (text : List ℕ) (ends : Bool) → (b == 10) ≡ ends → (IsBlank text → IsAscii text)
+    → All (λ line. line ≡ []) (if ends then [] ∷ lines_of text else onto_first_line b (lines_of text))
+    → IsAscii (b ∷ text)
+ascii_first b text true is later h =
+    IsAscii-cons b text (omega (arith, eqb-true b 10 is))
+    (later (All-tail (λ line. line ≡ []) [] (lines_of text) h))
+ascii_first b text false is later h = absurd (not_blank b (lines_of text) h)
+
+blank_is_ascii : (text : List ℕ) → IsBlank text → IsAscii text
+blank_is_ascii [] h = IsAscii-nil
+blank_is_ascii (b ∷ text) h = ascii_first b text (b == 10) refl (λ rest. blank_is_ascii text rest) h
+
+blank_is_utf8 : (text : List ℕ) → IsBlank text → IsUtf8 text
+blank_is_utf8 text h = IsUtf8-from_ascii text (blank_is_ascii text h)
 
 -- ---- a list aggregated
 
@@ -91,9 +127,39 @@ compared text other same_old same line networks others answer utf8 utf8_other wr
   bad_at_once = λ number a b h. absurd (good_at_once Strict text networks written number h);
 }
 
+pub first_not_utf8 : (text other : List ℕ) (same line : ℕ) → ¬ (IsUtf8 text)
+    → IsSameAddressesReply text other same same line line 2
+first_not_utf8 text other same line invalid = record {
+  known = inr (inr (inr (inl refl)));
+  ok = λ e. absurd (differ 2 0 refl e);
+  bad_line = λ e. absurd (differ 2 1 refl e);
+  bad_line_in_other = λ e. absurd (differ 2 9 refl e);
+  not_utf8 = (λ e. invalid, λ h. refl);
+  other_not_utf8 = (λ e. absurd (differ 2 10 refl e), λ h. absurd (invalid h.0));
+  same_kept = λ e. refl;
+  line_kept = λ a b. refl;
+  empty = λ a b. absurd (invalid (blank_is_utf8 text a));
+  bad_at_once = λ number a b h. absurd (invalid a);
+}
+
+pub other_not_utf8 : (text other : List ℕ) (same line : ℕ) → IsUtf8 text → ¬ (IsUtf8 other)
+    → IsSameAddressesReply text other same same line line 10
+other_not_utf8 text other same line utf8 invalid = record {
+  known = inr (inr (inr (inr (inl refl))));
+  ok = λ e. absurd (differ 10 0 refl e);
+  bad_line = λ e. absurd (differ 10 1 refl e);
+  bad_line_in_other = λ e. absurd (differ 10 9 refl e);
+  not_utf8 = (λ e. absurd (differ 10 2 refl e), λ h. absurd (h utf8));
+  other_not_utf8 = (λ e. (utf8, invalid), λ h. refl);
+  same_kept = λ e. refl;
+  line_kept = λ a b. refl;
+  empty = λ a b. absurd (invalid (blank_is_utf8 other b));
+  bad_at_once = λ number a b h. absurd (invalid b);
+}
+
 pub other_refused : (text other : List ℕ) (same line_old line : ℕ) (networks : List Network) → IsUtf8 text
     → IsUtf8 other → AreNetworksOf Strict (lines_of text) networks → IsFirstBadLine Strict (lines_of other) line
-    → ¬ (other ≡ []) → IsSameAddressesReply text other same same line_old line 9
+    → ¬ (IsBlank other) → IsSameAddressesReply text other same same line_old line 9
 other_refused text other same line_old line networks utf8 utf8_other written bad some = record {
   known = inr (inr (inl refl));
   ok = λ e. absurd (differ 9 0 refl e);
@@ -107,7 +173,8 @@ other_refused text other same line_old line networks utf8 utf8_other written bad
   bad_at_once = λ number a b h. absurd (good_at_once Strict text networks written number h);
 }
 
-pub not_compared : (text other : List ℕ) (same line : ℕ) → IsUtf8 text → IsUtf8 other → (text ≡ [] → ¬ (other ≡ []))
+pub not_compared : (text other : List ℕ) (same line : ℕ) → IsUtf8 text → IsUtf8 other
+    → (IsBlank text → ¬ (IsBlank other))
     → IsGoodAtOnce Strict text → IsSameAddressesReply text other same same line line 3
 not_compared text other same line utf8 utf8_other some good = record {
   known = inr (inr (inr (inr (inr refl))));
@@ -171,7 +238,7 @@ told_not_utf8 text bytes covered line net faults is invalid = record {
 }
 
 pub told_out_of_memory : (text bytes : List ℕ) (covered line : ℕ) (net : IpNet) → TellsFaults bytes (Ok net)
-    → IsUtf8 text → ¬ (text ≡ []) → IsGoodAtOnce Strict text → IsCoveredReply text bytes covered covered line line 3
+    → IsUtf8 text → ¬ (IsBlank text) → IsGoodAtOnce Strict text → IsCoveredReply text bytes covered covered line line 3
 told_out_of_memory text bytes covered line net faults utf8 some good = record {
   known = inr (inr (inr (inr (inr (inr refl)))));
   ok = λ e. absurd (differ 3 0 refl e);

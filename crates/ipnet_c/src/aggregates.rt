@@ -52,8 +52,8 @@ fn aggregate(
 ///
 /// The status is 0, or 4 where the buffer is too short, with the length needed in `count`; 1 where a line is no
 /// network, with the number of the first such line, counted from 1 with the empty ones, in `count`; 2 where the text is
-/// not UTF-8; 3 where memory is short, which never comes for an empty text, nor where the first line that is not empty
-/// is bad. The buffer changes at 0 alone, `count` at 0, 1 and 4.
+/// not UTF-8; 3 where memory is short, which never comes where all lines are empty, nor where the first line that is
+/// not empty is bad. The buffer changes at 0 alone, `count` at 0, 1 and 4.
 ///
 /// ```text
 /// "10.0.1.0/24\n\n10.0.0.0/24"    0, and the text "10.0.0.0/23\n"

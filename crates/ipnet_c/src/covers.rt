@@ -19,8 +19,9 @@ use std::str;
 ///
 /// The status is 0, or 1 where a line of the first text is no network, and 9 where one of the other is and none of the
 /// first, with the number of the first such line, counted from 1 with the empty ones, in `line`; 2 where the first text
-/// is not UTF-8, and 10 where the other alone is not; 3 where memory is short, which never comes for two empty texts,
-/// nor where the first line of the first text that is not empty is bad. `same` changes at 0 alone, `line` at 1 and 9.
+/// is not UTF-8, and 10 where the other alone is not; 3 where memory is short, which never comes where all lines of
+/// both are empty, nor where the first line of the first text that is not empty is bad. `same` changes at 0 alone,
+/// `line` at 1 and 9.
 ///
 /// ```text
 /// "10.0.0.0/25\n10.0.0.128/25" and "10.0.0.7/24"    0, and 1
@@ -87,8 +88,9 @@ fn lies_in_one(network: &IpNet, blocks: &[IpNet]) -> bool
 ///
 /// The status is 0; 6 where the bytes are too few or too many, or none, 7 where the first is neither 0 nor 1, 8 where
 /// the last is above 32, or 128; then 2 where the text is not UTF-8; 1 where a line is no network, with the number of
-/// the first such line, counted from 1 with the empty ones, in `line`; 3 where memory is short, which never comes for
-/// an empty text, nor where the first line that is not empty is bad. `covered` changes at 0 alone, `line` at 1 alone.
+/// the first such line, counted from 1 with the empty ones, in `line`; 3 where memory is short, which never comes
+/// where all lines are empty, nor where the first line that is not empty is bad. `covered` changes at 0 alone, `line`
+/// at 1 alone.
 ///
 /// ```text
 /// "10.0.0.0/25\n10.0.0.128/25" and 0, 10, 0, 0, 0, 24    0, and 1

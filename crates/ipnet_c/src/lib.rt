@@ -7,4 +7,7 @@ mod buffers;
 pub mod covers;
 mod lists;
 pub mod networks;
+pub mod sets;
 mod statuses;
+#[cfg(test)]
+mod tests;

@@ -1,5 +1,5 @@
 //! Lists of networks read from text.
-ghost use Rattle.std.specs.Prelude.{◌≡◌, ℕ, ◌<◌, [], ◌∷◌, length, map, Err, IfOk, IsOk};
+ghost use Rattle.std.specs.Prelude.{◌≡◌, ℕ, ◌<◌, [], ◌∷◌, length, map, All, Err, IfOk, IsOk};
 ghost use Rattle.ipnet.specs.declared.parser.Grammar.TheVariants.{Strict};
 ghost use Rattle.ipnet.specs.Lines.{lines_of, AreNetworksOf, IsFirstBadLine};
 ghost use Rattle.ipnet.specs.NetworkOf.{ip_network};
@@ -22,15 +22,15 @@ fn first_line(text: &str) -> (&str, &str)
     }
 }
 
-/// The networks that the lines write, in their order, in the strict grammar. An empty text takes no memory, nor does
-/// one whose first line that is not empty is bad.
+/// The networks that the lines write, in their order, in the strict grammar. A text of empty lines alone takes no
+/// memory, nor does one whose first line that is not empty is bad.
 pub(crate) fn read_networks(alloc: Global, text: &str) -> Result<Vec<IpNet>, ToolError>
     ensures networks { IfOk result (λ list. AreNetworksOf Strict (lines_of text.now) (map ip_network list.items)) }
     ensures bad_line { (number : ℕ) → result ≡ Err (ToolError.Line number)
         → IsFirstBadLine Strict (lines_of text.now) number }
     ensures bad_at_once { (number : ℕ) → StartsWithBadLine Strict (lines_of text.now) number
         → result ≡ Err (ToolError.Line number) }
-    ensures empty { text.now ≡ [] → IsOk result }
+    ensures empty { All (λ line. line ≡ []) (lines_of text.now) → IsOk result }
 {
     let mut networks = Vec::new(alloc);
     let mut rest = text;

@@ -80,27 +80,34 @@ fn check(
 ) -> Result<(), AllocError> {
     let before = networks.clone()?;
     let answer = IpNet::aggregate(alloc, networks)?;
-    assert_eq!(rt; answer.as_slice(), want, "aggregates: {label}");
+    assert_eq!(rt; answer.as_slice(), want, "aggregates: {label}, by IpNet");
     assert_eq!(rt;
         IpNet::aggregate(alloc, &answer)?.as_slice(),
         want,
-        "aggregates: {label}"
+        "aggregates: {label}: of the answer again"
     );
-    assert!(rt; is_aggregated(answer.as_slice()), "aggregates: {label}");
+    assert!(rt;
+        is_aggregated(answer.as_slice()),
+        "aggregates: {label}: is_aggregated of the answer"
+    );
     if let Some(own) = own_aggregate(alloc, networks)? {
-        assert_eq!(rt; own.as_slice(), want, "aggregates: {label}");
+        assert_eq!(rt;
+            own.as_slice(),
+            want,
+            "aggregates: {label}, by its family's type"
+        );
     }
     assert_eq!(rt;
         networks.as_slice(),
         before.as_slice(),
-        "aggregates: {label}"
+        "aggregates: {label}: the list itself"
     );
     Ok(())
 }
 
 #[test]
 fn lists(rt: HostRuntime) -> Result<(), Fail> {
-    for row in rows(&rt, ROWS, 28) {
+    for row in rows(&rt, "aggregates::ROWS", ROWS, 28) {
         let [label, networks, want, ..] = cells(&rt, row, 3);
         let networks = ip_nets(&rt, rt.alloc(), networks)?;
         let want = ip_nets(&rt, rt.alloc(), want)?;
@@ -115,14 +122,9 @@ fn descending_addresses(rt: HostRuntime) -> Result<(), Fail> {
     for last in (0..=255).rev() {
         networks.push(IpNet::from(Ipv4Net::from(Ipv4Addr::new(10, 0, 0, last))))?;
     }
-    assert_eq!(rt; networks.len(), 256);
+    let label = "256 addresses, descending";
+    assert_eq!(rt; networks.len(), 256, "aggregates: {label}: how many");
     let want = ip_nets(&rt, rt.alloc(), "[10.0.0.0/24]")?;
-    check(
-        &rt,
-        rt.alloc(),
-        &networks,
-        want.as_slice(),
-        "256 addresses, descending",
-    )?;
+    check(&rt, rt.alloc(), &networks, want.as_slice(), label)?;
     Ok(())
 }

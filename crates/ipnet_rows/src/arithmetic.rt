@@ -81,7 +81,7 @@ fn ipv6_answer(
 
 #[test]
 fn calls(rt: HostRuntime) -> Result<(), Fail> {
-    for row in rows(&rt, ROWS, 17) {
+    for row in rows(&rt, "arithmetic::ROWS", ROWS, 17) {
         let [label, left, call, right, want, ..] = cells(&rt, row, 5);
         let answer = match ip_addr(&rt, left) {
             IpAddr::V4(left) => ipv4_answer(&rt, rt.alloc(), left, call, right)?,

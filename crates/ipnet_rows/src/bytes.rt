@@ -78,7 +78,7 @@ fn wanted(rt: &impl Abort, cell: &str) -> Result<IpNet, CompactError> {
 
 #[test]
 fn writing(rt: HostRuntime) -> Result<(), Fail> {
-    for row in rows(&rt, WRITTEN, 5) {
+    for row in rows(&rt, "bytes::WRITTEN", WRITTEN, 5) {
         let [label, name, network, want, ..] = cells(&rt, row, 4);
         let network = ip_net(&rt, network);
         let want = bytes(&rt, rt.alloc(), want)?;
@@ -89,6 +89,11 @@ fn writing(rt: HostRuntime) -> Result<(), Fail> {
                 "bytes: {label}"
             );
         } else {
+            assert_eq!(rt;
+                name,
+                own_name(&network),
+                "bytes: {label}: its family's type"
+            );
             assert_eq!(rt;
                 own_bytes(rt.alloc(), &network)?.as_slice(),
                 want.as_slice(),
@@ -101,7 +106,7 @@ fn writing(rt: HostRuntime) -> Result<(), Fail> {
 
 #[test]
 fn reading(rt: HostRuntime) -> Result<(), Fail> {
-    for row in rows(&rt, READ, 11) {
+    for row in rows(&rt, "bytes::READ", READ, 11) {
         let [label, name, given, want, ..] = cells(&rt, row, 4);
         let given = bytes(&rt, rt.alloc(), given)?;
         assert_eq!(rt;
@@ -115,7 +120,7 @@ fn reading(rt: HostRuntime) -> Result<(), Fail> {
 
 #[test]
 fn beginnings(rt: HostRuntime) -> Result<(), Fail> {
-    for network in rows(&rt, NETWORKS, 7) {
+    for network in rows(&rt, "bytes::NETWORKS", NETWORKS, 7) {
         let network = ip_net(&rt, network);
         let own = own_bytes(rt.alloc(), &network)?;
         let either = network.to_bytes();
@@ -141,19 +146,19 @@ fn beginnings(rt: HostRuntime) -> Result<(), Fail> {
 
 #[test]
 fn there_and_back(rt: HostRuntime) -> Result<(), Fail> {
-    for network in rows(&rt, NETWORKS, 7) {
+    for network in rows(&rt, "bytes::NETWORKS", NETWORKS, 7) {
         let network = ip_net(&rt, network);
         let own = own_bytes(rt.alloc(), &network)?;
         let either = network.to_bytes();
         assert_eq!(rt;
             read(&rt, own_name(&network), own.as_slice()),
             Ok(network),
-            "bytes: there and back"
+            "bytes: there and back, by its family's type"
         );
         assert_eq!(rt;
             IpNet::from_bytes(either.as_slice()),
             Ok(network),
-            "bytes: there and back"
+            "bytes: there and back, by IpNet"
         );
     }
     Ok(())
@@ -195,13 +200,13 @@ fn lengths(rt: HostRuntime) {
         assert_eq!(rt;
             answer,
             Err(CompactError::Prefix),
-            "bytes: lengths 33 to 255, IPv4"
+            "bytes: lengths 33 to 255, IPv4, by Ipv4Net"
         );
         let answer = IpNet::from_bytes(&[0, 10, 1, 1, 0, len]);
         assert_eq!(rt;
             answer,
             Err(CompactError::Prefix),
-            "bytes: lengths 33 to 255, IPv4"
+            "bytes: lengths 33 to 255, IPv4, by IpNet"
         );
     }
     for len in 129..=255 {
@@ -209,13 +214,13 @@ fn lengths(rt: HostRuntime) {
         assert_eq!(rt;
             answer,
             Err(CompactError::Prefix),
-            "bytes: lengths 129 to 255, IPv6"
+            "bytes: lengths 129 to 255, IPv6, by Ipv6Net"
         );
         let answer = IpNet::from_bytes(&[1, 253, 0, 0, 0, 0, 0, 0, 0, 0, 0, 0, 0, 0, 0, 0, 0, len]);
         assert_eq!(rt;
             answer,
             Err(CompactError::Prefix),
-            "bytes: lengths 129 to 255, IPv6"
+            "bytes: lengths 129 to 255, IPv6, by IpNet"
         );
     }
 }

@@ -7,7 +7,7 @@ use std::net::{IpAddr, Ipv6Addr};
 use std::process::Abort;
 use std::test::Fail;
 
-/// The most digits and the greatest value of a decimal text, and what stands before it and behind it in a network text.
+/// The most digits and the greatest value of a decimal text, and what stands before and after it in a network text.
 const DECIMALS: &str = "
 decimal of an octet       | 3 | 255 |           | .0.0.0/8
 decimal of an IPv4 length | 2 | 32  | 10.0.0.0/ |
@@ -21,14 +21,14 @@ fn check_decimal(
     row: [&'static str; 9],
     digits: &str,
 ) -> Result<(), AllocError> {
-    let [label, most, greatest, before, behind, ..] = row;
+    let [label, most, greatest, before, after, ..] = row;
     let value = digits.parse::<u32>().expect(rt, digits);
     let is_short = digits.len() <= most.parse::<usize>().expect(rt, most);
     let is_legacy = is_short && value <= greatest.parse::<u32>().expect(rt, greatest);
     let is_strict = is_legacy && (digits == "0" || !digits.starts_with('0'));
-    let text = format!(in alloc; "{before}{digits}{behind}")?;
+    let text = format!(in alloc; "{before}{digits}{after}")?;
     let network = if is_legacy {
-        let plain = format!(in alloc; "{before}{value}{behind}")?;
+        let plain = format!(in alloc; "{before}{value}{after}")?;
         Some(ip_net(rt, plain.as_str()))
     } else {
         None
@@ -40,7 +40,7 @@ fn check_decimal(
 
 #[test]
 fn decimals(rt: HostRuntime) -> Result<(), Fail> {
-    for row in rows(&rt, DECIMALS, 3) {
+    for row in rows(&rt, "grammar::DECIMALS", DECIMALS, 3) {
         let row = cells(&rt, row, 5);
         for number in 0..10_000u32 {
             // The four digits of the number, zeros in front and all, and what is left of them without the first ones.
@@ -78,7 +78,7 @@ fn joined(alloc: Global, digit: &str, count: u16, dotted: bool) -> Result<String
     Ok(text)
 }
 
-/// The groups that `joined` writes, put behind those that are there.
+/// The groups that `joined` writes, put after those that are there.
 fn push_groups(
     groups: &mut Vec<u16>,
     first: u16,
@@ -130,7 +130,7 @@ fn all_groups_written(rt: HostRuntime) -> Result<(), Fail> {
     Ok(())
 }
 
-/// Checks the text with so many groups before "::" and so many behind it.
+/// Checks the text with so many groups before "::" and so many after it.
 fn check_compressed(
     rt: &impl Abort,
     alloc: Global,
@@ -139,8 +139,8 @@ fn check_compressed(
     dotted: bool,
 ) -> Result<(), AllocError> {
     let before = joined(alloc, "a", head, false)?;
-    let behind = joined(alloc, "b", tail, dotted)?;
-    let text = format!(in alloc; "{before}::{behind}/64")?;
+    let after = joined(alloc, "b", tail, dotted)?;
+    let text = format!(in alloc; "{before}::{after}/64")?;
     let mut groups = Vec::new(alloc);
     push_groups(&mut groups, 0xa0, head, false)?;
     for _ in head.saturating_add(tail)..8 {

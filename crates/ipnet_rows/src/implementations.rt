@@ -21,91 +21,63 @@ fn united<L: IpBitOr<R, Output = O>, R, O>(left: L, right: R) -> O {
 }
 
 #[test]
-fn ipv4_implementations(rt: HostRuntime) {
-    let addr = |text: &str| ipv4_addr(&rt, text);
-    let answer: Ipv4Addr = sum(addr("255.255.255.254"), 1u32);
-    assert_eq!(rt;
-        answer,
-        addr("255.255.255.255"),
-        "implementations: add a number, IPv4"
-    );
-    let answer: u32 = difference(addr("192.168.1.100"), addr("192.168.1.5"));
-    assert_eq!(rt; answer, 95, "implementations: subtract an address, IPv4");
-    let answer: Ipv4Addr = difference(addr("192.168.1.100"), 101u32);
-    assert_eq!(rt;
-        answer,
-        addr("192.168.0.255"),
-        "implementations: subtract a number, IPv4"
-    );
-    let answer: Ipv4Addr = common(addr("192.168.1.100"), addr("255.255.0.15"));
-    assert_eq!(rt;
-        answer,
-        addr("192.168.0.4"),
-        "implementations: and with an address, IPv4"
-    );
-    let answer: Ipv4Addr = common(addr("192.168.1.100"), 4294901760u32);
-    assert_eq!(rt;
-        answer,
-        addr("192.168.0.0"),
-        "implementations: and with a number, IPv4"
-    );
-    let answer: Ipv4Addr = united(addr("10.0.0.5"), addr("0.0.255.250"));
-    assert_eq!(rt;
-        answer,
-        addr("10.0.255.255"),
-        "implementations: or with an address, IPv4"
-    );
-    let answer: Ipv4Addr = united(addr("10.0.0.5"), 250u32);
-    assert_eq!(rt;
-        answer,
-        addr("10.0.0.255"),
-        "implementations: or with a number, IPv4"
-    );
+fn sums(rt: HostRuntime) {
+    let answer: Ipv4Addr = sum(ipv4_addr(&rt, "255.255.255.254"), 1u32);
+    let want = ipv4_addr(&rt, "255.255.255.255");
+    assert_eq!(rt; answer, want, "implementations: add a number, IPv4");
+    let answer: Ipv6Addr = sum(ipv6_addr(&rt, "fd00::ffff"), 1u128);
+    let want = ipv6_addr(&rt, "fd00::1:0");
+    assert_eq!(rt; answer, want, "implementations: add a number, IPv6");
 }
 
 #[test]
-fn ipv6_implementations(rt: HostRuntime) {
-    let addr = |text: &str| ipv6_addr(&rt, text);
-    let answer: Ipv6Addr = sum(addr("fd00::ffff"), 1u128);
-    assert_eq!(rt;
-        answer,
-        addr("fd00::1:0"),
-        "implementations: add a number, IPv6"
-    );
-    let answer: u128 = difference(addr("fd01::"), addr("fd00::"));
-    assert_eq!(rt;
-        answer,
-        5192296858534827628530496329220096,
-        "implementations: subtract an address, IPv6"
-    );
-    let answer: Ipv6Addr = difference(addr("::4"), 5u128);
-    assert_eq!(rt;
-        answer,
-        addr("::"),
-        "implementations: subtract a number, IPv6"
-    );
-    let answer: Ipv6Addr = common(addr("fd00:1234::1"), addr("ffff::"));
-    assert_eq!(rt;
-        answer,
-        addr("fd00::"),
-        "implementations: and with an address, IPv6"
-    );
-    let answer: Ipv6Addr = common(addr("fd00:1234::1"), 65535u128);
-    assert_eq!(rt;
-        answer,
-        addr("::1"),
-        "implementations: and with a number, IPv6"
-    );
-    let answer: Ipv6Addr = united(addr("fd00::5"), addr("::fffe:0:fa"));
-    assert_eq!(rt;
-        answer,
-        addr("fd00::fffe:0:ff"),
-        "implementations: or with an address, IPv6"
-    );
-    let answer: Ipv6Addr = united(addr("fd00::5"), 250u128);
-    assert_eq!(rt;
-        answer,
-        addr("fd00::ff"),
-        "implementations: or with a number, IPv6"
-    );
+fn differences(rt: HostRuntime) {
+    let left = ipv4_addr(&rt, "192.168.1.100");
+    let answer: u32 = difference(left, ipv4_addr(&rt, "192.168.1.5"));
+    assert_eq!(rt; answer, 95, "implementations: subtract an address, IPv4");
+    let answer: Ipv4Addr = difference(left, 101u32);
+    let want = ipv4_addr(&rt, "192.168.0.255");
+    assert_eq!(rt; answer, want, "implementations: subtract a number, IPv4");
+    let answer: u128 = difference(ipv6_addr(&rt, "fd01::"), ipv6_addr(&rt, "fd00::"));
+    let want = 5192296858534827628530496329220096;
+    assert_eq!(rt; answer, want, "implementations: subtract an address, IPv6");
+    let answer: Ipv6Addr = difference(ipv6_addr(&rt, "::4"), 5u128);
+    let want = ipv6_addr(&rt, "::");
+    assert_eq!(rt; answer, want, "implementations: subtract a number, IPv6");
+}
+
+#[test]
+fn common_bits(rt: HostRuntime) {
+    let left = ipv4_addr(&rt, "192.168.1.100");
+    let answer: Ipv4Addr = common(left, ipv4_addr(&rt, "255.255.0.15"));
+    let want = ipv4_addr(&rt, "192.168.0.4");
+    assert_eq!(rt; answer, want, "implementations: and with an address, IPv4");
+    let answer: Ipv4Addr = common(left, 4294901760u32);
+    let want = ipv4_addr(&rt, "192.168.0.0");
+    assert_eq!(rt; answer, want, "implementations: and with a number, IPv4");
+    let left = ipv6_addr(&rt, "fd00:1234::1");
+    let answer: Ipv6Addr = common(left, ipv6_addr(&rt, "ffff::"));
+    let want = ipv6_addr(&rt, "fd00::");
+    assert_eq!(rt; answer, want, "implementations: and with an address, IPv6");
+    let answer: Ipv6Addr = common(left, 65535u128);
+    let want = ipv6_addr(&rt, "::1");
+    assert_eq!(rt; answer, want, "implementations: and with a number, IPv6");
+}
+
+#[test]
+fn united_bits(rt: HostRuntime) {
+    let left = ipv4_addr(&rt, "10.0.0.5");
+    let answer: Ipv4Addr = united(left, ipv4_addr(&rt, "0.0.255.250"));
+    let want = ipv4_addr(&rt, "10.0.255.255");
+    assert_eq!(rt; answer, want, "implementations: or with an address, IPv4");
+    let answer: Ipv4Addr = united(left, 250u32);
+    let want = ipv4_addr(&rt, "10.0.0.255");
+    assert_eq!(rt; answer, want, "implementations: or with a number, IPv4");
+    let left = ipv6_addr(&rt, "fd00::5");
+    let answer: Ipv6Addr = united(left, ipv6_addr(&rt, "::fffe:0:fa"));
+    let want = ipv6_addr(&rt, "fd00::fffe:0:ff");
+    assert_eq!(rt; answer, want, "implementations: or with an address, IPv6");
+    let answer: Ipv6Addr = united(left, 250u128);
+    let want = ipv6_addr(&rt, "fd00::ff");
+    assert_eq!(rt; answer, want, "implementations: or with a number, IPv6");
 }

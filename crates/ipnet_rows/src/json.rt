@@ -14,7 +14,7 @@ null                        | IpNet   | null           | JsonError::NotString
 a string that is no network | IpNet   | "x"            | JsonError::Syntax
 the empty string            | IpNet   | ""             | JsonError::Syntax
 another family              | Ipv4Net | "fd00::/32"    | JsonError::Syntax
-a text of the older grammar | IpNet   | "010.0.0.1/08" | JsonError::Syntax
+a text of the legacy grammar | IpNet   | "010.0.0.1/08" | JsonError::Syntax
 "#;
 
 /// The network, and its value as JSON.
@@ -52,7 +52,7 @@ fn wanted(rt: &impl Abort, cell: &str) -> Result<IpNet, JsonError> {
 
 #[test]
 fn reading(rt: HostRuntime) -> Result<(), Fail> {
-    for row in rows(&rt, READ, 7) {
+    for row in rows(&rt, "json::READ", READ, 7) {
         let [label, name, text, want, ..] = cells(&rt, row, 4);
         let value = Value::from_str(rt.alloc(), text)?;
         assert_eq!(rt; read(&rt, name, &value), wanted(&rt, want), "json: {label}");
@@ -62,18 +62,26 @@ fn reading(rt: HostRuntime) -> Result<(), Fail> {
 
 #[test]
 fn writing(rt: HostRuntime) -> Result<(), Fail> {
-    for row in rows(&rt, WRITTEN, 2) {
+    for row in rows(&rt, "json::WRITTEN", WRITTEN, 2) {
         let [label, network, want, ..] = cells(&rt, row, 3);
         let network = ip_net(&rt, network);
         let own = own_value(rt.alloc(), &network)?;
-        assert_eq!(rt; own.to_string(rt.alloc())?.as_str(), want, "json: {label}");
+        assert_eq!(rt;
+            own.to_string(rt.alloc())?.as_str(),
+            want,
+            "json: {label}, by its family's type"
+        );
         let either = network.to_json(rt.alloc())?;
         assert_eq!(rt;
             either.to_string(rt.alloc())?.as_str(),
             want,
-            "json: {label}"
+            "json: {label}, by IpNet"
         );
-        assert_eq!(rt; IpNet::from_json(&either), Ok(network), "json: {label}");
+        assert_eq!(rt;
+            IpNet::from_json(&either),
+            Ok(network),
+            "json: {label}: read again"
+        );
     }
     Ok(())
 }

@@ -12,7 +12,7 @@ const TEXTS: &str = "
 ffff:ffff:ffff:ffff:ffff:ffff:ffff:ffff | 128 | 39 | 43
 ";
 
-/// The ends of a range, and how many items the walk between them has under least length 0.
+/// The ends of a range, and how many items the walk between them has under minimum prefix length 0.
 const WALKS: &str = "
 0.0.0.1 | 255.255.255.254                         | 62
 ::1     | ffff:ffff:ffff:ffff:ffff:ffff:ffff:fffe | 254
@@ -25,13 +25,17 @@ fn check_lengths(rt: &impl Abort, ip: IpAddr, greatest: u8) {
         assert_eq!(rt;
             IpNet::new(ip, len).is_ok(),
             is_allowed,
-            "limits: prefix length"
+            "limits: prefix length {len}, by IpNet"
         );
         let own = match ip {
             IpAddr::V4(ip) => Ipv4Net::new(ip, len).is_ok(),
             IpAddr::V6(ip) => Ipv6Net::new(ip, len).is_ok(),
         };
-        assert_eq!(rt; own, is_allowed, "limits: prefix length");
+        assert_eq!(rt;
+            own,
+            is_allowed,
+            "limits: prefix length {len}, by its family's type"
+        );
     }
 }
 
@@ -47,12 +51,16 @@ fn check_bytes(rt: &impl Abort, ip: IpAddr, len: u8, addr_bytes: usize, net_byte
         IpNet::V6(net) => (net.to_text().as_str().len(), net.to_text().capacity()),
     };
     assert_eq!(rt; net_len, net_bytes, "limits: bytes of a network text");
-    assert_eq!(rt; room, net_bytes, "limits: bytes of a network text");
+    assert_eq!(rt;
+        room,
+        net_bytes,
+        "limits: bytes of a network text: room for them"
+    );
 }
 
 #[test]
 fn lengths_and_texts(rt: HostRuntime) {
-    for row in rows(&rt, TEXTS, 2) {
+    for row in rows(&rt, "limits::TEXTS", TEXTS, 2) {
         let [ip, len, addr_bytes, net_bytes, ..] = cells(&rt, row, 4);
         let ip = ip_addr(&rt, ip);
         let len = len.parse::<u8>().expect(&rt, row);
@@ -65,54 +73,63 @@ fn lengths_and_texts(rt: HostRuntime) {
 
 #[test]
 fn items(rt: HostRuntime) -> Result<(), Fail> {
-    for row in rows(&rt, WALKS, 2) {
+    for row in rows(&rt, "limits::WALKS", WALKS, 2) {
         let [start, end, count, ..] = cells(&rt, row, 3);
         let count = count.parse::<usize>().expect(&rt, row);
         let all: Vec<IpNet> = ip_walk(&rt, start, end, "0").collect(rt.alloc())?;
         assert_eq!(rt;
             all.len(),
             count,
-            "limits: items of a walk with least length 0"
+            "limits: items of a walk with minimum prefix length 0"
         );
     }
     let ipv4 = ip_range(&rt, "0.0.0.0", "255.255.255.255");
     assert_eq!(rt;
         ipv4.size_hint(),
         (4294967296, Some(4294967296)),
-        "limits: items of a range"
+        "limits: items of a range, IPv4"
     );
     // The numbers from 0 to 2^128 - 1.
     let ipv6 = ip_range(&rt, "::", "ffff:ffff:ffff:ffff:ffff:ffff:ffff:ffff");
     assert_eq!(rt;
         ipv6.min(),
         Some(ip_addr(&rt, "::")),
-        "limits: items of a range"
+        "limits: items of a range, the least of IPv6"
     );
-    let greatest = ipv6.max().expect(&rt, "limits: items of a range");
+    let greatest = ipv6
+        .max()
+        .expect(&rt, "limits: items of a range, the greatest of IPv6");
     assert!(rt;
         matches!(greatest, IpAddr::V6(ip) if ip.to_bits() == u128::MAX),
-        "limits: items of a range"
+        "limits: items of a range, the greatest of IPv6"
     );
     Ok(())
 }
 
 // The condition of `new_assert` is proved where it is called: here by the loop's end, and by the comparison.
 #[test]
-fn checked_constructor(rt: HostRuntime) {
-    let label = "conditions: checked constructor";
+fn new_assert(rt: HostRuntime) {
+    let label = "conditions: new_assert";
     let ipv4 = ipv4_addr(&rt, "10.0.0.1");
     let ipv6 = ipv6_addr(&rt, "fd00::1");
     for len in 0..129u8 {
         assert_eq!(rt;
             Ipv6Net::new(ipv6, len),
             Ok(Ipv6Net::new_assert(ipv6, len)),
-            "{label}"
+            "{label}: length {len}, IPv6"
         );
         if len <= 32 {
-            let checked = Ipv4Net::new_assert(ipv4, len);
-            assert_eq!(rt; Ipv4Net::new(ipv4, len), Ok(checked), "{label}");
+            let asserted = Ipv4Net::new_assert(ipv4, len);
+            assert_eq!(rt;
+                Ipv4Net::new(ipv4, len),
+                Ok(asserted),
+                "{label}: length {len}, IPv4"
+            );
         } else {
-            assert!(rt; Ipv4Net::new(ipv4, len).is_err(), "{label}");
+            assert!(rt;
+                Ipv4Net::new(ipv4, len).is_err(),
+                "{label}: length {len}, IPv4"
+            );
         }
     }
 }
@@ -127,17 +144,23 @@ fn minimum_prefix_length_of_a_walk(rt: HostRuntime) {
     for min_prefix_len in 0..=255u8 {
         if min_prefix_len <= 32 {
             let mut walk = Ipv4Subnets::new(ipv4, ipv4, min_prefix_len);
-            assert_eq!(rt; walk.next(), Some(Ipv4Net::new_assert(ipv4, 32)), "{label}");
-            assert_eq!(rt; walk.next(), None, "{label}");
+            let only = Some(Ipv4Net::new_assert(ipv4, 32));
+            assert_eq!(rt; walk.next(), only, "{label}: {min_prefix_len}, IPv4");
+            assert_eq!(rt;
+                walk.next(),
+                None,
+                "{label}: {min_prefix_len}, IPv4, the end"
+            );
         }
         if min_prefix_len <= 128 {
             let mut walk = Ipv6Subnets::new(ipv6, ipv6, min_prefix_len);
+            let only = Some(Ipv6Net::new_assert(ipv6, 128));
+            assert_eq!(rt; walk.next(), only, "{label}: {min_prefix_len}, IPv6");
             assert_eq!(rt;
                 walk.next(),
-                Some(Ipv6Net::new_assert(ipv6, 128)),
-                "{label}"
+                None,
+                "{label}: {min_prefix_len}, IPv6, the end"
             );
-            assert_eq!(rt; walk.next(), None, "{label}");
         }
     }
 }
@@ -149,8 +172,8 @@ fn count_of_a_range(rt: HostRuntime) {
     let range = ip_range(&rt, "fd00::", "fd00::ff");
     match range.size_hint() {
         (_, Some(_)) => assert_eq!(rt; range.count(), 256, "{label}"),
-        (_, None) => assert!(rt; false, "{label}"),
+        (_, None) => panic!(rt; "{label}: no upper bound"),
     }
     let (_, upper) = ip_range(&rt, "::", "ffff:ffff:ffff:ffff:ffff:ffff:ffff:ffff").size_hint();
-    assert_eq!(rt; upper, None, "{label}");
+    assert_eq!(rt; upper, None, "{label}: all IPv6 addresses");
 }

@@ -1,5 +1,5 @@
 //! Rows on lists: which are their own aggregate, and which have the same addresses.
-use crate::table::{cells, ip_nets, rows};
+use crate::table::{cells, ip_nets, rows, truth};
 use ipnet::{is_aggregated, same_addresses};
 use std::test::Fail;
 
@@ -17,21 +17,21 @@ a long list | [10.0.0.0/24, 10.0.1.0/24, 10.0.1.1/24, 10.0.1.2/24, 10.0.2.0/24, 
 ";
 
 const SAME_ADDRESSES: &str = "
-halves in another order, host bits   | [10.0.0.0/23]       | [10.0.1.7/24, 10.0.0.0/24] | Ok(true)
-a network and its half               | [10.0.0.0/24]       | [10.0.0.0/25]              | Ok(false)
-all mapped addresses and all of IPv4 | [::ffff:0.0.0.0/96] | [0.0.0.0/0]                | Ok(false)
-two empty lists                      | []                  | []                         | Ok(true)
-an empty list and another            | []                  | [10.0.0.0/24]              | Ok(false)
+halves in another order, host bits   | [10.0.0.0/23]       | [10.0.1.7/24, 10.0.0.0/24] | true
+a network and its half               | [10.0.0.0/24]       | [10.0.0.0/25]              | false
+all mapped addresses and all of IPv4 | [::ffff:0.0.0.0/96] | [0.0.0.0/0]                | false
+two empty lists                      | []                  | []                         | true
+an empty list and another            | []                  | [10.0.0.0/24]              | false
 ";
 
 #[test]
 fn aggregated(rt: HostRuntime) -> Result<(), Fail> {
-    for row in rows(&rt, AGGREGATED, 9) {
+    for row in rows(&rt, "lists::AGGREGATED", AGGREGATED, 9) {
         let [label, networks, want, ..] = cells(&rt, row, 3);
         let networks = ip_nets(&rt, rt.alloc(), networks)?;
         assert_eq!(rt;
             is_aggregated(networks.as_slice()),
-            want == "true",
+            truth(&rt, want),
             "lists: {label}"
         );
     }
@@ -40,11 +40,11 @@ fn aggregated(rt: HostRuntime) -> Result<(), Fail> {
 
 #[test]
 fn addresses(rt: HostRuntime) -> Result<(), Fail> {
-    for row in rows(&rt, SAME_ADDRESSES, 5) {
+    for row in rows(&rt, "lists::SAME_ADDRESSES", SAME_ADDRESSES, 5) {
         let [label, first, second, want, ..] = cells(&rt, row, 4);
         let first = ip_nets(&rt, rt.alloc(), first)?;
         let second = ip_nets(&rt, rt.alloc(), second)?;
-        let want = want == "Ok(true)";
+        let want = truth(&rt, want);
         assert_eq!(rt;
             same_addresses(rt.alloc(), &first, &second)?,
             want,
@@ -53,7 +53,7 @@ fn addresses(rt: HostRuntime) -> Result<(), Fail> {
         assert_eq!(rt;
             same_addresses(rt.alloc(), &second, &first)?,
             want,
-            "lists: {label}"
+            "lists: {label}, the other way round"
         );
     }
     Ok(())

@@ -1,7 +1,8 @@
 //! Rows on networks: how they are made, what they answer, how they compare.
 //!
-//! A row that names no type is asked of the type of its family and of `IpNet` alike.
-use crate::table::{cells, ip_addr, ip_addrs, ip_net, ip_nets, rows};
+//! A row that names no type is asked of the type of its family and of `IpNet` alike, one of two families of `IpNet`
+//! alone.
+use crate::table::{cells, ip_addr, ip_addrs, ip_net, ip_nets, rows, truth};
 use ipnet::{IpNet, IpSubnets, Ipv4Net, Ipv6Net, PrefixLenError};
 use std::alloc::{AllocError, Global};
 use std::net::{IpAddr, Ipv4Addr, Ipv6Addr};
@@ -20,13 +21,13 @@ new, either family, length 129, IPv6 | fd00::  | 129 | refused
 ";
 
 const NEW_ASSERT: &str = "
-checked constructor, IPv4             | 10.1.1.0 | 24  | 10.1.1.0/24
-checked constructor, IPv6             | fd::     | 24  | fd::/24
-checked constructor, either family    | 10.1.1.0 | 32  | 10.1.1.0/32
-checked constructor, length 0, IPv4   | 0.0.0.0  | 0   | 0.0.0.0/0
-checked constructor, length 32, IPv4  | 0.0.0.0  | 32  | 0.0.0.0/32
-checked constructor, length 0, IPv6   | ::       | 0   | ::/0
-checked constructor, length 128, IPv6 | ::       | 128 | ::/128
+new_assert, IPv4             | 10.1.1.0 | 24  | 10.1.1.0/24
+new_assert, IPv6             | fd::     | 24  | fd::/24
+new_assert, either family    | 10.1.1.0 | 32  | 10.1.1.0/32
+new_assert, length 0, IPv4   | 0.0.0.0  | 0   | 0.0.0.0/0
+new_assert, length 32, IPv4  | 0.0.0.0  | 32  | 0.0.0.0/32
+new_assert, length 0, IPv6   | ::       | 0   | ::/0
+new_assert, length 128, IPv6 | ::       | 128 | ::/128
 ";
 
 const FROM_ADDRESSES: &str = "
@@ -73,34 +74,43 @@ supernet at length 1, IPv6 | fd00::1/1      | ::/0
 ";
 
 const SIBLINGS: &str = "
-siblings                              | 10.1.0.0/24     | 10.1.1.0/24     | true
-neighbours of two supernets           | 10.1.1.0/24     | 10.1.2.0/24     | false
-siblings, IPv6                        | fd00::/18       | fd00:4000::/18  | true
-neighbours of two supernets, IPv6     | fd00:4000::/18  | fd00:8000::/18  | false
-siblings of two families              | 10.1.0.0/24     | fd00:4000::/18  | false
-its own sibling, host bits or not     | 10.0.0.1/24     | 10.0.0.0/24     | true
-no sibling at length 0                | 0.0.0.0/0       | 0.0.0.0/0       | false
+siblings                          | 10.1.0.0/24    | 10.1.1.0/24    | true
+neighbours of two supernets       | 10.1.1.0/24    | 10.1.2.0/24    | false
+siblings, IPv6                    | fd00::/18      | fd00:4000::/18 | true
+neighbours of two supernets, IPv6 | fd00:4000::/18 | fd00:8000::/18 | false
+its own sibling, host bits or not | 10.0.0.1/24    | 10.0.0.0/24    | true
+no sibling at length 0            | 0.0.0.0/0      | 0.0.0.0/0      | false
+";
+
+const SIBLINGS_OF_TWO_FAMILIES: &str = "
+siblings of two families | 10.1.0.0/24 | fd00:4000::/18 | false
 ";
 
 const NETWORKS_INSIDE: &str = "
-contains a longer one                     | 192.168.0.0/24 | 192.168.0.0/25 | true
-contains a shorter one                    | 192.168.0.0/24 | 192.168.0.0/23 | false
-contains one of the other family          | 192.168.0.0/24 | fd00::/16      | false
-contains itself                           | 192.168.0.0/24 | 192.168.0.0/24 | true
-contains a longer one, IPv6               | fd00::/16      | fd00::/17      | true
-contains a shorter one, IPv6              | fd00::/16      | fd00::/15      | false
-contains one of the other family, IPv6    | fd00::/16      | 192.168.0.0/24 | false
-contains itself with other host bits      | 10.0.0.1/24    | 10.0.0.0/24    | true
-contained by itself with other host bits  | 10.0.0.0/24    | 10.0.0.1/24    | true
+contains a longer one                    | 192.168.0.0/24 | 192.168.0.0/25 | true
+contains a shorter one                   | 192.168.0.0/24 | 192.168.0.0/23 | false
+contains itself                          | 192.168.0.0/24 | 192.168.0.0/24 | true
+contains a longer one, IPv6              | fd00::/16      | fd00::/17      | true
+contains a shorter one, IPv6             | fd00::/16      | fd00::/15      | false
+contains itself with other host bits     | 10.0.0.1/24    | 10.0.0.0/24    | true
+contained by itself with other host bits | 10.0.0.0/24    | 10.0.0.1/24    | true
+";
+
+const NETWORKS_OF_THE_OTHER_FAMILY: &str = "
+contains one of the other family       | 192.168.0.0/24 | fd00::/16      | false
+contains one of the other family, IPv6 | fd00::/16      | 192.168.0.0/24 | false
 ";
 
 const ADDRESSES_INSIDE: &str = "
-contains an address inside              | 192.168.0.0/24 | 192.168.0.1     | true
-contains an address behind              | 192.168.0.0/24 | 192.168.1.0     | false
-contains an address inside, IPv6        | fd00::/16      | fd00::1         | true
-contains an address behind, IPv6        | fd00::/16      | fd01::          | false
-contains an address of the other family | fd00::/16      | 192.168.1.0     | false
-contains a mapped address               | 0.0.0.0/0      | ::ffff:1.2.3.4  | false
+contains an address inside         | 192.168.0.0/24 | 192.168.0.1 | true
+contains an address after it       | 192.168.0.0/24 | 192.168.1.0 | false
+contains an address inside, IPv6   | fd00::/16      | fd00::1     | true
+contains an address after it, IPv6 | fd00::/16      | fd01::      | false
+";
+
+const ADDRESSES_OF_THE_OTHER_FAMILY: &str = "
+contains an address of the other family | fd00::/16 | 192.168.1.0    | false
+contains a mapped address               | 0.0.0.0/0 | ::ffff:1.2.3.4 | false
 ";
 
 const HOSTS: &str = "
@@ -123,6 +133,12 @@ subnets of a shorter length, IPv6 | fd00::/16      | 15  | refused
 subnets of a length above 128     | fd00::/16      | 129 | refused
 ";
 
+/// The type that a row was asked of, where it is that of its family.
+const OWN: &str = "its family's type";
+
+/// The type that a row was asked of, where it is that of both families.
+const EITHER: &str = "IpNet";
+
 /// The network as its address, by std, and its length.
 fn shown(alloc: Global, network: IpNet) -> Result<String, AllocError> {
     format!(in alloc; "{}/{}", network.addr(), network.prefix_len())
@@ -130,7 +146,7 @@ fn shown(alloc: Global, network: IpNet) -> Result<String, AllocError> {
 
 #[test]
 fn constructors(rt: HostRuntime) -> Result<(), Fail> {
-    for row in rows(&rt, NEW, 8) {
+    for row in rows(&rt, "networks::NEW", NEW, 8) {
         let [label, ip, prefix_len, want, ..] = cells(&rt, row, 4);
         let prefix_len = prefix_len.parse::<u8>().expect(&rt, row);
         let ip = ip_addr(&rt, ip);
@@ -138,14 +154,18 @@ fn constructors(rt: HostRuntime) -> Result<(), Fail> {
             IpAddr::V4(ip) => Ipv4Net::new(ip, prefix_len).map(IpNet::V4),
             IpAddr::V6(ip) => Ipv6Net::new(ip, prefix_len).map(IpNet::V6),
         };
-        for answer in [own, IpNet::new(ip, prefix_len)] {
+        for (name, answer) in [(OWN, own), (EITHER, IpNet::new(ip, prefix_len))] {
             match answer {
                 Ok(network) => assert_eq!(rt;
                     shown(rt.alloc(), network)?.as_str(),
                     want,
-                    "networks: {label}"
+                    "networks: {label}, by {name}"
                 ),
-                Err(PrefixLenError) => assert_eq!(rt; "refused", want, "networks: {label}"),
+                Err(PrefixLenError) => assert_eq!(rt;
+                    "refused",
+                    want,
+                    "networks: {label}, by {name}"
+                ),
             }
         }
     }
@@ -153,51 +173,53 @@ fn constructors(rt: HostRuntime) -> Result<(), Fail> {
 }
 
 #[test]
-fn checked_constructors(rt: HostRuntime) -> Result<(), Fail> {
-    for row in rows(&rt, NEW_ASSERT, 7) {
+fn new_assert(rt: HostRuntime) -> Result<(), Fail> {
+    for row in rows(&rt, "networks::NEW_ASSERT", NEW_ASSERT, 7) {
         let [label, ip, prefix_len, want, ..] = cells(&rt, row, 4);
         let prefix_len = prefix_len.parse::<u8>().expect(&rt, row);
         let (own, either) = match ip_addr(&rt, ip) {
             IpAddr::V4(ip) => {
-                assert!(rt; prefix_len <= 32);
+                assert!(rt; prefix_len <= 32, "networks: {label}: no length of IPv4");
                 (
                     IpNet::V4(Ipv4Net::new_assert(ip, prefix_len)),
                     IpNet::new_assert(IpAddr::V4(ip), prefix_len),
                 )
             }
             IpAddr::V6(ip) => {
-                assert!(rt; prefix_len <= 128);
+                assert!(rt; prefix_len <= 128, "networks: {label}: no length of IPv6");
                 (
                     IpNet::V6(Ipv6Net::new_assert(ip, prefix_len)),
                     IpNet::new_assert(IpAddr::V6(ip), prefix_len),
                 )
             }
         };
-        assert_eq!(rt; shown(rt.alloc(), own)?.as_str(), want, "networks: {label}");
-        assert_eq!(rt;
-            shown(rt.alloc(), either)?.as_str(),
-            want,
-            "networks: {label}"
-        );
+        for (name, network) in [(OWN, own), (EITHER, either)] {
+            assert_eq!(rt;
+                shown(rt.alloc(), network)?.as_str(),
+                want,
+                "networks: {label}, by {name}"
+            );
+        }
     }
     Ok(())
 }
 
 #[test]
 fn conversions(rt: HostRuntime) -> Result<(), Fail> {
-    for row in rows(&rt, FROM_ADDRESSES, 3) {
+    for row in rows(&rt, "networks::FROM_ADDRESSES", FROM_ADDRESSES, 3) {
         let [label, ip, want, ..] = cells(&rt, row, 3);
         let ip = ip_addr(&rt, ip);
         let own = match ip {
             IpAddr::V4(ip) => IpNet::V4(Ipv4Net::from(ip)),
             IpAddr::V6(ip) => IpNet::V6(Ipv6Net::from(ip)),
         };
-        assert_eq!(rt; shown(rt.alloc(), own)?.as_str(), want, "networks: {label}");
-        assert_eq!(rt;
-            shown(rt.alloc(), IpNet::from(ip))?.as_str(),
-            want,
-            "networks: {label}"
-        );
+        for (name, network) in [(OWN, own), (EITHER, IpNet::from(ip))] {
+            assert_eq!(rt;
+                shown(rt.alloc(), network)?.as_str(),
+                want,
+                "networks: {label}, by {name}"
+            );
+        }
     }
     let ipv4 = Ipv4Net::new(Ipv4Addr::new(10, 1, 1, 0), 24).expect(&rt, "a length of 24");
     let ipv6 = Ipv6Net::new(Ipv6Addr::new(0xfd00, 0, 0, 0, 0, 0, 0, 0), 32).expect(
@@ -255,7 +277,7 @@ fn ip_address(rt: &impl Abort, network: &IpNet, call: &str) -> IpAddr {
 
 #[test]
 fn addresses(rt: HostRuntime) {
-    for row in rows(&rt, ADDRESSES, 15) {
+    for row in rows(&rt, "networks::ADDRESSES", ADDRESSES, 15) {
         let [label, network, call, want, ..] = cells(&rt, row, 4);
         let network = ip_net(&rt, network);
         let want = ip_addr(&rt, want);
@@ -263,31 +285,39 @@ fn addresses(rt: HostRuntime) {
             IpNet::V4(network) => IpAddr::V4(ipv4_address(&rt, network, call)),
             IpNet::V6(network) => IpAddr::V6(ipv6_address(&rt, network, call)),
         };
-        assert_eq!(rt; own, want, "networks: {label}");
-        assert_eq!(rt; ip_address(&rt, &network, call), want, "networks: {label}");
+        assert_eq!(rt; own, want, "networks: {label}, by {OWN}");
+        let either = ip_address(&rt, &network, call);
+        assert_eq!(rt; either, want, "networks: {label}, by {EITHER}");
     }
 }
 
 #[test]
 fn lengths(rt: HostRuntime) {
-    for row in rows(&rt, LENGTHS, 3) {
+    for row in rows(&rt, "networks::LENGTHS", LENGTHS, 3) {
         let [label, network, call, want, ..] = cells(&rt, row, 4);
         let network = ip_net(&rt, network);
         let want = want.parse::<u8>().expect(&rt, row);
         let (own, either) = match (call, &network) {
             ("prefix_len", IpNet::V4(ipv4)) => (ipv4.prefix_len(), network.prefix_len()),
             ("prefix_len", IpNet::V6(ipv6)) => (ipv6.prefix_len(), network.prefix_len()),
-            (_, IpNet::V4(ipv4)) => (ipv4.max_prefix_len(), network.max_prefix_len()),
-            (_, IpNet::V6(ipv6)) => (ipv6.max_prefix_len(), network.max_prefix_len()),
+            ("max_prefix_len", IpNet::V4(ipv4)) => (
+                ipv4.max_prefix_len(),
+                network.max_prefix_len(),
+            ),
+            ("max_prefix_len", IpNet::V6(ipv6)) => (
+                ipv6.max_prefix_len(),
+                network.max_prefix_len(),
+            ),
+            _ => panic!(rt; "networks: {label}: no such call: {call}"),
         };
-        assert_eq!(rt; own, want, "networks: {label}");
-        assert_eq!(rt; either, want, "networks: {label}");
+        assert_eq!(rt; own, want, "networks: {label}, by {OWN}");
+        assert_eq!(rt; either, want, "networks: {label}, by {EITHER}");
     }
 }
 
 #[test]
 fn truncations_and_supernets(rt: HostRuntime) {
-    for row in rows(&rt, TRUNCATED, 2) {
+    for row in rows(&rt, "networks::TRUNCATED", TRUNCATED, 2) {
         let [label, network, want, ..] = cells(&rt, row, 3);
         let network = ip_net(&rt, network);
         let want = ip_net(&rt, want);
@@ -295,10 +325,10 @@ fn truncations_and_supernets(rt: HostRuntime) {
             IpNet::V4(network) => IpNet::V4(network.trunc()),
             IpNet::V6(network) => IpNet::V6(network.trunc()),
         };
-        assert_eq!(rt; own, want, "networks: {label}");
-        assert_eq!(rt; network.trunc(), want, "networks: {label}");
+        assert_eq!(rt; own, want, "networks: {label}, by {OWN}");
+        assert_eq!(rt; network.trunc(), want, "networks: {label}, by {EITHER}");
     }
-    for row in rows(&rt, SUPERNETS, 5) {
+    for row in rows(&rt, "networks::SUPERNETS", SUPERNETS, 5) {
         let [label, network, want, ..] = cells(&rt, row, 3);
         let network = ip_net(&rt, network);
         let want = if want == "none" {
@@ -310,62 +340,137 @@ fn truncations_and_supernets(rt: HostRuntime) {
             IpNet::V4(network) => network.supernet().map(IpNet::V4),
             IpNet::V6(network) => network.supernet().map(IpNet::V6),
         };
-        assert_eq!(rt; own, want, "networks: {label}");
-        assert_eq!(rt; network.supernet(), want, "networks: {label}");
+        assert_eq!(rt; own, want, "networks: {label}, by {OWN}");
+        assert_eq!(rt; network.supernet(), want, "networks: {label}, by {EITHER}");
     }
+}
+
+/// Asserts what `IpNet` answers, whichever of the two is asked about the other.
+fn check_siblings(rt: &impl Abort, label: &str, network: &IpNet, other: &IpNet, want: bool) {
+    assert_eq!(rt;
+        network.is_sibling(other),
+        want,
+        "networks: {label}, by {EITHER}"
+    );
+    assert_eq!(rt;
+        other.is_sibling(network),
+        want,
+        "networks: {label}, the other way round, by {EITHER}"
+    );
 }
 
 #[test]
 fn siblings(rt: HostRuntime) {
-    for row in rows(&rt, SIBLINGS, 7) {
+    for row in rows(&rt, "networks::SIBLINGS", SIBLINGS, 6) {
         let [label, network, other, want, ..] = cells(&rt, row, 4);
         let network = ip_net(&rt, network);
         let other = ip_net(&rt, other);
-        let want = want == "true";
+        let want = truth(&rt, want);
         let own = match (&network, &other) {
             (IpNet::V4(network), IpNet::V4(other)) => network.is_sibling(other),
             (IpNet::V6(network), IpNet::V6(other)) => network.is_sibling(other),
-            _ => want,
+            _ => panic!(rt; "networks: {label}: two families"),
         };
-        assert_eq!(rt; own, want, "networks: {label}");
-        assert_eq!(rt; network.is_sibling(&other), want, "networks: {label}");
-        assert_eq!(rt; other.is_sibling(&network), want, "networks: {label}");
+        assert_eq!(rt; own, want, "networks: {label}, by {OWN}");
+        check_siblings(&rt, label, &network, &other, want);
+    }
+    let name = "networks::SIBLINGS_OF_TWO_FAMILIES";
+    for row in rows(&rt, name, SIBLINGS_OF_TWO_FAMILIES, 1) {
+        let [label, network, other, want, ..] = cells(&rt, row, 4);
+        let network = ip_net(&rt, network);
+        let other = ip_net(&rt, other);
+        assert_ne!(rt;
+            is_ipv4(&network),
+            is_ipv4(&other),
+            "networks: {label}: one family"
+        );
+        check_siblings(&rt, label, &network, &other, truth(&rt, want));
+    }
+}
+
+/// Whether the network is one of IPv4.
+fn is_ipv4(network: &IpNet) -> bool {
+    matches!(network, IpNet::V4(_))
+}
+
+#[test]
+fn contained_networks(rt: HostRuntime) {
+    for row in rows(&rt, "networks::NETWORKS_INSIDE", NETWORKS_INSIDE, 7) {
+        let [label, network, other, want, ..] = cells(&rt, row, 4);
+        let network = ip_net(&rt, network);
+        let other = ip_net(&rt, other);
+        let want = truth(&rt, want);
+        let own = match (&network, &other) {
+            (IpNet::V4(network), IpNet::V4(other)) => network.contains(other),
+            (IpNet::V6(network), IpNet::V6(other)) => network.contains(other),
+            _ => panic!(rt; "networks: {label}: two families"),
+        };
+        assert_eq!(rt; own, want, "networks: {label}, by {OWN}");
+        assert_eq!(rt;
+            network.contains(&other),
+            want,
+            "networks: {label}, by {EITHER}"
+        );
+    }
+    let name = "networks::NETWORKS_OF_THE_OTHER_FAMILY";
+    for row in rows(&rt, name, NETWORKS_OF_THE_OTHER_FAMILY, 2) {
+        let [label, network, other, want, ..] = cells(&rt, row, 4);
+        let network = ip_net(&rt, network);
+        let other = ip_net(&rt, other);
+        assert_ne!(rt;
+            is_ipv4(&network),
+            is_ipv4(&other),
+            "networks: {label}: one family"
+        );
+        assert_eq!(rt;
+            network.contains(&other),
+            truth(&rt, want),
+            "networks: {label}"
+        );
     }
 }
 
 #[test]
-fn containment(rt: HostRuntime) {
-    for row in rows(&rt, NETWORKS_INSIDE, 9) {
-        let [label, network, other, want, ..] = cells(&rt, row, 4);
+fn contained_addresses(rt: HostRuntime) {
+    for row in rows(&rt, "networks::ADDRESSES_INSIDE", ADDRESSES_INSIDE, 4) {
+        let [label, network, ip, want, ..] = cells(&rt, row, 4);
         let network = ip_net(&rt, network);
-        let other = ip_net(&rt, other);
-        let want = want == "true";
-        let own = match (&network, &other) {
-            (IpNet::V4(network), IpNet::V4(other)) => network.contains(other),
-            (IpNet::V6(network), IpNet::V6(other)) => network.contains(other),
-            _ => want,
+        let ip = ip_addr(&rt, ip);
+        let want = truth(&rt, want);
+        let own = match (&network, &ip) {
+            (IpNet::V4(network), IpAddr::V4(ip)) => network.contains(ip),
+            (IpNet::V6(network), IpAddr::V6(ip)) => network.contains(ip),
+            _ => panic!(rt; "networks: {label}: two families"),
         };
-        assert_eq!(rt; own, want, "networks: {label}");
-        assert_eq!(rt; network.contains(&other), want, "networks: {label}");
+        assert_eq!(rt; own, want, "networks: {label}, by {OWN}");
+        assert_eq!(rt;
+            network.contains(&ip),
+            want,
+            "networks: {label}, by {EITHER}"
+        );
     }
-    for row in rows(&rt, ADDRESSES_INSIDE, 6) {
-        let [label, network, other, want, ..] = cells(&rt, row, 4);
+    let name = "networks::ADDRESSES_OF_THE_OTHER_FAMILY";
+    for row in rows(&rt, name, ADDRESSES_OF_THE_OTHER_FAMILY, 2) {
+        let [label, network, ip, want, ..] = cells(&rt, row, 4);
         let network = ip_net(&rt, network);
-        let other = ip_addr(&rt, other);
-        let want = want == "true";
-        let own = match (&network, &other) {
-            (IpNet::V4(network), IpAddr::V4(other)) => network.contains(other),
-            (IpNet::V6(network), IpAddr::V6(other)) => network.contains(other),
-            _ => want,
-        };
-        assert_eq!(rt; own, want, "networks: {label}");
-        assert_eq!(rt; network.contains(&other), want, "networks: {label}");
+        let ip = ip_addr(&rt, ip);
+        let is_ipv4_addr = matches!(ip, IpAddr::V4(_));
+        assert_ne!(rt;
+            is_ipv4(&network),
+            is_ipv4_addr,
+            "networks: {label}: one family"
+        );
+        assert_eq!(rt;
+            network.contains(&ip),
+            truth(&rt, want),
+            "networks: {label}"
+        );
     }
 }
 
 #[test]
 fn hosts(rt: HostRuntime) -> Result<(), Fail> {
-    for row in rows(&rt, HOSTS, 4) {
+    for row in rows(&rt, "networks::HOSTS", HOSTS, 4) {
         let [label, network, want, ..] = cells(&rt, row, 3);
         let network = ip_net(&rt, network);
         let want = ip_addrs(&rt, rt.alloc(), want)?;
@@ -374,35 +479,41 @@ fn hosts(rt: HostRuntime) -> Result<(), Fail> {
             IpNet::V6(network) => network.hosts().map(IpAddr::V6).collect(rt.alloc())?,
         };
         let either: Vec<IpAddr> = network.hosts().collect(rt.alloc())?;
-        assert_eq!(rt; own.as_slice(), want.as_slice(), "networks: {label}");
-        assert_eq!(rt; either.as_slice(), want.as_slice(), "networks: {label}");
+        assert_eq!(rt;
+            own.as_slice(),
+            want.as_slice(),
+            "networks: {label}, by {OWN}"
+        );
+        assert_eq!(rt;
+            either.as_slice(),
+            want.as_slice(),
+            "networks: {label}, by {EITHER}"
+        );
     }
-    let all = Ipv4Net::default().hosts();
-    let least = Some(Ipv4Addr::new(0, 0, 0, 1));
-    let greatest = Some(Ipv4Addr::new(255, 255, 255, 254));
-    assert_eq!(rt; all.min(), least, "networks: least host of a whole family");
-    assert_eq!(rt;
-        all.max(),
-        greatest,
-        "networks: greatest host of a whole family"
-    );
-    let all = IpNet::default().hosts();
-    assert_eq!(rt;
-        all.min(),
-        least.map(IpAddr::V4),
-        "networks: least host of a whole family"
-    );
-    assert_eq!(rt;
-        all.max(),
-        greatest.map(IpAddr::V4),
-        "networks: greatest host of a whole family"
-    );
     Ok(())
 }
 
 #[test]
+fn hosts_of_a_whole_family(rt: HostRuntime) {
+    let least = Some(Ipv4Addr::new(0, 0, 0, 1));
+    let greatest = Some(Ipv4Addr::new(255, 255, 255, 254));
+    let own = Ipv4Net::default().hosts();
+    let either = IpNet::default().hosts();
+    let label = "networks: least host of a whole family";
+    assert_eq!(rt; own.min(), least, "{label}, by {OWN}");
+    assert_eq!(rt; either.min(), least.map(IpAddr::V4), "{label}, by {EITHER}");
+    let label = "networks: greatest host of a whole family";
+    assert_eq!(rt; own.max(), greatest, "{label}, by {OWN}");
+    assert_eq!(rt;
+        either.max(),
+        greatest.map(IpAddr::V4),
+        "{label}, by {EITHER}"
+    );
+}
+
+#[test]
 fn subnets(rt: HostRuntime) -> Result<(), Fail> {
-    for row in rows(&rt, SUBNETS, 10) {
+    for row in rows(&rt, "networks::SUBNETS", SUBNETS, 10) {
         let [label, network, prefix_len, want, ..] = cells(&rt, row, 4);
         let network = ip_net(&rt, network);
         let prefix_len = prefix_len.parse::<u8>().expect(&rt, row);
@@ -410,14 +521,22 @@ fn subnets(rt: HostRuntime) -> Result<(), Fail> {
             IpNet::V4(network) => network.subnets(prefix_len).map(IpSubnets::V4),
             IpNet::V6(network) => network.subnets(prefix_len).map(IpSubnets::V6),
         };
-        for answer in [own, network.subnets(prefix_len)] {
+        for (name, answer) in [(OWN, own), (EITHER, network.subnets(prefix_len))] {
             match answer {
                 Ok(walk) => {
                     let want = ip_nets(&rt, rt.alloc(), want)?;
                     let answer: Vec<IpNet> = walk.collect(rt.alloc())?;
-                    assert_eq!(rt; answer.as_slice(), want.as_slice(), "networks: {label}");
+                    assert_eq!(rt;
+                        answer.as_slice(),
+                        want.as_slice(),
+                        "networks: {label}, by {name}"
+                    );
                 }
-                Err(PrefixLenError) => assert_eq!(rt; "refused", want, "networks: {label}"),
+                Err(PrefixLenError) => assert_eq!(rt;
+                    "refused",
+                    want,
+                    "networks: {label}, by {name}"
+                ),
             }
         }
     }

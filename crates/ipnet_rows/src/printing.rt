@@ -19,7 +19,7 @@ IPv4                            | [10, 1, 1, 0]                                 
 longest text, IPv4              | [255, 255, 255, 255]                                     | 32  | 255.255.255.255/32
 longest text, IPv6 | [65535, 65535, 65535, 65535, 65535, 65535, 65535, 65535] | 128 | \
     ffff:ffff:ffff:ffff:ffff:ffff:ffff:ffff/128
-a longer run behind a shorter   | [0, 0, 1, 0, 0, 0, 1, 0]                                 | 64  | 0:0:1::1:0/64
+a longer run after a shorter   | [0, 0, 1, 0, 0, 0, 1, 0]                                 | 64  | 0:0:1::1:0/64
 compatible address in groups    | [0, 0, 0, 0, 0, 0, 258, 772]                             | 96  | ::102:304/96
 one before the mapped addresses | [0, 0, 0, 0, 0, 65534, 0, 0]                             | 128 | ::fffe:0:0/128
 mapped address                  | [0, 0, 0, 0, 0, 65535, 258, 772]                         | 128 | ::ffff:1.2.3.4/128
@@ -67,7 +67,7 @@ fn own_texts(alloc: Global, network: &IpNet) -> Result<String, AllocError> {
 
 #[test]
 fn networks(rt: HostRuntime) -> Result<(), Fail> {
-    for row in rows(&rt, NETWORKS, 13) {
+    for row in rows(&rt, "printing::NETWORKS", NETWORKS, 13) {
         let [label, parts, prefix_len, want, ..] = cells(&rt, row, 4);
         let parts = numbers(&rt, rt.alloc(), parts)?;
         let prefix_len = prefix_len.parse::<u8>().expect(&rt, row);
@@ -76,12 +76,12 @@ fn networks(rt: HostRuntime) -> Result<(), Fail> {
         assert_eq!(rt;
             texts(rt.alloc(), &network)?.as_str(),
             want.as_str(),
-            "printing: {label}"
+            "printing: {label}, by IpNet"
         );
         assert_eq!(rt;
             own_texts(rt.alloc(), &network)?.as_str(),
             want.as_str(),
-            "printing: {label}"
+            "printing: {label}, by its family's type"
         );
     }
     Ok(())
@@ -89,7 +89,7 @@ fn networks(rt: HostRuntime) -> Result<(), Fail> {
 
 #[test]
 fn addresses(rt: HostRuntime) {
-    for row in rows(&rt, ADDRESSES, 3) {
+    for row in rows(&rt, "printing::ADDRESSES", ADDRESSES, 3) {
         let [label, address, want, len, ..] = cells(&rt, row, 4);
         let len = len.parse::<usize>().expect(&rt, row);
         match ip_addr(&rt, address) {
@@ -104,7 +104,7 @@ fn addresses(rt: HostRuntime) {
                 "printing: {label}"
             ),
         }
-        assert_eq!(rt; want.len(), len, "printing: {label}");
+        assert_eq!(rt; want.len(), len, "printing: {label}: bytes in number");
     }
 }
 
@@ -112,17 +112,29 @@ fn addresses(rt: HostRuntime) {
 fn check_formatter<N: Display + Debug>(rt: &impl Abort, network: &N, text: &str) {
     let label = "printing: width of the formatter is dropped";
     let mut buffer = ArrayString::<43>::new();
-    assert!(rt; write!(buffer, "{:>30}", network).is_ok());
-    assert_eq!(rt; buffer.as_str(), text, "{label}");
+    assert!(rt;
+        write!(buffer, "{:>30}", network).is_ok(),
+        "{label}: no room, width"
+    );
+    assert_eq!(rt; buffer.as_str(), text, "{label}: width");
     buffer.clear();
-    assert!(rt; write!(buffer, "{:*^30}", network).is_ok());
-    assert_eq!(rt; buffer.as_str(), text, "{label}");
+    assert!(rt;
+        write!(buffer, "{:*^30}", network).is_ok(),
+        "{label}: no room, fill"
+    );
+    assert_eq!(rt; buffer.as_str(), text, "{label}: fill");
     buffer.clear();
-    assert!(rt; write!(buffer, "{:<30?}", network).is_ok());
-    assert_eq!(rt; buffer.as_str(), text, "{label}");
+    assert!(rt;
+        write!(buffer, "{:<30?}", network).is_ok(),
+        "{label}: no room, width of Debug"
+    );
+    assert_eq!(rt; buffer.as_str(), text, "{label}: width of Debug");
     buffer.clear();
-    assert!(rt; write!(buffer, "{:#?}", network).is_ok());
-    assert_eq!(rt; buffer.as_str(), text, "{label}");
+    assert!(rt;
+        write!(buffer, "{:#?}", network).is_ok(),
+        "{label}: no room, flag of Debug"
+    );
+    assert_eq!(rt; buffer.as_str(), text, "{label}: flag of Debug");
 }
 
 #[test]
@@ -136,9 +148,9 @@ fn width_of_the_formatter_is_dropped(rt: HostRuntime) -> Result<(), Fail> {
 
 #[test]
 fn alike_exactly_where_equal(rt: HostRuntime) {
-    for left in rows(&rt, ALIKE, 8) {
+    for left in rows(&rt, "printing::ALIKE", ALIKE, 8) {
         let left = ip_net(&rt, left);
-        for right in rows(&rt, ALIKE, 8) {
+        for right in rows(&rt, "printing::ALIKE", ALIKE, 8) {
             let right = ip_net(&rt, right);
             let alike = left.to_text() == right.to_text();
             assert_eq!(rt; alike, left == right, "printing: alike exactly where equal");

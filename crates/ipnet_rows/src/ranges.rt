@@ -63,6 +63,12 @@ whole calls on all IPv6 addresses | :: | ffff:ffff:ffff:ffff:ffff:ffff:ffff:ffff
     not allowed | Some(::) | Some(ffff:ffff:ffff:ffff:ffff:ffff:ffff:ffff)
 ";
 
+/// The type that a row was asked of, where it is that of its family.
+const OWN: &str = "its family's type";
+
+/// The type that a row was asked of, where it is that of both families.
+const EITHER: &str = "IpAddrRange";
+
 /// What the call of this text answers, by the type of the range's family.
 fn own_answer(rt: &impl Abort, range: &mut IpAddrRange, call: &str) -> Option<IpAddr> {
     let (name, rest) = call.split_once('(').expect(rt, call);
@@ -111,7 +117,7 @@ fn wanted(rt: &impl Abort, text: &str) -> Option<IpAddr> {
 
 #[test]
 fn calls_in_turn(rt: HostRuntime) {
-    for row in rows(&rt, IN_TURN, 26) {
+    for row in rows(&rt, "ranges::IN_TURN", IN_TURN, 26) {
         let [label, start, end, calls, answers, ends, ..] = cells(&rt, row, 6);
         let mut own = ip_range(&rt, start, end);
         let mut either = own;
@@ -123,95 +129,102 @@ fn calls_in_turn(rt: HostRuntime) {
             } else {
                 Some(ip_addr(&rt, want))
             };
-            assert_eq!(rt; own_answer(&rt, &mut own, call), want, "ranges: {label}");
-            assert_eq!(rt; answer(&rt, &mut either, call), want, "ranges: {label}");
+            let answered = own_answer(&rt, &mut own, call);
+            assert_eq!(rt; answered, want, "ranges: {label}: {call} by {OWN}");
+            let answered = answer(&rt, &mut either, call);
+            assert_eq!(rt; answered, want, "ranges: {label}: {call} by {EITHER}");
         }
-        assert!(rt; answers.next().is_none(), "ranges: {label}");
+        assert!(rt;
+            answers.next().is_none(),
+            "ranges: {label}: more answers than calls"
+        );
         let (start, end) = ends.split_once(", ").expect(&rt, row);
         let left = ip_range(&rt, start, end);
-        assert_eq!(rt; own, left, "ranges: {label}");
-        assert_eq!(rt; either, left, "ranges: {label}");
+        assert_eq!(rt; own, left, "ranges: {label}: stored ends by {OWN}");
+        assert_eq!(rt; either, left, "ranges: {label}: stored ends by {EITHER}");
+    }
+}
+
+/// `min`, `max` and `last` by the type of the range's family.
+fn own_ends(range: IpAddrRange) -> [Option<IpAddr>; 3] {
+    match range {
+        IpAddrRange::V4(range) => [
+            range.min().map(IpAddr::V4),
+            range.max().map(IpAddr::V4),
+            range.last().map(IpAddr::V4),
+        ],
+        IpAddrRange::V6(range) => [
+            range.min().map(IpAddr::V6),
+            range.max().map(IpAddr::V6),
+            range.last().map(IpAddr::V6),
+        ],
+    }
+}
+
+/// `size_hint` by the type of the range's family.
+fn own_size_hint(range: IpAddrRange) -> (usize, Option<usize>) {
+    match range {
+        IpAddrRange::V4(range) => range.size_hint(),
+        IpAddrRange::V6(range) => range.size_hint(),
     }
 }
 
 #[test]
 fn whole_ranges(rt: HostRuntime) -> Result<(), Fail> {
-    for row in rows(&rt, WHOLE, 9) {
+    for row in rows(&rt, "ranges::WHOLE", WHOLE, 9) {
         let [label, start, end, hint, count, least, greatest, ..] = cells(&rt, row, 7);
         let range = ip_range(&rt, start, end);
-        let least = wanted(&rt, least);
+        let own = format!(in rt.alloc(); "{:?}", own_size_hint(range))?;
+        assert_eq!(rt; own.as_str(), hint, "ranges: {label}: size_hint by {OWN}");
+        let either = format!(in rt.alloc(); "{:?}", range.size_hint())?;
+        assert_eq!(rt;
+            either.as_str(),
+            hint,
+            "ranges: {label}: size_hint by {EITHER}"
+        );
         let greatest = wanted(&rt, greatest);
-        let (own_hint, own_ends) = match range {
-            IpAddrRange::V4(range) => {
-                let ends = (range.min(), range.max(), range.last());
-                (
-                    range.size_hint(),
-                    (
-                        ends.0.map(IpAddr::V4),
-                        ends.1.map(IpAddr::V4),
-                        ends.2.map(IpAddr::V4),
-                    ),
-                )
-            }
-            IpAddrRange::V6(range) => {
-                let ends = (range.min(), range.max(), range.last());
-                (
-                    range.size_hint(),
-                    (
-                        ends.0.map(IpAddr::V6),
-                        ends.1.map(IpAddr::V6),
-                        ends.2.map(IpAddr::V6),
-                    ),
-                )
-            }
-        };
+        let ends = [wanted(&rt, least), greatest, greatest];
         assert_eq!(rt;
-            format!(in rt.alloc(); "{:?}", own_hint)?.as_str(),
-            hint,
-            "ranges: {label}"
+            own_ends(range),
+            ends,
+            "ranges: {label}: min, max, last by {OWN}"
         );
         assert_eq!(rt;
-            format!(in rt.alloc(); "{:?}", range.size_hint())?.as_str(),
-            hint,
-            "ranges: {label}"
+            [range.min(), range.max(), range.last()],
+            ends,
+            "ranges: {label}: min, max, last by {EITHER}"
         );
-        assert_eq!(rt; own_ends, (least, greatest, greatest), "ranges: {label}");
-        assert_eq!(rt;
-            (range.min(), range.max(), range.last()),
-            (least, greatest, greatest),
-            "ranges: {label}"
-        );
-        let Ok(count) = count.parse::<usize>() else {
-            assert_eq!(rt; count, "not allowed", "ranges: {label}");
-            continue;
-        };
-        assert_eq!(rt; count_of(&rt, range), count, "ranges: {label}");
+        check_count(&rt, label, range, count);
     }
     Ok(())
 }
 
-/// The count by the type of the range's family, which is that by `IpAddrRange`.
-fn count_of(rt: &impl Abort, range: IpAddrRange) -> usize {
+/// Asserts the count by the type of the range's family and that by `IpAddrRange`, where the cell tells of one.
+fn check_count(rt: &impl Abort, label: &str, range: IpAddrRange, count: &str) {
     let (_, Some(_)) = range.size_hint() else {
-        panic!(rt; "the count does not fit");
+        assert_eq!(rt; count, "not allowed", "ranges: {label}: count");
+        return;
     };
+    let count = count.parse::<usize>().expect(rt, count);
     let own = match range {
         IpAddrRange::V4(range) => range.count(),
         IpAddrRange::V6(range) => range.count(),
     };
-    assert_eq!(rt; range.count(), own);
-    own
+    assert_eq!(rt; own, count, "ranges: {label}: count by {OWN}");
+    assert_eq!(rt; range.count(), count, "ranges: {label}: count by {EITHER}");
 }
 
 #[test]
 fn empty_ranges(rt: HostRuntime) {
     let empty = ip_range(&rt, "0.0.0.5", "0.0.0.3");
+    let label = "ranges: empty, after next";
     let mut after_next = empty;
-    assert_eq!(rt; after_next.next(), None);
-    assert_eq!(rt; after_next == empty, true, "ranges: empty, after next");
+    assert_eq!(rt; after_next.next(), None, "{label}: the answer");
+    assert_eq!(rt; after_next == empty, true, "{label}");
+    let label = "ranges: empty, after nth";
     let mut after_nth = empty;
-    assert_eq!(rt; after_nth.nth(0), None);
-    assert_eq!(rt; after_nth == empty, false, "ranges: empty, after nth");
+    assert_eq!(rt; after_nth.nth(0), None, "{label}: the answer");
+    assert_eq!(rt; after_nth == empty, false, "{label}");
     assert_eq!(rt;
         empty == ip_range(&rt, "0.0.0.1", "0.0.0.0"),
         false,
@@ -267,7 +280,7 @@ fn rule(call: &str, n: u128, start: u128, end: u128) -> (&'static str, Option<u1
         _ if n >= count => ("nth_back past the start", None, 1, 0),
         _ if n.wrapping_add(1) == count => ("nth_back at the start", Some(start), 1, 0),
         _ => (
-            "nth_back behind the start",
+            "nth_back after the start",
             Some(end.wrapping_sub(n)),
             start,
             end.wrapping_sub(n).wrapping_sub(1),
@@ -290,17 +303,13 @@ fn compare_call(
     let mut own = numbered_range(rt, is_ipv4, ends.0, ends.1);
     let mut either = own;
     let call = format!(in alloc; "{call}({n})")?;
-    assert_eq!(rt;
-        own_answer(rt, &mut own, call.as_str()),
-        want,
-        "ranges: {label}"
-    );
-    assert_eq!(rt;
-        answer(rt, &mut either, call.as_str()),
-        want,
-        "ranges: {label}"
-    );
-    assert_eq!(rt; (own, either), (left, left), "ranges: {label}");
+    let call = call.as_str();
+    let answered = own_answer(rt, &mut own, call);
+    assert_eq!(rt; answered, want, "ranges: {label}: {call} by {OWN}");
+    let answered = answer(rt, &mut either, call);
+    assert_eq!(rt; answered, want, "ranges: {label}: {call} by {EITHER}");
+    assert_eq!(rt; own, left, "ranges: {label}: stored ends by {OWN}");
+    assert_eq!(rt; either, left, "ranges: {label}: stored ends by {EITHER}");
     Ok(())
 }
 

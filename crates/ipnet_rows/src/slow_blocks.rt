@@ -136,8 +136,8 @@ fn is_within(first: u16, second: u16) -> bool {
     first & second == first
 }
 
-/// The largest networks in the set of at least the least length, ascending: the truncated ones that lie in it, and
-/// in no larger one that does.
+/// The largest networks in the set under a minimum prefix length, ascending: the truncated ones that lie in it, and in
+/// no larger one that does.
 fn largest(
     alloc: Global,
     samples: &[Sample],
@@ -185,10 +185,10 @@ fn walk_between(
     if is_ipv4 {
         let start = Ipv4Addr::from_bits(u32::try_from(start).expect(rt, "an IPv4 address"));
         let end = Ipv4Addr::from_bits(u32::try_from(end).expect(rt, "an IPv4 address"));
-        assert!(rt; min_prefix_len <= 32);
+        assert!(rt; min_prefix_len <= 32, "a minimum prefix length above 32");
         IpSubnets::V4(Ipv4Subnets::new(start, end, min_prefix_len))
     } else {
-        assert!(rt; min_prefix_len <= 128);
+        assert!(rt; min_prefix_len <= 128, "a minimum prefix length above 128");
         IpSubnets::V6(Ipv6Subnets::new(
             Ipv6Addr::from_bits(start),
             Ipv6Addr::from_bits(end),
@@ -197,8 +197,8 @@ fn walk_between(
     }
 }
 
-/// What a walk that gives these networks stores after the last of them: the start behind it, held at the greatest
-/// address; and the end, or 0 where the last network ends at the greatest address or is the end alone.
+/// What a walk that gives these networks stores after the last of them: the start after it, which saturates at the
+/// greatest address; and the end, or 0 where the last network ends at the greatest address or is the end alone.
 fn walk_left(
     rt: &impl Abort,
     is_ipv4: bool,
@@ -228,7 +228,7 @@ fn walk_left(
     )
 }
 
-/// Every range of cells, and every least length that a network of the universe has.
+/// Every range of cells, and every minimum prefix length that a network of the universe has.
 fn compare_walks(rt: &impl Abort, alloc: Global, universe: Universe) -> Result<(), AllocError> {
     let samples = samples(rt, alloc, universe)?;
     for start in 0..16 {
@@ -265,19 +265,19 @@ fn compare_walk(
         assert_eq!(rt;
             walk.next(),
             Some(*network),
-            "cells {start} to {end}, least length {min_prefix_len}"
+            "items of the walk over cells {start} to {end}, minimum prefix length {min_prefix_len}"
         );
         left = walk_left(rt, is_ipv4, last, min_prefix_len, want);
     }
     assert_eq!(rt;
         walk.next(),
         None,
-        "cells {start} to {end}, least length {min_prefix_len}"
+        "end of the walk over cells {start} to {end}, minimum prefix length {min_prefix_len}"
     );
     assert_eq!(rt;
         walk,
         left,
-        "cells {start} to {end}, least length {min_prefix_len}"
+        "stored ends of the walk over cells {start} to {end}, minimum prefix length {min_prefix_len}"
     );
 }
 
@@ -302,12 +302,16 @@ fn compare_aggregate(
     }
     let want = largest(alloc, samples, cover(list), 0)?;
     let answer = IpNet::aggregate(alloc, &networks)?;
-    assert_eq!(rt; answer.as_slice(), want.as_slice(), "of {networks:?}");
+    assert_eq!(rt;
+        answer.as_slice(),
+        want.as_slice(),
+        "aggregate of {networks:?}"
+    );
     let is_answer = networks.as_slice() == want.as_slice();
     assert_eq!(rt;
         is_aggregated(networks.as_slice()),
         is_answer,
-        "of {networks:?}"
+        "is_aggregated of {networks:?}"
     );
     Ok(())
 }
@@ -398,10 +402,14 @@ fn compare_long_lists(
             want.push(network)?;
         }
         let answer = IpNet::aggregate(alloc, &networks)?;
-        assert_eq!(rt; answer.as_slice(), want.as_slice(), "of {networks:?}");
+        assert_eq!(rt;
+            answer.as_slice(),
+            want.as_slice(),
+            "aggregate of {networks:?}"
+        );
         assert!(rt;
             same_addresses(alloc, &networks, &answer)?,
-            "of {networks:?}"
+            "same_addresses of {networks:?} and its aggregate"
         );
     }
     Ok(())
@@ -444,7 +452,7 @@ fn compare_pairs(rt: &impl Abort, alloc: Global, universe: Universe) -> Result<(
             assert_eq!(rt;
                 answer,
                 cover == other_cover,
-                "of {networks:?} and {others:?}"
+                "same_addresses of {networks:?} and {others:?}"
             );
         }
     }

@@ -8,16 +8,17 @@ use std::net::{IpAddr, Ipv4Addr, Ipv6Addr};
 use std::process::Abort;
 use std::str::Lines;
 
-/// The lines of a table of so many rows.
-pub fn rows(rt: &impl Abort, table: &'static str, count: usize) -> Lines<'static> {
+/// The lines of a table of so many rows; a wrong number of them names the table.
+pub fn rows(rt: &impl Abort, name: &str, table: &'static str, count: usize) -> Lines<'static> {
     let table = table.trim();
-    assert_eq!(rt; table.lines().count(), count, "the number of rows");
+    let found = table.lines().count();
+    assert!(rt; found == count, "{name}: {found} rows, not {count}");
     table.lines()
 }
 
-/// The cells of a row that has so many, nine at most; those behind them are empty.
+/// The cells of a row that has so many, nine at most; those after them are empty.
 pub fn cells(rt: &impl Abort, row: &'static str, count: usize) -> [&'static str; 9] {
-    assert!(rt; count <= 9);
+    assert!(rt; count <= 9, "more than nine cells asked of a row: {row}");
     let mut cells = [""; 9];
     let mut parts = row.split('|');
     for place in 0..count {
@@ -25,6 +26,15 @@ pub fn cells(rt: &impl Abort, row: &'static str, count: usize) -> [&'static str;
     }
     assert!(rt; parts.next().is_none(), "too many cells: {row}");
     cells
+}
+
+/// What the cell says, `true` or `false`.
+pub fn truth(rt: &impl Abort, cell: &str) -> bool {
+    match cell {
+        "true" => true,
+        "false" => false,
+        _ => panic!(rt; "neither true nor false: {cell}"),
+    }
 }
 
 /// The IPv4 address of the text.
@@ -90,16 +100,22 @@ pub fn ip_range(rt: &impl Abort, start: &str, end: &str) -> IpAddrRange {
     }
 }
 
-/// The walk between two addresses of one family, with a least length.
+/// The walk between two addresses of one family, with a minimum prefix length.
 pub fn ip_walk(rt: &impl Abort, start: &str, end: &str, min_prefix_len: &str) -> IpSubnets {
     let len = min_prefix_len.parse::<u8>().expect(rt, min_prefix_len);
     match ip_addr(rt, start) {
         IpAddr::V4(start) => {
-            assert!(rt; len <= 32);
+            assert!(rt;
+                len <= 32,
+                "a minimum prefix length above 32: {min_prefix_len}"
+            );
             IpSubnets::V4(Ipv4Subnets::new(start, ipv4_addr(rt, end), len))
         }
         IpAddr::V6(start) => {
-            assert!(rt; len <= 128);
+            assert!(rt;
+                len <= 128,
+                "a minimum prefix length above 128: {min_prefix_len}"
+            );
             IpSubnets::V6(Ipv6Subnets::new(start, ipv6_addr(rt, end), len))
         }
     }

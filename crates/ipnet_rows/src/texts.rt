@@ -16,8 +16,8 @@ compression of no group, inside | 1:2:3:4:5:6:7::8/64 | refused | 1:2:3:4:5:6:7:
 compression of no group, in front | ::1:2:3:4:5:6:7:8/128 | refused | 1:2:3:4:5:6:7:8/128
 compression of no group, before a dotted address | 1:2:3:4:5:6::1.2.3.4/128 | refused | 1:2:3:4:5:6:102:304/128
 compression of one group | 1:2:3:4:5:6:7::/128 | 1:2:3:4:5:6:7:0/128 | 1:2:3:4:5:6:7:0/128
-compression behind eight groups                  | 1:2:3:4:5:6:7:8::/64       | refused                  | refused
-compression behind seven groups, dotted tail     | 1:2:3:4:5:6:7::1.2.3.4/128 | refused                  | refused
+compression after eight groups                   | 1:2:3:4:5:6:7:8::/64       | refused                  | refused
+compression after seven groups, dotted tail      | 1:2:3:4:5:6:7::1.2.3.4/128 | refused                  | refused
 two compressions                                 | 1::2::3/64                 | refused                  | refused
 six groups, dotted tail | 1:2:3:4:5:6:1.2.3.4/128 | 1:2:3:4:5:6:102:304/128 | 1:2:3:4:5:6:102:304/128
 six groups, dotted tail that starts as a group | 1:2:3:4:5:6:77.1.2.3/128 | 1:2:3:4:5:6:4d01:203/128 | \
@@ -25,7 +25,7 @@ six groups, dotted tail that starts as a group | 1:2:3:4:5:6:77.1.2.3/128 | 1:2:
 seven groups, dotted tail                        | 1:2:3:4:5:6:7:10.0.0.1/64  | refused                  | refused
 dotted tail of a compression                     | ::1.2.3.4/96               | ::102:304/96             | ::102:304/96
 dotted address before a compression              | 1.2.3.4::/96               | refused                  | refused
-group behind a dotted address                    | ::1.2.3.4:5/64             | refused                  | refused
+group after a dotted address                     | ::1.2.3.4:5/64             | refused                  | refused
 octet above 255 in a dotted tail                 | ::300.1.2.3/128            | refused                  | refused
 hexadecimal octet in a dotted tail               | ::1a.2.3.4/128             | refused                  | refused
 octet of four digits in a dotted tail            | ::0001.2.3.4/128           | refused                  | refused
@@ -86,14 +86,38 @@ pub fn check(
     legacy: Option<IpNet>,
     label: &str,
 ) {
-    assert_eq!(rt; text.parse::<IpNet>().ok(), strict, "texts: {label}");
-    assert_eq!(rt; IpNet::parse_legacy(text).ok(), legacy, "texts: {label}");
+    assert_eq!(rt;
+        text.parse::<IpNet>().ok(),
+        strict,
+        "texts: {label}, as IpNet"
+    );
+    assert_eq!(rt;
+        IpNet::parse_legacy(text).ok(),
+        legacy,
+        "texts: {label}, legacy as IpNet"
+    );
     let (ipv4, ipv6) = by_family(strict);
-    assert_eq!(rt; text.parse::<Ipv4Net>().ok(), ipv4, "texts: {label}");
-    assert_eq!(rt; text.parse::<Ipv6Net>().ok(), ipv6, "texts: {label}");
+    assert_eq!(rt;
+        text.parse::<Ipv4Net>().ok(),
+        ipv4,
+        "texts: {label}, as Ipv4Net"
+    );
+    assert_eq!(rt;
+        text.parse::<Ipv6Net>().ok(),
+        ipv6,
+        "texts: {label}, as Ipv6Net"
+    );
     let (ipv4, ipv6) = by_family(legacy);
-    assert_eq!(rt; Ipv4Net::parse_legacy(text).ok(), ipv4, "texts: {label}");
-    assert_eq!(rt; Ipv6Net::parse_legacy(text).ok(), ipv6, "texts: {label}");
+    assert_eq!(rt;
+        Ipv4Net::parse_legacy(text).ok(),
+        ipv4,
+        "texts: {label}, legacy as Ipv4Net"
+    );
+    assert_eq!(rt;
+        Ipv6Net::parse_legacy(text).ok(),
+        ipv6,
+        "texts: {label}, legacy as Ipv6Net"
+    );
 }
 
 /// The network as one of IPv4 alone, and as one of IPv6 alone.
@@ -107,16 +131,16 @@ fn by_family(network: Option<IpNet>) -> (Option<Ipv4Net>, Option<Ipv6Net>) {
 
 #[test]
 fn reading(rt: HostRuntime) {
-    for row in rows(&rt, READ, 44) {
+    for row in rows(&rt, "texts::READ", READ, 44) {
         let [label, text, strict, legacy, ..] = cells(&rt, row, 4);
         check(&rt, text, wanted(&rt, strict), wanted(&rt, legacy), label);
     }
-    check(&rt, "10.0.0.0/24 ", None, None, "blank behind");
+    check(&rt, "10.0.0.0/24 ", None, None, "blank after the text");
 }
 
 #[test]
 fn reading_as_one_type(rt: HostRuntime) {
-    for row in rows(&rt, BY_TYPE, 3) {
+    for row in rows(&rt, "texts::BY_TYPE", BY_TYPE, 3) {
         let [label, text, ipv4, ipv6, either, ..] = cells(&rt, row, 5);
         let want = (wanted(&rt, ipv4), wanted(&rt, ipv6), wanted(&rt, either));
         let strict = (
@@ -124,13 +148,13 @@ fn reading_as_one_type(rt: HostRuntime) {
             text.parse().ok().map(IpNet::V6),
             text.parse().ok(),
         );
-        assert_eq!(rt; strict, want, "texts: {label}");
+        assert_eq!(rt; strict, want, "texts: {label}, strict");
         let ipv4 = Ipv4Net::parse_legacy(text).ok().map(IpNet::V4);
         let ipv6 = Ipv6Net::parse_legacy(text).ok().map(IpNet::V6);
         assert_eq!(rt;
             (ipv4, ipv6, IpNet::parse_legacy(text).ok()),
             want,
-            "texts: {label}"
+            "texts: {label}, legacy"
         );
     }
 }
@@ -141,7 +165,7 @@ fn hostile_texts(rt: HostRuntime) {
         ("sign in front", "+1.0.0.0/8"),
         ("sign of a length", "10.0.0.0/-1"),
         ("blank in front", " 10.0.0.0/8"),
-        ("past ASCII, behind", "10.0.0.0/8\u{e9}"),
+        ("past ASCII, after the text", "10.0.0.0/8\u{e9}"),
         ("past ASCII, a digit of another script", "\u{661}0.0.0.0/8"),
     ] {
         check(&rt, text, None, None, label);
@@ -155,7 +179,7 @@ fn long_texts(rt: HostRuntime) -> Result<(), Fail> {
         for _ in 0..100_000 {
             text.push(byte)?;
         }
-        assert_eq!(rt; text.len(), 100_000);
+        assert_eq!(rt; text.len(), 100_000, "texts: {label}: bytes in number");
         check(&rt, text.as_str(), None, None, label);
     }
     Ok(())
@@ -163,10 +187,10 @@ fn long_texts(rt: HostRuntime) -> Result<(), Fail> {
 
 #[test]
 fn beginnings(rt: HostRuntime) -> Result<(), Fail> {
-    for row in rows(&rt, BEGINNINGS, 3) {
+    for row in rows(&rt, "texts::BEGINNINGS", BEGINNINGS, 3) {
         let [label, text, count, read, ..] = cells(&rt, row, 4);
         let count = count.parse::<usize>().expect(&rt, row);
-        assert_eq!(rt; text.len(), count, "texts: {label}");
+        assert_eq!(rt; text.len(), count, "texts: {label}: beginnings in number");
         let mut beginning = String::new(rt.alloc());
         for next in text.chars() {
             let start = beginning.as_str();

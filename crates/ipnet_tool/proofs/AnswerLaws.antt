@@ -1,7 +1,7 @@
 -- The networks of a text by family, their aggregates, and the text of these.
-use Rattle.std.proofs.Common.{◌≡◌, ℕ, arith, ◌+◌, ◌<◌, ◌↔◌, inl, inr, subst, take, List, [], ◌∷◌, ◌++◌, map, length}
+use Rattle.std.proofs.Common.{◌≡◌, ℕ, ◌+◌, ◌<◌, ◌↔◌, inl, inr, subst, take, List, [], ◌∷◌, ◌++◌, map, length}
 use Rattle.std.proofs.Common.{get_or, Ok, Err, String, Global, string_bytes, refl, sym, ap, ◌∙◌, append_assoc}
-use Rattle.std.proofs.Common.{append-nil}
+use Rattle.std.proofs.Common.{append-nil, All}
 use Rattle.std.proofs.lemmas.List.Elements.{All-map}
 use Rattle.std.proofs.lemmas.List.{map_push, take_more}
 use Rattle.ipnet.specs.Address.{IPv4, IPv6}
@@ -15,14 +15,11 @@ use Rattle.ipnet.proofs.FamilyLaws.{aggregate_of_families}
 use Rattle.ipnet.proofs.CoverLaws.{cover_append_left, cover_append_right, cover_append_cases, HaveSameCover-append}
 use Rattle.ipnet.proofs.CoverLaws.{HaveSameCover-sym}
 use Rattle.ipnet.proofs.AggregateLaws.{aggregate_of_same_cover}
-use Rattle.ipnet.proofs.LineLaws.{no_lines, all_good}
-use Rattle.ipnet.proofs.WalkLaws.{AreMaximalBlocks-nil}
 use Rattle.ipnet.specs.declared.parser.Grammar.{Grammar}
 use Rattle.ipnet.specs.Lines.{lines_of, AreNetworksOf, IsFirstBadLine}
 use Rattle.ipnet_tool.specs.Answers.{IsAnswerTo, IsTextAnswer, StartsWithBadLine, text_of_lines}
 use Rattle.ipnet_tool.specs.declared.tool.ToolError.{ToolError}
 use Rattle.ipnet_tool.specs.declared.tool.ToolError.TheVariants as ToolErrors
-use Rattle.ipnet_tool.proofs.EarlyLines.{none_bad}
 
 -- the text of two lists of networks, one after the other
 pub text_of_lines-append : (networks others : List Network)
@@ -32,7 +29,7 @@ text_of_lines-append (n ∷ networks) others =
     ap (λ t. canonical_text n ++ 10 ∷ [] ++ t) (text_of_lines-append networks others)
     ∙ sym (append_assoc (canonical_text n ++ 10 ∷ []) (text_of_lines networks) (text_of_lines others))
 
-pub text_of_lines-push : (networks : List Network) (n : Network)
+text_of_lines-push : (networks : List Network) (n : Network)
     → text_of_lines (networks ++ n ∷ []) ≡ (text_of_lines networks ++ canonical_text n) ++ 10 ∷ []
 text_of_lines-push networks n =
     text_of_lines-append networks (n ∷ [])
@@ -52,7 +49,7 @@ both_families ipv4 blocks4 ipv6 blocks6 =
     (All-map (λ n. n.family ≡ IPv6) ipv6_network ipv6 (λ k d l. refl))
 
 -- one network more in front of the networks of the second list, and the same after both
-pub cover_moved : (a b : List Network) (n : Network) → HaveSameCover ((a ++ n ∷ []) ++ b) ((a ++ b) ++ n ∷ [])
+cover_moved : (a b : List Network) (n : Network) → HaveSameCover ((a ++ n ∷ []) ++ b) ((a ++ b) ++ n ∷ [])
 cover_moved a b n x = (
   λ p. elim (cover_append_cases (a ++ n ∷ []) b x p) [
     | inl l ↦ elim (cover_append_cases a (n ∷ []) x l) [
@@ -133,44 +130,41 @@ answer_from grammar text answer networks families blocks written same aggregate 
 
 -- ---- what the tool gives
 
--- for a text with no byte, the empty answer
-pub nothing_for_nothing : (grammar : Grammar) (text : List ℕ) (answer : String Global) → length text ≡ 0
-    → string_bytes answer ≡ [] → IsTextAnswer grammar text (Ok answer)
-nothing_for_nothing grammar text answer none empty = record {
-  empty = λ _. empty;
-  answer = record {
-    networks = [];
-    written = no_lines grammar text none;
-    blocks = [];
-    aggregate = AreMaximalBlocks-nil (IsCoveredBy []) 0 (λ x h. omega (arith, h.2));
-    spelled = empty;
-  };
-  no_bad_line = all_good grammar (lines_of text) [] (no_lines grammar text none);
-  bad_line = λ number e. absurd cc;
-  bad_at_once = λ number h. absurd (none_bad grammar text number none h);
-}
-
--- for a text that starts with no bad line, an answer
-pub answered : (grammar : Grammar) (text : List ℕ) (answer : String Global) → 0 < length text
+-- for a text that starts with no bad line, an answer, which is empty where its lines are
+pub answered : (grammar : Grammar) (text : List ℕ) (answer : String Global)
+    → (All (λ line. line ≡ []) (lines_of text) → string_bytes answer ≡ [])
     → IsAnswerTo grammar text (string_bytes answer)
     → ((number : ℕ) → ¬ (StartsWithBadLine grammar (lines_of text) number)) → IsTextAnswer grammar text (Ok answer)
-answered grammar text answer some is none_at_once = record {
-  empty = λ e. absurd (omega (arith, some, ap length e));
+answered grammar text answer empty is none_at_once = record {
+  empty = empty;
   answer = is;
-  no_bad_line = all_good grammar (lines_of text) is.networks is.written;
   bad_line = λ number e. absurd cc;
   bad_at_once = λ number h. absurd (none_at_once number h);
 }
 
 -- for another, what ends the reading of its lines
-pub not_answered : (grammar : Grammar) (text : List ℕ) (error : ToolError) → 0 < length text
+pub not_answered : (grammar : Grammar) (text : List ℕ) (error : ToolError)
+    → ¬ (All (λ line. line ≡ []) (lines_of text))
     → ((number : ℕ) → error ≡ ToolErrors.Line number → IsFirstBadLine grammar (lines_of text) number)
     → ((number : ℕ) → StartsWithBadLine grammar (lines_of text) number → error ≡ ToolErrors.Line number)
     → IsTextAnswer grammar text (Err error)
 not_answered grammar text error some bad_line at_once = record {
-  empty = λ e. absurd (omega (arith, some, ap length e));
+  empty = λ h. absurd (some h);
   answer = tt;
-  no_bad_line = tt;
   bad_line = λ number e. bad_line number cc;
   bad_at_once = λ number h. ap Err (at_once number h);
 }
+
+-- ---- no network at all
+
+-- two lists that have none together have none each
+pub no_ipv4 : (ipv4 : List Ipv4Net) (ipv6 : List Ipv6Net) → map ipv4_network ipv4 ++ map ipv6_network ipv6 ≡ []
+    → ipv4 ≡ []
+no_ipv4 [] ipv6 e = refl
+no_ipv4 (n ∷ ipv4) ipv6 e = absurd cc
+
+pub no_ipv6 : (ipv4 : List Ipv4Net) (ipv6 : List Ipv6Net) → map ipv4_network ipv4 ++ map ipv6_network ipv6 ≡ []
+    → ipv6 ≡ []
+no_ipv6 [] [] e = refl
+no_ipv6 [] (n ∷ ipv6) e = absurd cc
+no_ipv6 (n ∷ ipv4) ipv6 e = absurd cc

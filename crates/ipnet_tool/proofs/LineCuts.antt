@@ -1,14 +1,10 @@
 -- The first line of a text, as `split_once` cuts it.
-use Rattle.std.proofs.Common.{◌≡◌, ℕ, zero, suc, refl, ◌<◌, Bool, true, false, List, [], ◌∷◌, length, get_or, take}
+use Rattle.std.proofs.Common.{◌≡◌, ℕ, zero, suc, refl, ◌<◌, true, false, List, [], ◌∷◌, length, get_or, take}
 use Rattle.std.proofs.Common.{drop, ◌==◌, sym, ap, ◌∙◌, arith, add-one, eq-eqb, eqb-true}
 use Rattle.std.specs.List.{position_or_len, before_first, after_first}
 use Rattle.std.proofs.lemmas.List.Sums.{fails_before_first, passes_at_first}
 use Rattle.ipnet.specs.Lines.{lines_of}
 use Rattle.ipnet.proofs.LineLaws.{lines_at, last_line}
-
--- whether a byte ends a line
-abbrev ends_line : ℕ → Bool
-ends_line b = b == 10
 
 -- no byte before the first that ends a line ends one
 none_before : (text : List ℕ) (k : ℕ) → k < position_or_len (λ b. b == 10) text → get_or text k 0 ≡ 10 → ⊥

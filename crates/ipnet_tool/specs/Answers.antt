@@ -1,12 +1,12 @@
 -- The answer of the tool to a text: its networks aggregated, one a line.
-use Rattle.std.specs.Prelude.{◌≡◌, ℕ, List, [], ◌∷◌, ◌++◌, All, Result, Err, IfOk, IsOkAnd, OnOk}
+use Rattle.std.specs.Prelude.{◌≡◌, ℕ, List, [], ◌∷◌, ◌++◌, All, Result, Err, IfOk, IsOkAnd}
 use Rattle.std.specs.Prelude.{String, string_bytes}
 use Rattle.std.specs.declared.alloc.Global.{Global}
 use Rattle.ipnet.specs.Network.{Network}
 use Rattle.ipnet.specs.Blocks.{IsAggregateOf}
 use Rattle.ipnet.specs.CanonicalTexts.{canonical_text}
 use Rattle.ipnet.specs.declared.parser.Grammar.{Grammar}
-use Rattle.ipnet.specs.Lines.{lines_of, AreNetworksOf, IsGoodLine, IsFirstBadLine}
+use Rattle.ipnet.specs.Lines.{lines_of, AreNetworksOf, IsFirstBadLine}
 use Rattle.ipnet_tool.specs.declared.tool.ToolError.{ToolError}
 use Rattle.ipnet_tool.specs.declared.tool.ToolError.TheVariants as ToolErrors
 
@@ -31,11 +31,10 @@ pub record StartsWithBadLine (grammar : Grammar) (lines : List (List ℕ)) (numb
   pub empty : All (λ line. line ≡ []) first.before
 
 -- What the text tool gives for a text in this grammar: the answer, or the first bad line, or want of memory. The last
--- comes neither on an empty text nor where the first line that is not empty is bad.
+-- comes neither where all lines are empty nor where the first line that is not empty is bad.
 pub record IsTextAnswer (grammar : Grammar) (text : List ℕ) (result : Result (String Global) ToolError) : Type 0 where
-  pub empty : text ≡ [] → IsOkAnd result (λ answer. string_bytes answer ≡ [])
+  pub empty : All (λ line. line ≡ []) (lines_of text) → IsOkAnd result (λ answer. string_bytes answer ≡ [])
   pub answer : IfOk result (λ answer. IsAnswerTo grammar text (string_bytes answer))
-  pub no_bad_line : OnOk result (All (IsGoodLine grammar) (lines_of text))
   pub bad_line : (number : ℕ) → result ≡ Err (ToolErrors.Line number)
       → IsFirstBadLine grammar (lines_of text) number
   pub bad_at_once : (number : ℕ) → StartsWithBadLine grammar (lines_of text) number

@@ -1,6 +1,7 @@
 -- What a run of the program reads and writes.
 use Rattle.std.specs.Prelude.{◌≡◌, ℕ, List, [], ◌∷◌, codes, IsUtf8, Option, String, string_bytes}
 use Rattle.std.specs.declared.alloc.Global.{Global}
+use Rattle.std.specs.Io.{StartsWith}
 use Rattle.std.specs.Io.KnownBytes.{Consumes, Appends, IsAtEnd}
 use Rattle.ipnet.specs.declared.parser.Grammar.{Grammar}
 use Rattle.ipnet.specs.declared.parser.Grammar.TheVariants.{Strict, Legacy}
@@ -28,6 +29,18 @@ pub record IsAnswered (args : List (String Global)) (left left_after held held_a
   pub answer : List ℕ
   pub right : IsAnswerTo grammar text answer
   pub written : Appends held held_after answer
+
+-- the input was a text with an answer in the chosen grammar, of which a front went to the output
+pub record IsCutShort (args : List (String Global)) (left left_after held held_after : Option (List ℕ)) : Type 0 where
+  pub grammar : Grammar
+  pub chosen : IsChosenBy args grammar
+  pub text : List ℕ
+  pub read : GaveWhole left left_after text
+  pub answer : List ℕ
+  pub right : IsAnswerTo grammar text answer
+  pub front : List ℕ
+  pub begins : StartsWith answer front
+  pub written : Appends held held_after front
 
 -- the input was a text, in UTF-8 (RFC 3629), with a bad line in the chosen grammar
 pub record HasBadLine (args : List (String Global)) (left left_after : Option (List ℕ)) : Type 0 where

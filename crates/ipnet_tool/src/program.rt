@@ -1,8 +1,10 @@
 //! The program, over any reader and writers.
-ghost use Rattle.std.specs.Prelude.{◌≡◌, ◌≤◌, ◌⊎◌, ◌↔◌, IfOk, IfErr, IfSome, IfNone, OnOk};
-ghost use Rattle.std.specs.Io.KnownBytes.{Consumes, IsAtEnd, Keeps};
+ghost use Rattle.std.specs.Prelude.{◌≡◌, ◌≤◌, ◌⊎◌, ◌↔◌, ℕ, List, drop, IfOk, IfErr, IfSome, IfNone, OnOk};
+ghost use Rattle.std.specs.Vec.Iter.{into_iter_items};
+ghost use Rattle.std.specs.Io.{StartsWith};
+ghost use Rattle.std.specs.Io.KnownBytes.{Appends, Consumes, IsAtEnd, Keeps};
 ghost use Rattle.ipnet.specs.declared.parser.Grammar.{Grammar};
-ghost use Rattle.ipnet_tool.specs.Runs.{IsChosenBy, IsAnswered, HasBadLine};
+ghost use Rattle.ipnet_tool.specs.Runs.{IsChosenBy, IsAnswered, IsCutShort, HasBadLine};
 ghost use Rattle.ipnet_tool.specs.Statuses.{status_of};
 ghost use Rattle.ipnet_tool.specs.declared.program.Failure.TheVariants.{Arguments, Unreadable, Memory};
 
@@ -11,8 +13,11 @@ use ipnet::Grammar;
 use std::alloc::Global;
 use std::env::Env;
 use std::io::{ErrorKind, Read, Write};
+use std::vec::IntoIter;
 use std::{env, str};
 use thiserror::Error;
+
+pub mod laws;
 
 /// How many bytes are asked for in one read.
 const PIECE: usize = 65536;
@@ -93,6 +98,8 @@ pub fn run<R: Read, W: Write, X: Write>(
     ensures silent { (result ≡ 1) ⊎ (result ≡ 2) → Keeps (W.contents out.old) (W.contents out.new) }
     ensures answered { result ≡ 0 → IsAnswered args.now
         (R.remaining input.old) (R.remaining input.new) (W.contents out.old) (W.contents out.new) }
+    ensures cut_short { result ≡ 3 → Keeps (W.contents out.old) (W.contents out.new) ⊎ IsCutShort args.now
+        (R.remaining input.old) (R.remaining input.new) (W.contents out.old) (W.contents out.new) }
     ensures faultless { result ≡ 0 → Keeps (X.contents faults.old) (X.contents faults.new) }
     ensures bad_line { result ≡ 1 → HasBadLine args.now (R.remaining input.old) (R.remaining input.new) }
 {
@@ -111,9 +118,9 @@ pub fn run<R: Read, W: Write, X: Write>(
         Err(ToolError::Line(number)) => return report(faults, Failure::Line(number)),
         Err(ToolError::Memory) => return report(faults, Failure::Memory),
     };
-    if out.write_all(answer.as_bytes()).is_err() || out.flush().is_err() {
+    let Ok(()) = write_whole(out, answer.as_bytes()) else {
         return report(faults, Failure::Unwritable);
-    }
+    };
     0
 }
 
@@ -142,12 +149,21 @@ pub fn arguments<R: Env + AllocGlobal>(rt: &R) -> Result<Vec<String>, Failure>
 {
     match env::args(rt) {
         Ok(args) => {
-            let words = args.skip(1).collect::<Vec<String>>(rt.alloc());
+            let words = after_name(args).collect::<Vec<String>>(rt.alloc());
             words.map_err(|_| Failure::Memory)
         }
         Err(error) if error.kind() == ErrorKind::OutOfMemory => Err(Failure::Memory),
         Err(_) => Err(Failure::Arguments),
     }
+}
+
+/// The words without the first, where there is one.
+fn after_name(words: IntoIter<String>) -> IntoIter<String>
+    ensures { into_iter_items result ≡ drop 1 (into_iter_items words) }
+{
+    let mut rest = words;
+    let _name = rest.next();
+    rest
 }
 
 /// Reports the failure in one line, ignoring a failed write, and returns its exit status, as the table of [`run`]
@@ -187,4 +203,29 @@ fn read_all<R: Read>(alloc: Global, input: &mut R) -> Result<Vec<u8>, Failure>
         }
     }
     Err(Failure::Unreadable)
+}
+
+/// Writes the bytes and flushes the writer. A write that was interrupted is made again; where another fails, what went
+/// out is a front of the bytes.
+fn write_whole<W: Write>(out: &mut W, bytes: &[u8]) -> Result<(), Failure>
+    ensures whole { OnOk result (Appends (W.contents out.old) (W.contents out.new) bytes.now) }
+    ensures front { (front : List ℕ) × StartsWith bytes.now front
+        × Appends (W.contents out.old) (W.contents out.new) front }
+{
+    let mut written = 0;
+    for _ in 0..u64::MAX {
+        if written == bytes.len() {
+            return out.flush().map_err(|_| Failure::Unwritable);
+        }
+        match out.write(&bytes[written..]) {
+            Ok(0) => return Err(Failure::Unwritable),
+            Ok(count) => written += count,
+            Err(error) => {
+                if error.kind() != ErrorKind::Interrupted {
+                    return Err(Failure::Unwritable);
+                }
+            }
+        }
+    }
+    Err(Failure::Unwritable)
 }

@@ -3,4 +3,5 @@ mod argument_rows;
 mod devices;
 mod memory_rows;
 mod program_rows;
+mod table;
 mod text_rows;

@@ -1,5 +1,6 @@
 //! The text tool: a list of networks, one a line, into the shortest list of the same addresses.
-ghost use Rattle.std.specs.Prelude.{◌≡◌, ℕ, ◌<◌, [], ◌∷◌, List, ◌++◌, length, Err, IfOk, OnOk, string_bytes};
+ghost use Rattle.std.specs.Prelude.{◌≡◌, ℕ, ◌<◌, [], ◌∷◌, List, ◌++◌, length, All, Err, IsOk, IfOk, IsOkAnd, OnOk};
+ghost use Rattle.std.specs.Prelude.{string_bytes};
 ghost use Rattle.ipnet.specs.Network.{Network};
 ghost use Rattle.ipnet.specs.Blocks.{HaveSameCover, IsAggregateOf};
 ghost use Rattle.ipnet.specs.CanonicalTexts.{canonical_text};
@@ -40,7 +41,8 @@ pub enum ToolError {
 /// are skipped, and each other line is read as [`IpNet`] by the strict grammar. The answer has the maximal
 /// aligned blocks of the addresses, IPv4 first, ascending, each followed by "\n". The first bad line is
 /// refused with its number, and a growth that is refused before that line is reached is want of memory; where
-/// only empty lines stand before it, there is no growth. An empty text has an empty answer, and takes no memory.
+/// only empty lines stand before it, there is no growth. A text of empty lines alone, or of none, has an empty answer,
+/// and takes no memory.
 ///
 /// ```text
 /// aggregate_text(alloc, "10.0.1.0/24\n\n10.0.0.0/24")  is  Ok("10.0.0.0/23\n")
@@ -74,9 +76,6 @@ struct Families {
 pub(crate) fn answer_to(alloc: Global, text: &str, grammar: Grammar) -> Result<String, ToolError>
     ensures { IsTextAnswer grammar text.now result }
 {
-    if text.is_empty() {
-        return Ok(String::new(alloc));
-    }
     let families = read_lines(alloc, text, grammar)?;
     let Ok(blocks) = aggregated(alloc, &families) else {
         return Err(ToolError::Memory);
@@ -130,6 +129,8 @@ fn read_lines(alloc: Global, text: &str, grammar: Grammar) -> Result<Families, T
     ensures networks { IfOk result (λ families. (networks : List Network)
         × AreNetworksOf grammar (lines_of text.now) networks
         × HaveSameCover networks (networks_of families)) }
+    ensures empty { All (λ line. line ≡ []) (lines_of text.now)
+        → IsOkAnd result (λ families. networks_of families ≡ []) }
     ensures bad_line { (number : ℕ) → result ≡ Err (ToolError.Line number)
         → IsFirstBadLine grammar (lines_of text.now) number }
     ensures bad_at_once { (number : ℕ) → StartsWithBadLine grammar (lines_of text.now) number
@@ -159,7 +160,8 @@ fn read_lines(alloc: Global, text: &str, grammar: Grammar) -> Result<Families, T
 
 /// The aggregate of each family: together they are the aggregate of all.
 fn aggregated(alloc: Global, families: &Families) -> Result<Families, AllocError>
-    ensures { IfOk result (λ blocks. IsAggregateOf (networks_of blocks) (networks_of families.now)) }
+    ensures empty { networks_of families.now ≡ [] → IsOkAnd result (λ blocks. networks_of blocks ≡ []) }
+    ensures aggregate { IfOk result (λ blocks. IsAggregateOf (networks_of blocks) (networks_of families.now)) }
 {
     let ipv4 = Ipv4Net::aggregate(alloc, &families.ipv4)?;
     let ipv6 = Ipv6Net::aggregate(alloc, &families.ipv6)?;
@@ -168,7 +170,8 @@ fn aggregated(alloc: Global, families: &Families) -> Result<Families, AllocError
 
 /// The canonical texts of the networks, one a line, IPv4 first.
 fn printed(alloc: Global, families: &Families) -> Result<String, AllocError>
-    ensures { IfOk result (λ text. string_bytes text ≡ text_of_lines (networks_of families.now)) }
+    ensures empty { networks_of families.now ≡ [] → IsOk result }
+    ensures text { IfOk result (λ text. string_bytes text ≡ text_of_lines (networks_of families.now)) }
 {
     let mut text = String::new(alloc);
     for network in &families.ipv4 {

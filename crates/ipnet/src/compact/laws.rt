@@ -1,7 +1,31 @@
-//! What holds of all values of `CompactError`. Each law is a function with nothing to run, whose contract is the law.
+//! What holds of all networks as bytes, and of all values of `CompactError`. The first three laws write a network and
+//! read it back; each other is a function with nothing to run, whose contract is the law.
+ghost use Rattle.std.specs.Prelude.{◌≡◌, Ok};
 ghost use Rattle.ipnet_base.specs.Values.{EqualsExactly, ClonesExactly};
 
 use super::CompactError;
+use crate::net::{IpNet, Ipv4Net, Ipv6Net};
+
+/// The bytes of an IPv4 network read back as that network.
+pub fn ipv4_bytes_read_back(network: &Ipv4Net) -> Result<Ipv4Net, CompactError>
+    ensures { result ≡ Ok network.now }
+{
+    Ipv4Net::from_bytes(&network.to_bytes())
+}
+
+/// The bytes of an IPv6 network read back as that network.
+pub fn ipv6_bytes_read_back(network: &Ipv6Net) -> Result<Ipv6Net, CompactError>
+    ensures { result ≡ Ok network.now }
+{
+    Ipv6Net::from_bytes(&network.to_bytes())
+}
+
+/// The bytes of a network of either family read back as that network.
+pub fn ip_bytes_read_back(network: &IpNet) -> Result<IpNet, CompactError>
+    ensures { result ≡ Ok network.now }
+{
+    IpNet::from_bytes(network.to_bytes().as_slice())
+}
 
 /// `==` says whether two values of the error are one.
 pub fn compact_errors_compare_by_value()

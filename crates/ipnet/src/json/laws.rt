@@ -1,7 +1,47 @@
-//! What holds of all values of `JsonError`. Each law is a function with nothing to run, whose contract is the law.
+//! What holds of all networks as JSON values, and of all values of `JsonError`. The first three laws write a network
+//! and read it back; each other is a function with nothing to run, whose contract is the law.
+ghost use Rattle.std.specs.Prelude.{◌≡◌, Ok, IfOk};
 ghost use Rattle.ipnet_base.specs.Values.{EqualsExactly, ClonesExactly};
 
 use super::JsonError;
+use crate::net::{IpNet, Ipv4Net, Ipv6Net};
+use std::alloc::{AllocError, Global};
+
+/// The JSON value of an IPv4 network reads back as that network.
+///
+/// An error where there is no memory for the value.
+pub fn ipv4_json_reads_back(
+    network: &Ipv4Net,
+    alloc: Global,
+) -> Result<Result<Ipv4Net, JsonError>, AllocError>
+    ensures { IfOk result (λ read. read ≡ Ok network.now) }
+{
+    Ok(Ipv4Net::from_json(&network.to_json(alloc)?))
+}
+
+/// The JSON value of an IPv6 network reads back as that network.
+///
+/// An error where there is no memory for the value.
+pub fn ipv6_json_reads_back(
+    network: &Ipv6Net,
+    alloc: Global,
+) -> Result<Result<Ipv6Net, JsonError>, AllocError>
+    ensures { IfOk result (λ read. read ≡ Ok network.now) }
+{
+    Ok(Ipv6Net::from_json(&network.to_json(alloc)?))
+}
+
+/// The JSON value of a network of either family reads back as that network.
+///
+/// An error where there is no memory for the value.
+pub fn ip_json_reads_back(
+    network: &IpNet,
+    alloc: Global,
+) -> Result<Result<IpNet, JsonError>, AllocError>
+    ensures { IfOk result (λ read. read ≡ Ok network.now) }
+{
+    Ok(IpNet::from_json(&network.to_json(alloc)?))
+}
 
 /// `==` says whether two values of the error are one.
 pub fn json_errors_compare_by_value()

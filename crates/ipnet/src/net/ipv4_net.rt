@@ -30,6 +30,8 @@ pub struct Ipv4Net {
 }
 
 /// The number of the netmask of this length.
+//
+// `ipnet_base` has one of its own, for reading masks: to share this line it would have to be public there.
 fn netmask_number(prefix_len: u32) -> u32
     requires { prefix_len ≤ 32 }
     ensures { result ≡ 2 ^ 32 - 2 ^ (32 - prefix_len) }

@@ -32,6 +32,8 @@ pub struct Ipv6Net {
 }
 
 /// The number of the netmask of this length.
+//
+// `ipnet_base` has one of its own, for reading masks: to share this line it would have to be public there.
 fn netmask_number(prefix_len: u32) -> u128
     requires { prefix_len ≤ 128 }
     ensures { result ≡ 2 ^ 128 - 2 ^ (128 - prefix_len) }

@@ -1,13 +1,17 @@
 //! What holds of all values of the network types at once: `==`, the order and the hash go by the network that a value
-//! stands for, host bits and all; the clone is the value; a network's netmask reads back as its prefix length.
+//! stands for, host bits and all; the clone is the value; a network's netmask reads back as its prefix length; which
+//! addresses of a network are hosts, and how many.
 //!
 //! ```text
 //! 10.0.0.0/24 < 10.0.0.1/8 < 10.0.0.1/24 < ::/0, and no two of these are equal or hashed alike
 //! ```
-ghost use Rattle.std.specs.Prelude.{◌≡◌};
-ghost use Rattle.ipnet_base.specs.Network.{IsNetwork, IsBefore};
+ghost use Rattle.std.specs.Prelude.{◌≡◌, ◌-◌, ◌^◌, ◌<◌, ◌≤◌, ◌↔◌, Contains};
+ghost use Rattle.ipnet_base.specs.Address.{Address, IPv4, IPv6};
+ghost use Rattle.ipnet_base.specs.Network.{Network, IsNetwork, IsBefore, InBlock, IsLeastOf, IsGreatestOf};
+ghost use Rattle.ipnet_base.specs.Ranges.{AddressRange, addresses_of, address_count};
 ghost use Rattle.ipnet_base.specs.Values.{ComparesBy, HashesBy, ClonesExactly};
 ghost use Rattle.ipnet.specs.NetworkOf.{ipv4_network, ipv6_network, ip_network};
+ghost use Rattle.ipnet.specs.NetworkParts.{IsHostRange};
 ghost use Rattle.ipnet.specs.declared.net.IpNet.{IpNet};
 ghost use Rattle.ipnet.specs.declared.net.ipv4_net.Ipv4Net.{Ipv4Net};
 ghost use Rattle.ipnet.specs.declared.net.ipv6_net.Ipv6Net.{Ipv6Net};
@@ -78,3 +82,28 @@ pub fn ip_netmask_reads_back(network: &IpNet) -> Result<u8, PrefixLenError>
 {
     ip_mask_to_prefix(network.netmask())
 }
+
+/// The hosts of an IPv4 network below prefix length 31 are the addresses of its block but the least and the greatest.
+/// At 31 and 32, and of an IPv6 network at every length, they are the whole block.
+pub fn hosts_lie_in_the_block()
+    ensures ipv4_below_31 { (n : Network) (hosts : AddressRange) (x : Address) → n.family ≡ IPv4 → n.prefix_len < 31
+        → IsHostRange n hosts
+        → Contains (addresses_of hosts) x ↔ (InBlock n x × ¬ (IsLeastOf n x) × ¬ (IsGreatestOf n x)) }
+    ensures ipv4_from_31 { (n : Network) (hosts : AddressRange) (x : Address) → n.family ≡ IPv4 → 31 ≤ n.prefix_len
+        → IsHostRange n hosts → Contains (addresses_of hosts) x ↔ InBlock n x }
+    ensures ipv6 { (n : Network) (hosts : AddressRange) (x : Address) → n.family ≡ IPv6
+        → IsHostRange n hosts → Contains (addresses_of hosts) x ↔ InBlock n x }
+{}
+
+/// An IPv4 network has two hosts fewer than addresses below prefix length 31, two at 31, and one at 32; an IPv6 network
+/// has as many as addresses.
+pub fn hosts_are_counted()
+    ensures ipv4_below_31 { (n : Network) (hosts : AddressRange) → n.family ≡ IPv4 → n.prefix_len < 31
+        → IsHostRange n hosts → address_count hosts ≡ 2 ^ (32 - n.prefix_len) - 2 }
+    ensures ipv4_at_31 { (n : Network) (hosts : AddressRange) → n.family ≡ IPv4 → n.prefix_len ≡ 31
+        → IsHostRange n hosts → address_count hosts ≡ 2 }
+    ensures ipv4_at_32 { (n : Network) (hosts : AddressRange) → n.family ≡ IPv4 → n.prefix_len ≡ 32
+        → IsHostRange n hosts → address_count hosts ≡ 1 }
+    ensures ipv6 { (n : Network) (hosts : AddressRange) → n.family ≡ IPv6
+        → IsHostRange n hosts → address_count hosts ≡ 2 ^ (128 - n.prefix_len) }
+{}

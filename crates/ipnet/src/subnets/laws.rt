@@ -60,9 +60,10 @@ pub fn ip_walks_clone()
     ensures { ClonesExactly ⟦<IpSubnets as Clone>⟧.is_clone ⟦<IpSubnets as Clone>⟧.is_infallible }
 {}
 
-/// Walks of each type are fused iterators, which answer `None` ever after `None`, and `Debug` writes them.
+/// Walks of each type are `Copy`, and fused iterators, which answer `None` ever after `None`; and they have a `Debug`,
+/// whose text no contract tells.
 //
-// The contract says nothing: it is the body that is not compiled where one of the six is missing.
+// The contract says nothing: it is the body that is not compiled where one of the nine is missing.
 pub fn walks_are_fused_and_debug(ipv4: &Ipv4Subnets, ipv6: &Ipv6Subnets, ip: &IpSubnets) {
     is_fused_and_debug(ipv4);
     is_fused_and_debug(ipv6);
@@ -70,4 +71,4 @@ pub fn walks_are_fused_and_debug(ipv4: &Ipv4Subnets, ipv6: &Ipv6Subnets, ip: &Ip
 }
 
 /// Nothing: it can be called for such types alone.
-fn is_fused_and_debug<W: FusedIterator + Debug>(_: &W) {}
+fn is_fused_and_debug<W: Copy + FusedIterator + Debug>(_: &W) {}

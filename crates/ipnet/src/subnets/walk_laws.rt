@@ -1,5 +1,9 @@
-//! What holds of each walk, whatever it stores.
+//! What holds of each walk, whatever it stores, and what the members of public traits say of walks.
+//!
+//! A contract with a member in it, as that of std's `collect`, says no more than the member does: here that is held to
+//! the definitions.
 ghost use Rattle.std.specs.Prelude.{◌≡◌, ◌↔◌, Option, IsNone};
+ghost use Rattle.std.specs.Iterator.{YieldsFirstBy, item_count};
 ghost use Rattle.ipnet.specs.NetworkOf.{ipv4_network, ipv6_network, ip_network};
 ghost use Rattle.ipnet.specs.SubnetsLeft.{IsWalkOf, IsSubnetStep, ipv4_subnet_range, ipv4_subnets_left};
 ghost use Rattle.ipnet.specs.SubnetsLeft.{ipv6_subnet_range, ipv6_subnets_left, ip_subnet_range, ip_subnets_left};
@@ -12,6 +16,7 @@ ghost use Rattle.ipnet.specs.declared.subnets.IpSubnets.{IpSubnets};
 ghost use Rattle.ipnet.specs.declared.subnets.IpSubnets.TheVariants.{V4, V6};
 
 use super::{IpSubnets, Ipv4Subnets, Ipv6Subnets};
+use crate::net::{IpNet, Ipv4Net, Ipv6Net};
 
 /// What an IPv4 walk still gives is the walk of the range that is left to it.
 pub fn ipv4_walk_is_of_its_range(subnets: Ipv4Subnets)
@@ -50,6 +55,33 @@ pub fn ip_walk_stays_over()
         IsSubnetStep ip_network ip_subnet_range ip_subnets_left before first between →
         IsSubnetStep ip_network ip_subnet_range ip_subnets_left between second after →
         IsNone first → IsNone second × (after ≡ before) }
+{}
+
+/// As an iterator an IPv4 walk gives the first of the networks that are left to it, and leaves the others; the
+/// call may be made at any time, and no more networks come than are left.
+pub fn ipv4_walk_gives_its_networks(old: Ipv4Subnets, answer: Option<Ipv4Net>, new: Ipv4Subnets)
+    ensures next { ⟦<Ipv4Subnets as Iterator>⟧.next_gives old answer new
+        ↔ YieldsFirstBy ipv4_network ipv4_subnets_left old answer new }
+    ensures at_any_time { ⟦<Ipv4Subnets as Iterator>⟧.can_next old }
+    ensures count { ⟦<Ipv4Subnets as Iterator>⟧.remaining old ≡ item_count ipv4_subnets_left old }
+{}
+
+/// As an iterator an IPv6 walk gives the first of the networks that are left to it, and leaves the others; the
+/// call may be made at any time, and no more networks come than are left.
+pub fn ipv6_walk_gives_its_networks(old: Ipv6Subnets, answer: Option<Ipv6Net>, new: Ipv6Subnets)
+    ensures next { ⟦<Ipv6Subnets as Iterator>⟧.next_gives old answer new
+        ↔ YieldsFirstBy ipv6_network ipv6_subnets_left old answer new }
+    ensures at_any_time { ⟦<Ipv6Subnets as Iterator>⟧.can_next old }
+    ensures count { ⟦<Ipv6Subnets as Iterator>⟧.remaining old ≡ item_count ipv6_subnets_left old }
+{}
+
+/// As an iterator a walk of either family gives the first of the networks that are left to it, and leaves the others;
+/// the call may be made at any time, and no more networks come than are left.
+pub fn ip_walk_gives_its_networks(old: IpSubnets, answer: Option<IpNet>, new: IpSubnets)
+    ensures next { ⟦<IpSubnets as Iterator>⟧.next_gives old answer new
+        ↔ YieldsFirstBy ip_network ip_subnets_left old answer new }
+    ensures at_any_time { ⟦<IpSubnets as Iterator>⟧.can_next old }
+    ensures count { ⟦<IpSubnets as Iterator>⟧.remaining old ≡ item_count ip_subnets_left old }
 {}
 
 /// A walk of either family that is made from a walk of one family is that walk.

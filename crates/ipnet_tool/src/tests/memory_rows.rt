@@ -176,6 +176,9 @@ fn no_request(rt: HostRuntime) -> Result<(), Fail> {
     check_no_request(&rt, alloc, "memory: legacy tool on nothing", || {
         aggregate_text_legacy(alloc, "").is_ok_and(|text| text.is_empty())
     })?;
+    check_no_request(&rt, alloc, "memory: tool on empty lines", || {
+        aggregate_text(alloc, "\n\n").is_ok_and(|text| text.is_empty())
+    })?;
     check_no_request(&rt, alloc, "memory: tool, the first line bad", || {
         aggregate_text(alloc, "10.0.0.0/24\r\n") == Err(ToolError::Line(1))
     })?;

@@ -1,12 +1,13 @@
-use Rattle.std.proofs.Common.{◌↔◌, Any, IsTrue, Ok, map, refl, ◌∙◌, subst}
+use Rattle.std.proofs.Common.{◌↔◌, Any, IsTrue, Ok, map, refl, sym, subst}
 use Rattle.std.proofs.lemmas.Bool.{false≢true}
 use Rattle.ipnet.specs.Network.{IsSubnetOf}
 use Rattle.ipnet.specs.NetworkOf.{ip_network}
+use Rattle.ipnet.specs.Lines.{lines_of}
 use Rattle.ipnet.specs.NetLaws.{ip_valid}
 use Rattle.ipnet.specs.declared.parser.Grammar.TheVariants.{Strict}
 use Rattle.ipnet_c.proofs.CoveredBlocks.{covered_iff_in_one}
 use Rattle.ipnet_c.proofs.ListReplies.{told_whether_covered, told_not_utf8, told_out_of_memory, IsGoodAtOnce}
-use Rattle.ipnet_c.proofs.ListReplies.{TellsFaults, good_at_once, none_of_none}
+use Rattle.ipnet_c.proofs.ListReplies.{TellsFaults, good_at_once, none_of_none, IsBlank}
 use Rattle.ipnet_c.proofs.covers.ipnet_is_covered.Goals as goal
 
 pub returns-in_default : goal.returns-in_default
@@ -29,7 +30,7 @@ returns-in-Err-Memory c =
     λ number h. let clash = c.in-Err-Memory.ensures.bad_at_once number h in absurd cc in
     told_out_of_memory c.args.text.now c.args.network.now c.args.covered.now c.args.line.now c.in-Ok.network
     faults utf8
-    (λ none. false≢true (c.in-Err-Memory.ensures.empty (same ∙ none)))
+    (λ none. false≢true (c.in-Err-Memory.ensures.empty (subst IsBlank (sym same) none)))
     (subst (IsGoodAtOnce Strict) same good)
 
 pub returns-in_default-aggregate : goal.returns-in_default-aggregate
@@ -42,7 +43,7 @@ returns-in_default-aggregate c =
     let written = rw same at c.in-Ok-read_networks.ensures.networks in
     told_out_of_memory c.args.text.now c.args.network.now c.args.covered.now c.args.line.now c.in-Ok.network
     faults utf8
-    (λ none. c.in_default-aggregate.ensures.empty (none_of_none c.args.text.now networks written none))
+    (λ none. c.in_default-aggregate.ensures.empty (none_of_none (lines_of c.args.text.now) networks written none))
     (good_at_once Strict c.args.text.now (map ip_network networks) written)
 
 pub returns : goal.returns

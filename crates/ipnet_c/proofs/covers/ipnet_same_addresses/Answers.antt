@@ -1,11 +1,22 @@
-use Rattle.std.proofs.Common.{map, sym, ap, ◌∙◌, subst, Err}
+use Rattle.std.proofs.Common.{map, sym, ap, subst, Err}
 use Rattle.std.proofs.lemmas.Bool.{false≢true}
+use Rattle.ipnet.specs.Lines.{lines_of}
 use Rattle.ipnet.specs.NetworkOf.{ip_network}
 use Rattle.ipnet.specs.declared.parser.Grammar.TheVariants.{Strict}
 use Rattle.ipnet_c.specs.Replies.{IsSameAddressesReply}
 use Rattle.ipnet_c.proofs.ListReplies.{compared, other_refused, not_compared, IsGoodAtOnce, good_at_once}
-use Rattle.ipnet_c.proofs.ListReplies.{none_of_none}
+use Rattle.ipnet_c.proofs.ListReplies.{none_of_none, IsBlank, first_not_utf8, other_not_utf8}
 use Rattle.ipnet_c.proofs.covers.ipnet_same_addresses.Goals as goal
+
+pub returns-in_default : goal.returns-in_default
+returns-in_default c =
+    first_not_utf8 c.args.text.now c.args.other.now c.args.same.now c.args.line.now c.in_default.ensures.cases.0
+
+pub returns-in_default-from_utf8 : goal.returns-in_default-from_utf8
+returns-in_default-from_utf8 c =
+    let (same, utf8) = c.in-Ok.ensures.cases in
+    other_not_utf8 c.args.text.now c.args.other.now c.args.same.now c.args.line.now utf8
+    c.in_default-from_utf8.ensures.cases.0
 
 pub returns-in-Err-Memory : goal.returns-in-Err-Memory
 returns-in-Err-Memory c =
@@ -14,7 +25,7 @@ returns-in-Err-Memory c =
     let good : IsGoodAtOnce Strict c.in-Ok.text.now =
     λ number h. let clash = c.in-Err-Memory.ensures.bad_at_once number h in absurd cc in
     not_compared c.args.text.now c.args.other.now c.args.same.now c.args.line.now utf8 utf8_other
-    (λ none. absurd (false≢true (c.in-Err-Memory.ensures.empty (same ∙ none))))
+    (λ none. absurd (false≢true (c.in-Err-Memory.ensures.empty (subst IsBlank (sym same) none))))
     (subst (IsGoodAtOnce Strict) same good)
 
 pub returns-in-Err-Line-read_networks : goal.returns-in-Err-Line-read_networks
@@ -28,14 +39,15 @@ returns-in-Err-Line-read_networks c =
     (map ip_network c.in-Ok-read_networks.networks.items) utf8 utf8_other
     (rw same at c.in-Ok-read_networks.ensures.networks)
     (rw same_other at (told.ensures.bad_line told.number (ap Err told.field-0-is)))
-    (λ none. false≢true (told.ensures.empty (same_other ∙ none))))
+    (λ none. false≢true (told.ensures.empty (subst IsBlank (sym same_other) none))))
 
 pub returns-in-Err-Memory-read_networks : goal.returns-in-Err-Memory-read_networks
 returns-in-Err-Memory-read_networks c =
     let (same, utf8) = c.in-Ok.ensures.cases in
     let (same_other, utf8_other) = c.in-Ok-from_utf8.ensures.cases in
     not_compared c.args.text.now c.args.other.now c.args.same.now c.args.line.now utf8 utf8_other
-    (λ none none_other. false≢true (c.in-Err-Memory-read_networks.ensures.empty (same_other ∙ none_other)))
+    (λ none none_other.
+    false≢true (c.in-Err-Memory-read_networks.ensures.empty (subst IsBlank (sym same_other) none_other)))
     (good_at_once Strict c.args.text.now (map ip_network c.in-Ok-read_networks.networks.items)
     (rw same at c.in-Ok-read_networks.ensures.networks))
 
@@ -49,8 +61,8 @@ returns-in_default-same_addresses c =
     let written_other = rw same_other at c.in-Ok-read_networks-2.ensures.networks in
     not_compared c.args.text.now c.args.other.now c.args.same.now c.args.line.now utf8 utf8_other
     (λ none none_other. c.in_default-same_addresses.ensures.empty
-    (none_of_none c.args.text.now networks written none)
-    (none_of_none c.args.other.now others written_other none_other))
+    (none_of_none (lines_of c.args.text.now) networks written none)
+    (none_of_none (lines_of c.args.other.now) others written_other none_other))
     (good_at_once Strict c.args.text.now (map ip_network networks) written)
 
 pub returns : goal.returns

@@ -8,7 +8,7 @@ use Rattle.ipnet.specs.Lines.{lines_of, AreNetworksOf, IsFirstBadLine}
 use Rattle.ipnet.specs.NetworkOf.{ip_network}
 use Rattle.ipnet.proofs.LineLaws.{empty_line, network_line, bad_line, good_line, no_lines}
 use Rattle.ipnet_tool.specs.Answers.{StartsWithBadLine}
-use Rattle.ipnet_tool.proofs.EarlyLines.{after_empty, bad_here, not_good, none_bad}
+use Rattle.ipnet_tool.proofs.EarlyLines.{after_empty, bad_here, not_good, none_bad, not_all_empty, rest_empty}
 use Rattle.ipnet_tool.proofs.LineCuts.{some_bytes, no_bytes, empty_text}
 use Rattle.ipnet_c.proofs.lists.read_networks.Goals as goal
 
@@ -33,6 +33,18 @@ returns-in_default-clause-bad_line c = λ number e.
     let same : c.lines.number + 1 ≡ number = cc in
     subst (IsFirstBadLine Strict (lines_of c.args.text.now)) same first
 
+pub returns-in_default-clause-empty : goal.returns-in_default-clause-empty
+returns-in_default-clause-empty c = λ h.
+    absurd (not_all_empty (lines_of c.lines.rest.now) c.first_line.result.0.now (lines_of c.first_line.result.1.now)
+    c.first_line.ensures.lines (some_bytes (length c.first_line.result.0.now) c.if-not-is_empty.ensures)
+    (c.lines.invariant.empty h))
+
+pub returns-in_default-push-clause-empty : goal.returns-in_default-push-clause-empty
+returns-in_default-push-clause-empty c = λ h.
+    absurd (not_all_empty (lines_of c.lines.rest.now) c.first_line.result.0.now (lines_of c.first_line.result.1.now)
+    c.first_line.ensures.lines (some_bytes (length c.first_line.result.0.now) c.if-not-is_empty.ensures)
+    (c.lines.invariant.empty h))
+
 pub lines-preserved-in-Ok-push : goal.lines-preserved-in-Ok-push
 lines-preserved-in-Ok-push c =
     let cut = c.first_line.ensures.lines in
@@ -48,6 +60,8 @@ lines-preserved-in-Ok-push c =
           (moved c.lines.networks.items c.push.new.self.items c.in-Ok.network more c.in-Ok-push.ensures.items)
           (c.lines.invariant.networks (n ∷ more)
           (rw cut (network_line Strict line after n more some ((c.in-Ok.ensures.ok c.in-Ok.network).0 refl) h)));
+      empty = λ h.
+          absurd (not_all_empty (lines_of c.lines.rest.now) line after cut some (c.lines.invariant.empty h));
       bad_line = λ later h. rw append_one
           (c.lines.invariant.bad_line (1 + later)
           (rw cut (good_line Strict line after later (inr (n, ((c.in-Ok.ensures.ok c.in-Ok.network).0 refl))) h)));
@@ -75,6 +89,7 @@ lines-preserved c =
       is_text = search rules;
       count = omega (arith, c.first_line.ensures.shorter);
       networks = λ more h. c.lines.invariant.networks more (rw cut (empty_line Strict line after more none h));
+      empty = λ h. rest_empty (lines_of c.lines.rest.now) line after cut (c.lines.invariant.empty h);
       bad_line = λ later h. rw append_one
           (c.lines.invariant.bad_line (1 + later)
           (rw cut (good_line Strict line after later (inl (empty_text line none)) h)));

@@ -1,4 +1,4 @@
-use Rattle.std.proofs.Common.{◌≡◌, ℕ, ◌+◌, ◌≤◌, ◌++◌, List, length, map}
+use Rattle.std.proofs.Common.{◌≡◌, ℕ, ◌+◌, ◌≤◌, ◌++◌, List, [], length, map, All}
 use denote.Text.{Utf8}
 use denote.Shadow.{shadow}
 use Rattle.ipnet.specs.Network.{Network}
@@ -15,6 +15,7 @@ invariant-lines l = record {
   count : l.number + length l.rest ≤ length l.text;
   networks : (more : List Network) → AreNetworksOf Strict (lines_of l.rest) more
       → AreNetworksOf Strict (lines_of l.text) (map ip_network l.networks.items ++ more);
+  empty : All (λ line. line ≡ []) (lines_of l.text) → All (λ line. line ≡ []) (lines_of l.rest);
   bad_line : (later : ℕ) → IsFirstBadLine Strict (lines_of l.rest) later
       → IsFirstBadLine Strict (lines_of l.text) (l.number + later);
   at_once : (number : ℕ) → StartsWithBadLine Strict (lines_of l.text) number

@@ -1,8 +1,8 @@
-use Rattle.std.proofs.Common.{[], ◌++◌, map, string_bytes, sym, ap, ◌∙◌, append-nil}
+use Rattle.std.proofs.Common.{◌≡◌, [], ◌++◌, length, map, string_bytes, sym, ap, ◌∙◌, append-nil, arith}
 use Rattle.std.proofs.lemmas.List.{take_all}
 use Rattle.ipnet.specs.NetworkOf.{ipv4_network, ipv6_network}
 use Rattle.ipnet_tool.specs.Answers.{text_of_lines}
-use Rattle.ipnet_tool.proofs.AnswerLaws.{one_line_more, text_of_lines-append}
+use Rattle.ipnet_tool.proofs.AnswerLaws.{no_ipv6, one_line_more, text_of_lines-append}
 use Rattle.ipnet_tool.proofs.tool.printed.Goals as goal
 
 pub loop-network-preserved : goal.loop-network-preserved
@@ -27,8 +27,14 @@ loop-network-2-preserved c =
     (string_bytes c.push_line-in-loop-network-2.new.text) c.loop-network-2-test.true
     c.network-item-in-loop-network-2.is c.loop-network-2.invariant c.in_ok-push_line-2.ensures
 
-pub returns : goal.returns
-returns c =
+pub returns-in_err-push_line-2-clause-empty : goal.returns-in_err-push_line-2-clause-empty
+returns-in_err-push_line-2-clause-empty c = λ h.
+    let none : c.deref-network-items-2.result.now ≡ [] = c.deref-network-items-2.ensures.value
+    ∙ no_ipv6 c.args.families.now.ipv4.items c.args.families.now.ipv6.items h in
+    absurd (omega (arith, c.loop-network-2-test.true, ap length none))
+
+pub returns-clause-text : goal.returns-clause-text
+returns-clause-text c =
     let ipv4 = map ipv4_network c.args.families.now.ipv4.items in
     c.loop-network-2.invariant
     ∙ ap (λ z. text_of_lines ipv4 ++ text_of_lines (map ipv6_network z))

@@ -1,17 +1,33 @@
-use Rattle.std.proofs.Common.{◌≡◌, ℕ, ◌+◌, ◌<◌, ◌∷◌, [], length, refl, subst, arith, rules, append-nil, inl, inr}
+use Rattle.std.proofs.Common.{◌≡◌, ℕ, ◌+◌, ◌<◌, ◌∷◌, [], length, refl, subst, arith, rules, append-nil}
+use Rattle.std.proofs.Common.{inl, inr}
 use Rattle.ipnet.specs.Lines.{lines_of, IsFirstBadLine}
 use Rattle.ipnet.specs.NetworkOf.{ip_network}
 use Rattle.ipnet.proofs.LineLaws.{empty_line, network_line, bad_line, good_line, no_lines}
 use Rattle.ipnet_tool.specs.Answers.{StartsWithBadLine}
 use Rattle.ipnet_tool.specs.Families.{networks_of}
 use Rattle.ipnet_tool.proofs.AnswerLaws.{cover_moves_on}
-use Rattle.ipnet_tool.proofs.EarlyLines.{after_empty, bad_here, not_good, none_bad}
+use Rattle.ipnet_tool.proofs.EarlyLines.{after_empty, bad_here, not_good, none_bad, not_all_empty, rest_empty}
 use Rattle.ipnet_tool.proofs.LineCuts.{some_bytes, no_bytes, empty_text}
 use Rattle.ipnet_tool.proofs.tool.read_lines.Goals as goal
 
 -- counted one by one, or from here on
 append_one : (n m : ℕ) → n + 1 + m ≡ n + (1 + m)
 append_one n m = omega arith
+
+pub returns-in_default-clause-empty : goal.returns-in_default-clause-empty
+returns-in_default-clause-empty c = λ h.
+    absurd (not_all_empty (lines_of c.lines.rest.now) c.first_line.result.0.now (lines_of c.first_line.result.1.now)
+    c.first_line.ensures.lines (some_bytes (length c.first_line.result.0.now) c.if-not-is_empty.ensures)
+    (c.lines.invariant.empty h).0)
+
+pub returns-in_default-push-clause-empty : goal.returns-in_default-push-clause-empty
+returns-in_default-push-clause-empty c = λ h.
+    absurd (not_all_empty (lines_of c.lines.rest.now) c.first_line.result.0.now (lines_of c.first_line.result.1.now)
+    c.first_line.ensures.lines (some_bytes (length c.first_line.result.0.now) c.if-not-is_empty.ensures)
+    (c.lines.invariant.empty h).0)
+
+pub returns-clause-empty : goal.returns-clause-empty
+returns-clause-empty c = λ h. (c.lines.invariant.empty h).1
 
 pub returns-in_default-clause-bad_line : goal.returns-in_default-clause-bad_line
 returns-in_default-clause-bad_line c = λ number e.
@@ -42,6 +58,7 @@ lines-preserved-in-Ok-push c =
             cover_moves_on whole (networks_of c.lines.families)
                 (networks_of c.push.new.self) more n c.in-Ok-push.ensures same,
           );
+      empty = λ h. absurd (not_all_empty (lines_of c.lines.rest.now) line after cut some (c.lines.invariant.empty h).0);
       bad_line = λ later h. rw append_one
           (c.lines.invariant.bad_line (1 + later)
           (rw cut (good_line grammar line after later (inr (n, ((c.in-Ok.ensures.ok c.in-Ok.network).0 refl))) h)));
@@ -71,6 +88,9 @@ lines-preserved c =
       is_text = search rules;
       count = omega (arith, c.first_line.ensures.shorter);
       networks = λ more h. c.lines.invariant.networks more (rw cut (empty_line grammar line after more none h));
+      empty = λ h.
+          let (rest, none_yet) = c.lines.invariant.empty h in
+          (rest_empty (lines_of c.lines.rest.now) line after cut rest, none_yet);
       bad_line = λ later h. rw append_one
           (c.lines.invariant.bad_line (1 + later)
           (rw cut (good_line grammar line after later (inl (empty_text line none)) h)));

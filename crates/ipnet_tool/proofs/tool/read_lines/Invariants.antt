@@ -1,4 +1,4 @@
-use Rattle.std.proofs.Common.{◌≡◌, ℕ, ◌+◌, ◌≤◌, ◌++◌, List, length}
+use Rattle.std.proofs.Common.{◌≡◌, ℕ, ◌+◌, ◌≤◌, ◌++◌, List, [], length, All}
 use denote.Text.{Utf8}
 use denote.Shadow.{shadow}
 use Rattle.ipnet.specs.Network.{Network}
@@ -16,6 +16,8 @@ invariant-lines l = record {
   networks : (more : List Network) → AreNetworksOf l.grammar (lines_of l.rest) more
       → (whole : List Network) × AreNetworksOf l.grammar (lines_of l.text) whole
       × HaveSameCover whole (networks_of l.families ++ more);
+  empty : All (λ line. line ≡ []) (lines_of l.text)
+      → All (λ line. line ≡ []) (lines_of l.rest) × (networks_of l.families ≡ []);
   bad_line : (later : ℕ) → IsFirstBadLine l.grammar (lines_of l.rest) later
       → IsFirstBadLine l.grammar (lines_of l.text) (l.number + later);
   at_once : (number : ℕ) → StartsWithBadLine l.grammar (lines_of l.text) number

@@ -5,7 +5,7 @@ use Rattle.ipnet_base.specs.RangeOf.{ipv4_range}
 use Rattle.ipnet.specs.declared.net.ipv4_net.Ipv4Net.{Ipv4Net}
 use Rattle.ipnet.specs.NetworkOf.{ipv4_network}
 use Rattle.ipnet.specs.NetLaws.{ipv4_valid}
-use Rattle.ipnet.proofs.NumberLaws.{IsHostRange-whole, IsHostRange-inner, reserved_ends_are_apart}
+use Rattle.ipnet.proofs.HostLaws.{IsHostRange-whole, IsHostRange-inner, reserved_ends_are_apart}
 use Rattle.ipnet.proofs.net.ipv4_net.Ipv4Net.hosts.Goals as goal
 
 first_is : (n : Ipv4Net) (len first : ℕ) → len ≡ (ipv4_network n).prefix_len

@@ -2,7 +2,7 @@ use Rattle.std.proofs.Common.{refl}
 use Rattle.ipnet_base.specs.Address.{ipv6_address}
 use Rattle.ipnet_base.specs.RangeOf.{ipv6_range}
 use Rattle.ipnet.specs.NetworkOf.{ipv6_network}
-use Rattle.ipnet.proofs.NumberLaws.{IsHostRange-whole}
+use Rattle.ipnet.proofs.HostLaws.{IsHostRange-whole}
 use Rattle.ipnet.proofs.net.ipv6_net.Ipv6Net.hosts.Goals as goal
 
 pub returns : goal.returns

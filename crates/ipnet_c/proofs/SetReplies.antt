@@ -1,0 +1,132 @@
+-- Replies to two lists of networks made one.
+use Rattle.std.proofs.Common.{◌≡◌, ℕ, ◌⊎◌, ◌↔◌, List, [], inl, inr, refl, length, arith, IsUtf8}
+use Rattle.ipnet.specs.Address.{Address}
+use Rattle.ipnet.specs.Network.{Network}
+use Rattle.ipnet.specs.Blocks.{IsCoveredBy, AreMaximalBlocks}
+use Rattle.ipnet.specs.Lines.{lines_of, AreNetworksOf, IsFirstBadLine}
+use Rattle.ipnet.specs.declared.parser.Grammar.TheVariants.{Strict}
+use Rattle.ipnet.proofs.LineLaws.{all_good, no_lines}
+use Rattle.ipnet.proofs.WalkLaws.{AreMaximalBlocks-nil}
+use Rattle.ipnet_base.proofs.SupernetLaws.{AreMaximalBlocks-same_set}
+use Rattle.ipnet_sets.specs.declared.set.IpSet.{IpSet}
+use Rattle.ipnet_sets.specs.Members.{IsMember}
+use Rattle.ipnet_c.specs.Buffers.{IsWritten, IsTooLong}
+use Rattle.ipnet_c.specs.Replies.{IsCombined, AreBlocksOfBoth, IsSetText, IsSetReply}
+use Rattle.ipnet_c.specs.declared.sets.Operation.{Operation}
+use Rattle.ipnet_c.specs.declared.sets.Operation.TheVariants.{Union, Intersection, Difference}
+use Rattle.ipnet_c.proofs.StatusLaws.{differ, not_other}
+use Rattle.ipnet_c.proofs.ListReplies.{IsGoodAtOnce, good_at_once}
+
+-- the same is made of two sets with the same addresses
+pub IsCombined-same : (operation : Operation) (A B C D : Type 0) → A ↔ C → B ↔ D
+    → IsCombined operation A B → IsCombined operation C D
+IsCombined-same Union A B C D first second (inl a) = inl (first.0 a)
+IsCombined-same Union A B C D first second (inr b) = inr (second.0 b)
+IsCombined-same Intersection A B C D first second (a, b) = (first.0 a, second.0 b)
+IsCombined-same Difference A B C D first second (a, none) = (first.0 a, λ d. none (second.1 d))
+
+-- the maximal blocks of the set that the operation makes of the sets of two lists
+pub blocks_of_both : (operation : Operation) (networks others blocks : List Network) (set first second : IpSet)
+    → ((x : Address) → IsMember first x ↔ IsCoveredBy networks x)
+    → ((x : Address) → IsMember second x ↔ IsCoveredBy others x)
+    → ((x : Address) → IsMember set x ↔ IsCombined operation (IsMember first x) (IsMember second x))
+    → AreMaximalBlocks (IsMember set) 0 blocks → AreBlocksOfBoth operation networks others blocks
+blocks_of_both operation networks others blocks set first second of_networks of_others made =
+    AreMaximalBlocks-same_set (IsMember set)
+    (λ x. IsCombined operation (IsCoveredBy networks x) (IsCoveredBy others x)) 0 blocks
+    (λ x. (
+      λ m. IsCombined-same operation (IsMember first x) (IsMember second x) (IsCoveredBy networks x)
+          (IsCoveredBy others x) (of_networks x) (of_others x) ((made x).0 m),
+      λ m. (made x).1 (IsCombined-same operation (IsCoveredBy networks x) (IsCoveredBy others x) (IsMember first x)
+          (IsMember second x) ((of_networks x).1, (of_networks x).0) ((of_others x).1, (of_others x).0) m),
+    ))
+
+-- of two lists with no network every operation makes nothing
+nothing_of_nothing : (operation : Operation) (x : Address) → ¬ (IsCoveredBy [] x)
+    → ¬ (IsCombined operation (IsCoveredBy [] x) (IsCoveredBy [] x))
+nothing_of_nothing Union x none (inl a) = none a
+nothing_of_nothing Union x none (inr b) = none b
+nothing_of_nothing Intersection x none (a, b) = none a
+nothing_of_nothing Difference x none (a, b) = none a
+
+-- so of two texts with no byte the answer is empty
+pub empty_of_empty : (operation : Operation) (text other : List ℕ) → length text ≡ 0 → length other ≡ 0
+    → IsSetText operation text other []
+empty_of_empty operation text other none none_other = record {
+  networks = [];
+  others = [];
+  written = no_lines Strict text none;
+  written_other = no_lines Strict other none_other;
+  blocks = [];
+  combined =
+      AreMaximalBlocks-nil (λ x. IsCombined operation (IsCoveredBy [] x) (IsCoveredBy [] x)) 0
+      (λ x. nothing_of_nothing operation x (λ h. omega (arith, h.2)));
+  spelled = refl;
+}
+
+-- ---- what a call tells
+
+-- the answer, written where there is room
+pub combined : (operation : Operation) (text other answer old new : List ℕ) (count_old count status : ℕ) → IsUtf8 text
+    → IsUtf8 other → IsSetText operation text other answer → (status ≡ 0) ⊎ (status ≡ 4)
+    → (status ≡ 0 → IsWritten answer old new count) → (status ≡ 4 → IsTooLong answer old new count)
+    → IsSetReply operation text other old new count_old count status
+combined operation text other answer old new count_old count status utf8 utf8_other is known ok short = record {
+  known = elim known [ inl e ↦ inl e | inr e ↦ inr (inl e) ];
+  ok = λ e. (answer, is, ok e);
+  too_short = λ e. (answer, is, short e);
+  bad_line = λ e. absurd (not_other status 1 known refl refl e);
+  bad_line_in_other = λ e. absurd (not_other status 9 known refl refl e);
+  not_utf8 = (λ e. absurd (not_other status 2 known refl refl e), λ invalid. absurd (invalid utf8));
+  other_not_utf8 = (λ e. absurd (not_other status 10 known refl refl e), λ invalid. absurd (invalid.1 utf8_other));
+  buffer_kept = λ not_ok. elim known [ inl e ↦ absurd (not_ok e) | inr e ↦ (short e).kept ];
+  count_kept = λ e. elim e [
+    | inl e ↦ absurd (not_other status 2 known refl refl e)
+    | inr e ↦ elim e [
+      | inl e ↦ absurd (not_other status 10 known refl refl e)
+      | inr e ↦ absurd (not_other status 3 known refl refl e)
+    ]
+  ];
+  empty = λ none none_other e. not_other status 3 known refl refl e;
+  bad_at_once = λ number a b h. absurd (good_at_once Strict text is.networks is.written number h);
+}
+
+-- a bad line of the other text
+pub other_refused : (operation : Operation) (text other buffer : List ℕ) (count_old count : ℕ) (networks : List Network)
+    → IsUtf8 text → IsUtf8 other → AreNetworksOf Strict (lines_of text) networks
+    → IsFirstBadLine Strict (lines_of other) count
+    → IsSetReply operation text other buffer buffer count_old count 9
+other_refused operation text other buffer count_old count networks utf8 utf8_other written bad = record {
+  known = inr (inr (inr (inl refl)));
+  ok = λ e. absurd (differ 9 0 refl e);
+  too_short = λ e. absurd (differ 9 4 refl e);
+  bad_line = λ e. absurd (differ 9 1 refl e);
+  bad_line_in_other = λ e. (bad, all_good Strict (lines_of text) networks written);
+  not_utf8 = (λ e. absurd (differ 9 2 refl e), λ invalid. absurd (invalid utf8));
+  other_not_utf8 = (λ e. absurd (differ 9 10 refl e), λ invalid. absurd (invalid.1 utf8_other));
+  buffer_kept = λ e. refl;
+  count_kept = λ e. elim e [
+    | inl e ↦ absurd (differ 9 2 refl e)
+    | inr e ↦ elim e [ inl e ↦ absurd (differ 9 10 refl e) | inr e ↦ absurd (differ 9 3 refl e) ]
+  ];
+  empty = λ a b e. differ 9 3 refl e;
+  bad_at_once = λ number a b h. absurd (good_at_once Strict text networks written number h);
+}
+
+-- want of memory
+pub not_combined : (operation : Operation) (text other buffer : List ℕ) (count : ℕ) → IsUtf8 text → IsUtf8 other
+    → (text ≡ [] → ¬ (other ≡ [])) → IsGoodAtOnce Strict text
+    → IsSetReply operation text other buffer buffer count count 3
+not_combined operation text other buffer count utf8 utf8_other some good = record {
+  known = inr (inr (inr (inr (inr (inr refl)))));
+  ok = λ e. absurd (differ 3 0 refl e);
+  too_short = λ e. absurd (differ 3 4 refl e);
+  bad_line = λ e. absurd (differ 3 1 refl e);
+  bad_line_in_other = λ e. absurd (differ 3 9 refl e);
+  not_utf8 = (λ e. absurd (differ 3 2 refl e), λ invalid. absurd (invalid utf8));
+  other_not_utf8 = (λ e. absurd (differ 3 10 refl e), λ invalid. absurd (invalid.1 utf8_other));
+  buffer_kept = λ e. refl;
+  count_kept = λ e. refl;
+  empty = λ a b e. some a b;
+  bad_at_once = λ number a b h. absurd (good number h);
+}

@@ -1,0 +1,18 @@
+use Rattle.std.proofs.Common.{map}
+use Rattle.std.proofs.lemmas.Result.{IfOk-weaker}
+use Rattle.ipnet.specs.Blocks.{AreMaximalBlocks}
+use Rattle.ipnet.specs.NetworkOf.{ip_network}
+use Rattle.ipnet_sets.specs.Members.{IsMember}
+use Rattle.ipnet_c.specs.Replies.{AreBlocksOfBoth}
+use Rattle.ipnet_c.proofs.SetReplies.{blocks_of_both}
+use Rattle.ipnet_c.proofs.sets.combined_networks.Goals as goal
+
+pub returns : goal.returns
+returns c =
+    let set = c.in_ok-combined.field-0 in
+    let networks = map ip_network c.args.networks.now.items in
+    let others = map ip_network c.args.others.now.items in
+    IfOk-weaker c.networks.result (λ list. AreMaximalBlocks (IsMember set) 0 (map ip_network list.items))
+    (λ list. AreBlocksOfBoth c.args.operation networks others (map ip_network list.items))
+    (λ list h. blocks_of_both c.args.operation networks others (map ip_network list.items) set c.in_ok-first.first
+    c.in_ok-second.second c.in_ok-first.ensures c.in_ok-second.ensures c.in_ok-combined.ensures h) c.networks.ensures

@@ -1,0 +1,9 @@
+//! What holds of all failures of the program. The law is a function with nothing to run, whose contract is the law.
+ghost use Rattle.ipnet.specs.Values.{ClonesExactly};
+
+use super::Failure;
+
+/// The clone of a failure is the failure, and is never refused.
+pub fn failures_clone()
+    ensures { ClonesExactly ⟦<Failure as Clone>⟧.is_clone ⟦<Failure as Clone>⟧.is_infallible }
+{}
