@@ -35,7 +35,7 @@ AreJoined-from_neighbours networks h = record {
           inr (same, apart same)
     ]
 
-pub AreAggregatedNeighbours-from_joined : (networks : List Network) → AreJoined networks
+AreAggregatedNeighbours-from_joined : (networks : List Network) → AreJoined networks
     → AreAggregatedNeighbours networks
 AreAggregatedNeighbours-from_joined networks h = record {
   truncated = h.truncated;
