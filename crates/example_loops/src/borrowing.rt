@@ -29,15 +29,19 @@ pub fn ip_push_all(walk: IpSubnets, list: &mut Vec<IpNet>) -> Result<(), AllocEr
     Ok(())
 }
 
-/// The subnets of length 30, and beside them the range of the hosts of each. A network that is longer has none.
-/// The error is want of memory.
+/// The subnets of four addresses, of prefix length 30 in IPv4 and 126 in IPv6, and beside them the range of the hosts
+/// of each. A network with a longer prefix has none. The error is want of memory.
 pub fn links_with_hosts(
     alloc: Global,
     network: &IpNet,
     hosts: &mut Vec<IpAddrRange>,
 ) -> Result<Vec<IpNet>, AllocError> {
+    let prefix_len = match network {
+        IpNet::V4(_) => 30,
+        IpNet::V6(_) => 126,
+    };
     let mut links = Vec::new(alloc);
-    if let Ok(walk) = network.subnets(30) {
+    if let Ok(walk) = network.subnets(prefix_len) {
         for subnet in walk {
             hosts.push(subnet.hosts())?;
             links.push(subnet)?;
@@ -68,7 +72,8 @@ pub struct Span {
 }
 
 impl Span {
-    /// The longest prefix among the networks of at least length 24 that tile the span: a loop over fields of `self`.
+    /// The longest prefix among the networks that tile the span, under minimum prefix length 24: a loop over fields of
+    /// `self`.
     pub fn longest_prefix(&self) -> u8 {
         let mut longest = 0;
         for subnet in Ipv4Subnets::new(self.first, self.last, 24) {

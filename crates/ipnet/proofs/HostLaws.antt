@@ -2,7 +2,7 @@
 use Rattle.std.proofs.Common.{◌≡◌, ◌+◌, ◌-◌, ◌^◌, ◌<◌, ◌≤◌, ◌↔◌, Contains, refl, sym, ap, ◌∙◌, arith, inl, inr, pow_pos}
 use Rattle.std.proofs.lemmas.Bool.{cases_eq}
 use Rattle.std.proofs.lemmas.Nat.{pow_below}
-use Rattle.ipnet_base.specs.Address.{Address, IPv4, IPv6, width, IsBetween}
+use Rattle.ipnet_base.specs.Address.{Address, IPv6, width, IsBetween}
 use Rattle.ipnet_base.specs.Network.{Network, IsNetwork, host_bits, InBlock, IsLeastOf, IsGreatestOf, first_of, last_of}
 use Rattle.ipnet_base.specs.Ranges.{AddressRange, addresses_of, address_count}
 use Rattle.ipnet_base.proofs.BlockLaws.{at, between_from_block, block_from_between, last_fits, first_from_least}

@@ -8,10 +8,12 @@ use Rattle.ipnet_base.specs.Blocks.{IsCoveredBy, HaveSameCover, IsExactCover, Is
 use Rattle.ipnet_base.specs.Blocks.{IsAggregateOf, IsCanonicalAggregateOf, AreAggregatedNeighbours}
 use Rattle.ipnet_base.proofs.BlockLaws.{between_from_block, last_fits}
 use Rattle.ipnet_base.proofs.ListLaws.{all_at}
-use Rattle.ipnet_base.proofs.UniqueLaws.{AreMaximalBlocks-unique, same_family_from_index}
+use Rattle.ipnet_base.proofs.UniqueLaws.{AreMaximalBlocks-unique}
+use Rattle.ipnet_base.proofs.OrderLaws.{same_family_from_index}
 use Rattle.ipnet_base.specs.Stack.{LiesBefore, AreJoined}
 use Rattle.ipnet_base.proofs.NeighbourLaws.{AreMaximalBlocks-from_neighbours}
-use Rattle.ipnet_base.proofs.SupernetLaws.{IsDecided-cover, blocks_cover, AreMaximalBlocks-same_set}
+use Rattle.ipnet_base.proofs.DecidedLaws.{IsDecided-cover}
+use Rattle.ipnet_base.proofs.SupernetLaws.{blocks_cover, AreMaximalBlocks-same_set}
 use Rattle.ipnet_base.proofs.SupernetLaws.{same_blocks_iff_same_cover, neighbours_from_blocks}
 use Rattle.ipnet_base.proofs.CoverLaws.{HaveSameCover-sym, HaveSameCover-trans, HaveSameCover-append}
 use Rattle.ipnet_base.proofs.CoverLaws.{cover_same_members, cover_truncation}
@@ -33,7 +35,7 @@ AreJoined-from_neighbours networks h = record {
           inr (same, apart same)
     ]
 
-pub AreAggregatedNeighbours-from_joined : (networks : List Network) → AreJoined networks
+AreAggregatedNeighbours-from_joined : (networks : List Network) → AreJoined networks
     → AreAggregatedNeighbours networks
 AreAggregatedNeighbours-from_joined networks h = record {
   truncated = h.truncated;
@@ -73,7 +75,7 @@ IsExactCover-of_aggregate networks answer valid h =
     IsExactCover-of_maximal (IsCoveredBy networks) 0 answer (IsDecided-cover networks)
     (λ x a. (covered_fits networks valid x a, omega arith)) h
 
-pub IsShortestCover-of_aggregate : (networks answer : List Network) → All IsNetwork networks
+IsShortestCover-of_aggregate : (networks answer : List Network) → All IsNetwork networks
     → IsAggregateOf answer networks → IsShortestCover (IsCoveredBy networks) 0 answer
 IsShortestCover-of_aggregate networks answer valid h =
     IsShortestCover-of_maximal (IsCoveredBy networks) 0 answer h (IsExactCover-of_aggregate networks answer valid h)
@@ -87,7 +89,7 @@ IsExactCover-itself : (networks : List Network) → All IsNetwork networks
 IsExactCover-itself networks valid =
     record { valid = valid; long_enough = λ k d l. omega arith; covers = λ x. (λ a. a, λ a. a) }
 
-pub aggregate_no_longer : (networks answer : List Network) → All IsNetwork networks → IsAggregateOf answer networks
+aggregate_no_longer : (networks answer : List Network) → All IsNetwork networks → IsAggregateOf answer networks
     → length answer ≤ length networks
 aggregate_no_longer networks answer valid h =
     (IsShortestCover-of_aggregate networks answer valid h).shortest networks (IsExactCover-itself networks valid)
@@ -105,7 +107,7 @@ aggregate_of_aggregate networks answer valid h =
     (same.1, same.0)) h
 
 -- a list has one aggregate at most
-pub IsAggregateOf-unique : (networks answer other : List Network) → IsAggregateOf answer networks
+IsAggregateOf-unique : (networks answer other : List Network) → IsAggregateOf answer networks
     → IsAggregateOf other networks → answer ≡ other
 IsAggregateOf-unique networks answer other h k = AreMaximalBlocks-unique (IsCoveredBy networks) 0 answer other h k
 

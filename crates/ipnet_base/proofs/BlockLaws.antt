@@ -1,8 +1,7 @@
 -- Laws of networks and their blocks.
-use Rattle.std.proofs.Common.{◌≡◌, ℕ, ◌+◌, ◌-◌, ◌*◌, ◌/◌, ◌^◌, ◌<◌, ◌≤◌, ◌≢◌, ◌⊎◌, ◌↔◌, refl, sym, ap, ◌∙◌, subst}
+use Rattle.std.proofs.Common.{◌≡◌, ℕ, ◌+◌, ◌*◌, ◌/◌, ◌^◌, ◌<◌, ◌≤◌, ◌≢◌, ◌⊎◌, refl, sym, ap, ◌∙◌, subst}
 use Rattle.std.proofs.Common.{arith, pow_pos, shr-shr, inl, inr}
 use Rattle.std.proofs.lemmas.Nat.{pow_below}
-use Rattle.std.proofs.Math.Nat.{eq_of_mul-eq-mul_right}
 use Rattle.std.proofs.lemmas.Bool.{cases_lt, cases_eq}
 use Rattle.ipnet_base.specs.Address.{Family, Address, IPv4, IPv6, width, IsBetween}
 use Rattle.ipnet_base.specs.Network.{Network, IsNetwork, host_bits, first_of, last_of, InBlock, IsSubnetOf}
@@ -118,7 +117,7 @@ same_from_block n k u v s t h =
     (same_len_from_bits n k u v there.same_family bits)
 
 -- what a block says at another name for its number of open bits
-pub prefix_at : (n : Network) (x : Address) (m : ℕ) → host_bits n ≡ m → InBlock n x
+prefix_at : (n : Network) (x : Address) (m : ℕ) → host_bits n ≡ m → InBlock n x
     → x.number / 2 ^ m ≡ n.number / 2 ^ m
 prefix_at n x m e h = subst (λ b. x.number / 2 ^ b ≡ n.number / 2 ^ b) e h.same_prefix
 
@@ -128,7 +127,7 @@ in_block_at n x m e f h =
     record { same_family = f; same_prefix = subst (λ b. x.number / 2 ^ b ≡ n.number / 2 ^ b) (sym e) h }
 
 -- halves have as many open bits
-pub halves_bits : (n k : Network) → AreHalves n k → host_bits k ≡ host_bits n
+halves_bits : (n k : Network) → AreHalves n k → host_bits k ≡ host_bits n
 halves_bits n k h = omega (arith, ap width h.siblings.same_family, h.siblings.same_len)
 
 pub supernet_bits : (s n : Network) → IsNetwork n → IsSupernetOf s n → host_bits s ≡ host_bits n + 1
@@ -235,54 +234,3 @@ block_between n x y a f low high = block_from_between n y (record {
   from_start = omega (arith, block_from (host_bits n) n.number n.number refl, low);
   to_end = omega (arith, high, (between_from_block n x a).to_end);
 })
-
--- Inclusion by numbers: no longer a prefix, and the same leading bits.
-pub subnet_by_numbers : (n k : Network) → IsNetwork n → IsNetwork k → n.family ≡ k.family
-    → IsSubnetOf n k ↔ ((k.prefix_len ≤ n.prefix_len)
-    × (n.number / 2 ^ host_bits k * 2 ^ host_bits k ≡ k.number / 2 ^ host_bits k * 2 ^ host_bits k))
-subnet_by_numbers n k u v f = (to, from)
-  where
-    to : IsSubnetOf n k → (k.prefix_len ≤ n.prefix_len)
-        × (n.number / 2 ^ host_bits k * 2 ^ host_bits k ≡ k.number / 2 ^ host_bits k * 2 ^ host_bits k)
-    to s = (
-      omega (arith, bits_from_subnet n k s, ap width f, u.prefix_fits, v.prefix_fits),
-      ap (λ q. q * 2 ^ host_bits k) (s (own n) (own_in n)).same_prefix,
-    )
-
-    from : (k.prefix_len ≤ n.prefix_len) × (n.number / 2 ^ host_bits k * 2 ^ host_bits k
-        ≡ k.number / 2 ^ host_bits k * 2 ^ host_bits k) → IsSubnetOf n k
-    from h = nested n k (own n) (own_in n)
-        (record {
-          same_family = f;
-          same_prefix =
-              eq_of_mul-eq-mul_right (2 ^ host_bits k) (pow_pos (host_bits k)) (n.number / 2 ^ host_bits k)
-              (k.number / 2 ^ host_bits k) h.1;
-        })
-        (omega (arith, h.0, ap width f))
-
--- halves by numbers
-pub halves_by_numbers : (n k : Network) → n.family ≡ k.family
-    → AreHalves n k ↔ ((n.prefix_len ≡ k.prefix_len) × (0 < n.prefix_len)
-    × (n.number / 2 ^ (host_bits n + 1) * 2 ^ (host_bits n + 1)
-    ≡ k.number / 2 ^ (host_bits n + 1) * 2 ^ (host_bits n + 1))
-    × (n.number / 2 ^ host_bits n * 2 ^ host_bits n ≡ k.number / 2 ^ host_bits n * 2 ^ host_bits n → ⊥))
-halves_by_numbers n k f = (
-  λ h. (
-    h.siblings.same_len,
-    h.siblings.has_supernet,
-    ap (λ q. q * 2 ^ (host_bits n + 1)) h.siblings.same_supernet,
-    λ e. h.differ (eq_of_mul-eq-mul_right (2 ^ host_bits n) (pow_pos (host_bits n)) (n.number / 2 ^ host_bits n)
-        (k.number / 2 ^ host_bits n) e),
-  ),
-  λ h. record {
-    siblings = record {
-      same_family = f;
-      same_len = h.0;
-      has_supernet = h.1;
-      same_supernet =
-          eq_of_mul-eq-mul_right (2 ^ (host_bits n + 1)) (pow_pos (host_bits n + 1)) (n.number / 2 ^ (host_bits n + 1))
-          (k.number / 2 ^ (host_bits n + 1)) h.2;
-    };
-    differ = λ e. h.3 (ap (λ q. q * 2 ^ host_bits n) e);
-  },
-)

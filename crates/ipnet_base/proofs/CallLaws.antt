@@ -1,7 +1,7 @@
 -- Any mix of calls on a range: each address comes at most once, and exactly once where none is passed over.
-use Rattle.std.proofs.Common.{◌≡◌, ◌≢◌, ◌↔◌, ℕ, ◌+◌, ◌-◌, ◌<◌, ◌≤◌, Option, Some, None, List, [], ◌∷◌, ◌++◌, length}
+use Rattle.std.proofs.Common.{◌≡◌, ◌≢◌, ℕ, ◌+◌, ◌-◌, ◌<◌, ◌≤◌, Option, Some, None, List, [], ◌∷◌, ◌++◌, length}
 use Rattle.std.proofs.Common.{All, AllPairs, Any, Contains, IfSome, IfNone, MatchOption, IsPermutation, refl, sym, ap}
-use Rattle.std.proofs.Common.{ap₂, ◌∙◌, subst, arith, zero, suc, inl, inr}
+use Rattle.std.proofs.Common.{ap₂, ◌∙◌, subst, arith, suc, inl, inr}
 use Rattle.std.specs.List.{cons_option}
 use Rattle.std.proofs.lemmas.Bool.{cases_lt, cases_eq}
 use Rattle.std.proofs.lemmas.List.{append-nil, length-append}
@@ -92,7 +92,7 @@ IsNthBack-takes_out n r answer t h = elim (cases_lt n (address_count r)) [
   | inl within ↦ elim (cases_eq (n + 1) (address_count r)) [
     | inl e ↦ let g = h.first e in
         rw (g.0, g.1) (takes_one r r.start 1 0 (omega arith) (omega arith) (λ k lo hi. absurd (omega arith)))
-    | inr ne ↦ let g = h.behind (omega arith) in
+    | inr ne ↦ let g = h.after (omega arith) in
         rw (g.0, g.1) (takes_one r (r.end - n) r.start (r.end - n - 1) (omega arith) (omega arith)
         (λ k lo hi. (omega arith, omega arith, omega arith)))
   ]
@@ -107,11 +107,11 @@ takes_out (NthBack n) r answer t h = IsNthBack-takes_out n r answer t h
 
 -- ---- each at most once
 
--- the addresses of the steps behind a first one are left behind it
-behind : (step : Step) (r t : AddressRange) (later : List Address) → TakesOut r step.answer t
+-- the addresses of the steps after a first one are left after it
+left_after : (step : Step) (r t : AddressRange) (later : List Address) → TakesOut r step.answer t
     → ((x : Address) → Contains later x → IsIn t x) → (x : Address) → Contains (cons_option step.answer later) x
     → IsIn r x
-behind step r t later out left x c = go step.answer out c
+left_after step r t later out left x c = go step.answer out c
   where
     go : (answer : Option Address) → TakesOut r answer t → Contains (cons_option answer later) x → IsIn r x
     go None out' c' = out'.kept x (left x c')
@@ -124,7 +124,7 @@ given_is_in : (r s : AddressRange) (steps : List Step) → IsRun r steps s → (
     → IsIn r x
 given_is_in r s [] h x c = absurd (contains_nil x c)
 given_is_in r s (step ∷ steps) h x c =
-    behind step r h.0 (given steps) (takes_out step.call r step.answer h.0 h.1) (given_is_in h.0 s steps h.2) x c
+    left_after step r h.0 (given steps) (takes_out step.call r step.answer h.0 h.1) (given_is_in h.0 s steps h.2) x c
 
 -- and an address in front of these is none of them
 apart : (step : Step) (r t : AddressRange) (later : List Address) → TakesOut r step.answer t
@@ -165,17 +165,17 @@ none_left r s (first ∷ steps) empty h step c =
       | inr later ↦ none_left h.0 s steps (λ y p. empty y (out.kept y p)) h.2 step later
     ]
 
-empty_behind : (r : AddressRange) (answer : Option Address) (t : AddressRange) → TakesOut r answer t → answer ≡ None
+empty_after : (r : AddressRange) (answer : Option Address) (t : AddressRange) → TakesOut r answer t → answer ≡ None
     → (y : Address) → IsIn t y → ⊥
-empty_behind r None t out e = out.over
-empty_behind r (Some x) t out e = absurd (cc)
+empty_after r None t out e = out.over
+empty_after r (Some x) t out e = absurd (cc)
 
 pub none_stays : (r s : AddressRange) (steps : List Step) → IsRun r steps s
     → AllPairs (λ step later. step.answer ≡ None → later.answer ≡ None) steps
 none_stays r s [] h = λ i j d lt l. absurd (omega arith)
 none_stays r s (first ∷ steps) h =
     pairs_cons (λ step later. step.answer ≡ None → later.answer ≡ None) first steps
-    (λ later c e. none_left h.0 s steps (empty_behind r first.answer h.0 (takes_out first.call r first.answer h.0 h.1)
+    (λ later c e. none_left h.0 s steps (empty_after r first.answer h.0 (takes_out first.call r first.answer h.0 h.1)
     e) h.2 later c)
     (none_stays h.0 s steps h.2)
 
@@ -229,7 +229,7 @@ IsNthBack-is_next_back n r answer t zero_is h = elim (cases_lt n (address_count 
   | inr past ↦ let g = h.past past in rw (g.0, g.1) (addresses_none r (omega arith), used_up r)
   | inl within ↦ elim (cases_eq (n + 1) (address_count r)) [
     | inl e ↦ let g = h.first e in rw (g.0, g.1, used_up r) (addresses_one r (omega arith))
-    | inr ne ↦ let g = h.behind (omega arith) in
+    | inr ne ↦ let g = h.after (omega arith) in
         rw (g.0, g.1) (addresses_last r (omega arith) (omega arith)
         ∙ ap₂ (λ m k. addresses_of (with_ends r r.start k) ++ address_at r.family m ∷ []) (omega arith)
         (omega arith))
@@ -269,10 +269,10 @@ nothing_left xs ys h =
     nil_from_length [] e = refl
     nil_from_length (z ∷ zs) e = absurd (omega arith)
 
-left_behind_none : (r : AddressRange) (answer : Option Address) (t : AddressRange) → Spends r answer t → answer ≡ None
+left_after_none : (r : AddressRange) (answer : Option Address) (t : AddressRange) → Spends r answer t → answer ≡ None
     → addresses_of t ≡ []
-left_behind_none r None t out e = out.1
-left_behind_none r (Some x) t out e = absurd (cc)
+left_after_none r None t out e = out.1
+left_after_none r (Some x) t out e = absurd (cc)
 
 none_empties : (r s : AddressRange) (steps : List Step) → IsRun r steps s → All (λ step. SkipsNone step.call) steps
     → (step : Step) → Contains steps step → step.answer ≡ None → addresses_of s ≡ []
@@ -282,7 +282,7 @@ none_empties r s (first ∷ steps) h none step c e =
     elim (contains_cases first steps step c) [
       | inl same ↦
           let empty : addresses_of h.0 ≡ [] =
-          left_behind_none r first.answer h.0
+          left_after_none r first.answer h.0
           (spends first.call r first.answer h.0 (none 0 first (omega arith)) h.1)
           (ap (λ (k : Step). k.answer) same ∙ e) in
           nothing_left (given steps) (addresses_of s)

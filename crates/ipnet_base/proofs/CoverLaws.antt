@@ -9,7 +9,7 @@ use Rattle.ipnet_base.proofs.BlockLaws.{truncation_in, in_truncation, supernet_t
 use Rattle.ipnet_base.proofs.ListLaws.{contains_nil, contains_here, contains_there, contains_cases, any_from_contains}
 
 -- an address in the block of a member is covered
-pub cover_member : (networks : List Network) (n : Network) (x : Address) → Contains networks n → InBlock n x
+cover_member : (networks : List Network) (n : Network) (x : Address) → Contains networks n → InBlock n x
     → IsCoveredBy networks x
 cover_member networks n x c a = any_from_contains (λ m. InBlock m x) networks n c a
 
@@ -39,7 +39,7 @@ cover_cons n networks x = (to, from)
         cover_member (n ∷ networks) a.1 x (contains_there n networks a.1 (covering_member networks x a)) a.4
 
 -- one network alone
-pub cover_one : (n : Network) (x : Address) → IsCoveredBy (n ∷ []) x ↔ InBlock n x
+cover_one : (n : Network) (x : Address) → IsCoveredBy (n ∷ []) x ↔ InBlock n x
 cover_one n x = (
   λ a. elim ((cover_cons n [] x).0 a) [ inl b ↦ b | inr c ↦ absurd (cover_nil x c) ],
   λ a. (cover_cons n [] x).1 (inl a),

@@ -1,5 +1,5 @@
 -- Numbers and their digits, the highest first: the order of digits is the order of the number that they write.
-use Rattle.std.proofs.Common.{◌≡◌, ℕ, ◌+◌, ◌*◌, ◌/◌, ◌%◌, ◌^◌, ◌<◌, ◌≤◌, List, [], ◌∷◌, length, slice_index, refl, sym}
+use Rattle.std.proofs.Common.{◌≡◌, ℕ, ◌+◌, ◌*◌, ◌/◌, ◌%◌, ◌^◌, ◌<◌, List, [], ◌∷◌, length, slice_index, refl, sym}
 use Rattle.std.proofs.Common.{ap, ◌∙◌, arith, zero, suc, inl, inr}
 use Rattle.std.specs.Bool.{⊤}
 use Rattle.std.specs.Int.{w32, w128, byte_at, bytes_high_first, to_be_bytes, from_be_bytes}
@@ -18,11 +18,11 @@ value r [] = 0
 value r (x ∷ xs) = x * r ^ length xs + value r xs
 
 -- each is a digit to the base r
-abbrev pub Below : ℕ → List ℕ → Type 0
+abbrev Below : ℕ → List ℕ → Type 0
 Below r [] = ⊤
 Below r (x ∷ xs) = (x < r) × Below r xs
 
-pub value_below : (r : ℕ) (xs : List ℕ) → Below r xs → value r xs < r ^ length xs
+value_below : (r : ℕ) (xs : List ℕ) → Below r xs → value r xs < r ^ length xs
 value_below r [] h = rw (pow-zero r) (omega arith)
 value_below r (x ∷ xs) h =
     let lower = mul-add-lt x (r ^ length xs) (value r xs) r h.0 (value_below r xs h.1) in
@@ -64,7 +64,7 @@ cmp_value r (x ∷ xs) (y ∷ ys) e h k =
     ∙ cmp_first x y (r ^ length xs) (value r xs) (value r ys) (value_below r xs h.1) by
     ∙ ap (λ (l : ℕ). nat_cmp (x * r ^ length xs + value r xs) (y * r ^ l + value r ys)) same
 
-pub below_all : (r : ℕ) (xs : List ℕ) → ((k : ℕ) → slice_index xs k < r) → Below r xs
+below_all : (r : ℕ) (xs : List ℕ) → ((k : ℕ) → slice_index xs k < r) → Below r xs
 below_all r [] h = tt
 below_all r (x ∷ xs) h = (h 0, below_all r xs (λ k. h (suc k)))
 

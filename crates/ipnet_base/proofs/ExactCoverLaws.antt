@@ -1,17 +1,17 @@
--- Maximal blocks as exact and shortest covers, for every set of addresses that can be decided; and ranges.
-use Rattle.std.proofs.Common.{◌≡◌, ℕ, ◌-◌, ◌/◌, ◌^◌, ◌<◌, ◌≤◌, ◌⊎◌, ◌↔◌, List, Bool, true, false, IsTrue, refl, sym}
-use Rattle.std.proofs.Common.{ap, ◌∙◌, subst, arith, inl, inr}
+-- Maximal blocks as exact and shortest covers: of every set of addresses that can be decided, and of ranges.
+use Rattle.std.proofs.Common.{◌≡◌, ℕ, ◌-◌, ◌/◌, ◌^◌, ◌<◌, ◌≤◌, List, sym}
+use Rattle.std.proofs.Common.{ap, ◌∙◌, subst, arith}
 use Rattle.std.proofs.Math.Nat.{div-one}
-use Rattle.std.proofs.lemmas.Bool.{cases_lt}
-use Rattle.ipnet_base.specs.Address.{Family, Address, IsAddress, IsAcceptedBy, width, IsBetween}
+use Rattle.ipnet_base.specs.Address.{Family, Address, IsAddress, width, IsBetween}
 use Rattle.ipnet_base.specs.Network.{Network, IsNetwork, InBlock, AreDisjoint, IsBefore}
 use Rattle.ipnet_base.specs.Blocks.{IsCoveredBy, IsInside, AreMaximalBlocks, IsExactCover, IsShortestCover}
 use Rattle.ipnet_base.specs.Blocks.{ArePairwiseDisjoint}
-use Rattle.ipnet_base.proofs.BlockLaws.{own_in, cases_family}
+use Rattle.ipnet_base.proofs.BlockLaws.{own_in}
 use Rattle.ipnet_base.proofs.ListLaws.{any_from_contains, all_from_members, pairs_from_members}
-use Rattle.ipnet_base.proofs.UniqueLaws.{IsBefore-asymmetric}
+use Rattle.ipnet_base.proofs.OrderLaws.{IsBefore-asymmetric}
 use Rattle.ipnet_base.proofs.ShortestLaws.{one_maximal, shortest, one_as_short}
-use Rattle.ipnet_base.proofs.SupernetLaws.{IsDecided, maximal_above}
+use Rattle.ipnet_base.proofs.SupernetLaws.{maximal_above}
+use Rattle.ipnet_base.proofs.DecidedLaws.{IsDecided, IsDecided-between}
 
 -- maximal blocks that cover their set are its shortest cover
 pub IsShortestCover-of_maximal : (InSet : Address → Type 0) (least : ℕ) (networks : List Network)
@@ -36,7 +36,7 @@ maximal_blocks_apart InSet least networks blocks = pairs_from_members IsBefore A
 abbrev pub single : Address → Network
 single x = record { family = x.family; number = x.number; prefix_len = width x.family }
 
-pub single_has_one : (x y : Address) → InBlock (single x) y → y ≡ x
+single_has_one : (x y : Address) → InBlock (single x) y → y ≡ x
 single_has_one x y a = λ i. record { family = a.same_family i; number = same i }
   where
     closed : width x.family - width x.family ≡ 0
@@ -46,7 +46,7 @@ single_has_one x y a = λ i. record { family = a.same_family i; number = same i 
     same = sym (div-one y.number) ∙ subst (λ b. y.number / 2 ^ b ≡ x.number / 2 ^ b) closed a.same_prefix
         ∙ div-one x.number
 
-pub IsInside-single : (InSet : Address → Type 0) (least : ℕ) (x : Address) → IsAddress x → least ≤ width x.family
+IsInside-single : (InSet : Address → Type 0) (least : ℕ) (x : Address) → IsAddress x → least ≤ width x.family
     → InSet x → IsInside InSet least (single x)
 IsInside-single InSet least x fits short inside = record {
   network = record { address_fits = fits; prefix_fits = omega arith };
@@ -75,22 +75,8 @@ IsExactCover-of_maximal InSet least networks decided fits blocks = record {
         (IsInside-single InSet least x (fits x inside).0 (fits x inside).1 inside) in
         any_from_contains (λ k. InBlock k x) networks n ((blocks.members n).1 max) (sub x (own_in (single x)))
 
--- whether an address lies in a range
-pub IsDecided-between : (f : Family) (s e : ℕ) → IsDecided (IsBetween f s e)
-IsDecided-between f s e x =
-    elim (cases_family x.family f) [
-      | inr other ↦ inr (λ b. other b.of_family)
-      | inl same ↦ elim (cases_lt x.number s) [
-        | inl early ↦ inr (λ b. omega (arith, early, b.from_start))
-        | inr from_start ↦ elim (cases_lt e x.number) [
-          | inl late ↦ inr (λ b. omega (arith, late, b.to_end))
-          | inr to_end ↦ inl (record { of_family = same; from_start = from_start; to_end = to_end })
-        ]
-      ]
-    ]
-
 -- the maximal blocks of a range cover it, and no list of networks as long as they must be covers it by fewer
-pub IsExactCover-of_range : (f : Family) (s e m : ℕ) (networks : List Network) → e < 2 ^ width f → m ≤ width f
+IsExactCover-of_range : (f : Family) (s e m : ℕ) (networks : List Network) → e < 2 ^ width f → m ≤ width f
     → AreMaximalBlocks (IsBetween f s e) m networks → IsExactCover (IsBetween f s e) m networks
 IsExactCover-of_range f s e m networks fits short blocks =
     IsExactCover-of_maximal (IsBetween f s e) m networks (IsDecided-between f s e)
@@ -103,17 +89,3 @@ pub IsShortestCover-of_range : (f : Family) (s e m : ℕ) (networks : List Netwo
 IsShortestCover-of_range f s e m networks fits short blocks =
     IsShortestCover-of_maximal (IsBetween f s e) m networks blocks
     (IsExactCover-of_range f s e m networks fits short blocks)
-
--- a set that can be decided is told by a test
-answer_of : {P : Type 0} → P ⊎ (P → ⊥) → Bool
-answer_of (inl holds) = true
-answer_of (inr fails) = false
-
-answer_is : {P : Type 0} (decided : P ⊎ (P → ⊥)) → P ↔ IsTrue (answer_of decided)
-unfolding answer_of
-answer_is (inl holds) = (λ p. refl, λ t. holds)
-answer_is (inr fails) = (λ p. absurd (fails p), λ t. cc)
-
-pub test_of_decided : (InSet : Address → Type 0) → IsDecided InSet → (test : Address → Bool)
-    × ((x : Address) → InSet x ↔ IsAcceptedBy test x)
-test_of_decided InSet decided = (λ x. answer_of (decided x), λ x. answer_is (decided x))

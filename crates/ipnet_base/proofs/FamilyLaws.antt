@@ -9,17 +9,17 @@ use Rattle.ipnet_base.proofs.CoverLaws.{covering_member}
 use Rattle.ipnet_base.proofs.SeparationLaws.{IsAggregateOf-append}
 
 -- every network of the list is of the family
-abbrev pub AreOfFamily : Family → List Network → Type 0
+abbrev AreOfFamily : Family → List Network → Type 0
 AreOfFamily f networks = All (λ n. n.family ≡ f) networks
 
 -- networks of one family cover addresses of it alone
-pub covered_family : (f : Family) (networks : List Network) → AreOfFamily f networks → (x : Address)
+covered_family : (f : Family) (networks : List Network) → AreOfFamily f networks → (x : Address)
     → IsCoveredBy networks x → x.family ≡ f
 covered_family f networks all x a =
     a.4.same_family ∙ all_at (λ n. n.family ≡ f) networks all a.1 (covering_member networks x a)
 
 -- what IPv4 networks cover and what IPv6 networks cover is separated
-pub AreSeparated-families : (ipv4 ipv6 : List Network) → AreOfFamily IPv4 ipv4 → AreOfFamily IPv6 ipv6
+AreSeparated-families : (ipv4 ipv6 : List Network) → AreOfFamily IPv4 ipv4 → AreOfFamily IPv6 ipv6
     → AreSeparated (IsCoveredBy ipv4) (IsCoveredBy ipv6)
 AreSeparated-families ipv4 ipv6 of4 of6 = record {
   before = λ x y a b.

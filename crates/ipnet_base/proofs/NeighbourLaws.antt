@@ -18,7 +18,7 @@ use Rattle.ipnet_base.proofs.ListLaws.{at_place, pair_at, one_place, adjacent_at
 use Rattle.ipnet_base.proofs.ListLaws.{any_from_contains, all_at}
 
 -- `LiesBefore` by numbers alone
-abbrev pub EndsBelow : (f g last number : ℕ) → Type 0
+abbrev EndsBelow : (f g last number : ℕ) → Type 0
 EndsBelow f g last number = (f < g) ⊎ ((f ≡ g) × (last < number))
 
 pub ends_by_numbers : (n k : Network) → LiesBefore n k
@@ -30,14 +30,14 @@ ends_by_numbers n k (inr h) = inr (ap family_index h.0, h.1 (at n (last_of n)) (
 own_to_last : (n : Network) → n.number ≤ last_of n
 own_to_last n = (between_from_block n (own n) (own_in n)).to_end
 
-pub LiesBefore-transitive : (n k l : Network) → LiesBefore n k → LiesBefore k l → LiesBefore n l
+LiesBefore-transitive : (n k l : Network) → LiesBefore n k → LiesBefore k l → LiesBefore n l
 LiesBefore-transitive n k l (inl h) (inl i) = inl (omega arith)
 LiesBefore-transitive n k l (inl h) (inr i) = inl (omega (arith, h, ap family_index i.0))
 LiesBefore-transitive n k l (inr h) (inl i) = inl (omega (arith, i, ap family_index h.0))
 LiesBefore-transitive n k l (inr h) (inr i) =
     inr (h.0 ∙ i.0, λ x a. omega (arith, h.1 x a, i.1 (own k) (own_in k)))
 
-pub before_from_ends : (n k : Network) → LiesBefore n k → IsBefore n k
+before_from_ends : (n k : Network) → LiesBefore n k → IsBefore n k
 before_from_ends n k (inl h) = inl h
 before_from_ends n k (inr h) = inr (h.0, inl (h.1 (own n) (own_in n)))
 
@@ -50,29 +50,8 @@ pub ends_apart : (n k : Network) (x : Address) → IsTruncated k → LiesBefore 
 ends_apart n k x t (inl h) a b = absurd (omega (arith, h, ap family_index (sym a.same_family ∙ b.same_family)))
 ends_apart n k x t (inr h) a b = absurd (omega (arith, h.1 x a, t x b))
 
--- what lies before a network lies before each network in its block
-pub before_subnet : (r k n : Network) → IsTruncated k → LiesBefore r k → IsSubnetOf n k → LiesBefore r n
-before_subnet r k n t (inl h) s = inl (omega (arith, h, ap family_index (s (own n) (own_in n)).same_family))
-before_subnet r k n t (inr h) s =
-    inr (h.0 ∙ sym (s (own n) (own_in n)).same_family, λ x a. omega (arith, h.1 x a, t (own n) (s (own n) (own_in n))))
-
--- what lies before a member of a list in order lies before all from there on
-pub before_rest : (networks : List Network) → AllPairs LiesBefore networks → (r n k : Network) (c : Contains networks n)
-    (e : Contains networks k) → LiesBefore r n → c.0 ≤ e.0 → LiesBefore r k
-before_rest networks ends r n k c e before le =
-    elim (cases_order c.0 e.0) [
-      | inl same ↦ subst (LiesBefore r) (one_place networks n k c e same) before
-      | inr (inl lt) ↦ LiesBefore-transitive r n k before (pair_at LiesBefore networks ends n k c e lt)
-      | inr (inr gt) ↦ absurd (omega (arith, gt, le))
-    ]
-
--- what lies before a network stands before every network whose own address is in that one's block
-pub before_own : (n k m : Network) → LiesBefore n k → IsTruncated k → InBlock k (own m) → IsBefore n m
-before_own n k m (inl h) t a = inl (omega (arith, h, ap family_index a.same_family))
-before_own n k m (inr h) t a = inr (h.0 ∙ sym a.same_family, inl (omega (arith, h.1 (own n) (own_in n), t (own m) a)))
-
 -- members that share an address are one
-pub one_member : (networks : List Network) → All IsTruncated networks → AllPairs LiesBefore networks
+one_member : (networks : List Network) → All IsTruncated networks → AllPairs LiesBefore networks
     → (n k : Network) → Contains networks n → Contains networks k → (x : Address) → InBlock n x → InBlock k x → n ≡ k
 one_member networks trunc ends n k c e x a b =
     elim (cases_order c.0 e.0) [
@@ -229,7 +208,7 @@ lies_in_one networks valid joined family (suc k) c le cover =
     half y q e h = subst (λ m. y / 2 ^ m ≡ c) (add-one k) (sym (shr-shr y k 1) ∙ ap (λ z. z / 2) e ∙ h)
 
 -- a truncated network whose block is covered lies in one member
-pub subnet_of_one : (networks : List Network) → All IsNetwork networks → AreJoined networks
+subnet_of_one : (networks : List Network) → All IsNetwork networks → AreJoined networks
     → (k : Network) → ((x : Address) → InBlock k x → IsCoveredBy networks x) → (n : Network) × Contains networks n
     × IsSubnetOf k n
 subnet_of_one networks valid joined k covered =

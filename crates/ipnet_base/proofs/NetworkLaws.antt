@@ -1,26 +1,17 @@
--- Small laws of networks: the ends of blocks, inclusion as an order, truncations, supernets, siblings, masks.
-use Rattle.std.proofs.Common.{◌≡◌, ℕ, ◌+◌, ◌-◌, ◌*◌, ◌/◌, ◌^◌, ◌<◌, ◌≤◌, ◌≢◌, ◌⊎◌, ◌↔◌, refl, sym, ap, ◌∙◌, subst}
+-- Single networks: the ends of blocks, inclusion, truncations, supernets, siblings.
+use Rattle.std.proofs.Common.{◌≡◌, ℕ, ◌+◌, ◌-◌, ◌*◌, ◌/◌, ◌^◌, ◌<◌, ◌≤◌, ◌≢◌, ◌↔◌, refl, sym, ap, ◌∙◌, subst}
 use Rattle.std.proofs.Common.{arith, inl, inr, pow_pos, pow-add, shr-shr, mul-le-mul_right}
-use Rattle.std.proofs.lemmas.Bool.{cases_lt, cases_eq, cases_order}
-use Rattle.std.proofs.lemmas.Nat.{pow_below}
+use Rattle.std.proofs.lemmas.Bool.{cases_eq}
 use Rattle.std.proofs.Math.Nat.{mul-div_cancel}
-use Rattle.ipnet_base.specs.Address.{Family, Address, IsAddress, IsBetween, width, family_index, greatest_number}
-use Rattle.ipnet_base.specs.Network.{Network, IsNetwork, host_bits, InBlock, IsSubnetOf, HaveSameBlock, IsTruncated}
-use Rattle.ipnet_base.specs.Network.{IsTruncationOf, IsSupernetOf, AreSiblings, AreHalves, IsBefore, IsLeastOf}
+use Rattle.ipnet_base.specs.Address.{Address, IsAddress, IsBetween, width}
+use Rattle.ipnet_base.specs.Network.{Network, IsNetwork, host_bits, InBlock, HaveSameBlock, IsTruncated}
+use Rattle.ipnet_base.specs.Network.{IsTruncationOf, IsSupernetOf, AreSiblings, AreHalves, IsLeastOf}
 use Rattle.ipnet_base.specs.Network.{IsGreatestOf, truncation, first_of, last_of}
-use Rattle.ipnet_base.specs.Masks.{netmask_number, hostmask_number, IsNetmaskOf}
 use Rattle.ipnet_base.proofs.PrefixLaws.{block_from, first_in_block, block_end_fits}
 use Rattle.ipnet_base.proofs.BlockLaws.{at, own, own_in, nested, block_from_between, first_from_least}
 use Rattle.ipnet_base.proofs.BlockLaws.{last_from_greatest, IsLeastOf-first, IsGreatestOf-last, last_fits}
 use Rattle.ipnet_base.proofs.BlockLaws.{number_from_truncated, same_network, same_from_block, IsTruncated-truncation}
 use Rattle.ipnet_base.proofs.BlockLaws.{IsNetwork-truncation, truncation_in, in_truncation, supernet_bits}
-
--- inclusion of blocks is reflexive and transitive
-pub IsSubnetOf-refl : (n : Network) → IsSubnetOf n n
-IsSubnetOf-refl n x a = a
-
-pub IsSubnetOf-trans : (n k l : Network) → IsSubnetOf n k → IsSubnetOf k l → IsSubnetOf n l
-IsSubnetOf-trans n k l s t x a = t x (s x a)
 
 -- blocks contain each other exactly where the truncations are equal
 pub same_block_iff_same_truncation : (n k : Network) → IsNetwork n → IsNetwork k
@@ -61,9 +52,6 @@ truncation_from_relation t n h = same_network t (truncation n) there.same_family
         number_from_truncated t h.truncated ∙ ap (λ b. t.number / 2 ^ b * 2 ^ b) bits
         ∙ ap (λ q. q * 2 ^ host_bits n) there.same_prefix
 
-pub IsTruncationOf-unique : (s t n : Network) → IsTruncationOf s n → IsTruncationOf t n → s ≡ t
-IsTruncationOf-unique s t n h k = truncation_from_relation s n h ∙ sym (truncation_from_relation t n k)
-
 -- truncated twice is truncated once, and a truncated network is its own truncation
 pub truncation_twice : (n : Network) → truncation (truncation n) ≡ truncation n
 truncation_twice n =
@@ -103,38 +91,6 @@ AreSiblings-symmetric n k h = record {
 
 pub AreSiblings-reflexive : (n : Network) → 0 < n.prefix_len → AreSiblings n n
 AreSiblings-reflexive n long = record { same_family = refl; same_len = refl; has_supernet = long; same_supernet = refl }
-
--- netmask and host mask of a length add up to the family's last number
-pub masks_add_up : (f : Family) (p : ℕ) → p ≤ width f → netmask_number f p + hostmask_number f p ≡ greatest_number f
-masks_add_up f p le = omega (arith, pow_pos (width f - p), most)
-  where
-    most : 2 ^ (width f - p) ≤ 2 ^ width f
-    most = elim (cases_lt (width f - p) (width f)) [
-      | inl lt ↦ omega (arith, pow_below (width f - p) (width f) lt)
-      | inr ge ↦ let same : width f - p ≡ width f = omega (arith, ge) in omega (arith, ap (λ b. 2 ^ b) same)
-    ]
-
--- a number is the netmask of one length at most
-pub IsNetmaskOf-unique : (f : Family) (number p q : ℕ) → IsNetmaskOf f number p → IsNetmaskOf f number q → p ≡ q
-IsNetmaskOf-unique f number p q h k =
-    elim (cases_order p q) [
-      | inl same ↦ same
-      | inr (inl lt) ↦ absurd (apart p q lt h k)
-      | inr (inr gt) ↦ absurd (apart q p gt k h)
-    ]
-  where
-    apart : (a b : ℕ) → a < b → IsNetmaskOf f number a → IsNetmaskOf f number b → ⊥
-    apart a b lt h k =
-        omega (
-          arith,
-          h.is_mask,
-          k.is_mask,
-          pow_below (width f - b) (width f - a) (omega (arith, lt, k.fits)),
-          masks_add_up f a h.fits,
-          masks_add_up f b k.fits,
-          pow_pos (width f - a),
-          pow_pos (width f - b),
-        )
 
 -- a network's block has a least and a greatest address
 pub least_exists : (n : Network) → IsNetwork n → (x : Address) × IsAddress x × IsLeastOf n x
@@ -208,31 +164,3 @@ other_half_exists n u long =
       | inr odd ↦ half_of_bits n (n.number / 2 ^ host_bits n - 1) u long (omega (arith, odd))
           (λ e. omega (arith, e, odd))
     ]
-
--- the order of truncated networks is that of families, first addresses and lengths
-pub before_by_first : (n k : Network) (a b : Address) → IsTruncated n → IsTruncated k → IsLeastOf n a → IsLeastOf k b
-    → IsBefore n k ↔ ((family_index a.family < family_index b.family)
-    ⊎ ((a.family ≡ b.family) × ((a.number < b.number) ⊎ ((a.number ≡ b.number) × (n.prefix_len < k.prefix_len)))))
-before_by_first n k a b t u p q = (to, from)
-  where
-    at_a : a.number ≡ n.number
-    at_a = first_from_least n a p ∙ sym (number_from_truncated n t)
-
-    at_b : b.number ≡ k.number
-    at_b = first_from_least k b q ∙ sym (number_from_truncated k u)
-
-    to : IsBefore n k → (family_index a.family < family_index b.family)
-        ⊎ ((a.family ≡ b.family) × ((a.number < b.number) ⊎ ((a.number ≡ b.number) × (n.prefix_len < k.prefix_len))))
-    to (inl lt) = inl (omega (arith, lt, ap family_index p.inside.same_family, ap family_index q.inside.same_family))
-    to (inr (f, inl lt)) =
-        inr (p.inside.same_family ∙ f ∙ sym q.inside.same_family, inl (omega (arith, lt, at_a, at_b)))
-    to (inr (f, inr (e, lt))) = inr (p.inside.same_family ∙ f ∙ sym q.inside.same_family, inr (at_a ∙ e ∙ sym at_b, lt))
-
-    from : (family_index a.family < family_index b.family)
-        ⊎ ((a.family ≡ b.family) × ((a.number < b.number) ⊎ ((a.number ≡ b.number) × (n.prefix_len < k.prefix_len))))
-        → IsBefore n k
-    from (inl lt) = inl (omega (arith, lt, ap family_index p.inside.same_family, ap family_index q.inside.same_family))
-    from (inr (f, inl lt)) =
-        inr (sym p.inside.same_family ∙ f ∙ q.inside.same_family, inl (omega (arith, lt, at_a, at_b)))
-    from (inr (f, inr (e, lt))) =
-        inr (sym p.inside.same_family ∙ f ∙ q.inside.same_family, inr (sym at_a ∙ e ∙ at_b, lt))

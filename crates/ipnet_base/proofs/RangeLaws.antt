@@ -49,7 +49,7 @@ addresses_one r e =
 pub used_up : (r : AddressRange) → addresses_of (with_ends r 1 0) ≡ []
 used_up r = addresses_none (with_ends r 1 0) (omega arith)
 
-pub addresses_at : (r : AddressRange) (n : ℕ) → n < address_count r
+addresses_at : (r : AddressRange) (n : ℕ) → n < address_count r
     → slice_get (addresses_of r) n ≡ Some (address_at r.family (r.start + n))
 unfolding numbers_between
 addresses_at r n h =
@@ -57,7 +57,7 @@ addresses_at r n h =
     ∙ ap Some (get_or-map-range_with_len (address_at r.family) r.start (address_count r) n (r.start + n)
     (address_at r.family 0) h refl)
 
-pub addresses_past : (r : AddressRange) (n : ℕ) → address_count r ≤ n → slice_get (addresses_of r) n ≡ None
+addresses_past : (r : AddressRange) (n : ℕ) → address_count r ≤ n → slice_get (addresses_of r) n ≡ None
 addresses_past r n h = slice_get_past (addresses_of r) n (omega (arith, length-addresses_of r, h))
 
 addresses_back_at : (r : AddressRange) (n : ℕ) → n < address_count r
@@ -133,7 +133,7 @@ addresses_ascend r i j d lt l =
     let at_j = ap (λ (x : Address). x.number) (address_in_list r j d (omega (arith, l, len))) in
     omega (arith, at_i, at_j, lt)
 
--- ---- the first, the last, and the item at a place, and what is left behind these
+-- ---- the first, the last, and the item at a place, and what is left after these
 
 pub IsNext-yields : (r : AddressRange) (answer : Option Address) (s : AddressRange) → IsNext r answer s
     → MatchOption answer ((addresses_of r ≡ []) × (addresses_of s ≡ [])) (λ x. addresses_of r ≡ x ∷ addresses_of s)
@@ -264,14 +264,14 @@ IsNthBack-item n r answer s h = elim (cases_lt n (address_count r)) [
   | inr past ↦ (h.past past).0 ∙ sym (addresses_back_past r n past)
   | inl within ↦ elim (cases_eq (n + 1) (address_count r)) [
     | inl e ↦ (h.first e).0 ∙ ap (λ m. Some (address_at r.family m)) (omega arith) ∙ sym (addresses_back_at r n within)
-    | inr ne ↦ (h.behind (omega arith)).0 ∙ sym (addresses_back_at r n within)
+    | inr ne ↦ (h.after (omega arith)).0 ∙ sym (addresses_back_at r n within)
   ]
 ]
 
 pub IsNthBack-left : (n : ℕ) (r : AddressRange) (answer : Option Address) (s : AddressRange) → IsNthBack n r answer s
     → addresses_of s ≡ take (address_count r - (n + 1)) (addresses_of r)
 IsNthBack-left n r answer s h = elim (cases_lt (n + 1) (address_count r)) [
-  | inl within ↦ ap addresses_of (h.behind within).1
+  | inl within ↦ ap addresses_of (h.after within).1
       ∙ sym (addresses_up_to r (n + 1) within ∙ ap (λ m. addresses_of (with_ends r r.start m)) (omega arith))
   | inr up ↦
       let zero_left : address_count r - (n + 1) ≡ 0 = omega arith in

@@ -1,56 +1,21 @@
 -- No exact cover is shorter than the maximal blocks, and one as short is them, truncated and sorted.
-use Rattle.std.proofs.Common.{◌≡◌, ℕ, ◌<◌, ◌≤◌, List, [], ◌∷◌, ◌++◌, length, get_or, map, remove, Contains, AllPairs}
+use Rattle.std.proofs.Common.{◌≡◌, ℕ, ◌<◌, ◌≤◌, List, [], ◌++◌, length, get_or, map, Contains, AllPairs}
 use Rattle.std.proofs.Common.{IsPermutation, sym, ap, ◌∙◌, subst, arith, inl, inr}
 use Rattle.std.specs.List.{AllZip}
 use Rattle.std.proofs.lemmas.List.{length-append, nil_from_length, same_lists, get_or-map, length-map, append-nil}
-use Rattle.std.proofs.lemmas.List.Sorted.{IsPermutation-refl, IsPermutation-cons, IsPermutation-trans}
-use Rattle.std.proofs.lemmas.List.Sorted.{IsPermutation-remove, IsPermutation-sym, Contains-permutation}
+use Rattle.std.proofs.lemmas.List.Sorted.{IsPermutation-sym, Contains-permutation}
 use Rattle.std.proofs.lemmas.List.Sorted.{length_permutation, IsPermutation-map}
 use Rattle.std.proofs.lemmas.List.Elements.{length_all_zip, AllZip-get_or}
-use Rattle.std.proofs.lemmas.Slice.Zip.{AllZip-long}
 use Rattle.std.proofs.lemmas.Bool.{cases_order}
 use Rattle.ipnet_base.specs.Address.{Address}
 use Rattle.ipnet_base.specs.Network.{Network, IsNetwork, InBlock, IsSubnetOf, IsBefore, truncation}
 use Rattle.ipnet_base.specs.Blocks.{IsInside, IsMaximal, AreMaximalBlocks, IsExactCover}
 use Rattle.ipnet_base.proofs.BlockLaws.{own, own_in, nested_or_disjoint, same_from_block, IsTruncated-truncation}
 use Rattle.ipnet_base.proofs.BlockLaws.{IsNetwork-truncation, truncation_in, in_truncation}
-use Rattle.ipnet_base.proofs.ListLaws.{contains_cases, contains_here, contains_there, contains_at, at_place, pairs_head}
-use Rattle.ipnet_base.proofs.ListLaws.{pairs_tail, pairs_from_members, pair_at, any_from_contains, all_at}
-use Rattle.ipnet_base.proofs.UniqueLaws.{IsBefore-asymmetric}
-
--- Each of the list xs has a partner in ys, and no two have one partner: then ys has one for each, and the rest.
-pub partners : {X Y : Type 0} (R : X → Y → Type 0) (xs : List X) (ys : List Y)
-    → ((x : X) → Contains xs x → (y : Y) × Contains ys y × R x y)
-    → AllPairs (λ x z. (y : Y) → R x y → R z y → ⊥) xs
-    → (chosen rest : List Y) × IsPermutation ys (chosen ++ rest) × AllZip R xs chosen
-partners R [] ys each apart = ([], ys, IsPermutation-refl ys, tt)
-partners {X} {Y} R (x ∷ xs) ys each apart =
-    let (y, at_y, r) = each x (contains_here x xs) in
-    let first : IsPermutation ys (y ∷ remove ys at_y.0) = IsPermutation-remove ys at_y.0 y at_y.1 (sym at_y.2) in
-    let (chosen, rest, later, zip) = partners R xs (remove ys at_y.0)
-    (λ z c.
-    let (v, at_v, q) = each z (contains_there x xs z c) in
-    elim (contains_cases y (remove ys at_y.0) v (Contains-permutation ys (y ∷ remove ys at_y.0) v first at_v)) [
-      | inl same ↦ absurd (pairs_head (λ u w. (t : Y) → R u t → R w t → ⊥) x xs apart z c y r
-          (subst (R z) (sym same) q))
-      | inr there ↦ (v, there, q)
-    ])
-    (pairs_tail (λ u w. (t : Y) → R u t → R w t → ⊥) x xs apart) in (
-      y ∷ chosen,
-      rest,
-      IsPermutation-trans ys (y ∷ remove ys at_y.0) (y ∷ (chosen ++ rest)) first
-          (IsPermutation-cons y (remove ys at_y.0) (chosen ++ rest) later),
-      (r, zip),
-    )
-
--- so xs is no longer than ys
-pub partners_no_more : {X Y : Type 0} (R : X → Y → Type 0) (xs : List X) (ys : List Y)
-    → ((x : X) → Contains xs x → (y : Y) × Contains ys y × R x y)
-    → AllPairs (λ x z. (y : Y) → R x y → R z y → ⊥) xs
-    → length xs ≤ length ys
-partners_no_more R xs ys each apart =
-    let (chosen, rest, moved, zip) = partners R xs ys each apart in
-    omega (arith, length_permutation ys (chosen ++ rest) moved, length-append chosen rest, AllZip-long R xs chosen zip)
+use Rattle.ipnet_base.proofs.ListLaws.{contains_at, at_place}
+use Rattle.ipnet_base.proofs.ListLaws.{pairs_from_members, pair_at, any_from_contains, all_at}
+use Rattle.ipnet_base.proofs.OrderLaws.{IsBefore-asymmetric}
+use Rattle.ipnet_base.proofs.ListLaws.{partners, partners_no_more}
 
 -- maximal networks that share an address are one
 pub one_maximal : (InSet : Address → Type 0) (least : ℕ) (n k : Network) → IsMaximal InSet least n

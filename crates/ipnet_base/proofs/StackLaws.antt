@@ -1,10 +1,9 @@
 -- One network more on a stack of networks that shows the four conditions on neighbours.
-use Rattle.std.proofs.Common.{◌≡◌, ℕ, zero, suc, ◌+◌, ◌-◌, ◌<◌, ◌≤◌, ◌⊎◌, ◌↔◌, List, [], ◌∷◌, ◌++◌, length, get_or}
+use Rattle.std.proofs.Common.{◌≡◌, ℕ, ◌+◌, ◌-◌, ◌<◌, ◌≤◌, ◌⊎◌, ◌↔◌, List, [], ◌∷◌, ◌++◌, length, get_or}
 use Rattle.std.proofs.Common.{Contains, All, refl, sym, ap, ◌∙◌, subst, subst₂, arith, inl, inr, map, take}
-use Rattle.std.proofs.Common.{IsPermutation, IsSorted, Ordering, Less, is_lt, add-one, true, false}
-use Rattle.std.specs.List.{AllAdjacentBelow}
-use Rattle.std.proofs.lemmas.Bool.{cases_lt, cases_eq, cases_order}
-use Rattle.std.proofs.lemmas.List.{length_push, get_or_push, get_or_append_left, length-map, get_or-map, take_more}
+use Rattle.std.proofs.Common.{IsPermutation}
+use Rattle.std.proofs.lemmas.Bool.{cases_lt}
+use Rattle.std.proofs.lemmas.List.{length_push, get_or_push, get_or_append_left, length-map, take_more}
 use Rattle.std.proofs.lemmas.List.{take_all}
 use Rattle.std.proofs.lemmas.List.Elements.{All-push, All-weaker}
 use Rattle.std.proofs.lemmas.List.Sorted.{IsPermutation-map}
@@ -14,34 +13,15 @@ use Rattle.ipnet_base.specs.Blocks.{HaveSameCover, IsCoveredBy}
 use Rattle.ipnet_base.specs.Address.{Address, width, family_index}
 use Rattle.ipnet_base.specs.Stack.{LiesBefore, AreJoined, IsBeforeOrEqual, IsInOrder, IsListWith, IsStackWith}
 use Rattle.ipnet_base.specs.Stack.{IsStackOfFirst}
-use Rattle.ipnet_base.proofs.BlockLaws.{same_network, truncation_in, in_truncation, own, own_in, block_between}
+use Rattle.ipnet_base.proofs.BlockLaws.{truncation_in, in_truncation, own, own_in, block_between}
 use Rattle.ipnet_base.proofs.BlockLaws.{nested_or_disjoint, nested, supernet_to_halves, halves_to_supernet}
-use Rattle.ipnet_base.proofs.UniqueLaws.{same_family_from_index}
+use Rattle.ipnet_base.proofs.OrderLaws.{IsBeforeOrEqual-transitive}
+use Rattle.ipnet_base.proofs.ListLaws.{adjacent_push}
 use Rattle.ipnet_base.proofs.CoverLaws.{cover_push, cover_permutation}
 use Rattle.ipnet_base.proofs.ListLaws.{any_from_contains, at_place}
 
--- the order of networks
-pub IsBefore-transitive : (n k l : Network) → IsBefore n k → IsBefore k l → IsBefore n l
-IsBefore-transitive n k l (inl h) (inl i) = inl (omega arith)
-IsBefore-transitive n k l (inl h) (inr i) = inl (omega (arith, h, ap family_index i.0))
-IsBefore-transitive n k l (inr h) (inl i) = inl (omega (arith, i, ap family_index h.0))
-IsBefore-transitive n k l (inr h) (inr i) = inr (h.0 ∙ i.0, both h.1 i.1)
-  where
-    both : (n.number < k.number) ⊎ ((n.number ≡ k.number) × (n.prefix_len < k.prefix_len))
-        → (k.number < l.number) ⊎ ((k.number ≡ l.number) × (k.prefix_len < l.prefix_len))
-        → (n.number < l.number) ⊎ ((n.number ≡ l.number) × (n.prefix_len < l.prefix_len))
-    both (inl a) (inl b) = inl (omega arith)
-    both (inl a) (inr b) = inl (omega arith)
-    both (inr a) (inl b) = inl (omega arith)
-    both (inr a) (inr b) = inr (a.0 ∙ b.0, omega arith)
-
-pub IsBeforeOrEqual-transitive : (n k l : Network) → IsBeforeOrEqual n k → IsBeforeOrEqual k l → IsBeforeOrEqual n l
-IsBeforeOrEqual-transitive n k l (inl e) h = subst (λ z. IsBeforeOrEqual z l) (sym e) h
-IsBeforeOrEqual-transitive n k l (inr h) (inl e) = inr (subst (IsBefore n) e h)
-IsBeforeOrEqual-transitive n k l (inr h) (inr i) = inr (IsBefore-transitive n k l h i)
-
 -- what stands no later and does not cover the next ends before it
-pub ends_before_next : (t n : Network) → IsNetwork t → IsNetwork n → IsTruncated t → IsTruncated n
+ends_before_next : (t n : Network) → IsNetwork t → IsNetwork n → IsTruncated t → IsTruncated n
     → IsBeforeOrEqual t n → (IsSubnetOf n t → ⊥) → LiesBefore t n
 ends_before_next t n u v tt_ tn (inl e) out = absurd (out (subst (λ z. IsSubnetOf z t) e (λ x a. a)))
 ends_before_next t n u v tt_ tn (inr (inl h)) out = inl h
@@ -66,22 +46,6 @@ ends_before_next t n u v tt_ tn (inr (inr (f, order))) out =
 
 stack_truncated : (xs : List Network) (n : Network) → AreJoined xs → IsTruncated n → All IsTruncated (xs ++ n ∷ [])
 stack_truncated xs n joined t = All-push IsTruncated xs n joined.truncated t
-
--- what holds of neighbours holds with one more at the end, if it holds of the last and the new one
-pub adjacent_push : {X : Type 0} (R : X → X → Type 0) (xs : List X) (x : X) → AllAdjacentBelow R xs (length xs)
-    → ((d : X) → 0 < length xs → R (get_or xs (length xs - 1) d) x)
-    → AllAdjacentBelow R (xs ++ x ∷ []) (length (xs ++ x ∷ []))
-adjacent_push R xs x h last k d l =
-    let size = length_push xs x in
-    elim (cases_lt (k + 1) (length xs)) [
-      | inl inner ↦ subst₂ R (sym (get_or_append_left xs (x ∷ []) d k (omega (arith, inner))))
-          (sym (get_or_append_left xs (x ∷ []) d (k + 1) inner)) (h k d inner)
-      | inr outer ↦
-          let at_end : length xs ≡ k + 1 = omega (arith, outer, size, l) in
-          let before : length xs - 1 ≡ k = omega (arith, at_end) in
-          subst₂ R (ap (λ i. get_or xs i d) before ∙ sym (get_or_append_left xs (x ∷ []) d k (omega (arith, at_end))))
-          (sym (get_or_push xs x d (k + 1) at_end)) (last d (omega (arith, at_end)))
-    ]
 
 -- the conditions hold with one more network that the last one ends before and is no half with
 pub neighbours_push : (xs : List Network) (n : Network) → AreJoined xs → IsTruncated n
@@ -112,12 +76,12 @@ supernet_start s t n u p h tr tn ends =
     let up : s.number ≤ t.number = p.truncated (own t) (p.contains (own t) (own_in t)) in
     elim (supernet_to_halves s t n u p h (own s) (own_in s)) [
       | inl a ↦ omega (arith, up, tr (own s) a)
-      | inr b ↦ omega (arith, up, tn (own s) b, behind ends)
+      | inr b ↦ omega (arith, up, tn (own s) b, starts_after ends)
     ]
   where
-    behind : LiesBefore t n → t.number < n.number
-    behind (inl i) = absurd (omega (arith, i, ap family_index h.siblings.same_family))
-    behind (inr i) = i.1 (own t) (own_in t)
+    starts_after : LiesBefore t n → t.number < n.number
+    starts_after (inl i) = absurd (omega (arith, i, ap family_index h.siblings.same_family))
+    starts_after (inr i) = i.1 (own t) (own_in t)
 
 -- what ends before the first half ends before the supernet, and the supernet stands before that half
 ends_before_supernet : (m s t : Network) → IsSupernetOf s t → s.number ≡ t.number → LiesBefore m t → LiesBefore m s
@@ -130,7 +94,7 @@ supernet_before : (s t : Network) → IsSupernetOf s t → s.number ≡ t.number
 supernet_before s t p e = inr (sym (p.contains (own t) (own_in t)).same_family, inr (e, omega (arith, p.shorter)))
 
 -- the last of a list that has one
-abbrev pub LastLiesBefore : List Network → Network → Type 0
+abbrev LastLiesBefore : List Network → Network → Type 0
 LastLiesBefore xs n = (d : Network) → 0 < length xs → LiesBefore (get_or xs (length xs - 1) d) n
 
 -- two halves at the end of a list cover what their supernet covers
@@ -215,7 +179,7 @@ list_of_first_whole given i list le h x =
       λ a. (h.cover x).1 (subst (λ z. IsCoveredBy z x) (sym all) a),
     )
 
--- Between two joins: the stack shows the conditions and ends before the next network, nothing stands behind
+-- Between two joins: the stack shows the conditions and ends before the next network, nothing stands after
 -- the network that came, and the cover is that of the old stack and that network.
 pub record IsJoining (old : List Network) (came : Network) (xs : List Network) (next : Network) : Type 0 where
   pub joined : AreJoined xs
@@ -301,25 +265,6 @@ stack_covers old came top joined order c sub = record {
     from x (inl h) = h
     from x (inr a) = any_from_contains (λ m. InBlock m x) old top c (sub x a)
 
--- the order of networks is total
-pub order_total : (n k : Network) → IsBeforeOrEqual n k ⊎ IsBefore k n
-order_total n k =
-    elim (cases_order (family_index n.family) (family_index k.family)) [
-      | inr (inl lt) ↦ inl (inr (inl lt))
-      | inr (inr gt) ↦ inr (inl gt)
-      | inl same ↦
-          let f : n.family ≡ k.family = same_family_from_index n.family k.family same in
-          elim (cases_order n.number k.number) [
-            | inr (inl lt) ↦ inl (inr (inr (f, inl lt)))
-            | inr (inr gt) ↦ inr (inr (sym f, inl gt))
-            | inl number ↦ elim (cases_order n.prefix_len k.prefix_len) [
-              | inr (inl lt) ↦ inl (inr (inr (f, inr (number, lt))))
-              | inr (inr gt) ↦ inr (inr (sym f, inr (sym number, gt)))
-              | inl len ↦ inl (inl (same_network n k f number len))
-            ]
-          ]
-    ]
-
 -- one network more is on the stack
 pub stack_of_first_more : (networks : List Network) (i : ℕ) (came : Network) (stack new : List Network)
     → IsInOrder networks → i < length networks → get_or networks i came ≡ came
@@ -345,41 +290,6 @@ stack_of_first_more networks i came stack new sorted l e h p = record {
       | inl b ↦ inl ((h.cover x).1 b)
       | inr b ↦ inr b
     ])
-
-in_order_from_adjacent : (xs : List Network)
-    → ((k : ℕ) (d : Network) → k + 1 < length xs → IsBeforeOrEqual (get_or xs k d) (get_or xs (k + 1) d)) → IsInOrder xs
-in_order_from_adjacent xs h i zero d le l = inl (ap (λ k. get_or xs k d) (omega arith))
-in_order_from_adjacent xs h i (suc j) d le l =
-    elim (cases_eq i (suc j)) [
-      | inl same ↦ inl (ap (λ k. get_or xs k d) same)
-      | inr other ↦ IsBeforeOrEqual-transitive (get_or xs i d) (get_or xs j d) (get_or xs (suc j) d)
-          (in_order_from_adjacent xs h i j d (omega arith) (omega arith))
-          (subst (λ k. IsBeforeOrEqual (get_or xs j d) (get_or xs k d)) (add-one j) (h j d (omega arith)))
-    ]
-
--- what a sort by an order that tells networks apart leaves
-pub in_order_from_sort : {X : Type 0} (net : X → Network) (cmp : X → X → Ordering)
-    → ((x y : X) → IsBefore (net x) (net y) → cmp x y ≡ Less)
-    → (xs : List X) → IsSorted cmp xs → IsInOrder (map net xs)
-in_order_from_sort net cmp law [] sorted = λ i j d le l. absurd (omega (arith, l))
-in_order_from_sort {X} net cmp law (x ∷ xs) sorted = in_order_from_adjacent (map net (x ∷ xs)) adjacent
-  where
-    size : length (map net (x ∷ xs)) ≡ length (x ∷ xs)
-    size = length-map (x ∷ xs) net
-
-    not_before : (a b : X) → is_lt (cmp b a) ≡ false → IsBeforeOrEqual (net a) (net b)
-    not_before a b h = elim (order_total (net a) (net b)) [
-      | inl le ↦ le
-      | inr gt ↦ let less : is_lt (cmp b a) ≡ true = ap is_lt (law b a gt) in absurd (cc)
-    ]
-
-    adjacent : (k : ℕ) (d : Network) → k + 1 < length (map net (x ∷ xs))
-        → IsBeforeOrEqual (get_or (map net (x ∷ xs)) k d) (get_or (map net (x ∷ xs)) (k + 1) d)
-    adjacent k d l =
-        let inside : k + 1 < length (x ∷ xs) = omega (arith, l, size) in
-        subst₂ IsBeforeOrEqual (sym (get_or-map net (x ∷ xs) k x d (omega (arith, inside))))
-        (sym (get_or-map net (x ∷ xs) (k + 1) x d inside))
-        (not_before (get_or (x ∷ xs) k x) (get_or (x ∷ xs) (k + 1) x) (sorted k x (omega arith) inside))
 
 -- the stack of the whole sorted list covers what the list covers that was sorted
 pub stack_of_first_whole : {X : Type 0} (net : X → Network) (made sorted answer : List X) → IsPermutation made sorted

@@ -1,21 +1,23 @@
--- What goes up from a network to its supernet: a network is maximal where its supernet is not inside, each
--- network inside a set that can be decided lies in a maximal one, and the converse of the neighbour lemma.
-use Rattle.std.proofs.Common.{◌≡◌, ℕ, zero, suc, ◌+◌, ◌-◌, ◌*◌, ◌/◌, ◌^◌, ◌<◌, ◌≤◌, ◌⊎◌, ◌↔◌, List, [], ◌∷◌, Contains}
-use Rattle.std.proofs.Common.{All, refl, sym, ap, ◌∙◌, subst, arith, inl, inr, pow_pos}
-use Rattle.std.proofs.lemmas.Bool.{cases_lt, cases_eq}
-use Rattle.ipnet_base.specs.Address.{Address, width, IsBetween}
+-- Maximal blocks by supernets: a network is maximal where its supernet is not inside, each network inside a set that
+-- can be decided lies in a maximal one, sets with the same addresses have the same, and these show the four conditions
+-- on neighbours.
+use Rattle.std.proofs.Common.{◌≡◌, ℕ, zero, suc, ◌+◌, ◌-◌, ◌*◌, ◌/◌, ◌^◌, ◌<◌, ◌≤◌, ◌↔◌, List, Contains}
+use Rattle.std.proofs.Common.{All, refl, sym, ap, ◌∙◌, subst, arith, inl, inr}
+use Rattle.std.proofs.lemmas.Bool.{cases_lt}
+use Rattle.ipnet_base.specs.Address.{Address, width}
 use Rattle.ipnet_base.specs.Network.{Network, IsNetwork, host_bits, InBlock, IsSubnetOf, IsTruncated, IsBefore}
 use Rattle.ipnet_base.specs.Network.{AreHalves, IsSupernetOf, truncation, first_of, last_of}
 use Rattle.ipnet_base.specs.Blocks.{IsCoveredBy, IsInside, IsMaximal, AreMaximalBlocks, HaveSameCover}
 use Rattle.ipnet_base.specs.Stack.{LiesBefore, AreJoined}
 use Rattle.ipnet_base.proofs.PrefixLaws.{coarser, block_from, first_in_block}
-use Rattle.ipnet_base.proofs.BlockLaws.{at, own, own_in, between_from_block, block_from_between}
+use Rattle.ipnet_base.proofs.BlockLaws.{own, own_in, between_from_block, block_from_between}
 use Rattle.ipnet_base.proofs.BlockLaws.{number_from_truncated, truncated_from_number, nested, bits_from_subnet}
-use Rattle.ipnet_base.proofs.BlockLaws.{same_from_block, supernet_to_halves, supernet_bits, in_block_at, cases_family}
+use Rattle.ipnet_base.proofs.BlockLaws.{same_from_block, supernet_to_halves, supernet_bits, in_block_at}
 use Rattle.ipnet_base.proofs.BlockLaws.{truncation_in, in_truncation, IsTruncated-truncation, IsNetwork-truncation}
-use Rattle.ipnet_base.proofs.ListLaws.{contains_here, contains_there, contains_cases, any_from_contains, all_at}
+use Rattle.ipnet_base.proofs.ListLaws.{any_from_contains, all_at}
 use Rattle.ipnet_base.proofs.ListLaws.{all_from_members, adjacent_from_pairs, pairs_from_members}
-use Rattle.ipnet_base.proofs.UniqueLaws.{IsBefore-asymmetric}
+use Rattle.ipnet_base.proofs.OrderLaws.{IsBefore-asymmetric}
+use Rattle.ipnet_base.proofs.DecidedLaws.{IsDecided, IsDecided-cover, block_decided}
 use Rattle.ipnet_base.proofs.ShortestLaws.{one_maximal}
 
 abbrev pub supernet : Network → Network
@@ -54,7 +56,7 @@ supernet_below s n k u p sub lt =
     (omega (arith, supernet_bits s n u p, lt))
 
 -- a network is maximal where its supernet is not inside
-pub IsMaximal-from_supernet : (InSet : Address → Type 0) (least : ℕ) (n : Network) → IsInside InSet least n
+IsMaximal-from_supernet : (InSet : Address → Type 0) (least : ℕ) (n : Network) → IsInside InSet least n
     → (0 < n.prefix_len → IsInside InSet least (supernet n) → ⊥) → IsMaximal InSet least n
 IsMaximal-from_supernet InSet least n inside no_supernet = record {
   inside = inside;
@@ -83,45 +85,6 @@ IsMaximal-from_supernet InSet least n inside no_supernet = record {
             }))
       ];
 }
-
--- a set that can be decided
-abbrev pub IsDecided : (Address → Type 0) → Type 0
-IsDecided InSet = (x : Address) → InSet x ⊎ (InSet x → ⊥)
-
-all_below : (P : ℕ → Type 0) → ((i : ℕ) → P i ⊎ (P i → ⊥)) → (n : ℕ) → ((i : ℕ) → i < n → P i)
-    ⊎ (((i : ℕ) → i < n → P i) → ⊥)
-all_below P dec zero = inl (λ i l. absurd (omega arith))
-all_below P dec (suc n) =
-    elim (all_below P dec n) [
-      | inr fails ↦ inr (λ h. fails (λ i l. h i (omega arith)))
-      | inl holds ↦ elim (dec n) [
-        | inr fails ↦ inr (λ h. fails (h n (omega arith)))
-        | inl last ↦ inl (λ i l. elim (cases_eq i n) [
-          | inl same ↦ subst P (sym same) last
-          | inr other ↦ holds i (omega arith)
-        ])
-      ]
-    ]
-
--- whether a block lies in such a set
-block_decided : (InSet : Address → Type 0) → IsDecided InSet → (n : Network)
-    → ((x : Address) → InBlock n x → InSet x) ⊎ (((x : Address) → InBlock n x → InSet x) → ⊥)
-block_decided InSet dec n =
-    elim (all_below (λ i. InSet (at n (first_of n + i))) (λ i. dec (at n (first_of n + i))) (2 ^ host_bits n)) [
-      | inl all ↦ inl (λ x a.
-          let b : IsBetween n.family (first_of n) (last_of n) x = between_from_block n x a in
-          let place : first_of n + (x.number - first_of n) ≡ x.number = omega (arith, b.from_start) in
-          let here : InSet (at n (first_of n + (x.number - first_of n))) =
-          all (x.number - first_of n) (omega (arith, b.to_end, b.from_start, pow_pos (host_bits n))) in
-          let same : at n (first_of n + (x.number - first_of n)) ≡ x =
-          λ i. record { family = sym a.same_family i; number = place i } in
-          subst InSet same here)
-      | inr fails ↦
-          inr (λ h. fails
-          (λ i l. h (at n (first_of n + i))
-          (block_from_between n (at n (first_of n + i))
-          (record { of_family = refl; from_start = omega arith; to_end = omega (arith, l) }))))
-    ]
 
 climb : (InSet : Address → Type 0) (least : ℕ) → IsDecided InSet → (d : ℕ) (n : Network) → n.prefix_len ≤ d
     → IsInside InSet least n
@@ -153,31 +116,6 @@ climb InSet least dec (suc d) n le i =
 pub maximal_above : (InSet : Address → Type 0) (least : ℕ) → IsDecided InSet → (n : Network) → IsInside InSet least n
     → (m : Network) × IsMaximal InSet least m × IsSubnetOf n m
 maximal_above InSet least dec n i = climb InSet least dec n.prefix_len n (omega arith) i
-
-block_dec : (n : Network) (x : Address) → InBlock n x ⊎ (InBlock n x → ⊥)
-block_dec n x =
-    elim (cases_family x.family n.family) [
-      | inr other ↦ inr (λ a. other a.same_family)
-      | inl f ↦ elim (cases_eq (x.number / 2 ^ host_bits n) (n.number / 2 ^ host_bits n)) [
-        | inl e ↦ inl (record { same_family = f; same_prefix = e })
-        | inr other ↦ inr (λ a. other a.same_prefix)
-      ]
-    ]
-
--- a cover can be decided
-pub IsDecided-cover : (networks : List Network) → IsDecided (IsCoveredBy networks)
-IsDecided-cover [] x = inr (λ h. omega (arith, h.2))
-IsDecided-cover (n ∷ ns) x =
-    elim (block_dec n x) [
-      | inl a ↦ inl (any_from_contains (λ m. InBlock m x) (n ∷ ns) n (contains_here n ns) a)
-      | inr out ↦ elim (IsDecided-cover ns x) [
-        | inl h ↦ inl (any_from_contains (λ m. InBlock m x) (n ∷ ns) h.1 (contains_there n ns h.1 (h.0, h.2, h.3)) h.4)
-        | inr none ↦ inr (λ h. elim (contains_cases n ns h.1 (h.0, h.2, h.3)) [
-          | inl e ↦ out (subst (λ m. InBlock m x) (sym e) h.4)
-          | inr c ↦ none (any_from_contains (λ m. InBlock m x) ns h.1 c h.4)
-        ])
-      ]
-    ]
 
 -- the maximal blocks of a cover cover it
 pub blocks_cover : (networks blocks : List Network) → All IsNetwork networks

@@ -118,7 +118,7 @@ AreMaximalBlocks-nil InSet least none = record {
   members = λ z. (λ c. absurd (contains_nil z c), λ h. absurd (none (own z) (h.inside.within (own z) (own_in z))));
 }
 
--- the step in front of the blocks of what is left behind it
+-- the step in front of the blocks of what is left after it
 pub AreMaximalBlocks-step : (f : Family) (s e m : ℕ) (n : Network) (rest : List Network) → IsLargestSubnetAt f s e m n
     → AreMaximalBlocks (IsBetween f (last_of n + 1) e) m rest → AreMaximalBlocks (IsBetween f s e) m (n ∷ rest)
 AreMaximalBlocks-step f s e m n rest step blocks =
@@ -266,15 +266,15 @@ pub blocks_exist : (f : Family) (s e m : ℕ) → e < 2 ^ width f → m ≤ widt
     → (networks : List Network) × AreMaximalBlocks (IsBetween f s e) m networks
 blocks_exist f s e m fits m_fits = blocks_by f e m fits m_fits (e + 1) s (omega arith)
 
--- the blocks of a range are the step and the blocks of what is left behind it
+-- the blocks of a range are the step and the blocks of what is left after it
 pub AreMaximalBlocks-uncons : (f : Family) (s e m : ℕ) (n : Network) (networks : List Network) → e < 2 ^ width f
     → m ≤ width f → IsLargestSubnetAt f s e m n
     → AreMaximalBlocks (IsBetween f s e) m networks
     → (rest : List Network) × (networks ≡ n ∷ rest) × AreMaximalBlocks (IsBetween f (last_of n + 1) e) m rest
 AreMaximalBlocks-uncons f s e m n networks fits m_fits step blocks =
-    let (rest, behind) = blocks_exist f (last_of n + 1) e m fits m_fits in (
+    let (rest, rest_blocks) = blocks_exist f (last_of n + 1) e m fits m_fits in (
       rest,
       AreMaximalBlocks-unique (IsBetween f s e) m networks (n ∷ rest) blocks
-          (AreMaximalBlocks-step f s e m n rest step behind),
-      behind,
+          (AreMaximalBlocks-step f s e m n rest step rest_blocks),
+      rest_blocks,
     )

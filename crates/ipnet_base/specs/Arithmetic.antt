@@ -1,13 +1,13 @@
--- Arithmetic on the numbers of addresses: sums and differences held at the ends of the family, and operations
--- bit by bit.
+-- Arithmetic on the numbers of addresses: sums and differences that saturate at the ends of the family, and
+-- operations bit by bit.
 use Rattle.std.specs.Prelude.{◌≡◌, ℕ, ◌+◌, ◌-◌, ◌/◌, ◌%◌, ◌^◌, ◌<◌, min, max}
 use Rattle.ipnet_base.specs.Address.{Family, width, greatest_number}
 
--- the sum, held at the family's greatest number
+-- the sum, saturating at the family's greatest number
 abbrev pub saturating_sum : Family → ℕ → ℕ → ℕ
 saturating_sum family a b = min (a + b) (greatest_number family)
 
--- the difference, held at 0, as it is on the numbers of antt
+-- the difference, saturating at 0, as it is on the numbers of antt
 abbrev pub saturating_difference : ℕ → ℕ → ℕ
 saturating_difference a b = a - b
 

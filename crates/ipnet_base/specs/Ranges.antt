@@ -49,11 +49,11 @@ pub record IsNth (n : ℕ) (old : AddressRange) (answer : Option Address) (new :
   pub before : n + 1 < address_count old → (answer ≡ Some (address_at old.family (old.start + n)))
       × (new ≡ with_ends old (old.start + n + 1) old.end)
 
--- `nth_back n`: past the start, at the first address, or behind it
+-- `nth_back n`: past the start, at the first address, or after it
 pub record IsNthBack (n : ℕ) (old : AddressRange) (answer : Option Address) (new : AddressRange) : Type 0 where
   pub past : address_count old ≤ n → (answer ≡ None) × (new ≡ with_ends old 1 0)
   pub first : n + 1 ≡ address_count old → (answer ≡ Some (address_at old.family old.start)) × (new ≡ with_ends old 1 0)
-  pub behind : n + 1 < address_count old → (answer ≡ Some (address_at old.family (old.end - n)))
+  pub after : n + 1 < address_count old → (answer ≡ Some (address_at old.family (old.end - n)))
       × (new ≡ with_ends old old.start (old.end - n - 1))
 
 -- What `next` of a type of ranges does beside giving the first address that is left, where range_of is the range

@@ -19,16 +19,16 @@ pub record IsLargestSubnetAt (family : Family) (start end min_prefix_len : ℕ) 
 abbrev pub IsMostBits : (distance b : ℕ) → Type 0
 IsMostBits distance b = (2 ^ b ≤ distance + 1) × ((c : ℕ) → 2 ^ c ≤ distance + 1 → c ≤ b)
 
--- What a walk keeps: the first and the last number of the range that is left to it, and the least prefix
--- length of its networks.
+-- What a walk keeps: the first and the last number of the range that is left to it, and the minimum
+-- prefix length of its networks.
 pub record SubnetRange : Type 0 where
   pub family : Family
   pub start : ℕ
   pub end : ℕ
   pub min_prefix_len : ℕ
 
--- The stored ends after a network whose block ended at `last`: the start is the next number, held at the
--- greatest; the end is 0 where the block ended at the greatest number or the start was the end, and else stays.
+-- The stored ends after a network whose block ended at `last`: the start is the next number, saturating at
+-- the greatest; the end is 0 where the block ended at the greatest number or the start was the end, and else stays.
 pub record IsAdvancedPast (last : ℕ) (old new : SubnetRange) : Type 0 where
   pub family : new.family ≡ old.family
   pub start : new.start ≡ min (last + 1) (greatest_number old.family)
@@ -36,7 +36,7 @@ pub record IsAdvancedPast (last : ℕ) (old new : SubnetRange) : Type 0 where
   pub end_same : last < greatest_number old.family → old.start < old.end → new.end ≡ old.end
   pub min_prefix_len : new.min_prefix_len ≡ old.min_prefix_len
 
--- The order of walks: IPv4 before IPv6, then the stored start, the stored end, the least length.
+-- The order of walks: IPv4 before IPv6, then the stored start, the stored end, the minimum prefix length.
 abbrev pub IsWalkBefore : SubnetRange → SubnetRange → Type 0
 IsWalkBefore r s = (family_index r.family < family_index s.family)
     ⊎ ((r.family ≡ s.family) × ((r.start < s.start)

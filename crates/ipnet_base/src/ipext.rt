@@ -1,6 +1,6 @@
 //! Arithmetic on addresses, and ranges of addresses that are walked from both ends.
 //!
-//! No sum and no difference wraps: a sum is held at the greatest value of its type, a difference at 0.
+//! No sum and no difference wraps: a sum saturates at the greatest value of its type, a difference at 0.
 ghost use Rattle.std.specs.Prelude.{◌≡◌};
 ghost use Rattle.std.specs.Net.Addr.{ipv4_bits, ipv6_bits};
 ghost use Rattle.ipnet_base.specs.Address.{IPv4, IPv6};
@@ -17,7 +17,7 @@ pub use ip_range::IpAddrRange;
 pub use ipv4_range::Ipv4AddrRange;
 pub use ipv6_range::Ipv6AddrRange;
 
-/// Sums that are held at the greatest address.
+/// Sums that saturate at the greatest address.
 ///
 /// ```text
 /// 255.255.255.254 + 5   255.255.255.255
@@ -34,7 +34,7 @@ pub trait IpAdd<RHS> {
         ensures { is_sum self rhs result };
 }
 
-/// Differences that are held at 0.
+/// Differences that saturate at 0.
 ///
 /// ```text
 /// 192.168.1.100 - 192.168.1.5   95

@@ -64,10 +64,12 @@ pub fn truncated_networks_are_their_blocks()
     ensures { (n k : Network) → IsNetwork n → IsNetwork k → IsTruncated n → IsTruncated k → HaveSameBlock n k → n ≡ k }
 {}
 
-/// A network has one truncation, the one of the formula, and truncated twice is truncated once.
+/// A network has one truncation, the one of the formula; a truncated network is its own; and truncated twice is
+/// truncated once.
 pub fn truncation_is_one()
     ensures exists { (n : Network) → IsNetwork n → IsTruncationOf (truncation n) n }
     ensures one { (t n : Network) → IsTruncationOf t n → t ≡ truncation n }
+    ensures own { (n : Network) → IsTruncated n → truncation n ≡ n }
     ensures twice { (n : Network) → truncation (truncation n) ≡ truncation n }
 {}
 

@@ -10,7 +10,7 @@ use Rattle.ipnet_base.specs.Ranges.{AddressRange, addresses_of}
 use Rattle.ipnet_base.proofs.ListLaws.{contains_nil, contains_here, pairs_head, pairs_tail}
 use Rattle.ipnet_base.proofs.ListLaws.{pairs_weaker}
 use Rattle.ipnet_base.proofs.ListLaws.{pairs_append}
-use Rattle.ipnet_base.proofs.ShortestLaws.{partners_no_more}
+use Rattle.ipnet_base.proofs.ListLaws.{partners_no_more}
 use Rattle.ipnet_base.proofs.RangeLaws.{length-addresses_of, between_from_contains, contains_from_between}
 use Rattle.ipnet_base.proofs.RangeLaws.{addresses_ascend}
 use Rattle.ipnet_sets.specs.declared.set.IpSet.{IpSet}

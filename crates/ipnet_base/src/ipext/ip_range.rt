@@ -180,7 +180,7 @@ impl Iterator for IpAddrRange {
 
     /// The first address that is left, or `None`, then and ever after, if none is.
     ///
-    /// Behind its only address a range stores the ends 1 and 0; a range with no address keeps its ends.
+    /// After its only address a range stores the ends 1 and 0; a range with no address keeps its ends.
     fn next(&mut self) -> Option<IpAddr>
         ensures steps { YieldsFirstBy ip_address ip_addresses self.old result self.new }
         ensures goes { IsRangeStep ip_address ip_range self.old result self.new }
@@ -215,7 +215,7 @@ impl DoubleEndedIterator for IpAddrRange {
 
     /// The last address that is left, or `None`, then and ever after, if none is.
     ///
-    /// Behind its only address a range stores the ends 1 and 0; a range with no address keeps its ends.
+    /// After its only address a range stores the ends 1 and 0; a range with no address keeps its ends.
     fn next_back(&mut self) -> Option<IpAddr>
         ensures steps { YieldsLastBy ip_address ip_addresses self.old result self.new }
         ensures goes { IsRangeStepBack ip_address ip_range self.old result self.new }

@@ -203,7 +203,7 @@ impl Iterator for Ipv4AddrRange {
 
     /// The first address that is left, or `None`, then and ever after, if none is.
     ///
-    /// Behind its only address a range stores the ends 1 and 0; a range with no address keeps its ends.
+    /// After its only address a range stores the ends 1 and 0; a range with no address keeps its ends.
     fn next(&mut self) -> Option<Ipv4Addr>
         ensures steps { YieldsFirstBy ipv4_address ipv4_addresses self.old result self.new }
         ensures goes { IsRangeStep ipv4_address ipv4_range self.old result self.new }
@@ -240,7 +240,7 @@ impl DoubleEndedIterator for Ipv4AddrRange {
 
     /// The last address that is left, or `None`, then and ever after, if none is.
     ///
-    /// Behind its only address a range stores the ends 1 and 0; a range with no address keeps its ends.
+    /// After its only address a range stores the ends 1 and 0; a range with no address keeps its ends.
     fn next_back(&mut self) -> Option<Ipv4Addr>
         ensures steps { YieldsLastBy ipv4_address ipv4_addresses self.old result self.new }
         ensures goes { IsRangeStepBack ipv4_address ipv4_range self.old result self.new }

@@ -206,7 +206,7 @@ impl Iterator for Ipv6AddrRange {
 
     /// The first address that is left, or `None`, then and ever after, if none is.
     ///
-    /// Behind its only address a range stores the ends 1 and 0; a range with no address keeps its ends.
+    /// After its only address a range stores the ends 1 and 0; a range with no address keeps its ends.
     fn next(&mut self) -> Option<Ipv6Addr>
         ensures steps { YieldsFirstBy ipv6_address ipv6_addresses self.old result self.new }
         ensures goes { IsRangeStep ipv6_address ipv6_range self.old result self.new }
@@ -252,7 +252,7 @@ impl DoubleEndedIterator for Ipv6AddrRange {
 
     /// The last address that is left, or `None`, then and ever after, if none is.
     ///
-    /// Behind its only address a range stores the ends 1 and 0; a range with no address keeps its ends.
+    /// After its only address a range stores the ends 1 and 0; a range with no address keeps its ends.
     fn next_back(&mut self) -> Option<Ipv6Addr>
         ensures steps { YieldsLastBy ipv6_address ipv6_addresses self.old result self.new }
         ensures goes { IsRangeStepBack ipv6_address ipv6_range self.old result self.new }

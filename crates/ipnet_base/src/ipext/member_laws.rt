@@ -2,8 +2,8 @@
 //! the difference, or the operation bit by bit, of the addresses' numbers; a range made from another is that range; and
 //! as an iterator a range gives its addresses from both ends.
 //!
-//! A contract with a member in it, as `IpAdd::saturating_add` has it, says no more than the member does: here that is
-//! held to the definitions.
+//! A contract with a member in it, as `IpAdd::saturating_add` has it, says no more than the member does: here the
+//! member is said by the definitions.
 ghost use Rattle.std.specs.Prelude.{◌≡◌, ◌↔◌};
 ghost use Rattle.std.specs.Iterator.{YieldsFirstBy, YieldsLastBy, at_most};
 ghost use Rattle.std.specs.Net.Addr.{ipv4_bits, ipv6_bits};

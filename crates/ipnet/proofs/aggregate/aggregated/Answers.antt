@@ -7,7 +7,8 @@ use Rattle.ipnet_base.specs.Network.{IsNetwork, IsTruncated}
 use Rattle.ipnet_base.specs.Stack.{IsInOrder, IsStackOfFirst}
 use Rattle.ipnet_base.proofs.AggregateLaws.{IsCanonicalAggregateOf-from_aggregate}
 use Rattle.ipnet_base.proofs.CoverLaws.{HaveSameCover-trans}
-use Rattle.ipnet_base.proofs.StackLaws.{stack_of_first_whole, in_order_from_sort}
+use Rattle.ipnet_base.proofs.OrderLaws.{in_order_from_sort}
+use Rattle.ipnet_base.proofs.StackLaws.{stack_of_first_whole}
 use Rattle.ipnet.proofs.FrontLaws.{front_kept}
 use Rattle.ipnet.proofs.JoinedLaws.{All-read, aggregate_from_stack}
 use Rattle.ipnet.proofs.aggregate.aggregated.Goals as goal

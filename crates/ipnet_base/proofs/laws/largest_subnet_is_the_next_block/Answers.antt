@@ -1,3 +1,4 @@
+-- The step is maximal, since a larger block would start earlier; its last address is the formula's (`WalkLaws`).
 use Rattle.std.proofs.Common.{◌+◌, subst}
 use Rattle.ipnet_base.specs.Address.{IsBetween}
 use Rattle.ipnet_base.specs.Blocks.{AreMaximalBlocks}

@@ -1,4 +1,4 @@
-use Rattle.ipnet_base.proofs.NetworkLaws.{IsNetmaskOf-unique}
+use Rattle.ipnet_base.proofs.MaskLaws.{IsNetmaskOf-unique}
 use Rattle.ipnet_base.proofs.laws.netmask_has_one_length.Goals as goal
 
 pub returns : goal.returns

@@ -1,3 +1,4 @@
+-- Two ascending lists with the same members are equal; here at each kind of set.
 use Rattle.ipnet_base.specs.Address.{IsAcceptedBy, IsBetween}
 use Rattle.ipnet_base.specs.Blocks.{IsCoveredBy}
 use Rattle.ipnet_base.proofs.UniqueLaws.{AreMaximalBlocks-unique}

@@ -1,3 +1,4 @@
+-- The blocks are found step by step (`WalkLaws`); the rest holds of every set that can be decided.
 use Rattle.ipnet_base.specs.Address.{IsBetween}
 use Rattle.ipnet_base.proofs.WalkLaws.{blocks_exist}
 use Rattle.ipnet_base.proofs.ExactCoverLaws.{IsShortestCover-of_range, maximal_blocks_apart}

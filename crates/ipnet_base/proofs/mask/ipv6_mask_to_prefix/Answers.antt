@@ -1,4 +1,5 @@
-use Rattle.std.proofs.Common.{◌≡◌, ℕ, refl, subst, rules}
+-- A netmask has as many ones as it begins with (`MaskLaws`), so the test of this one length decides.
+use Rattle.std.proofs.Common.{◌≡◌, refl, subst, rules}
 use Rattle.std.specs.Int.{w128}
 use Rattle.std.specs.Net.Addr.{ipv6_bits}
 use Rattle.ipnet_base.specs.Address.{IPv6}

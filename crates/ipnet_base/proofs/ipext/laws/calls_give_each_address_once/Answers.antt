@@ -1,3 +1,4 @@
+-- Each call takes what it gives out of the range, and adds nothing (`CallLaws`).
 use Rattle.ipnet_base.proofs.CallLaws.{given_from_range, given_once, given_exactly_once, none_stays}
 use Rattle.ipnet_base.proofs.ipext.laws.calls_give_each_address_once.Goals as goal
 

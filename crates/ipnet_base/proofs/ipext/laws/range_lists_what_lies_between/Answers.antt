@@ -1,3 +1,4 @@
+-- The list is of numbers that follow one another from the start, so each is known by its place (`RangeLaws`).
 use Rattle.ipnet_base.proofs.RangeLaws.{between_from_contains, contains_from_between}
 use Rattle.ipnet_base.proofs.RangeLaws.{addresses_ascend, length-addresses_of}
 use Rattle.ipnet_base.proofs.ipext.laws.range_lists_what_lies_between.Goals as goal

@@ -1,3 +1,4 @@
+-- The stored ends tell the item and what is left (`RangeLaws`), so the ends alone are shown of the code.
 use Rattle.std.proofs.Common.{Some, None, rules}
 use Rattle.ipnet_base.specs.Address.{ipv4_address}
 use Rattle.ipnet_base.specs.Ranges.{IsNth}

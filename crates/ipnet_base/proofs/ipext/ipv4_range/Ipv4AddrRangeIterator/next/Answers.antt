@@ -1,3 +1,4 @@
+-- The stored ends tell all that the step does (`RangeLaws`), so the ends alone are shown of the code.
 use Rattle.std.proofs.Common.{rules}
 use Rattle.ipnet_base.proofs.RangeLaws.{yields_first, range_step}
 use Rattle.ipnet_base.proofs.ipext.ipv4_range.Ipv4AddrRangeIterator.next.Goals as goal

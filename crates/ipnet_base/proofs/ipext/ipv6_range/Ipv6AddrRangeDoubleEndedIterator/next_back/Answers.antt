@@ -1,3 +1,4 @@
+-- The stored ends tell all that the step does (`RangeLaws`), so the ends alone are shown of the code.
 use Rattle.std.proofs.Common.{rules}
 use Rattle.ipnet_base.proofs.RangeLaws.{yields_last, range_step_back}
 use Rattle.ipnet_base.proofs.ipext.ipv6_range.Ipv6AddrRangeDoubleEndedIterator.next_back.Goals as goal
