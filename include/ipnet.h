@@ -60,7 +60,7 @@ enum { IPNET_MAX_BYTES = 18, IPNET_MAX_TEXT = 43 };
  * BUFFER_TOO_SHORT  `*count` is the length that the answer needs
  * BAD_LINE          `*count` is the number of the first bad line, counted from 1 with the empty ones
  * NOT_UTF8          exactly where the text is not
- * OUT_OF_MEMORY     never for an empty text, nor where the first line that is not empty is bad
+ * OUT_OF_MEMORY     never where all lines are empty, nor where the first line that is not empty is bad
  *
  * `buffer` changes at OK alone, and keeps what stands after the answer; `*count` keeps its value at the last two.
  *
@@ -80,7 +80,8 @@ uint8_t ipnet_aggregate_text_legacy(const uint8_t *text, size_t text_len, uint8_
  * BAD_LINE_IN_OTHER  `*line` is that of `other`, and `text` has none
  * NOT_UTF8           exactly where `text` is not
  * OTHER_NOT_UTF8     exactly where `text` is, and `other` is not
- * OUT_OF_MEMORY      never for two empty texts, nor where the first line of `text` that is not empty is bad
+ * OUT_OF_MEMORY      never where all lines of both are empty, nor where the first line of `text` that is not empty is
+ *                    bad
  *
  * `*same` changes at OK alone, `*line` at the two statuses of a bad line alone.
  *
@@ -99,7 +100,8 @@ uint8_t ipnet_same_addresses(const uint8_t *text, size_t text_len, const uint8_t
  * BAD_LINE_IN_OTHER  `*count` is that of `other`, and `text` has none
  * NOT_UTF8           exactly where `text` is not
  * OTHER_NOT_UTF8     exactly where `text` is, and `other` is not
- * OUT_OF_MEMORY      never for two empty texts, nor where the first line of `text` that is not empty is bad
+ * OUT_OF_MEMORY      never where all lines of both are empty, nor where the first line of `text` that is not empty is
+ *                    bad
  *
  * `buffer` changes at OK alone, and keeps what stands after the answer; `*count` keeps its value at the last three.
  *
@@ -130,7 +132,7 @@ uint8_t ipnet_difference_text(const uint8_t *text, size_t text_len, const uint8_
  * WRONG_LENGTH, UNKNOWN_FAMILY, PREFIX_TOO_LONG   exactly where the bytes are such; they are looked at before the text
  * BAD_LINE         `*line` is the number of the first bad line
  * NOT_UTF8         exactly where the bytes are a network's and the text is not UTF-8
- * OUT_OF_MEMORY    never for an empty text, nor where the first line that is not empty is bad
+ * OUT_OF_MEMORY    never where all lines are empty, nor where the first line that is not empty is bad
  *
  * `*covered` changes at OK alone, `*line` at BAD_LINE alone.
  *

@@ -1,11 +1,11 @@
 -- Replies to two lists of networks made one.
-use Rattle.std.proofs.Common.{◌≡◌, ℕ, ◌⊎◌, ◌↔◌, List, [], inl, inr, refl, length, arith, IsUtf8}
+use Rattle.std.proofs.Common.{◌≡◌, ℕ, ◌⊎◌, ◌↔◌, List, [], inl, inr, refl, arith, IsUtf8}
 use Rattle.ipnet.specs.Address.{Address}
 use Rattle.ipnet.specs.Network.{Network}
 use Rattle.ipnet.specs.Blocks.{IsCoveredBy, AreMaximalBlocks}
 use Rattle.ipnet.specs.Lines.{lines_of, AreNetworksOf, IsFirstBadLine}
 use Rattle.ipnet.specs.declared.parser.Grammar.TheVariants.{Strict}
-use Rattle.ipnet.proofs.LineLaws.{all_good, no_lines}
+use Rattle.ipnet.proofs.LineLaws.{all_good}
 use Rattle.ipnet.proofs.WalkLaws.{AreMaximalBlocks-nil}
 use Rattle.ipnet_base.proofs.SupernetLaws.{AreMaximalBlocks-same_set}
 use Rattle.ipnet_sets.specs.declared.set.IpSet.{IpSet}
@@ -15,10 +15,10 @@ use Rattle.ipnet_c.specs.Replies.{IsCombined, AreBlocksOfBoth, IsSetText, IsSetR
 use Rattle.ipnet_c.specs.declared.sets.Operation.{Operation}
 use Rattle.ipnet_c.specs.declared.sets.Operation.TheVariants.{Union, Intersection, Difference}
 use Rattle.ipnet_c.proofs.StatusLaws.{differ, not_other}
-use Rattle.ipnet_c.proofs.ListReplies.{IsGoodAtOnce, good_at_once}
+use Rattle.ipnet_c.proofs.ListReplies.{IsGoodAtOnce, good_at_once, IsBlank}
 
 -- the same is made of two sets with the same addresses
-pub IsCombined-same : (operation : Operation) (A B C D : Type 0) → A ↔ C → B ↔ D
+IsCombined-same : (operation : Operation) (A B C D : Type 0) → A ↔ C → B ↔ D
     → IsCombined operation A B → IsCombined operation C D
 IsCombined-same Union A B C D first second (inl a) = inl (first.0 a)
 IsCombined-same Union A B C D first second (inr b) = inr (second.0 b)
@@ -49,14 +49,14 @@ nothing_of_nothing Union x none (inr b) = none b
 nothing_of_nothing Intersection x none (a, b) = none a
 nothing_of_nothing Difference x none (a, b) = none a
 
--- so of two texts with no byte the answer is empty
-pub empty_of_empty : (operation : Operation) (text other : List ℕ) → length text ≡ 0 → length other ≡ 0
-    → IsSetText operation text other []
-empty_of_empty operation text other none none_other = record {
+-- so of two texts that write none the answer is empty
+pub empty_of_empty : (operation : Operation) (text other : List ℕ) → AreNetworksOf Strict (lines_of text) []
+    → AreNetworksOf Strict (lines_of other) [] → IsSetText operation text other []
+empty_of_empty operation text other written written_other = record {
   networks = [];
   others = [];
-  written = no_lines Strict text none;
-  written_other = no_lines Strict other none_other;
+  written = written;
+  written_other = written_other;
   blocks = [];
   combined =
       AreMaximalBlocks-nil (λ x. IsCombined operation (IsCoveredBy [] x) (IsCoveredBy [] x)) 0
@@ -115,7 +115,7 @@ other_refused operation text other buffer count_old count networks utf8 utf8_oth
 
 -- want of memory
 pub not_combined : (operation : Operation) (text other buffer : List ℕ) (count : ℕ) → IsUtf8 text → IsUtf8 other
-    → (text ≡ [] → ¬ (other ≡ [])) → IsGoodAtOnce Strict text
+    → (IsBlank text → ¬ (IsBlank other)) → IsGoodAtOnce Strict text
     → IsSetReply operation text other buffer buffer count count 3
 not_combined operation text other buffer count utf8 utf8_other some good = record {
   known = inr (inr (inr (inr (inr (inr refl)))));

@@ -101,8 +101,9 @@ pub record IsSetReply (operation : Operation) (text other old new : List ℕ) (c
   pub buffer_kept : status ≢ statuses.ok → new ≡ old
   pub count_kept : (status ≡ statuses.not_utf8) ⊎ ((status ≡ statuses.other_not_utf8)
       ⊎ (status ≡ statuses.out_of_memory)) → count ≡ count_old
-  -- what needs no memory: two empty texts, and a first text whose first line that is not empty is bad
-  pub empty : text ≡ [] → other ≡ [] → status ≢ statuses.out_of_memory
+  -- what needs no memory: two texts of empty lines alone, and a first text whose first line that is not empty is bad
+  pub empty : All (λ line. line ≡ []) (lines_of text) → All (λ line. line ≡ []) (lines_of other)
+      → status ≢ statuses.out_of_memory
   pub bad_at_once : (number : ℕ) → IsUtf8 text → IsUtf8 other → StartsWithBadLine Strict (lines_of text) number
       → status ≡ statuses.bad_line
 

@@ -1,5 +1,5 @@
 //! Sets of addresses, made of two lists of networks as text, and given back as such a list.
-ghost use Rattle.std.specs.Prelude.{◌≡◌, ◌↔◌, [], ◌∷◌, ◌++◌, map, IfOk, OnOk, string_bytes};
+ghost use Rattle.std.specs.Prelude.{◌≡◌, ◌↔◌, [], ◌∷◌, ◌++◌, map, IsTrue, IfOk, OnOk, string_bytes};
 ghost use Rattle.ipnet.specs.Address.{Address};
 ghost use Rattle.ipnet.specs.CanonicalTexts.{canonical_text};
 ghost use Rattle.ipnet.specs.NetworkOf.{ip_network};
@@ -80,6 +80,13 @@ fn push_line(text: &mut String, network: &IpNet) -> Result<(), AllocError>
     text.push_str("\n")
 }
 
+/// Whether neither list has a network.
+fn are_empty(networks: &[IpNet], others: &[IpNet]) -> bool
+    ensures { IsTrue result ↔ ((networks.now ≡ []) × (others.now ≡ [])) }
+{
+    networks.is_empty() && others.is_empty()
+}
+
 /// The networks of the operation's set, as text, into the buffer.
 fn combine(
     alloc: Global,
@@ -97,9 +104,6 @@ fn combine(
     let Ok(other) = str::from_utf8(other) else {
         return OTHER_NOT_UTF8;
     };
-    if text.is_empty() && other.is_empty() {
-        return write_answer(&[], buffer, count);
-    }
     let networks = match read_networks(alloc, text) {
         Ok(networks) => networks,
         Err(ToolError::Line(number)) => {
@@ -116,6 +120,10 @@ fn combine(
         }
         Err(ToolError::Memory) => return OUT_OF_MEMORY,
     };
+    // Nothing is made of nothing, and needs no memory.
+    if are_empty(&networks, &others) {
+        return write_answer(&[], buffer, count);
+    }
     let Ok(blocks) = combined_networks(alloc, operation, &networks, &others) else {
         return OUT_OF_MEMORY;
     };
@@ -134,8 +142,8 @@ fn combine(
 /// The status is 0, or 4 where the buffer is too short, with the length needed in `count`; 1 where a line of the first
 /// text is no network, and 9 where one of the other is and none of the first, with the number of the first such line,
 /// counted from 1 with the empty ones, in `count`; 2 where the first text is not UTF-8, and 10 where the other alone is
-/// not; 3 where memory is short, which never comes for two empty texts, nor where the first line of the first text that
-/// is not empty is bad. The buffer changes at 0 alone, `count` at 0, 1, 4 and 9.
+/// not; 3 where memory is short, which never comes where all lines of both are empty, nor where the first line of the
+/// first text that is not empty is bad. The buffer changes at 0 alone, `count` at 0, 1, 4 and 9.
 ///
 /// ```text
 /// "10.0.0.0/25" and "10.0.0.128/25"    0, and the text "10.0.0.0/24\n"

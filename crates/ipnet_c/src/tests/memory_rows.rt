@@ -120,7 +120,13 @@ fn no_memory_is_needed(rt: HostRuntime) -> Result<(), Fail> {
             b"",
             OK,
         ),
-        ("the union of empty lists", IntoBuffer::Union, b"", b"", OK),
+        (
+            "the union of empty lists",
+            IntoBuffer::Union,
+            b"",
+            b"\n",
+            OK,
+        ),
         (
             "the difference of empty lists",
             IntoBuffer::Difference,

@@ -1,27 +1,26 @@
-use Rattle.std.proofs.Common.{[], map, length, sym, ap, ◌∙◌, subst, arith, Err}
+use Rattle.std.proofs.Common.{[], map, sym, ap, ◌∙◌, subst, Err}
 use Rattle.std.proofs.lemmas.Bool.{false≢true}
+use Rattle.ipnet.specs.Lines.{lines_of, AreNetworksOf}
 use Rattle.ipnet.specs.NetworkOf.{ip_network}
 use Rattle.ipnet.specs.declared.parser.Grammar.TheVariants.{Strict}
-use Rattle.ipnet_tool.proofs.LineCuts.{no_bytes, some_bytes}
 use Rattle.ipnet_c.specs.Replies.{IsSetReply}
-use Rattle.ipnet_c.proofs.ListReplies.{IsGoodAtOnce, good_at_once}
+use Rattle.ipnet_c.proofs.ListReplies.{IsGoodAtOnce, good_at_once, IsBlank, none_of_none}
 use Rattle.ipnet_c.proofs.SetReplies.{combined, other_refused, not_combined, empty_of_empty}
-use Rattle.ipnet_c.proofs.sets.combine.Goals.{else-is_empty-via-then-is_empty+else-is_empty-2}
-use Rattle.ipnet_c.proofs.sets.combine.Goals.{else-is_empty-via-else-is_empty}
 use Rattle.ipnet_c.proofs.sets.combine.Goals as goal
 
-pub returns-then-is_empty-2 : goal.returns-then-is_empty-2
-returns-then-is_empty-2 c =
+pub returns-then-are_empty : goal.returns-then-are_empty
+returns-then-are_empty c =
     let (same, utf8) = c.in-Ok.ensures.cases in
     let (same_other, utf8_other) = c.in-Ok-from_utf8.ensures.cases in
-    let text = c.in-Ok.text.now in
-    let other = c.in-Ok-from_utf8.other.now in
+    let (none, none_other) = c.are_empty.ensures.0 c.if-are_empty.true in
     let made = c.write_answer in
     combined c.args.operation c.args.text.now c.args.other.now [] c.args.buffer.now made.new.buffer c.args.count.now
     made.new.count made.result utf8 utf8_other
     (empty_of_empty c.args.operation c.args.text.now c.args.other.now
-    (ap length (sym same) ∙ no_bytes (length text) c.if-is_empty.ensures)
-    (ap length (sym same_other) ∙ no_bytes (length other) c.if-is_empty-2.ensures))
+    (subst (λ z. AreNetworksOf Strict (lines_of c.args.text.now) (map ip_network z))
+    (sym c.deref.ensures.value ∙ none) (rw same at c.in-Ok-read_networks.ensures.networks))
+    (subst (λ z. AreNetworksOf Strict (lines_of c.args.other.now) (map ip_network z))
+    (sym c.deref-2.ensures.value ∙ none_other) (rw same_other at c.in-Ok-read_networks-2.ensures.networks)))
     made.ensures.known made.ensures.ok made.ensures.too_short
 
 pub returns-in-Err-Memory : goal.returns-in-Err-Memory
@@ -31,7 +30,7 @@ returns-in-Err-Memory c =
     let good : IsGoodAtOnce Strict c.in-Ok.text.now =
     λ number h. let clash = c.in-Err-Memory.ensures.bad_at_once number h in absurd cc in
     not_combined c.args.operation c.args.text.now c.args.other.now c.args.buffer.now c.args.count.now utf8 utf8_other
-    (λ none. absurd (false≢true (c.in-Err-Memory.ensures.empty (same ∙ none))))
+    (λ none. absurd (false≢true (c.in-Err-Memory.ensures.empty (subst IsBlank (sym same) none))))
     (subst (IsGoodAtOnce Strict) same good)
 
 pub returns-in-Err-Line-read_networks : goal.returns-in-Err-Line-read_networks
@@ -51,7 +50,8 @@ returns-in-Err-Memory-read_networks c =
     let (same, utf8) = c.in-Ok.ensures.cases in
     let (same_other, utf8_other) = c.in-Ok-from_utf8.ensures.cases in
     not_combined c.args.operation c.args.text.now c.args.other.now c.args.buffer.now c.args.count.now utf8 utf8_other
-    (λ none none_other. false≢true (c.in-Err-Memory-read_networks.ensures.empty (same_other ∙ none_other)))
+    (λ none none_other.
+    false≢true (c.in-Err-Memory-read_networks.ensures.empty (subst IsBlank (sym same_other) none_other)))
     (good_at_once Strict c.args.text.now (map ip_network c.in-Ok-read_networks.networks.items)
     (rw same at c.in-Ok-read_networks.ensures.networks))
 
@@ -60,18 +60,12 @@ returns-in_default-combined_networks c =
     let (same, utf8) = c.in-Ok.ensures.cases in
     let (same_other, utf8_other) = c.in-Ok-from_utf8.ensures.cases in
     not_combined c.args.operation c.args.text.now c.args.other.now c.args.buffer.now c.args.count.now utf8 utf8_other
-    (λ none none_other. elim c.else-is_empty.branch [
-      | else-is_empty-via-then-is_empty+else-is_empty-2 w ↦ omega (
-        arith,
-        some_bytes (length c.in-Ok-from_utf8.other.now) w.if-is_empty-2.ensures,
-        ap length (same_other ∙ none_other),
-      )
-      | else-is_empty-via-else-is_empty w ↦ omega (
-        arith,
-        some_bytes (length c.in-Ok.text.now) w.if-is_empty.ensures,
-        ap length (same ∙ none),
-      )
-    ])
+    (λ none none_other. false≢true (sym c.if-are_empty.false ∙ c.are_empty.ensures.1 (
+      c.deref.ensures.value ∙ none_of_none (lines_of c.args.text.now) c.in-Ok-read_networks.networks.items
+          (rw same at c.in-Ok-read_networks.ensures.networks) none,
+      c.deref-2.ensures.value ∙ none_of_none (lines_of c.args.other.now) c.in-Ok-read_networks-2.others.items
+          (rw same_other at c.in-Ok-read_networks-2.ensures.networks) none_other,
+    )))
     (good_at_once Strict c.args.text.now (map ip_network c.in-Ok-read_networks.networks.items)
     (rw same at c.in-Ok-read_networks.ensures.networks))
 
@@ -80,18 +74,12 @@ returns-in_default-printed c =
     let (same, utf8) = c.in-Ok.ensures.cases in
     let (same_other, utf8_other) = c.in-Ok-from_utf8.ensures.cases in
     not_combined c.args.operation c.args.text.now c.args.other.now c.args.buffer.now c.args.count.now utf8 utf8_other
-    (λ none none_other. elim c.else-is_empty.branch [
-      | else-is_empty-via-then-is_empty+else-is_empty-2 w ↦ omega (
-        arith,
-        some_bytes (length c.in-Ok-from_utf8.other.now) w.if-is_empty-2.ensures,
-        ap length (same_other ∙ none_other),
-      )
-      | else-is_empty-via-else-is_empty w ↦ omega (
-        arith,
-        some_bytes (length c.in-Ok.text.now) w.if-is_empty.ensures,
-        ap length (same ∙ none),
-      )
-    ])
+    (λ none none_other. false≢true (sym c.if-are_empty.false ∙ c.are_empty.ensures.1 (
+      c.deref.ensures.value ∙ none_of_none (lines_of c.args.text.now) c.in-Ok-read_networks.networks.items
+          (rw same at c.in-Ok-read_networks.ensures.networks) none,
+      c.deref-2.ensures.value ∙ none_of_none (lines_of c.args.other.now) c.in-Ok-read_networks-2.others.items
+          (rw same_other at c.in-Ok-read_networks-2.ensures.networks) none_other,
+    )))
     (good_at_once Strict c.args.text.now (map ip_network c.in-Ok-read_networks.networks.items)
     (rw same at c.in-Ok-read_networks.ensures.networks))
 
@@ -109,6 +97,6 @@ returns c =
       written_other = rw same_other at c.in-Ok-read_networks-2.ensures.networks;
       blocks = map ip_network c.in-Ok-combined_networks.blocks.items;
       combined = c.in-Ok-combined_networks.ensures;
-      spelled = c.as_bytes.ensures.value ∙ rw c.deref.ensures.value at c.in-Ok-printed.ensures;
+      spelled = c.as_bytes.ensures.value ∙ rw c.deref-3.ensures.value at c.in-Ok-printed.ensures;
     })
     made.ensures.known made.ensures.ok made.ensures.too_short
