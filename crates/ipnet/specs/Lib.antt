@@ -4,10 +4,10 @@ pub mod NetworkParts
 pub mod NetLaws
 pub mod Numerals
 pub mod AddressTexts
+pub mod Results
 pub mod NetworkTexts
 pub mod CanonicalTexts
 pub mod Lines
-pub mod Results
 pub mod Bytes
 pub mod JsonTexts
 pub mod ReaderSteps
