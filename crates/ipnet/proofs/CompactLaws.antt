@@ -13,7 +13,7 @@ use Rattle.ipnet_base.proofs.DigitLaws.{number_back}
 use Rattle.ipnet.proofs.NumberOctets.{sixteen_again}
 
 -- the number that the octets write
-abbrev pub octets_number : Family → List ℕ → ℕ
+abbrev octets_number : Family → List ℕ → ℕ
 octets_number IPv4 octets = from_be_bytes w32 octets
 octets_number IPv6 octets = from_be_bytes w128 octets
 

@@ -12,12 +12,12 @@ use Rattle.std.proofs.NetLemmas.Numbers.{NoDigit}
 use Rattle.ipnet.specs.declared.parser.Grammar.{Grammar}
 use Rattle.ipnet.specs.declared.parser.Grammar.TheVariants.{Strict, Legacy}
 use Rattle.ipnet.specs.Numerals.{IsOctet, IsGroup}
-use Rattle.ipnet.specs.ReaderSteps.{digit_run, octet_of, group_of, is_plain}
+use Rattle.ipnet.specs.ReaderSteps.{digit_run, decimal_of, group_of, is_plain}
 
 -- ---- the run
 
 -- at most `room` digits, and then none where there is room, are the run
-pub digit_run_stop : (room : ℕ) (ds rest : List ℕ) → AllDigits 16 ds → length ds ≤ room
+digit_run_stop : (room : ℕ) (ds rest : List ℕ) → AllDigits 16 ds → length ds ≤ room
     → (length ds < room → NoDigit 16 rest) → digit_run room (ds ++ rest) ≡ (ds, rest)
 unfolding digit_run
 digit_run_stop zero [] rest all fits stop = refl
@@ -82,9 +82,10 @@ plain_is Strict ds some h strict zero_first =
       | inr one ↦ omega arith
     ]
 
-pub octet_of_complete : (grammar : Grammar) (ds : List ℕ) (n : ℕ) → IsOctet grammar ds n → octet_of grammar ds ≡ Some n
-unfolding octet_of
-octet_of_complete grammar ds n h =
+pub decimal_of_complete : (grammar : Grammar) (ds : List ℕ) (n : ℕ) → IsOctet grammar ds n
+    → decimal_of grammar ds ≡ Some n
+unfolding decimal_of
+decimal_of_complete grammar ds n h =
     let fits : digits_value 10 ds ≤ 255 = omega (arith, h.value, h.small) in
     rw (
       lt-ltb 0 (length ds) h.digits.0,
@@ -95,9 +96,9 @@ octet_of_complete grammar ds n h =
       h.value,
     )
 
-pub octet_of_sound : (grammar : Grammar) (ds : List ℕ) (n : ℕ) → octet_of grammar ds ≡ Some n → IsOctet grammar ds n
-unfolding octet_of
-octet_of_sound grammar ds n e =
+pub decimal_of_sound : (grammar : Grammar) (ds : List ℕ) (n : ℕ) → decimal_of grammar ds ≡ Some n → IsOctet grammar ds n
+unfolding decimal_of
+decimal_of_sound grammar ds n e =
     let (tests, value) = cond_some _ _ _ e in
     let (front, plain) = and_parts _ _ tests in
     let (front₁, small) = and_parts _ _ front in

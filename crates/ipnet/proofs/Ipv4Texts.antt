@@ -12,9 +12,10 @@ use Rattle.std.specs.Int.{w32, from_be_bytes}
 use Rattle.ipnet_base.specs.Network.{Network}
 use Rattle.ipnet.specs.NetworkOf.{ipv4_network_of}
 use Rattle.ipnet.specs.NetworkTexts.{IsIpv4NetworkText}
-use Rattle.ipnet.specs.ReaderSteps.{read_byte, digit_run, octet_of, read_octet, read_dotted, read_length}
+use Rattle.ipnet.specs.ReaderSteps.{read_byte, digit_run, decimal_of, read_octet, read_dotted, read_length}
 use Rattle.ipnet.specs.ReaderSteps.{read_ipv4_network}
-use Rattle.ipnet.proofs.DigitTexts.{AllDigits_hex, digit_run-append, digit_run_sound, octet_of_complete, octet_of_sound}
+use Rattle.ipnet.proofs.DigitTexts.{AllDigits_hex, digit_run-append, digit_run_sound, decimal_of_complete}
+use Rattle.ipnet.proofs.DigitTexts.{decimal_of_sound}
 
 -- the run at the front of a decimal text that a byte other than a digit follows
 decimal_run : (grammar : Grammar) (most greatest : ℕ) (ds : List ℕ) (n : ℕ) (rest : List ℕ) → most ≤ 4
@@ -30,20 +31,20 @@ read_octet_complete : (grammar : Grammar) (ds : List ℕ) (n : ℕ) (rest : List
     → read_octet grammar (46 ∷ (ds ++ rest)) ≡ Some (n, rest)
 unfolding read_octet
 read_octet_complete grammar ds n rest h stop =
-    rw (octet_run grammar ds n rest h stop, octet_of_complete grammar ds n h)
+    rw (octet_run grammar ds n rest h stop, decimal_of_complete grammar ds n h)
 
 read_octet_sound : (grammar : Grammar) (text : List ℕ) (n : ℕ) (rest : List ℕ)
     → read_octet grammar text ≡ Some (n, rest) → (ds : List ℕ) × (text ≡ 46 ∷ (ds ++ rest)) × IsOctet grammar ds n
 unfolding read_octet
 read_octet_sound grammar text n rest e =
     option_and_then_some _ (read_byte 46 text) _ e λ digits dot e₁.
-    option_and_then_some _ (octet_of grammar (digit_run 4 digits).0) _ e₁ λ o octet e₂.
+    option_and_then_some _ (decimal_of grammar (digit_run 4 digits).0) _ e₁ λ o octet e₂.
     let (value_is, rest_is) = some_pair_parts o n (digit_run 4 digits).1 rest e₂ in
     let run = digit_run_sound 4 digits in (
       (digit_run 4 digits).0,
       read_byte_sound 46 text digits dot ∙ ap (λ t. 46 ∷ t)
           (run.spelled ∙ ap (λ t. (digit_run 4 digits).0 ++ t) rest_is),
-      rw value_is at (octet_of_sound grammar _ o octet),
+      rw value_is at (decimal_of_sound grammar _ o octet),
     )
 
 -- a dotted address by its parts
@@ -104,13 +105,13 @@ read_dotted_complete grammar text octets rest h stop =
       h.value,
     )
 
--- three more octets, one behind the other
+-- three more octets, one after the other
 three_more : (x y z w t₂ t₃ t₄ rest : List ℕ) → x ≡ 46 ∷ (t₂ ++ y) → y ≡ 46 ∷ (t₃ ++ z) → z ≡ 46 ∷ (t₄ ++ w) → w ≡ rest
     → x ≡ (46 ∷ (t₂ ++ (46 ∷ (t₃ ++ (46 ∷ t₄))))) ++ rest
 three_more x y z w t₂ t₃ t₄ rest s₂ s₃ s₄ same = s₂ ∙ rw (s₃, s₄, same) (simp append_assoc)
 
 pub read_dotted_sound : (grammar : Grammar) (ds : List ℕ) (a : ℕ) (text octets rest : List ℕ)
-    → octet_of grammar ds ≡ Some a → read_dotted grammar a text ≡ Some (octets, rest)
+    → decimal_of grammar ds ≡ Some a → read_dotted grammar a text ≡ Some (octets, rest)
     → (front : List ℕ) × (text ≡ front ++ rest) × IsIpv4AddressText grammar (ds ++ front) octets
 unfolding read_dotted
 read_dotted_sound grammar ds a text octets rest first e =
@@ -128,7 +129,7 @@ read_dotted_sound grammar ds a text octets rest first e =
         ds,
         t₂ ++ (46 ∷ (t₃ ++ (46 ∷ t₄))),
         simp append_assoc,
-        octet_of_sound grammar ds a first,
+        decimal_of_sound grammar ds a first,
         (t₂, t₃ ++ (46 ∷ t₄), simp append_assoc, is_b, (t₃, t₄, simp append_assoc, is_c, is_d)),
       ),
       refl,
@@ -141,10 +142,10 @@ no_rest : (ds rest : List ℕ) → (length rest == 0) ≡ true → ds ++ rest �
 no_rest ds [] e = append-nil ds
 no_rest ds (c ∷ rest) e = absurd (omega (arith, eqb-true (length (c ∷ rest)) 0 e))
 
--- a text is its first run, the rest of the address, and a length behind "/"
-both_parts : (text ds more front behind digits : List ℕ) → text ≡ ds ++ more → more ≡ front ++ behind
-    → behind ≡ 47 ∷ digits → text ≡ ds ++ front ++ (47 ∷ []) ++ digits
-both_parts text ds more front behind digits e₁ e₂ e₃ = e₁ ∙ rw (e₂, e₃) (simp append_assoc)
+-- a text is its first run, the rest of the address, and a length after "/"
+both_parts : (text ds more front after digits : List ℕ) → text ≡ ds ++ more → more ≡ front ++ after
+    → after ≡ 47 ∷ digits → text ≡ ds ++ front ++ (47 ∷ []) ++ digits
+both_parts text ds more front after digits e₁ e₂ e₃ = e₁ ∙ rw (e₂, e₃) (simp append_assoc)
 
 pub read_length_complete : (grammar : Grammar) (most greatest : ℕ) (text : List ℕ) (n : ℕ) → most ≤ 3 → greatest ≤ 255
     → IsDecimal grammar most greatest text n → read_length grammar most greatest (47 ∷ text) ≡ Some n
@@ -158,7 +159,7 @@ read_length_complete grammar most greatest text n few low h =
       small = omega (arith, h.small);
       plain = h.plain;
     } in
-    rw (run, octet_of_complete grammar text n octet, le-leb n greatest h.small, le-leb (length text) most h.short)
+    rw (run, decimal_of_complete grammar text n octet, le-leb n greatest h.small, le-leb (length text) most h.short)
 
 pub read_length_sound : (grammar : Grammar) (most greatest : ℕ) (text : List ℕ) (n : ℕ)
     → read_length grammar most greatest text ≡ Some n
@@ -166,11 +167,11 @@ pub read_length_sound : (grammar : Grammar) (most greatest : ℕ) (text : List �
 unfolding read_length
 read_length_sound grammar most greatest text n e =
     option_and_then_some _ (read_byte 47 text) _ e λ digits slash e₁.
-    option_and_then_some _ (octet_of grammar (digit_run 4 digits).0) _ e₁ λ o octet e₂.
+    option_and_then_some _ (decimal_of grammar (digit_run 4 digits).0) _ e₁ λ o octet e₂.
     let (tests, value) = cond_some _ _ _ e₂ in
     let (front, none_left) = and_parts _ _ tests in
     let (small, short) = and_parts _ _ front in
-    let is = octet_of_sound grammar (digit_run 4 digits).0 o octet in
+    let is = decimal_of_sound grammar (digit_run 4 digits).0 o octet in
     let run = digit_run_sound 4 digits in
     let whole : digits ≡ (digit_run 4 digits).0 = run.spelled ∙ no_rest _ _ none_left in
     let decimal : IsDecimal grammar most greatest (digit_run 4 digits).0 n = record {
@@ -186,29 +187,29 @@ read_length_sound grammar most greatest text n e =
 
 pub read_ipv4_network_complete : (grammar : Grammar) (text : List ℕ) (network : Network)
     (h : IsIpv4NetworkText grammar text network)
-    → read_ipv4_network grammar (octet_of grammar (digit_run 4 text).0) (digit_run 4 text).1
+    → read_ipv4_network grammar (decimal_of grammar (digit_run 4 text).0) (digit_run 4 text).1
     ≡ Some (h.octets, network.prefix_len)
 unfolding read_ipv4_network
 read_ipv4_network_complete grammar text network h =
     let dots = Dots-from grammar h.address_text h.octets h.writes_address in
-    let behind = 47 ∷ h.length_text in
+    let after = 47 ∷ h.length_text in
     let shown =
     h.spelled ∙ append_assoc h.address_text (47 ∷ []) h.length_text
-    ∙ Dots-rest grammar h.address_text h.octets behind dots in
+    ∙ Dots-rest grammar h.address_text h.octets after dots in
     rw (
       shown,
       octet_run grammar dots.t₁ dots.a _ dots.is_a (lit≤ tt),
-      octet_of_complete grammar dots.t₁ dots.a dots.is_a,
-      read_dotted_complete grammar h.address_text h.octets behind dots (lit≤ tt),
+      decimal_of_complete grammar dots.t₁ dots.a dots.is_a,
+      read_dotted_complete grammar h.address_text h.octets after dots (lit≤ tt),
       read_length_complete grammar 2 32 h.length_text network.prefix_len (lit≤ tt) (lit≤ tt) h.writes_length,
     )
 
 pub read_ipv4_network_sound : (grammar : Grammar) (text octets : List ℕ) (n : ℕ)
-    → read_ipv4_network grammar (octet_of grammar (digit_run 4 text).0) (digit_run 4 text).1 ≡ Some (octets, n)
+    → read_ipv4_network grammar (decimal_of grammar (digit_run 4 text).0) (digit_run 4 text).1 ≡ Some (octets, n)
     → IsIpv4NetworkText grammar text (ipv4_network_of (from_be_bytes w32 octets) n)
 unfolding read_ipv4_network
 read_ipv4_network_sound grammar text octets n e =
-    option_and_then_some _ (octet_of grammar (digit_run 4 text).0) _ e λ first octet e₁.
+    option_and_then_some _ (decimal_of grammar (digit_run 4 text).0) _ e λ first octet e₁.
     option_and_then_some _ (read_dotted grammar first (digit_run 4 text).1) _ e₁ λ address read e₂.
     option_and_then_some _ (read_length grammar 2 32 address.1) _ e₂ λ m length_read e₃.
     let (octets_are, n_is) = some_pair_parts address.0 octets m n e₃ in

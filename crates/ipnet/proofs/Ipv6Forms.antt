@@ -3,7 +3,7 @@ use Rattle.std.proofs.Common.{◌≡◌, ℕ, ◌+◌, ◌≤◌, true, false, L
 use Rattle.std.proofs.Common.{append_assoc, length-append}
 use Rattle.ipnet.specs.declared.parser.Grammar.{Grammar}
 use Rattle.ipnet.specs.AddressTexts.{IsGroups, EndsInIpv4, IsCompressed}
-use Rattle.ipnet.proofs.Ipv6Texts.{Begins, pieces_at, slash_stops, colons_stop, groups_begin, mixed_begins}
+use Rattle.ipnet.proofs.Ipv6Texts.{Begins, groups_at, slash_stops, colons_stop, groups_begin, mixed_begins}
 use Rattle.ipnet.proofs.Ipv6Texts.{groups_complete, mixed_complete, three_parts}
 
 -- no text that begins with "::" begins with a digit
@@ -28,7 +28,7 @@ module _ (grammar : Grammar) (text others : List ℕ) (k : IsCompressed grammar 
 
   -- the head is read up to the "::"
   head_read : (room i : ℕ) (head : List ℕ) → IsGroups k.head_text (i ∷ head) → length head + 1 ≤ room
-      → pieces_at grammar room (text ++ (47 ∷ [])) ≡ Some (i ∷ head, false, 58 ∷ 58 ∷ (k.tail_text ++ (47 ∷ [])))
+      → groups_at grammar room (text ++ (47 ∷ [])) ≡ Some (i ∷ head, false, 58 ∷ 58 ∷ (k.tail_text ++ (47 ∷ [])))
   head_read room i head is fits =
       rw split (groups_complete grammar room k.head_text (58 ∷ 58 ∷ (k.tail_text ++ (47 ∷ []))) i head is
       (colons_stop _) (omega arith))

@@ -1,4 +1,4 @@
--- `read_pieces` and `read_ipv6` read their part of the grammar, and nothing else.
+-- `read_groups` and `read_ipv6` read their part of the grammar, and nothing else.
 use Rattle.std.proofs.Common.{◌≡◌, ◌≢◌, ℕ, zero, suc, ◌+◌, ◌*◌, ◌-◌, ◌<◌, ◌≤◌, ◌⊎◌, Bool, true, false, ◌==◌, nat_lt}
 use Rattle.std.proofs.Common.{List, [], ◌∷◌, ◌++◌, length, get_or, drop, Option, Some, None, cond, refl, sym, ap, ◌∙◌}
 use Rattle.std.proofs.Common.{subst, arith, inl, inr, append_assoc, append-nil, lit≤, lt-ltb, eq-eqb, ne_eqb, eqb-true}
@@ -10,15 +10,14 @@ use Rattle.std.proofs.NetLemmas.Ipv4.{read_byte_sound}
 use Rattle.std.specs.Char.{digit_value}
 use Rattle.std.specs.Str.Parse.{AllDigits}
 use Rattle.std.specs.Net.Addr.{segments_of}
-use Rattle.ipnet.specs.declared.parser.reader.Run.{Run}
 use Rattle.ipnet.specs.declared.parser.Grammar.{Grammar}
 use Rattle.ipnet.specs.declared.parser.Grammar.TheVariants.{Strict, Legacy}
 use Rattle.ipnet.specs.Numerals.{IsGroup}
 use Rattle.ipnet.specs.AddressTexts.{IsIpv4AddressText, IsGroups, EndsInIpv4, IsIpv6AddressText, most_written_groups}
 use Rattle.ipnet.specs.AddressTexts.{expanded}
-use Rattle.ipnet.specs.ReaderSteps.{Read, Pieces, behind, run_of, digit_run, octet_of, group_of, is_single_colon}
-use Rattle.ipnet.specs.ReaderSteps.{read_last, read_dotted, read_pieces, read_byte, read_tail, read_ipv6}
-use Rattle.ipnet.proofs.DigitTexts.{digit_run-append, digit_run_sound, octet_of_complete, group_of_complete}
+use Rattle.ipnet.specs.ReaderSteps.{Read, Groups, after, run_of, digit_run, decimal_of, group_of, is_single_colon}
+use Rattle.ipnet.specs.ReaderSteps.{read_dotted_groups, read_dotted, read_groups, read_byte, read_compressed, read_ipv6}
+use Rattle.ipnet.proofs.DigitTexts.{digit_run-append, digit_run_sound, decimal_of_complete, group_of_complete}
 use Rattle.ipnet.proofs.DigitTexts.{group_of_sound, AllDigits_hex}
 use Rattle.ipnet.proofs.Ipv4Texts.{Dots, Dots-from, Dots-rest, octet_run, read_dotted_complete, read_dotted_sound}
 
@@ -35,8 +34,8 @@ pub colons_stop : (text : List ℕ) → Stops (58 ∷ 58 ∷ text)
 colons_stop text = record { no_digit = lit≤ tt; no_dot = omega arith; no_colon = refl }
 
 -- the groups at the front of a text
-abbrev pub pieces_at : Grammar → ℕ → List ℕ → Pieces
-pieces_at grammar room text = read_pieces grammar room (run_of grammar (digit_run 4 text).0) (digit_run 4 text).1
+abbrev pub groups_at : Grammar → ℕ → List ℕ → Groups
+groups_at grammar room text = read_groups grammar room (run_of grammar (digit_run 4 text).0) (digit_run 4 text).1
 
 -- the text begins with a digit
 abbrev pub Begins : List ℕ → Type 0
@@ -53,8 +52,8 @@ single text begins =
     rw (ne_eqb _ 58 other)
 
 last_group : (grammar : Grammar) (room : ℕ) (ds rest : List ℕ) (g : ℕ) → IsGroup ds g → Stops rest
-    → pieces_at grammar (suc room) (ds ++ rest) ≡ Some (g ∷ [], false, rest)
-unfolding read_pieces
+    → groups_at grammar (suc room) (ds ++ rest) ≡ Some (g ∷ [], false, rest)
+unfolding read_groups
 last_group grammar room ds rest g h stop =
     rw (
       digit_run-append 4 ds rest h.digits.1 h.short stop.no_digit,
@@ -64,8 +63,8 @@ last_group grammar room ds rest g h stop =
     )
 
 one_group : (grammar : Grammar) (room : ℕ) (ds text : List ℕ) (g : ℕ) → IsGroup ds g → Begins text
-    → pieces_at grammar (suc room) (ds ++ (58 ∷ text)) ≡ behind (g ∷ []) (pieces_at grammar room text)
-unfolding read_pieces
+    → groups_at grammar (suc room) (ds ++ (58 ∷ text)) ≡ after (g ∷ []) (groups_at grammar room text)
+unfolding read_groups
 one_group grammar room ds text g h begins =
     rw (
       digit_run-append 4 ds (58 ∷ text) h.digits.1 h.short (lit≤ tt),
@@ -91,7 +90,7 @@ mixed_begins grammar text rest (g ∷ i ∷ j ∷ groups) h =
 
 pub groups_complete : (grammar : Grammar) (room : ℕ) (text rest : List ℕ) (g : ℕ) (groups : List ℕ)
     → IsGroups text (g ∷ groups) → Stops rest → length groups < room
-    → pieces_at grammar room (text ++ rest) ≡ Some (g ∷ groups, false, rest)
+    → groups_at grammar room (text ++ rest) ≡ Some (g ∷ groups, false, rest)
 groups_complete grammar zero text rest g groups h stop fits = absurd (omega arith)
 groups_complete grammar (suc room) text rest g [] h stop fits = last_group grammar room text rest g h stop
 groups_complete grammar (suc room) text rest g (i ∷ groups) h stop fits =
@@ -105,20 +104,20 @@ groups_complete grammar (suc room) text rest g (i ∷ groups) h stop fits =
     )
 
 last_dotted : (grammar : Grammar) (room : ℕ) (text rest octets : List ℕ) → IsIpv4AddressText grammar text octets
-    → Stops rest → 0 < room → pieces_at grammar (suc room) (text ++ rest) ≡ Some (segments_of octets, true, rest)
-unfolding read_pieces read_last
+    → Stops rest → 0 < room → groups_at grammar (suc room) (text ++ rest) ≡ Some (segments_of octets, true, rest)
+unfolding read_groups read_dotted_groups
 last_dotted grammar room text rest octets h stop some =
     let dots = Dots-from grammar text octets h in
     rw (
       Dots-rest grammar text octets rest dots,
       octet_run grammar dots.t₁ dots.a _ dots.is_a (lit≤ tt),
       lt-ltb 0 room some,
-      octet_of_complete grammar dots.t₁ dots.a dots.is_a,
+      decimal_of_complete grammar dots.t₁ dots.a dots.is_a,
       read_dotted_complete grammar text octets rest dots stop.no_digit,
     )
 
 pub mixed_complete : (grammar : Grammar) (room : ℕ) (text rest groups : List ℕ) → EndsInIpv4 grammar text groups
-    → Stops rest → length groups ≤ room → pieces_at grammar room (text ++ rest) ≡ Some (groups, true, rest)
+    → Stops rest → length groups ≤ room → groups_at grammar room (text ++ rest) ≡ Some (groups, true, rest)
 mixed_complete grammar room text rest [] h stop fits = absurd h
 mixed_complete grammar room text rest (g ∷ []) h stop fits = absurd h
 mixed_complete grammar zero text rest (g ∷ i ∷ groups) h stop fits = absurd (omega arith)
@@ -134,7 +133,7 @@ mixed_complete grammar (suc room) text rest (g ∷ i ∷ j ∷ groups) h stop fi
       later,
     )
 
--- ---- a whole address, behind which "/" stands
+-- ---- a whole address, after which "/" stands
 
 run_some : (text : List ℕ) → Begins text → (length (digit_run 4 text).0 == 0) ≡ false
 unfolding digit_run
@@ -145,21 +144,22 @@ IsTail : Grammar → List ℕ → List ℕ → Type 0
 IsTail grammar text groups = IsGroups text groups ⊎ EndsInIpv4 grammar text groups
 
 tail_pieces : (grammar : Grammar) (head : List ℕ) (tail_text more tail : List ℕ) → Begins (tail_text ++ (47 ∷ more))
-    → (dotted : Bool) → pieces_at grammar (most_written_groups grammar - length head) (tail_text ++ (47 ∷ more))
-    ≡ Some (tail, dotted, 47 ∷ more) → read_tail grammar head (58 ∷ 58 ∷ (tail_text ++ (47 ∷ more)))
+    → (dotted : Bool) → groups_at grammar (most_written_groups grammar - length head) (tail_text ++ (47 ∷ more))
+    ≡ Some (tail, dotted, 47 ∷ more) → read_compressed grammar head (58 ∷ 58 ∷ (tail_text ++ (47 ∷ more)))
     ≡ Some (expanded head tail, 47 ∷ more)
-unfolding read_tail
+unfolding read_compressed
 tail_pieces grammar head tail_text more tail begins dotted read = rw (run_some _ begins, read)
 
-read_tail_complete : (grammar : Grammar) (head tail tail_text more : List ℕ)
+read_compressed_complete : (grammar : Grammar) (head tail tail_text more : List ℕ)
     → length head + length tail ≤ most_written_groups grammar → IsTail grammar tail_text tail
-    → read_tail grammar head (58 ∷ 58 ∷ (tail_text ++ (47 ∷ more))) ≡ Some (expanded head tail, 47 ∷ more)
+    → read_compressed grammar head (58 ∷ 58 ∷ (tail_text ++ (47 ∷ more))) ≡ Some (expanded head tail, 47 ∷ more)
 unfolding IsTail
-read_tail_complete grammar head [] tail_text more room (inl h) = unfold read_tail in unfold digit_run in rw h
-read_tail_complete grammar head (g ∷ tail) tail_text more room (inl h) =
+read_compressed_complete grammar head [] tail_text more room (inl h) = unfold read_compressed in unfold digit_run in
+    rw h
+read_compressed_complete grammar head (g ∷ tail) tail_text more room (inl h) =
     tail_pieces grammar head tail_text more (g ∷ tail) (groups_begin tail_text _ g tail h) false
     (groups_complete grammar _ tail_text _ g tail h (slash_stops more) (omega arith))
-read_tail_complete grammar head tail tail_text more room (inr h) =
+read_compressed_complete grammar head tail tail_text more room (inr h) =
     tail_pieces grammar head tail_text more tail (mixed_begins grammar tail_text _ tail h) true
     (mixed_complete grammar _ tail_text _ tail h (slash_stops more) (omega arith))
 
@@ -168,19 +168,19 @@ abbrev pub ipv6_at : Grammar → List ℕ → Read (List ℕ)
 ipv6_at grammar text = read_ipv6 grammar (run_of grammar (digit_run 4 text).0) (digit_run 4 text).1
 
 whole_pieces : (grammar : Grammar) (text rest groups : List ℕ) → Begins text → (dotted : Bool)
-    → pieces_at grammar 8 text ≡ Some (groups, dotted, rest) → length groups ≡ 8
+    → groups_at grammar 8 text ≡ Some (groups, dotted, rest) → length groups ≡ 8
     → ipv6_at grammar text ≡ Some (groups, rest)
 unfolding read_ipv6
 whole_pieces grammar text rest groups begins dotted read eight = rw (run_some text begins, read, eight)
 
 head_pieces : (grammar : Grammar) (text rest head : List ℕ) → Begins text
-    → pieces_at grammar 8 text ≡ Some (head, false, rest) → length head ≤ 7
-    → ipv6_at grammar text ≡ read_tail grammar head rest
+    → groups_at grammar 8 text ≡ Some (head, false, rest) → length head ≤ 7
+    → ipv6_at grammar text ≡ read_compressed grammar head rest
 unfolding read_ipv6
 head_pieces grammar text rest head begins read short =
     rw (run_some text begins, read, ne_eqb (length head) 8 (omega arith))
 
-no_head : (grammar : Grammar) (text : List ℕ) → ipv6_at grammar (58 ∷ text) ≡ read_tail grammar [] (58 ∷ text)
+no_head : (grammar : Grammar) (text : List ℕ) → ipv6_at grammar (58 ∷ text) ≡ read_compressed grammar [] (58 ∷ text)
 unfolding read_ipv6 digit_run
 no_head grammar text = refl
 
@@ -188,12 +188,12 @@ elided_complete : (grammar : Grammar) (more head_text tail_text head tail : List
     → IsTail grammar tail_text tail → length head ≤ 7 → length head + length tail ≤ most_written_groups grammar
     → ipv6_at grammar (head_text ++ (58 ∷ 58 ∷ (tail_text ++ (47 ∷ more)))) ≡ Some (expanded head tail, 47 ∷ more)
 elided_complete grammar more head_text tail_text [] tail h k short room =
-    rw (h, no_head grammar) (read_tail_complete grammar [] tail tail_text more room k)
+    rw (h, no_head grammar) (read_compressed_complete grammar [] tail tail_text more room k)
 elided_complete grammar more head_text tail_text (g ∷ head) tail h k short room =
     let rest = 58 ∷ 58 ∷ (tail_text ++ (47 ∷ more)) in
     head_pieces grammar (head_text ++ rest) rest (g ∷ head) (groups_begin head_text rest g head h)
     (groups_complete grammar 8 head_text rest g head h (colons_stop _) (omega arith)) short
-    ∙ read_tail_complete grammar (g ∷ head) tail tail_text more room k
+    ∙ read_compressed_complete grammar (g ∷ head) tail tail_text more room k
 
 pub read_ipv6_complete : (grammar : Grammar) (text groups more : List ℕ) → IsIpv6AddressText grammar text groups
     → ipv6_at grammar (text ++ (47 ∷ more)) ≡ Some (groups, 47 ∷ more)
@@ -273,26 +273,22 @@ at_last grammar ds text groups rest true octets left front groups_are dotted_is 
     }
 
 last_sound : (grammar : Grammar) (ds text groups rest : List ℕ) (dotted : Bool)
-    → read_last grammar (octet_of grammar ds) text ≡ Some (groups, dotted, rest)
+    → read_dotted_groups grammar (decimal_of grammar ds) text ≡ Some (groups, dotted, rest)
     → Found grammar 2 ds text groups dotted rest
-unfolding read_last Written
+unfolding read_dotted_groups Written
 last_sound grammar ds text groups rest dotted e =
-    option_and_then_some _ (octet_of grammar ds) _ e λ first octet e₁.
+    option_and_then_some _ (decimal_of grammar ds) _ e λ first octet e₁.
     option_and_then_some _ (read_dotted grammar first text) _ e₁ λ address read e₂.
     let (groups_are, dotted_is, rest_is) = three_parts (segments_of address.0) groups true dotted address.1 rest e₂ in
     let (front, split, is) = read_dotted_sound grammar ds first text address.0 address.1 octet read in
     at_last grammar ds text groups rest dotted address.0 address.1 front groups_are dotted_is rest_is split is
 
--- the run of digits at the front of the text
-IsFirst : Grammar → Run → List ℕ → Type 0
-IsFirst grammar run ds = (run ≡ run_of grammar ds) × AllDigits 16 ds × (length ds ≤ 4)
-
--- what was found is behind a group that goes before it
+-- what was found is after a group that goes before it
 at_group : (grammar : Grammar) (room : ℕ) (ds text groups : List ℕ) (dotted : Bool) (rest : List ℕ) (g : ℕ)
     → IsGroup ds g → is_single_colon text ≡ true
-    → ((groups' : List ℕ) → pieces_at grammar room (drop 1 text) ≡ Some (groups', dotted, rest)
+    → ((groups' : List ℕ) → groups_at grammar room (drop 1 text) ≡ Some (groups', dotted, rest)
     → Found grammar room (digit_run 4 (drop 1 text)).0 (digit_run 4 (drop 1 text)).1 groups' dotted rest)
-    → (found : List ℕ × Bool × List ℕ) → pieces_at grammar room (drop 1 text) ≡ Some found → g ∷ found.0 ≡ groups
+    → (found : List ℕ × Bool × List ℕ) → groups_at grammar room (drop 1 text) ≡ Some found → g ∷ found.0 ≡ groups
     → found.1 ≡ dotted → found.2 ≡ rest → Found grammar (suc room) ds text groups dotted rest
 at_group grammar room ds text groups dotted rest g is colon later found read groups_are dotted_is rest_is =
     let more = later found.0 (read ∙ rw (dotted_is, rest_is)) in
@@ -338,16 +334,17 @@ guarded : {A : Type 0} (b : Bool) (o : Option A) (y : A) → cond b o None ≡ S
 guarded true o y e = (refl, e)
 guarded false o y e = absurd (none-some y e)
 
-pieces_sound : (grammar : Grammar) (room : ℕ) (ds text groups : List ℕ) (dotted : Bool) (rest : List ℕ)
-    → AllDigits 16 ds → length ds ≤ 4 → read_pieces grammar room (run_of grammar ds) text ≡ Some (groups, dotted, rest)
+groups_sound : (grammar : Grammar) (room : ℕ) (ds text groups : List ℕ) (dotted : Bool) (rest : List ℕ)
+    → AllDigits 16 ds → length ds ≤ 4 → read_groups grammar room (run_of grammar ds) text ≡ Some (groups, dotted, rest)
     → Found grammar room ds text groups dotted rest
-unfolding read_pieces
-pieces_sound grammar zero ds text groups dotted rest all short e = absurd (none-some _ e)
-pieces_sound grammar (suc room) ds text groups dotted rest all short e =
+unfolding read_groups
+groups_sound grammar zero ds text groups dotted rest all short e = absurd (none-some _ e)
+groups_sound grammar (suc room) ds text groups dotted rest all short e =
     elim (cases_eq (get_or text 0 0) 46) [
       | inl dot ↦
           let (room_left, last) =
-          guarded (nat_lt 0 room) (read_last grammar (octet_of grammar ds) text) _ (rw (eq-eqb _ 46 dot) at e) in
+          guarded (nat_lt 0 room) (read_dotted_groups grammar (decimal_of grammar ds) text) _
+          (rw (eq-eqb _ 46 dot) at e) in
           let wide : 2 ≤ suc room = omega (arith, ltb-true 0 room room_left) in
           wider grammar 2 (suc room) ds text groups dotted rest wide
           (last_sound grammar ds text groups rest dotted last)
@@ -356,10 +353,10 @@ pieces_sound grammar (suc room) ds text groups dotted rest all short e =
           let is = group_of_sound ds g all short group in
           elim (bool_cases (is_single_colon text)) [
             | inl colon ↦
-                map_some _ (pieces_at grammar room (drop 1 text)) _ (rw colon at e₁) λ found read same.
+                map_some _ (groups_at grammar room (drop 1 text)) _ (rw colon at e₁) λ found read same.
                 let run = digit_run_sound 4 (drop 1 text) in
                 at_group grammar room ds text groups dotted rest g is colon
-                (λ groups' again. pieces_sound grammar room _ _ groups' dotted rest run.all run.fits again) found read
+                (λ groups' again. groups_sound grammar room _ _ groups' dotted rest run.all run.fits again) found read
                 (ap (λ p. p.0) same) (ap (λ p. p.1) same) (ap (λ p. p.2) same)
             | inr end ↦
                 let (groups_are, dotted_is, rest_is) =
@@ -396,10 +393,10 @@ empty_run : (ds : List ℕ) → (length ds == 0) ≡ true → ds ≡ []
 empty_run [] e = refl
 empty_run (d ∷ ds) e = absurd (omega (arith, eqb-true (length (d ∷ ds)) 0 e))
 
-read_tail_sound : (grammar : Grammar) (head_text head text groups rest : List ℕ) → length head ≤ 7
-    → read_tail grammar head text ≡ Some (groups, rest) → FoundAt grammar head_text head text groups rest
-unfolding read_tail
-read_tail_sound grammar head_text head text groups rest short e =
+read_compressed_sound : (grammar : Grammar) (head_text head text groups rest : List ℕ) → length head ≤ 7
+    → read_compressed grammar head text ≡ Some (groups, rest) → FoundAt grammar head_text head text groups rest
+unfolding read_compressed
+read_compressed_sound grammar head_text head text groups rest short e =
     option_and_then_some _ (read_byte 58 text) _ e λ one first e₁.
     option_and_then_some _ (read_byte 58 one) _ e₁ λ two second e₂.
     let run = digit_run_sound 4 two in
@@ -419,11 +416,11 @@ read_tail_sound grammar head_text head text groups rest short e =
             value = sym groups_are;
           }
       | inr some ↦
-          option_and_then_some _ (read_pieces grammar (most_written_groups grammar - length head) (run_of grammar ds)
+          option_and_then_some _ (read_groups grammar (most_written_groups grammar - length head) (run_of grammar ds)
           left) _ (rw some at e₂) λ tail read e₃.
           let (groups_are, rest_is) = some_pair_parts (expanded head tail.0) groups tail.2 rest e₃ in
           let found =
-          pieces_sound grammar (most_written_groups grammar - length head) ds left tail.0 tail.1 tail.2 run.all
+          groups_sound grammar (most_written_groups grammar - length head) ds left tail.0 tail.1 tail.2 run.all
           run.fits read in
           record {
             tail_text = ds ++ found.front;
@@ -479,12 +476,12 @@ read_ipv6_sound grammar text groups rest e =
     let left = (digit_run 4 text).1 in
     elim (bool_cases (length ds == 0)) [
       | inl none ↦
-          let found = read_tail_sound grammar [] [] left groups rest (omega arith) (rw none at e) in
+          let found = read_compressed_sound grammar [] [] left groups rest (omega arith) (rw none at e) in
           let (front, split, is) = to_elided grammar [] [] left groups rest refl (omega arith) found in
           (front, run.spelled ∙ ap (λ t. t ++ left) (empty_run ds none) ∙ split, is)
       | inr some ↦
-          option_and_then_some _ (read_pieces grammar 8 (run_of grammar ds) left) _ (rw some at e) λ head read e₁.
-          let found = pieces_sound grammar 8 ds left head.0 head.1 head.2 run.all run.fits read in
+          option_and_then_some _ (read_groups grammar 8 (run_of grammar ds) left) _ (rw some at e) λ head read e₁.
+          let found = groups_sound grammar 8 ds left head.0 head.1 head.2 run.all run.fits read in
           let split : text ≡ (ds ++ found.front) ++ head.2 =
           run.spelled ∙ ap (λ t. ds ++ t) found.split ∙ sym (append_assoc ds found.front head.2) in
           elim (cases_eq (length head.0) 8) [
@@ -497,13 +494,13 @@ read_ipv6_sound grammar text groups rest e =
                 )
             | inr fewer ↦
                 let (plain, tail) =
-                cond_none head.1 (read_tail grammar head.0 head.2) _ (rw (ne_eqb _ 8 fewer) at e₁) in
+                cond_none head.1 (read_compressed grammar head.0 head.2) _ (rw (ne_eqb _ 8 fewer) at e₁) in
                 let short : length head.0 ≤ 7 = omega (arith, found.fits) in
                 let is_head : IsGroups (ds ++ found.front) head.0 =
                 plain_written grammar head.1 _ head.0 plain found.written in
                 let (front, split', is) =
                 to_elided grammar (ds ++ found.front) head.0 head.2 groups rest is_head short
-                (read_tail_sound grammar (ds ++ found.front) head.0 head.2 groups rest short tail) in
+                (read_compressed_sound grammar (ds ++ found.front) head.0 head.2 groups rest short tail) in
                 (front, split ∙ split', is)
           ]
     ]

@@ -1,7 +1,6 @@
 -- The lines of a text, and the networks that they write.
-use Rattle.std.proofs.Common.{◌≡◌, ℕ, zero, suc, ◌+◌, ◌-◌, ◌<◌, ◌≤◌, List, [], ◌∷◌, ◌++◌, length, get_or, take, drop}
-use Rattle.std.proofs.Common.{All, refl, sym, ap, ◌∙◌, subst, arith, inl, inr, eq-eqb, ne_eqb, add-one, take_all}
-use Rattle.std.proofs.Common.{length-drop}
+use Rattle.std.proofs.Common.{◌≡◌, ℕ, zero, suc, ◌+◌, ◌<◌, List, [], ◌∷◌, ◌++◌, length, get_or, take, drop}
+use Rattle.std.proofs.Common.{All, refl, sym, ap, ◌∙◌, subst, arith, inl, inr, eq-eqb, ne_eqb}
 use Rattle.std.proofs.lemmas.List.Elements.{All-nil, All-cons, All-head, All-tail}
 use Rattle.ipnet_base.specs.Network.{Network}
 use Rattle.ipnet.specs.declared.parser.Grammar.{Grammar}
@@ -32,7 +31,7 @@ all_good grammar ((b ∷ line) ∷ lines) (n ∷ networks) h =
     All-cons (IsGoodLine grammar) (b ∷ line) lines (inr (n, h.0)) (all_good grammar lines networks h.1)
 
 -- a good line isn't bad
-pub good_or_bad : (grammar : Grammar) (line : List ℕ) → IsGoodLine grammar line → IsBadLine grammar line → ⊥
+good_or_bad : (grammar : Grammar) (line : List ℕ) → IsGoodLine grammar line → IsBadLine grammar line → ⊥
 good_or_bad grammar line (inl empty) bad = bad.0 empty
 good_or_bad grammar line (inr good) bad = bad.1 good.0 good.1
 
@@ -121,13 +120,6 @@ lines_at (b ∷ text) zero within before found = rw (eq-eqb b 10 found)
 lines_at (b ∷ text) (suc i) within before found =
     let later = lines_at text i (omega arith) (λ k less. before (suc k) (omega arith)) found in
     rw (ne_eqb b 10 (before 0 (omega arith)), later)
-
--- the same, with the rest as a slice has it
-pub cut_at : (text : List ℕ) (i : ℕ) → i < length text → ((k : ℕ) → k < i → get_or text k 0 ≡ 10 → ⊥)
-    → get_or text i 0 ≡ 10 → lines_of text ≡ take i text ∷ lines_of (take (length text - (i + 1)) (drop (i + 1) text))
-cut_at text i within before found =
-    let all : length (drop (i + 1) text) ≤ length text - (i + 1) = omega (arith, length-drop (i + 1) text) in
-    rw (take_all (length text - (i + 1)) (drop (i + 1) text) all, add-one) (lines_at text i within before found)
 
 pub last_line : (text : List ℕ) → 0 < length text → ((k : ℕ) → k < length text → get_or text k 0 ≡ 10 → ⊥)
     → lines_of text ≡ text ∷ []

@@ -139,7 +139,7 @@ eight_groups_below groups eight fit =
     rw (eight_groups groups eight) low
 
 -- and are the groups of that number
-pub groups_again : (groups : List ℕ) → length groups ≡ 8 → ((k : ℕ) → get_or groups k 0 < 2 ^ 16)
+groups_again : (groups : List ℕ) → length groups ≡ 8 → ((k : ℕ) → get_or groups k 0 < 2 ^ 16)
     → segments_of (to_be_bytes w128 (from_be_bytes w128 (octets_of groups))) ≡ groups
 groups_again groups eight fit =
     let sixteen : length (octets_of groups) ≡ 16 = omega (arith, length-octets_of groups) in

@@ -26,7 +26,7 @@ use Rattle.ipnet.proofs.StrictTexts.{strict_is_legacy}
 use Rattle.ipnet.proofs.WholeTexts.{one_network}
 
 -- the decimal of a number is its strict text
-pub IsDecimal-decimal : (most greatest n : ℕ) → 0 < most → n < 10 ^ most → n ≤ greatest → n < 2 ^ 64
+IsDecimal-decimal : (most greatest n : ℕ) → 0 < most → n < 10 ^ most → n ≤ greatest → n < 2 ^ 64
     → IsDecimal Strict most greatest (decimal n) n
 IsDecimal-decimal most greatest n some fits small wide =
     let (numeral, value) = decimal_is_IsNumeral n wide in
@@ -75,7 +75,7 @@ last_dotted text octets g groups h value =
     let two = value ∙ ap segments_of h.value in
     subst (IsPieces text) (sym two) (inr (octets, IsIpv4AddressText-std text octets h, ap segments_of (sym h.value)))
 
--- what std writes behind a lead
+-- what std writes after a lead
 pieces_after : (lead text : List ℕ) (g : ℕ) (groups : List ℕ) → IsGroupsAfter true lead text (g ∷ groups)
     → (rest : List ℕ) × (text ≡ lead ++ rest) × IsPieces rest (g ∷ groups)
 pieces_after lead text g groups (inr h) = (h.0, h.3, last_dotted h.0 h.1 g groups h.4 h.5)

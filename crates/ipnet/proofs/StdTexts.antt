@@ -43,11 +43,11 @@ ipv4_std text octets = (dotted text octets, IsIpv4AddressText-std text octets)
 group : (text : List ℕ) (n : ℕ) → IsGroup text n → StdGroup text n
 group text n h = ((h.digits, h.value), h.short)
 
-behind_lead : (lead text first rest : List ℕ) → text ≡ first ++ (58 ∷ []) ++ rest
+after_lead : (lead text first rest : List ℕ) → text ≡ first ++ (58 ∷ []) ++ rest
     → lead ++ text ≡ lead ++ first ++ (58 ∷ rest)
-behind_lead lead text first rest split = rw split (simp append_assoc)
+after_lead lead text first rest split = rw split (simp append_assoc)
 
--- groups behind a lead, as std writes them
+-- groups after a lead, as std writes them
 groups_after : (ipv4 : Bool) (lead text : List ℕ) (g : ℕ) (groups : List ℕ) → IsGroups text (g ∷ groups)
     → IsGroupsAfter ipv4 lead (lead ++ text) (g ∷ groups)
 groups_after ipv4 lead text g [] h = inl (text, [], sym (append-nil (lead ++ text)), group text g h, refl)
@@ -55,7 +55,7 @@ groups_after ipv4 lead text g (i ∷ groups) h =
     inl (
       h.0,
       58 ∷ h.1,
-      behind_lead lead text h.0 h.1 h.2,
+      after_lead lead text h.0 h.1 h.2,
       group h.0 g h.3,
       groups_after ipv4 (58 ∷ []) h.1 i groups h.4,
     )
@@ -73,7 +73,7 @@ mixed_after lead text (g ∷ i ∷ j ∷ groups) h =
     inl (
       h.0,
       58 ∷ h.1,
-      behind_lead lead text h.0 h.1 h.2,
+      after_lead lead text h.0 h.1 h.2,
       group h.0 g h.3,
       mixed_after (58 ∷ []) h.1 (i ∷ j ∷ groups) h.4,
     )

@@ -6,7 +6,7 @@ use Rattle.ipnet.specs.Numerals.{IsDecimal, IsOctet}
 use Rattle.ipnet.specs.AddressTexts.{IsJoined, IsIpv4AddressText, EndsInIpv4, IsIpv6AddressText}
 use Rattle.ipnet.specs.NetworkTexts.{IsNetworkText}
 
-pub IsDecimal-weaker : (most greatest : ℕ) (text : List ℕ) (n : ℕ) → IsDecimal Strict most greatest text n
+IsDecimal-weaker : (most greatest : ℕ) (text : List ℕ) (n : ℕ) → IsDecimal Strict most greatest text n
     → IsDecimal Legacy most greatest text n
 IsDecimal-weaker most greatest text n h = record {
   digits = h.digits;
@@ -24,7 +24,7 @@ IsJoined-weaker separator P Q weaker text (n ∷ []) h = weaker text n h
 IsJoined-weaker separator P Q weaker text (n ∷ m ∷ ns) h =
     (h.0, h.1, h.2, weaker h.0 n h.3, IsJoined-weaker separator P Q weaker h.1 (m ∷ ns) h.4)
 
-pub IsIpv4AddressText-weaker : (text octets : List ℕ) → IsIpv4AddressText Strict text octets
+IsIpv4AddressText-weaker : (text octets : List ℕ) → IsIpv4AddressText Strict text octets
     → IsIpv4AddressText Legacy text octets
 IsIpv4AddressText-weaker text octets h =
     (IsJoined-weaker (46 ∷ []) (IsOctet Strict) (IsOctet Legacy) (IsDecimal-weaker 3 255) text octets h.0, h.1)
@@ -37,7 +37,7 @@ EndsInIpv4-weaker text (g ∷ h ∷ []) (octets, dotted, value) =
 EndsInIpv4-weaker text (g ∷ h ∷ i ∷ groups) p =
     (p.0, p.1, p.2, p.3, EndsInIpv4-weaker p.1 (h ∷ i ∷ groups) p.4)
 
-pub IsIpv6AddressText-weaker : (text groups : List ℕ) → IsIpv6AddressText Strict text groups
+IsIpv6AddressText-weaker : (text groups : List ℕ) → IsIpv6AddressText Strict text groups
     → IsIpv6AddressText Legacy text groups
 IsIpv6AddressText-weaker text groups (inl h) = inl h
 IsIpv6AddressText-weaker text groups (inr (inl h)) = inr (inl (h.0, EndsInIpv4-weaker text groups h.1))

@@ -28,10 +28,10 @@ AreGroups-get_or [] h k = lit< tt
 AreGroups-get_or (g ∷ groups) h zero = h.0
 AreGroups-get_or (g ∷ groups) h (suc k) = AreGroups-get_or groups h.1 k
 
-AreGroups-append : (front behind : List ℕ) → AreGroups front → AreGroups behind → AreGroups (front ++ behind)
+AreGroups-append : (front after : List ℕ) → AreGroups front → AreGroups after → AreGroups (front ++ after)
 unfolding AreGroups
-AreGroups-append [] behind h k = k
-AreGroups-append (g ∷ front) behind h k = (h.0, AreGroups-append front behind h.1 k)
+AreGroups-append [] after h k = k
+AreGroups-append (g ∷ front) after h k = (h.0, AreGroups-append front after h.1 k)
 
 AreGroups-zeros : (n : ℕ) → AreGroups (replicate n 0)
 unfolding AreGroups

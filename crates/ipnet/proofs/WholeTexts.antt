@@ -17,20 +17,20 @@ use Rattle.ipnet.specs.declared.parser.Grammar.{Grammar}
 use Rattle.ipnet.specs.Numerals.{IsDecimal, IsGroup}
 use Rattle.ipnet.specs.AddressTexts.{IsGroups, EndsInIpv4, IsIpv6AddressText}
 use Rattle.ipnet.specs.NetworkTexts.{IsIpv4NetworkText, IsIpv6NetworkText, IsNetworkText, WritesNone, ReadsNetwork}
-use Rattle.ipnet.specs.ReaderSteps.{run_of, digit_run, octet_of, read_length, read_ipv4_network, read_ipv6_network}
+use Rattle.ipnet.specs.ReaderSteps.{run_of, digit_run, decimal_of, read_length, read_ipv4_network, read_ipv6_network}
 use Rattle.ipnet.proofs.DigitTexts.{digit_run-append}
 use Rattle.ipnet.proofs.Ipv4Texts.{Dots-from, Dots-rest, octet_run, read_length_complete, read_length_sound}
 use Rattle.ipnet.proofs.Ipv4Texts.{read_ipv4_network_complete}
 use Rattle.ipnet.proofs.Ipv6Texts.{ipv6_at, read_ipv6_complete, read_ipv6_sound}
 
 -- the IPv4 and the IPv6 network that the text is read as
-abbrev pub ipv4_network_at : Grammar → List ℕ → Option (List ℕ × ℕ)
-ipv4_network_at grammar text = read_ipv4_network grammar (octet_of grammar (digit_run 4 text).0) (digit_run 4 text).1
+abbrev ipv4_network_at : Grammar → List ℕ → Option (List ℕ × ℕ)
+ipv4_network_at grammar text = read_ipv4_network grammar (decimal_of grammar (digit_run 4 text).0) (digit_run 4 text).1
 
-abbrev pub ipv6_network_at : Grammar → List ℕ → Option (List ℕ × ℕ)
+abbrev ipv6_network_at : Grammar → List ℕ → Option (List ℕ × ℕ)
 ipv6_network_at grammar text = read_ipv6_network grammar (run_of grammar (digit_run 4 text).0) (digit_run 4 text).1
 
-pub read_ipv6_network_complete : (grammar : Grammar) (text : List ℕ) (network : Network)
+read_ipv6_network_complete : (grammar : Grammar) (text : List ℕ) (network : Network)
     (h : IsIpv6NetworkText grammar text network) → ipv6_network_at grammar text ≡ Some (h.groups, network.prefix_len)
 unfolding read_ipv6_network
 read_ipv6_network_complete grammar text network h =
@@ -81,63 +81,63 @@ ipv6_unique grammar text m n h k =
     same_network m n (h.family ∙ sym k.family)
     (h.number ∙ ap (λ gs. from_be_bytes w128 (octets_of gs)) groups ∙ sym k.number) len
 
--- ---- which family: the byte behind the first run
+-- ---- which family: the byte after the first run
 
-dot_behind : (grammar : Grammar) (text : List ℕ) (network : Network) → IsIpv4NetworkText grammar text network
+dot_after : (grammar : Grammar) (text : List ℕ) (network : Network) → IsIpv4NetworkText grammar text network
     → get_or (digit_run 4 text).1 0 0 ≡ 46
-dot_behind grammar text network h =
+dot_after grammar text network h =
     let dots = Dots-from grammar h.address_text h.octets h.writes_address in
-    let behind = 47 ∷ h.length_text in
+    let after = 47 ∷ h.length_text in
     let shown =
     h.spelled ∙ append_assoc h.address_text (47 ∷ []) h.length_text
-    ∙ Dots-rest grammar h.address_text h.octets behind dots in
+    ∙ Dots-rest grammar h.address_text h.octets after dots in
     rw (shown, octet_run grammar dots.t₁ dots.a _ dots.is_a (lit≤ tt))
 
-behind_group : (first more text : List ℕ) (g : ℕ) → IsGroup first g → text ≡ first ++ (58 ∷ more)
+after_group : (first more text : List ℕ) (g : ℕ) → IsGroup first g → text ≡ first ++ (58 ∷ more)
     → get_or (digit_run 4 text).1 0 0 ≡ 58
-behind_group first more text g h e = rw (e, digit_run-append 4 first (58 ∷ more) h.digits.1 h.short (lit≤ tt))
+after_group first more text g h e = rw (e, digit_run-append 4 first (58 ∷ more) h.digits.1 h.short (lit≤ tt))
 
-colon_behind : (grammar : Grammar) (text more groups : List ℕ) → IsIpv6AddressText grammar text groups
+colon_after : (grammar : Grammar) (text more groups : List ℕ) → IsIpv6AddressText grammar text groups
     → get_or (digit_run 4 (text ++ more)).1 0 0 ≡ 58
-colon_behind grammar text more groups (inl h) = by_groups groups h.0 h.1
+colon_after grammar text more groups (inl h) = by_groups groups h.0 h.1
   where
     by_groups : (groups : List ℕ) → length groups ≡ 8 → IsGroups text groups
         → get_or (digit_run 4 (text ++ more)).1 0 0 ≡ 58
     by_groups [] eight h = absurd (omega arith)
     by_groups (g ∷ []) eight h = absurd (omega arith)
-    by_groups (g ∷ i ∷ groups) eight h = behind_group h.0 (h.1 ++ more) _ g h.3 (rw h.2 (simp append_assoc))
-colon_behind grammar text more groups (inr (inl h)) = by_mixed groups h.0 h.1
+    by_groups (g ∷ i ∷ groups) eight h = after_group h.0 (h.1 ++ more) _ g h.3 (rw h.2 (simp append_assoc))
+colon_after grammar text more groups (inr (inl h)) = by_mixed groups h.0 h.1
   where
     by_mixed : (groups : List ℕ) → length groups ≡ 8 → EndsInIpv4 grammar text groups
         → get_or (digit_run 4 (text ++ more)).1 0 0 ≡ 58
     by_mixed [] eight h = absurd h
     by_mixed (g ∷ []) eight h = absurd h
     by_mixed (g ∷ i ∷ []) eight h = absurd (omega arith)
-    by_mixed (g ∷ i ∷ j ∷ groups) eight h = behind_group h.0 (h.1 ++ more) _ g h.3 (rw h.2 (simp append_assoc))
-colon_behind grammar text more groups (inr (inr h)) = by_head h.head h.head_groups
+    by_mixed (g ∷ i ∷ j ∷ groups) eight h = after_group h.0 (h.1 ++ more) _ g h.3 (rw h.2 (simp append_assoc))
+colon_after grammar text more groups (inr (inr h)) = by_head h.head h.head_groups
   where
     by_head : (head : List ℕ) → IsGroups h.head_text head → get_or (digit_run 4 (text ++ more)).1 0 0 ≡ 58
     by_head [] k = unfold digit_run in rw (h.spelled, k)
-    by_head (g ∷ []) k = behind_group h.head_text (58 ∷ (h.tail_text ++ more)) _ g k (rw h.spelled (simp append_assoc))
+    by_head (g ∷ []) k = after_group h.head_text (58 ∷ (h.tail_text ++ more)) _ g k (rw h.spelled (simp append_assoc))
     by_head (g ∷ i ∷ head) k =
-        behind_group k.0 (k.1 ++ (58 ∷ 58 ∷ (h.tail_text ++ more))) _ g k.3 (rw (h.spelled, k.2) (simp append_assoc))
+        after_group k.0 (k.1 ++ (58 ∷ 58 ∷ (h.tail_text ++ more))) _ g k.3 (rw (h.spelled, k.2) (simp append_assoc))
 
-pub not_ipv6 : (grammar : Grammar) (text : List ℕ) (network : Network) → get_or (digit_run 4 text).1 0 0 ≡ 46
+not_ipv6 : (grammar : Grammar) (text : List ℕ) (network : Network) → get_or (digit_run 4 text).1 0 0 ≡ 46
     → IsIpv6NetworkText grammar text network → ⊥
 not_ipv6 grammar text network dot h =
     let shown = h.spelled ∙ append_assoc h.address_text (47 ∷ []) h.length_text in
     let colon : get_or (digit_run 4 text).1 0 0 ≡ 58 =
-    rw shown (colon_behind grammar h.address_text (47 ∷ h.length_text) h.groups h.writes_address) in
+    rw shown (colon_after grammar h.address_text (47 ∷ h.length_text) h.groups h.writes_address) in
     omega (arith, sym dot ∙ colon)
 
-pub not_ipv4 : (grammar : Grammar) (text : List ℕ) (network : Network) → get_or (digit_run 4 text).1 0 0 ≢ 46
+not_ipv4 : (grammar : Grammar) (text : List ℕ) (network : Network) → get_or (digit_run 4 text).1 0 0 ≢ 46
     → IsIpv4NetworkText grammar text network → ⊥
-not_ipv4 grammar text network other h = other (dot_behind grammar text network h)
+not_ipv4 grammar text network other h = other (dot_after grammar text network h)
 
 -- no text is a text of both families
 pub families_apart : (grammar : Grammar) (text : List ℕ) (m n : Network) → IsIpv4NetworkText grammar text m
     → IsIpv6NetworkText grammar text n → ⊥
-families_apart grammar text m n h k = not_ipv6 grammar text n (dot_behind grammar text m h) k
+families_apart grammar text m n h k = not_ipv6 grammar text n (dot_after grammar text m h) k
 
 -- a text writes one network at most
 pub one_network : (grammar : Grammar) (text : List ℕ) (m n : Network) → IsNetworkText grammar text m
@@ -208,7 +208,7 @@ reads_ipv6 grammar text = reads ipv6_network ipv6_one_to_one (IsIpv6NetworkText 
 
 pub ipv4_read : (grammar grammar' : Grammar) (text rest : List ℕ) (run : Run) (o : Option (List ℕ × ℕ))
     → grammar' ≡ grammar → run ≡ run_of grammar (digit_run 4 text).0 → rest ≡ (digit_run 4 text).1
-    → o ≡ read_ipv4_network grammar' run.octet rest → o ≡ ipv4_network_at grammar text
+    → o ≡ read_ipv4_network grammar' run.decimal rest → o ≡ ipv4_network_at grammar text
 ipv4_read grammar grammar' text rest run o grammar_is run_is rest_is read = read ∙ rw (grammar_is, run_is, rest_is)
 
 pub ipv6_read : (grammar grammar' : Grammar) (text rest : List ℕ) (run : Run) (o : Option (List ℕ × ℕ))

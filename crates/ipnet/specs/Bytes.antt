@@ -21,15 +21,15 @@ pub record HasLongPrefix (family : Family) (bytes : List ℕ) : Type 0 where
   pub right_len : length bytes ≡ octet_count family + 1
   pub long : width family < slice_index bytes (octet_count family)
 
--- the same behind a byte for the family, 0 for IPv4 and 1 for IPv6
+-- the same after a byte for the family, 0 for IPv4 and 1 for IPv6
 abbrev pub tagged_network_bytes : Network → List ℕ
 tagged_network_bytes n = family_index n.family ∷ network_bytes n
 
--- the byte for the family, and the rest behind it
+-- the byte for the family, and the rest after it
 abbrev pub IsTagged : List ℕ → Family → List ℕ → Type 0
 IsTagged bytes family rest = bytes ≡ family_index family ∷ rest
 
--- there is no byte, or one for a family with too few or too many behind it
+-- there is no byte, or one for a family with too few or too many after it
 abbrev pub HasWrongTaggedLen : List ℕ → Type 0
 HasWrongTaggedLen bytes =
     (bytes ≡ []) ⊎ ((family : Family) × (rest : List ℕ) × IsTagged bytes family rest × HasWrongLen family rest)
@@ -39,7 +39,7 @@ abbrev pub HasUnknownVariant : List ℕ → Type 0
 HasUnknownVariant bytes =
     (tag : ℕ) × (rest : List ℕ) × (bytes ≡ tag ∷ rest) × ((family : Family) → tag ≢ family_index family)
 
--- there is a byte for a family, and behind it as many as there should be, with a length above the width
+-- there is a byte for a family, and after it as many as there should be, with a length above the width
 abbrev pub HasLongTaggedPrefix : List ℕ → Type 0
 HasLongTaggedPrefix bytes =
     (family : Family) × (rest : List ℕ) × IsTagged bytes family rest × HasLongPrefix family rest

@@ -9,7 +9,7 @@ abbrev pub onto_first_line : ℕ → List (List ℕ) → List (List ℕ)
 onto_first_line b [] = (b ∷ []) ∷ []
 onto_first_line b (line ∷ lines) = (b ∷ line) ∷ lines
 
--- The text is cut at each "\n" (10). What stands behind the last "\n" is a line too, unless it is empty.
+-- The text is cut at each "\n" (10). What stands after the last "\n" is a line too, unless it is empty.
 abbrev pub lines_of : List ℕ → List (List ℕ)
 lines_of [] = []
 lines_of (b ∷ text) = if b == 10 then [] ∷ lines_of text else onto_first_line b (lines_of text)

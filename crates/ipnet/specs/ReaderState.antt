@@ -14,10 +14,10 @@ pub record IsForward (old new : Reader) : Type 0 where
   pub text : new.text.now ≡ old.text.now
   pub grammar : new.grammar ≡ old.grammar
 
--- what a step read, and the text behind it
+-- what a step read, and the text after it
 abbrev pub read_to : {A : Type 0} → Option A → Reader → Read A
 read_to o new = option_map (λ x. (x, rest_of new)) o
 
--- the text behind what was taken, if it was taken
+-- the text after what was taken, if it was taken
 abbrev pub taken_to : Bool → Reader → Option (List ℕ)
 taken_to taken new = if taken then Some (rest_of new) else None

@@ -12,7 +12,7 @@ use Rattle.ipnet.specs.declared.parser.Grammar.{Grammar}
 use Rattle.ipnet.specs.declared.parser.Grammar.TheVariants.{Strict, Legacy}
 use Rattle.ipnet.specs.AddressTexts.{most_written_groups, expanded}
 
--- a value and the text behind it
+-- a value and the text after it
 abbrev pub Read : Type 0 → Type 0
 Read A = Option (A × List ℕ)
 
@@ -37,7 +37,7 @@ abbrev pub read_byte : ℕ → List ℕ → Option (List ℕ)
 read_byte byte [] = None
 read_byte byte (first ∷ rest) = if first == byte then Some rest else None
 
--- the hexadecimal digits at the front, at most so many, and the text behind them
+-- the hexadecimal digits at the front, at most so many, and the text after them
 unfoldable pub digit_run : ℕ → List ℕ → List ℕ × List ℕ
 digit_run zero text = ([], text)
 digit_run (suc room) [] = ([], [])
@@ -54,9 +54,9 @@ abbrev pub is_plain : Grammar → List ℕ → Bool
 is_plain Strict digits = not ((slice_index digits 0 == 48) && nat_lt 1 (length digits))
 is_plain Legacy digits = true
 
--- the octet that a run of digits writes, if it writes one
-unfoldable pub octet_of : Grammar → List ℕ → Option ℕ
-octet_of grammar digits =
+-- the decimal number of at most three digits and at most 255 that a run of digits writes, if it writes one
+unfoldable pub decimal_of : Grammar → List ℕ → Option ℕ
+decimal_of grammar digits =
     if nat_lt 0 (length digits) && nat_le (length digits) 3
     && all_decimal digits && nat_le (digits_value 10 digits) 255
     && is_plain grammar digits
@@ -67,13 +67,13 @@ unfoldable pub group_of : List ℕ → Option ℕ
 group_of digits = if nat_lt 0 (length digits) then Some (digits_value 16 digits) else None
 
 abbrev pub run_of : Grammar → List ℕ → Run
-run_of grammar digits = record { count = length digits; octet = octet_of grammar digits; group = group_of digits }
+run_of grammar digits = record { count = length digits; decimal = decimal_of grammar digits; group = group_of digits }
 
 -- a "." and an octet
 unfoldable pub read_octet : Grammar → List ℕ → Read ℕ
 read_octet grammar text = do
   digits ← read_byte dot text
-  octet ← octet_of grammar (digit_run 4 digits).0
+  octet ← decimal_of grammar (digit_run 4 digits).0
   Some (octet, (digit_run 4 digits).1)
 
 -- the dotted address whose first octet has been read
@@ -89,7 +89,7 @@ unfoldable pub read_length : Grammar → ℕ → ℕ → List ℕ → Option ℕ
 read_length grammar most greatest text = do
   digits ← read_byte slash text
   let run = digit_run 4 digits
-  n ← octet_of grammar run.0
+  n ← decimal_of grammar run.0
   if nat_le n greatest && nat_le (length run.0) most && (length run.1 == 0) then Some n else None
 
 -- an IPv4 network whose first octet has been read, if its first run was one
@@ -100,54 +100,54 @@ read_ipv4_network grammar octet text = do
   prefix_len ← read_length grammar 2 32 address.1
   Some (address.0, prefix_len)
 
--- groups, whether a dotted address stands for the last two, and the text behind them
-abbrev pub Pieces : Type 0
-Pieces = Option (List ℕ × Bool × List ℕ)
+-- groups, whether a dotted address stands for the last two, and the text after them
+abbrev pub Groups : Type 0
+Groups = Option (List ℕ × Bool × List ℕ)
 
 -- these groups before those found
-abbrev pub behind : List ℕ → Pieces → Pieces
-behind front found = option_map (λ p. (front ++ p.0, p.1, p.2)) found
+abbrev pub after : List ℕ → Groups → Groups
+after front found = option_map (λ p. (front ++ p.0, p.1, p.2)) found
 
 -- a ":" that isn't followed by another
 abbrev pub is_single_colon : List ℕ → Bool
 is_single_colon text = (slice_index text 0 == colon) && not (slice_index text 1 == colon)
 
 -- a dotted address for two groups, whose first octet has been read, if the run before was one
-unfoldable pub read_last : Grammar → Option ℕ → List ℕ → Pieces
-read_last grammar octet text = do
+unfoldable pub read_dotted_groups : Grammar → Option ℕ → List ℕ → Groups
+read_dotted_groups grammar octet text = do
   first ← octet
   address ← read_dotted grammar first text
   Some (segments_of address.0, true, address.1)
 
 -- at most so many groups joined by ":", whose first run has been read, and may be a dotted address
-unfoldable pub read_pieces : Grammar → ℕ → Run → List ℕ → Pieces
-read_pieces grammar zero first text = None
-read_pieces grammar (suc room) first text =
+unfoldable pub read_groups : Grammar → ℕ → Run → List ℕ → Groups
+read_groups grammar zero first text = None
+read_groups grammar (suc room) first text =
     if slice_index text 0 == dot
-    then (if nat_lt 0 room then read_last grammar first.octet text else None)
+    then (if nat_lt 0 room then read_dotted_groups grammar first.decimal text else None)
     else (first.group >>= λ g.
     if is_single_colon text
     then (let next = digit_run 4 (drop 1 text) in
-    behind (g ∷ []) (read_pieces grammar room (run_of grammar next.0) next.1))
+    after (g ∷ []) (read_groups grammar room (run_of grammar next.0) next.1))
     else Some (g ∷ [], false, text))
 
--- "::" and what stands behind it
-unfoldable pub read_tail : Grammar → List ℕ → List ℕ → Read (List ℕ)
-read_tail grammar head text = do
+-- the address whose groups before "::" have been read: "::" and the groups after it
+unfoldable pub read_compressed : Grammar → List ℕ → List ℕ → Read (List ℕ)
+read_compressed grammar head text = do
   one ← read_byte colon text
   two ← read_byte colon one
   let run = digit_run 4 two
   if length run.0 == 0 then Some (expanded head [], run.1) else (do
-    tail ← read_pieces grammar (most_written_groups grammar - length head) (run_of grammar run.0) run.1
+    tail ← read_groups grammar (most_written_groups grammar - length head) (run_of grammar run.0) run.1
     Some (expanded head tail.0, tail.2))
 
 -- an IPv6 address whose first run has been read
 unfoldable pub read_ipv6 : Grammar → Run → List ℕ → Read (List ℕ)
 read_ipv6 grammar first text =
-    if first.count == 0 then read_tail grammar [] text else (do
-      head ← read_pieces grammar 8 first text
+    if first.count == 0 then read_compressed grammar [] text else (do
+      head ← read_groups grammar 8 first text
       if length head.0 == 8 then Some (head.0, head.2)
-          else (if head.1 then None else read_tail grammar head.0 head.2))
+          else (if head.1 then None else read_compressed grammar head.0 head.2))
 
 -- an IPv6 network whose first run has been read
 unfoldable pub read_ipv6_network : Grammar → Run → List ℕ → Option (List ℕ × ℕ)

@@ -31,7 +31,7 @@ pub enum CompactError {
     Prefix,
 }
 
-/// The octets, and the prefix length behind them.
+/// The octets, and the prefix length after them.
 fn with_prefix_len<const OCTETS: usize, const LEN: usize>(
     octets: [u8; OCTETS],
     prefix_len: u8,
@@ -44,14 +44,14 @@ fn with_prefix_len<const OCTETS: usize, const LEN: usize>(
     bytes
 }
 
-/// The byte for the family, and the bytes behind it.
+/// The byte for the family, and the bytes after it.
 fn tagged(tag: u8, bytes: &[u8]) -> ArrayVec<u8, 18>
     requires { length bytes.now ≤ 17 }
     ensures { result.items ≡ tag ∷ bytes.now }
 {
     let mut out = ArrayVec::new();
     out.push(tag);
-    // There is room for 18 bytes.
+    // There is room for 18 bytes: the one for the family, sixteen octets and the prefix length.
     out.try_extend_from_slice(bytes).unwrap();
     out
 }

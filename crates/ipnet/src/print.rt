@@ -61,7 +61,7 @@ fn digit(value: u16) -> &'static str
 }
 
 /// Appends the number in decimal, without leading zeros.
-#[tactic(auto, using(crate::proofs::PrintedDigits::decimal_behind))]
+#[tactic(auto, using(crate::proofs::PrintedDigits::decimal_after))]
 fn push_decimal(out: &mut Buffer, n: u8)
     requires { array_string_len out.old + 3 ≤ IPV6_NETWORK_LEN }
     ensures bytes { out.new.bytes ≡ out.old.bytes ++ decimal n }
@@ -105,7 +105,7 @@ fn push_length(out: &mut Buffer, prefix_len: u8)
 }
 
 /// Appends the group in hexadecimal, without leading zeros.
-#[tactic(auto, using(crate::proofs::PrintedDigits::hex_behind))]
+#[tactic(auto, using(crate::proofs::PrintedDigits::hex_after))]
 fn push_group(out: &mut Buffer, n: u16)
     requires { array_string_len out.old + 4 ≤ IPV6_NETWORK_LEN }
     ensures bytes { out.new.bytes ≡ out.old.bytes ++ hex n }

@@ -112,7 +112,7 @@ pub fn ipv6_address_text_is_of_groups(addr: Ipv6Addr)
     ensures { address_text IPv6 (ipv6_bits addr) ≡ ipv6_text (ipv6_segments addr) }
 {}
 
-/// The canonical text of an IPv6 address, by its groups: in dotted form behind `::ffff:` where the address is
+/// The canonical text of an IPv6 address, by its groups: in dotted form after `::ffff:` where the address is
 /// mapped, and else with `::` for the first of the longest runs of two zero groups or more (RFC 5952, sections 4.2
 /// and 5).
 pub fn shortens_longest_run()

@@ -1,5 +1,5 @@
 //! Reading a text in one forward pass.
-ghost use Rattle.std.specs.Prelude.{◌≡◌, min, [], ◌∷◌, ◌+◌, ◌<◌, ◌≤◌, length, take, drop, slice_index, IfSome};
+ghost use Rattle.std.specs.Prelude.{◌≡◌, ◌≢◌, min, [], ◌∷◌, ◌+◌, ◌<◌, ◌≤◌, length, take, drop, slice_index, IfSome};
 ghost use Rattle.std.specs.Prelude.{IfNone, option_map, MatchOption, true};
 ghost use Rattle.std.specs.Bool.{OnTrue, OnFalse};
 ghost use Rattle.std.specs.Char.{digit_value};
@@ -9,20 +9,21 @@ ghost use Rattle.ipnet_base.specs.Network.{Network};
 ghost use Rattle.ipnet.specs.AddressTexts.{expanded};
 ghost use Rattle.ipnet.specs.NetworkOf.{ip_network};
 ghost use Rattle.ipnet.specs.NetworkTexts.{IsNetworkText};
-ghost use Rattle.ipnet.specs.ReaderSteps.{digit_run, all_decimal, run_of, octet_of, read_byte, read_octet};
-ghost use Rattle.ipnet.specs.ReaderSteps.{read_dotted, read_length, read_ipv4_network, read_last, read_pieces};
-ghost use Rattle.ipnet.specs.ReaderSteps.{read_tail, read_ipv6, read_ipv6_network, is_single_colon};
+ghost use Rattle.ipnet.specs.ReaderSteps.{dot, digit_run, all_decimal, run_of, decimal_of, read_byte, read_octet};
+ghost use Rattle.ipnet.specs.ReaderSteps.{read_dotted, read_length, read_ipv4_network, read_dotted_groups};
+ghost use Rattle.ipnet.specs.ReaderSteps.{read_groups, read_compressed, read_ipv6, read_ipv6_network, is_single_colon};
 
 use crate::net::{IpNet, Ipv4Net, Ipv6Net};
 use crate::parser::Grammar;
 use arrayvec::ArrayVec;
 use std::net::{Ipv4Addr, Ipv6Addr};
 
-/// Up to four hexadecimal digits: how many, and what they write.
+/// Up to four hexadecimal digits: how many, the decimal number that they write, if they write one of at most 255, and
+/// the group, if there are any.
 #[derive(Clone, Copy)]
 struct Run {
     count: usize,
-    octet: Option<u8>,
+    decimal: Option<u8>,
     group: Option<u16>,
 }
 
@@ -58,6 +59,7 @@ fn hex_value(byte: u8) -> u8
     HEX_DIGITS[byte as usize]
 }
 
+/// The hexadecimal digit at this place, if one stands there.
 fn hex_digit(text: &[u8], index: usize) -> Option<u16>
     ensures none { IfNone result (16 ≤ digit_value (slice_index text.now index)) }
     ensures value { IfSome result (λ d. d ≡ digit_value (slice_index text.now index)) }
@@ -84,12 +86,15 @@ fn first_digits(rest: &[u8]) -> Digits
     let mut in_hex = 0u16;
     let mut in_decimal = 0u16;
     let mut is_decimal = true;
+    // No number of either grammar has more than four digits. A fifth is left where it stands, and is none of the bytes
+    // that may follow a number.
     while count < 4 {
         let Some(digit) = hex_digit(rest, count) else {
             break;
         };
         in_hex = in_hex * 16 + digit;
         in_decimal = in_decimal * 10 + digit;
+        // By `&`, which has no branch.
         is_decimal = is_decimal & (digit < 10);
         count += 1;
     }
@@ -101,18 +106,19 @@ fn first_digits(rest: &[u8]) -> Digits
     }
 }
 
-/// The octet that the digits write, if they write one.
-#[tactic(auto, using(std::proofs::lemmas::Bool::Decides::nat_tests), unfolding(crate::specs::ReaderSteps::octet_of))]
-fn octet(rest: &[u8], digits: Digits, grammar: Grammar) -> Option<u8>
+/// The number of at most 255 that the digits write in decimal, if they write one: an octet, or a prefix length.
+#[tactic(auto, using(std::proofs::lemmas::Bool::Decides::nat_tests), unfolding(crate::specs::ReaderSteps::decimal_of))]
+fn decimal(rest: &[u8], digits: Digits, grammar: Grammar) -> Option<u8>
     requires within { digits.count ≤ length rest.now }
     requires in_decimal { digits.in_decimal ≡ digits_value 10 (take digits.count rest.now) }
     requires is_decimal { digits.is_decimal ≡ all_decimal (take digits.count rest.now) }
-    ensures { result ≡ octet_of grammar (take digits.count rest.now) }
+    ensures { result ≡ decimal_of grammar (take digits.count rest.now) }
 {
     let count = digits.count;
     if count == 0 || count > 3 || !digits.is_decimal || digits.in_decimal > 255 {
         return None;
     }
+    // There is a first digit: the test above comes first.
     if grammar == Grammar::Strict && count > 1 && rest[0] == b'0' {
         return None;
     }
@@ -121,7 +127,7 @@ fn octet(rest: &[u8], digits: Digits, grammar: Grammar) -> Option<u8>
 
 /// Groups, and whether a dotted address stands for the last two.
 #[derive(Drop)]
-struct Pieces {
+struct Groups {
     groups: ArrayVec<u16, 8>,
     is_dotted: bool,
 }
@@ -172,11 +178,11 @@ impl<'a> Reader<'a> {
         let rest = &self.text[self.position..];
         let digits = first_digits(rest);
         let count = digits.count;
-        let octet = octet(rest, digits, self.grammar);
+        let decimal = decimal(rest, digits, self.grammar);
         self.position += count;
         Run {
             count,
-            octet,
+            decimal,
             group: if count > 0 { Some(digits.in_hex) } else { None },
         }
     }
@@ -190,7 +196,7 @@ impl<'a> Reader<'a> {
         if !self.byte(b'.') {
             return None;
         }
-        self.run().octet
+        self.run().decimal
     }
 
     /// The dotted address whose first octet has been read.
@@ -217,7 +223,7 @@ impl<'a> Reader<'a> {
             return None;
         }
         let run = self.run();
-        let n = run.octet?;
+        let n = run.decimal?;
         if n <= greatest && run.count <= most && self.position == self.text.len() {
             Some(n)
         } else {
@@ -238,14 +244,12 @@ impl<'a> Reader<'a> {
         Some((addr, prefix_len))
     }
 
-    /// The byte so many behind the next one, or 0 where there is none.
-    fn peek(&self, ahead: usize) -> u8
-        ensures { result ≡ slice_index (rest_of self.now) ahead }
+    /// Whether a "." is next.
+    fn is_at_dot(&self) -> bool
+        ensures dot { OnTrue result (slice_index (rest_of self.now) 0 ≡ dot) }
+        ensures other { OnFalse result (slice_index (rest_of self.now) 0 ≢ dot) }
     {
-        match self.text[self.position..].get(ahead) {
-            Some(byte) => *byte,
-            None => 0,
-        }
+        matches!(&self.text[self.position..], [b'.', ..])
     }
 
     /// Takes a ":" that isn't followed by another.
@@ -266,13 +270,13 @@ impl<'a> Reader<'a> {
     }
 
     /// The two groups of the dotted address whose first octet has been read, if the run before was one.
-    #[tactic(auto, unfolding(crate::specs::ReaderSteps::read_last))]
-    fn last(&mut self, octet: Option<u8>) -> Option<(u16, u16)>
+    #[tactic(auto, unfolding(crate::specs::ReaderSteps::read_dotted_groups))]
+    fn dotted_groups(&mut self, first: Option<u8>) -> Option<(u16, u16)>
         ensures forward { IsForward self.old self.new }
         ensures value { option_map (λ g. (g.0 ∷ g.1 ∷ [], true, rest_of self.new)) result
-            ≡ read_last self.old.grammar octet (rest_of self.old) }
+            ≡ read_dotted_groups self.old.grammar first (rest_of self.old) }
     {
-        let [a, b, c, d] = self.dotted(octet?)?.octets();
+        let [a, b, c, d] = self.dotted(first?)?.octets();
         Some((
             u16::from(a) * 256 + u16::from(b),
             u16::from(c) * 256 + u16::from(d),
@@ -280,26 +284,28 @@ impl<'a> Reader<'a> {
     }
 
     /// At most so many groups joined by ":". Their first run has been read.
-    fn pieces(&mut self, first: Run, room: usize) -> Option<Pieces>
+    fn groups(&mut self, first: Run, room: usize) -> Option<Groups>
         requires { room ≤ 8 }
         ensures forward { IsForward self.old self.new }
-        ensures value { option_map (λ p. (p.groups.items, p.is_dotted, rest_of self.new)) result
-            ≡ read_pieces self.old.grammar room first (rest_of self.old) }
-        ensures fits { IfSome result (λ p. length p.groups.items ≤ room) }
+        ensures value { option_map (λ g. (g.groups.items, g.is_dotted, rest_of self.new)) result
+            ≡ read_groups self.old.grammar room first (rest_of self.old) }
+        ensures fits { IfSome result (λ g. length g.groups.items ≤ room) }
     {
         let mut groups = ArrayVec::new();
         let mut run = first;
-        'pieces: while groups.len() < room {
-            if self.peek(0) == b'.' {
+        'next_group: while groups.len() < room {
+            // What stands before a "." is an octet, also where its digits write a group: so this is asked first.
+            if self.is_at_dot() {
+                // A dotted address stands for two groups.
                 if groups.len() + 1 == room {
                     return None;
                 }
-                let Some((high, low)) = self.last(run.octet) else {
+                let Some((high, low)) = self.dotted_groups(run.decimal) else {
                     return None;
                 };
                 groups.push(high);
                 groups.push(low);
-                return Some(Pieces {
+                return Some(Groups {
                     groups,
                     is_dotted: true,
                 });
@@ -309,7 +315,7 @@ impl<'a> Reader<'a> {
             };
             groups.push(group);
             if !self.separator() {
-                return Some(Pieces {
+                return Some(Groups {
                     groups,
                     is_dotted: false,
                 });
@@ -319,13 +325,13 @@ impl<'a> Reader<'a> {
         None
     }
 
-    /// "::" and what stands behind it.
-    #[tactic(auto, unfolding(crate::specs::ReaderSteps::read_tail))]
-    fn tail(&mut self, head: &[u16]) -> Option<Ipv6Addr>
+    /// The address whose groups before "::" have been read: "::" and the groups after it.
+    #[tactic(auto, unfolding(crate::specs::ReaderSteps::read_compressed))]
+    fn compressed(&mut self, head: &[u16]) -> Option<Ipv6Addr>
         requires { length head.now ≤ 7 }
         ensures forward { IsForward self.old self.new }
         ensures value { option_map (λ a. (ipv6_segments a, rest_of self.new)) result
-            ≡ read_tail self.old.grammar head.now (rest_of self.old) }
+            ≡ read_compressed self.old.grammar head.now (rest_of self.old) }
     {
         if !self.byte(b':') {
             return None;
@@ -334,6 +340,7 @@ impl<'a> Reader<'a> {
             return None;
         }
         let run = self.run();
+        // The "::" ends the address.
         if run.count == 0 {
             return Some(expand(head, &[]));
         }
@@ -341,7 +348,7 @@ impl<'a> Reader<'a> {
             Grammar::Strict => 7,
             Grammar::Legacy => 8,
         };
-        let tail = self.pieces(run, most - head.len())?;
+        let tail = self.groups(run, most - head.len())?;
         Some(expand(head, tail.groups.as_slice()))
     }
 
@@ -353,16 +360,16 @@ impl<'a> Reader<'a> {
             ≡ read_ipv6 self.old.grammar first (rest_of self.old) }
     {
         if first.count == 0 {
-            return self.tail(&[]);
+            return self.compressed(&[]);
         }
-        let head = self.pieces(first, 8)?;
+        let head = self.groups(first, 8)?;
         let groups = head.groups.as_slice();
         if groups.len() == 8 {
             Some(expand(groups, &[]))
         } else if head.is_dotted {
             None
         } else {
-            self.tail(groups)
+            self.compressed(groups)
         }
     }
 
@@ -380,7 +387,7 @@ impl<'a> Reader<'a> {
     }
 }
 
-/// The network that the whole text writes, if it writes one. The byte behind the first run of digits tells the
+/// The network that the whole text writes, if it writes one. The byte after the first run of digits tells the
 /// family.
 pub(super) fn read_network(text: &[u8], grammar: Grammar) -> Option<IpNet>
     ensures { MatchOption result ((network : Network) → ¬ (IsNetworkText grammar text.now network))
@@ -392,15 +399,15 @@ pub(super) fn read_network(text: &[u8], grammar: Grammar) -> Option<IpNet>
         grammar,
     };
     let first = reader.run();
-    if reader.peek(0) == b'.' {
-        let Some((addr, prefix_len)) = reader.ipv4_network(first.octet) else {
+    if reader.is_at_dot() {
+        let Some((addr, prefix_len)) = reader.ipv4_network(first.decimal) else {
             return None;
         };
-        Some(IpNet::V4(Ipv4Net::from_number(addr.to_bits(), u32::from(prefix_len))))
+        Some(IpNet::V4(Ipv4Net::new_assert(addr, prefix_len)))
     } else {
         let Some((addr, prefix_len)) = reader.ipv6_network(first) else {
             return None;
         };
-        Some(IpNet::V6(Ipv6Net::from_number(addr.to_bits(), u32::from(prefix_len))))
+        Some(IpNet::V6(Ipv6Net::new_assert(addr, prefix_len)))
     }
 }

@@ -1,3 +1,4 @@
+-- The option that the reader gives, as a result.
 use Rattle.std.proofs.Common.{Option, Some, None, MatchOption, MatchResult, sym, subst₂}
 use Rattle.std.specs.Option.{ok_or}
 use Rattle.ipnet.specs.NetworkOf.{ip_network}

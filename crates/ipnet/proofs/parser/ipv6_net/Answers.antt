@@ -1,3 +1,4 @@
+-- What the reader of both families read is an IPv6 network or none: a text writes one network at most.
 use Rattle.std.proofs.Common.{◌≡◌, ◌∙◌, sym, ap, refl, inr}
 use Rattle.ipnet_base.specs.Address.{IPv4, IPv6}
 use Rattle.ipnet.specs.NetworkOf.{ipv4_network, ipv6_network}

@@ -1,3 +1,4 @@
+-- The canonical text writes its network in either grammar, so its reader gives that network.
 use Rattle.std.proofs.Common.{◌∙◌, refl}
 use Rattle.ipnet.specs.declared.parser.Grammar.TheVariants.{Strict, Legacy}
 use Rattle.ipnet.specs.NetworkOf.{ipv4_network}

@@ -1,3 +1,4 @@
+-- Each pair of the three forms.
 use Rattle.ipnet.proofs.Ipv6Forms.{groups_not_mixed, groups_not_compressed, mixed_not_compressed}
 use Rattle.ipnet.proofs.text_laws.ipv6_forms_apart.Goals as goal
 

@@ -1,3 +1,4 @@
+-- One list, none with a bad line, one first bad line.
 use Rattle.ipnet.proofs.LineLaws.{one_list, none_bad, one_bad_line}
 use Rattle.ipnet.proofs.text_laws.one_list.Goals as goal
 

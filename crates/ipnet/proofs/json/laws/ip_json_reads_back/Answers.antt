@@ -1,3 +1,4 @@
+-- The JSON string is of the canonical text, which writes its network in the strict grammar.
 use Rattle.ipnet.specs.declared.parser.Grammar.TheVariants.{Strict}
 use Rattle.ipnet.specs.NetworkOf.{ip_network}
 use Rattle.ipnet.specs.NetLaws.{ip_valid}

@@ -1,3 +1,4 @@
+-- The JSON string is of the canonical text, which writes its network in the strict grammar.
 use Rattle.std.proofs.Common.{refl}
 use Rattle.ipnet.specs.declared.parser.Grammar.TheVariants.{Strict}
 use Rattle.ipnet.specs.NetworkOf.{ipv4_network}

@@ -1,3 +1,4 @@
+-- The head pasted at the front of eight zeros, and the tail at their end, are the expanded groups.
 use Rattle.std.proofs.Common.{◌≡◌, ℕ, ◌+◌, ◌-◌, ◌≤◌, List, ◌++◌, length, take, drop, replicate, refl, ap, ◌∙◌, arith}
 use Rattle.std.proofs.Common.{append-nil, take_all, length-append, length-drop}
 use Rattle.std.proofs.lemmas.List.{drop-replicate, take-replicate, drop_all}

@@ -1,3 +1,4 @@
+-- What four digits write fits a word, and the digits so far are all that stand there.
 use Rattle.std.proofs.Common.{arith}
 use Rattle.std.proofs.lemmas.Int.Digits.{digits_more, digits_value_more}
 use Rattle.std.proofs.lemmas.List.Folds.{list_all_more}

@@ -1,3 +1,4 @@
+-- What either family reads is the grammar; what follows the first run tells that the other family reads nothing.
 use Rattle.std.proofs.Common.{◌≢◌, get_or, sym, ap, ap₂, ◌∙◌, subst, inl, inr}
 use Rattle.std.specs.Net.Addr.{ipv4_bits, ipv6_bits}
 use Rattle.ipnet.specs.NetworkOf.{ipv4_network_of, ipv6_network_of}
@@ -10,7 +11,7 @@ use Rattle.ipnet.proofs.parser.reader.read_network.Goals as goal
 pub returns-in_default : goal.returns-in_default
 returns-in_default c =
     let run = c.run-first.ensures in
-    let dot = ap (λ t. get_or t 0 0) (sym run.rest) ∙ sym c.peek.ensures ∙ c.if-peek-eq46.true in
+    let dot = ap (λ t. get_or t 0 0) (sym run.rest) ∙ c.if-is_at_dot.ensures.dot in
     ipv4_none c.args.grammar c.args.text.now dot
     (ipv4_read _ _ _ _ _ _ run.forward.grammar run.run run.rest c.in_default.ensures.value)
 
@@ -19,7 +20,7 @@ unfolding ipv4_bits
 returns-in-Some c =
     let run = c.run-first.ensures in
     inl (subst (IsIpv4NetworkText c.args.grammar c.args.text.now)
-    (sym (c.from_number.ensures ∙ ap₂ ipv4_network_of c.to_bits.ensures c.from.ensures))
+    (sym c.new_assert.ensures)
     (read_ipv4_network_sound c.args.grammar c.args.text.now _ _
     (sym (ipv4_read _ _ _ _ _ _ run.forward.grammar run.run run.rest c.in-Some.ensures.value))))
 
@@ -27,7 +28,7 @@ pub returns-in_default-ipv6_network : goal.returns-in_default-ipv6_network
 returns-in_default-ipv6_network c =
     let run = c.run-first.ensures in
     let other : get_or (digit_run 4 c.args.text.now).1 0 0 ≢ 46 =
-    rw (c.peek.ensures, run.rest) at c.if-peek-eq46.false in
+    rw run.rest at c.if-is_at_dot.ensures.other in
     ipv6_none c.args.grammar c.args.text.now other
     (ipv6_read _ _ _ _ _ _ run.forward.grammar run.run run.rest c.in_default-ipv6_network.ensures.value)
 
@@ -36,7 +37,6 @@ unfolding ipv6_bits
 returns-in-Some-ipv6_network c =
     let run = c.run-first.ensures in
     inr (subst (IsIpv6NetworkText c.args.grammar c.args.text.now)
-    (sym (c.from_number-else-peek-eq46.ensures
-    ∙ ap₂ ipv6_network_of c.to_bits-else-peek-eq46.ensures c.from-else-peek-eq46.ensures))
+    (sym c.new_assert-else-is_at_dot.ensures)
     (read_ipv6_network_sound c.args.grammar c.args.text.now _ _
     (sym (ipv6_read _ _ _ _ _ _ run.forward.grammar run.run run.rest c.in-Some-ipv6_network.ensures.value))))
