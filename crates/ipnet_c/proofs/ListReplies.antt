@@ -2,7 +2,7 @@
 use Rattle.std.proofs.Common.{◌≡◌, ℕ, ◌⊎◌, ◌↔◌, List, [], ◌∷◌, map, Result, Ok, Err, String, Global, string_bytes}
 use Rattle.std.proofs.Common.{inl, inr, refl, subst, IsUtf8, Bool, true, false, IsTrue, All, ◌==◌, if◌then◌else◌, arith}
 use Rattle.std.proofs.Common.{eqb-true}
-use Rattle.std.proofs.lemmas.List.Elements.{All-head, All-tail}
+use Rattle.std.proofs.lemmas.List.Elements.{All-nil, All-head, All-tail}
 use Rattle.std.proofs.lemmas.Str.{IsUtf8-from_ascii}
 use Rattle.std.proofs.lemmas.Str.Ascii.{IsAscii-nil, IsAscii-cons}
 use Rattle.std.specs.Int.{from_bool}
@@ -35,6 +35,10 @@ good_at_once grammar text networks written number h = none_bad grammar (lines_of
 -- the text has empty lines alone
 abbrev pub IsBlank : List ℕ → Type 0
 IsBlank text = All (λ line. line ≡ []) (lines_of text)
+
+pub blank_of_none : (text : List ℕ) → text ≡ [] → IsBlank text
+blank_of_none [] e = All-nil (λ line. line ≡ [])
+blank_of_none (b ∷ text) e = absurd cc
 
 -- empty lines write no network
 pub none_of_none : (lines : List (List ℕ)) (list : List IpNet) → AreNetworksOf Strict lines (map ip_network list)

@@ -4,7 +4,7 @@ use Rattle.ipnet.specs.NetworkOf.{ip_network}
 use Rattle.ipnet.specs.declared.parser.Grammar.TheVariants.{Strict}
 use Rattle.ipnet_tool.proofs.LineCuts.{no_bytes, some_bytes}
 use Rattle.ipnet_c.specs.Replies.{IsSetReply}
-use Rattle.ipnet_c.proofs.ListReplies.{IsGoodAtOnce, good_at_once}
+use Rattle.ipnet_c.proofs.ListReplies.{IsGoodAtOnce, good_at_once, blank_of_none}
 use Rattle.ipnet_c.proofs.SetReplies.{combined, other_refused, not_combined, empty_of_empty}
 use Rattle.ipnet_c.proofs.sets.combine.Goals.{else-is_empty-via-then-is_empty+else-is_empty-2}
 use Rattle.ipnet_c.proofs.sets.combine.Goals.{else-is_empty-via-else-is_empty}
@@ -31,7 +31,7 @@ returns-in-Err-Memory c =
     let good : IsGoodAtOnce Strict c.in-Ok.text.now =
     λ number h. let clash = c.in-Err-Memory.ensures.bad_at_once number h in absurd cc in
     not_combined c.args.operation c.args.text.now c.args.other.now c.args.buffer.now c.args.count.now utf8 utf8_other
-    (λ none. absurd (false≢true (c.in-Err-Memory.ensures.empty (same ∙ none))))
+    (λ none. absurd (false≢true (c.in-Err-Memory.ensures.empty (blank_of_none c.in-Ok.text.now (same ∙ none)))))
     (subst (IsGoodAtOnce Strict) same good)
 
 pub returns-in-Err-Line-read_networks : goal.returns-in-Err-Line-read_networks
@@ -51,7 +51,9 @@ returns-in-Err-Memory-read_networks c =
     let (same, utf8) = c.in-Ok.ensures.cases in
     let (same_other, utf8_other) = c.in-Ok-from_utf8.ensures.cases in
     not_combined c.args.operation c.args.text.now c.args.other.now c.args.buffer.now c.args.count.now utf8 utf8_other
-    (λ none none_other. false≢true (c.in-Err-Memory-read_networks.ensures.empty (same_other ∙ none_other)))
+    (λ none none_other.
+        false≢true (c.in-Err-Memory-read_networks.ensures.empty
+        (blank_of_none c.in-Ok-from_utf8.other.now (same_other ∙ none_other))))
     (good_at_once Strict c.args.text.now (map ip_network c.in-Ok-read_networks.networks.items)
     (rw same at c.in-Ok-read_networks.ensures.networks))
 
