@@ -40,37 +40,37 @@ pub none_bad : (grammar : Grammar) (lines : List (List ℕ)) (networks : List Ne
     → AreNetworksOf grammar lines networks → ¬ (IsFirstBadLine grammar lines number)
 none_bad grammar lines networks number h bad =
     let good = subst (All (IsGoodLine grammar)) bad.cut (all_good grammar lines networks h) in
-    good_or_bad grammar bad.line (last_of bad.before bad.line bad.behind good) bad.bad
+    good_or_bad grammar bad.line (last_of bad.before bad.line bad.after good) bad.bad
   where
-    last_of : (before : List (List ℕ)) (line : List ℕ) (behind : List (List ℕ))
-        → All (IsGoodLine grammar) (before ++ line ∷ behind) → IsGoodLine grammar line
-    last_of [] line behind h = All-head (IsGoodLine grammar) line behind h
-    last_of (l ∷ before) line behind h =
-        last_of before line behind (All-tail (IsGoodLine grammar) l (before ++ line ∷ behind) h)
+    last_of : (before : List (List ℕ)) (line : List ℕ) (after : List (List ℕ))
+        → All (IsGoodLine grammar) (before ++ line ∷ after) → IsGoodLine grammar line
+    last_of [] line after h = All-head (IsGoodLine grammar) line after h
+    last_of (l ∷ before) line after h =
+        last_of before line after (All-tail (IsGoodLine grammar) l (before ++ line ∷ after) h)
 
 -- the first bad line has one number
 pub one_bad_line : (grammar : Grammar) (lines : List (List ℕ)) (number other : ℕ) → IsFirstBadLine grammar lines number
     → IsFirstBadLine grammar lines other → number ≡ other
 one_bad_line grammar lines number other h k =
-    h.number_is ∙ ap (λ (n : ℕ). n + 1) (same h.before h.line h.behind k.before k.line k.behind (sym h.cut ∙ k.cut)
+    h.number_is ∙ ap (λ (n : ℕ). n + 1) (same h.before h.line h.after k.before k.line k.after (sym h.cut ∙ k.cut)
     h.good h.bad k.good k.bad) ∙ sym k.number_is
   where
-    same : (before : List (List ℕ)) (line : List ℕ) (behind before' : List (List ℕ)) (line' : List ℕ)
-        (behind' : List (List ℕ)) → before ++ line ∷ behind ≡ before' ++ line' ∷ behind'
+    same : (before : List (List ℕ)) (line : List ℕ) (after before' : List (List ℕ)) (line' : List ℕ)
+        (after' : List (List ℕ)) → before ++ line ∷ after ≡ before' ++ line' ∷ after'
         → All (IsGoodLine grammar) before → IsBadLine grammar line → All (IsGoodLine grammar) before'
         → IsBadLine grammar line' → length before ≡ length before'
-    same [] line behind [] line' behind' e good bad good' bad' = refl
-    same [] line behind (l ∷ before') line' behind' e good bad good' bad' =
+    same [] line after [] line' after' e good bad good' bad' = refl
+    same [] line after (l ∷ before') line' after' e good bad good' bad' =
         let first : line ≡ l = cc in
         absurd (good_or_bad grammar line (subst (IsGoodLine grammar) (sym first)
         (All-head (IsGoodLine grammar) l before' good')) bad)
-    same (l ∷ before) line behind [] line' behind' e good bad good' bad' =
+    same (l ∷ before) line after [] line' after' e good bad good' bad' =
         let first : l ≡ line' = cc in
         absurd (good_or_bad grammar line'
         (subst (IsGoodLine grammar) first (All-head (IsGoodLine grammar) l before good)) bad')
-    same (l ∷ before) line behind (l' ∷ before') line' behind' e good bad good' bad' =
-        let rest : before ++ line ∷ behind ≡ before' ++ line' ∷ behind' = cc in
-        ap suc (same before line behind before' line' behind' rest (All-tail (IsGoodLine grammar) l before good) bad
+    same (l ∷ before) line after (l' ∷ before') line' after' e good bad good' bad' =
+        let rest : before ++ line ∷ after ≡ before' ++ line' ∷ after' = cc in
+        ap suc (same before line after before' line' after' rest (All-tail (IsGoodLine grammar) l before good) bad
         (All-tail (IsGoodLine grammar) l' before' good') bad')
 
 -- ---- one line more
@@ -92,7 +92,7 @@ pub bad_line : (grammar : Grammar) (line : List ℕ) (lines : List (List ℕ)) �
 bad_line grammar line lines some none = record {
   before = [];
   line = line;
-  behind = lines;
+  after = lines;
   cut = refl;
   number_is = refl;
   good = All-nil (IsGoodLine grammar);
@@ -104,7 +104,7 @@ pub good_line : (grammar : Grammar) (line : List ℕ) (lines : List (List ℕ)) 
 good_line grammar line lines later good h = record {
   before = line ∷ h.before;
   line = h.line;
-  behind = h.behind;
+  after = h.after;
   cut = ap (λ ls. line ∷ ls) h.cut;
   number_is = omega (arith, h.number_is);
   good = All-cons (IsGoodLine grammar) line h.before good h.good;

@@ -34,8 +34,8 @@ AreNetworksOf grammar ((b ∷ line) ∷ lines) (network ∷ networks) =
 pub record IsFirstBadLine (grammar : Grammar) (lines : List (List ℕ)) (number : ℕ) : Type 0 where
   pub before : List (List ℕ)
   pub line : List ℕ
-  pub behind : List (List ℕ)
-  pub cut : lines ≡ before ++ line ∷ behind
+  pub after : List (List ℕ)
+  pub cut : lines ≡ before ++ line ∷ after
   pub number_is : number ≡ length before + 1
   pub good : All (IsGoodLine grammar) before
   pub bad : IsBadLine grammar line

@@ -25,7 +25,7 @@ pub after_empty : (grammar : Grammar) (line : List ℕ) (lines : List (List ℕ)
     → StartsWithBadLine grammar (line ∷ lines) number → (later : ℕ) × (number ≡ later + 1)
     × StartsWithBadLine grammar lines later
 after_empty grammar line lines number none h =
-    found h.first.before h.first.line h.first.behind h.first.cut h.first.number_is h.empty h.first.bad
+    found h.first.before h.first.line h.first.after h.first.cut h.first.number_is h.empty h.first.bad
   where
     found : (before : List (List ℕ)) (bad : List ℕ) (after : List (List ℕ)) → line ∷ lines ≡ before ++ bad ∷ after
         → number ≡ length before + 1
@@ -43,7 +43,7 @@ after_empty grammar line lines number none h =
             first = record {
               before = before;
               line = bad;
-              behind = after;
+              after = after;
               cut = rest;
               number_is = refl;
               good = λ k d less. inl (empty_rest k d less);
@@ -57,7 +57,7 @@ after_empty grammar line lines number none h =
 pub bad_here : (grammar : Grammar) (line : List ℕ) (lines : List (List ℕ)) (number : ℕ) → 0 < length line
     → StartsWithBadLine grammar (line ∷ lines) number → IsBadLine grammar line × (number ≡ 1)
 bad_here grammar line lines number some h =
-    found h.first.before h.first.line h.first.behind h.first.cut h.first.number_is h.empty h.first.bad
+    found h.first.before h.first.line h.first.after h.first.cut h.first.number_is h.empty h.first.bad
   where
     found : (before : List (List ℕ)) (bad : List ℕ) (after : List (List ℕ)) → line ∷ lines ≡ before ++ bad ∷ after
         → number ≡ length before + 1
@@ -80,7 +80,7 @@ not_good grammar line lines number n some written h =
 -- a text with no byte has no line
 pub none_bad : (grammar : Grammar) (text : List ℕ) (number : ℕ) → length text ≡ 0
     → StartsWithBadLine grammar (lines_of text) number → ⊥
-none_bad grammar [] number none h = found h.first.before h.first.line h.first.behind h.first.cut
+none_bad grammar [] number none h = found h.first.before h.first.line h.first.after h.first.cut
   where
     found : (before : List (List ℕ)) (bad : List ℕ) (after : List (List ℕ)) → [] ≡ before ++ bad ∷ after → ⊥
     found [] bad after cut = absurd cc

@@ -6,7 +6,7 @@ use Rattle.ipnet_tool.proofs.tool.first_line.Goals as goal
 pub returns-in-Some-clause-lines : goal.returns-in-Some-clause-lines
 returns-in-Some-clause-lines c =
     let cut = rw c.in-Some.is at (c.split_once.ensures.byte (lit< tt) (λ w o h. h)) in
-    first_cut c.args.text.now cut.2 ∙ ap₂ (λ line behind. line ∷ lines_of behind) (sym cut.0) (sym cut.1)
+    first_cut c.args.text.now cut.2 ∙ ap₂ (λ line after. line ∷ lines_of after) (sym cut.0) (sym cut.1)
 
 pub returns-in-None-clause-lines : goal.returns-in-None-clause-lines
 returns-in-None-clause-lines c = no_cut c.args.text.now c.requires (c.in-None.ensures.byte (lit< tt) (λ w o h. h))
