@@ -1,7 +1,6 @@
 -- What either family reads is the grammar; what follows the first run tells that the other family reads nothing.
-use Rattle.std.proofs.Common.{◌≢◌, get_or, sym, ap, ap₂, ◌∙◌, subst, inl, inr}
+use Rattle.std.proofs.Common.{◌≢◌, get_or, sym, ap, ◌∙◌, subst, inl, inr}
 use Rattle.std.specs.Net.Addr.{ipv4_bits, ipv6_bits}
-use Rattle.ipnet.specs.NetworkOf.{ipv4_network_of, ipv6_network_of}
 use Rattle.ipnet.specs.NetworkTexts.{IsIpv4NetworkText, IsIpv6NetworkText}
 use Rattle.ipnet.specs.ReaderSteps.{digit_run}
 use Rattle.ipnet.proofs.WholeTexts.{ipv4_read, ipv6_read, ipv4_none, ipv6_none, read_ipv6_network_sound}
