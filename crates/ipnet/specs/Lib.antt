@@ -4,7 +4,6 @@ pub mod NetworkParts
 pub mod NetLaws
 pub mod Numerals
 pub mod AddressTexts
-pub mod Results
 pub mod NetworkTexts
 pub mod CanonicalTexts
 pub mod Lines
