@@ -139,7 +139,7 @@ impl IpNet {
 #[cfg(test)]
 mod tests {
     use super::*;
-    use out_of_memory::{RUNS, outcomes};
+    use out_of_memory::{RUNS, grow_stack, outcomes};
     use std::test::Fail;
 
     #[test]
@@ -169,6 +169,7 @@ mod tests {
     // The string's memory is the only request: it is refused until there is room, and then never again.
     #[test]
     fn refused_until_there_is_memory(rt: HostRuntime) -> Result<(), Fail> {
+        grow_stack(rt.alloc())?;
         let alloc = rt.alloc();
         let rows = [
             ("memory: JSON of a short text", "10.1.1.0/24"),

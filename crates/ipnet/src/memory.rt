@@ -4,7 +4,7 @@ use crate::aggregate::is_aggregated;
 use crate::net::IpNet;
 use crate::subnets::Ipv4Subnets;
 use ipnet_base::{IpAddr, Ipv4Addr, Ipv4AddrRange};
-use out_of_memory::{RUNS, outcomes};
+use out_of_memory::{RUNS, grow_stack, outcomes};
 use serde_json::Value;
 use std::alloc::{AllocError, Global};
 use std::process::Abort;
@@ -63,6 +63,7 @@ fn is_walk_walked() -> bool {
 
 #[test]
 fn lists_texts_and_walks(rt: HostRuntime) -> Result<(), Fail> {
+    grow_stack(rt.alloc())?;
     let alloc = rt.alloc();
     let halves = [
         "10.0.0.0/25".parse::<IpNet>()?,
@@ -80,6 +81,7 @@ fn lists_texts_and_walks(rt: HostRuntime) -> Result<(), Fail> {
 
 #[test]
 fn bytes_and_json(rt: HostRuntime) -> Result<(), Fail> {
+    grow_stack(rt.alloc())?;
     let alloc = rt.alloc();
     let bytes = [0, 10, 1, 1, 0, 24];
     let is_written = || network().to_bytes().as_slice() == bytes.as_slice();

@@ -27,16 +27,21 @@ fn block(alloc: Global, len: usize) -> Result<Vec<u8>, AllocError> {
     Vec::with_capacity(alloc, len)
 }
 
-/// Takes much of the stack once: where no memory is to be had it can't grow, nor later where blocks stay beside it.
+/// Takes much of the stack. Each test that calls [`outcomes`] does this once before, and then never again: with no
+/// memory to be had the stack can't grow, nor afterwards, since the allocator may keep a block close below it.
 ///
-/// Some of what was written there goes into the block, so that no compiler leaves it out.
-fn grow_stack(block: &mut Vec<u8>) -> Result<(), AllocError> {
+/// Some of what was written there goes into a block, so that no compiler leaves it out.
+//
+// Inlined, the room would stand in the test's own frame, and the calls below it.
+#[inline(never)]
+pub fn grow_stack(alloc: Global) -> Result<(), AllocError> {
+    let mut kept = block(alloc, STEP)?;
     let mut room = [0u8; STACK];
     for at in 0..STACK {
         room[at] = (at % 251) as u8;
     }
-    let from = block.capacity().min(STACK - STEP);
-    block.extend_from_slice(&room[from..from + STEP])
+    let from = kept.capacity().min(STACK - STEP);
+    kept.extend_from_slice(&room[from..from + STEP])
 }
 
 /// Takes blocks of this size until one is refused.
@@ -70,8 +75,7 @@ fn take_all(alloc: Global) -> Result<Vec<Vec<u8>>, AllocError> {
 /// What the call answers in each of [`RUNS`] runs, the first with no memory to be had and each later one with a little
 /// more; none where the allocator never refuses, as under a sanitizer.
 ///
-/// Before these runs the call is made once with ample memory, so that the stack has grown to what the call takes: with
-/// no memory to be had it could not grow. For the rest of the test it has grown by 256 KiB more.
+/// The test has called [`grow_stack`] before; a call may take 200 KiB of the stack.
 ///
 /// What one run gave back may serve a later one, so a call that makes several requests may be answered in one run and
 /// refused in the next.
@@ -86,8 +90,7 @@ pub fn outcomes<T: Copy, F: FnMut() -> T>(
     requires { F.IsAlwaysCallable call }
 {
     let mut answers = [call(); RUNS];
-    let mut spare = block(alloc, SPARE)?;
-    grow_stack(&mut spare)?;
+    let spare = block(alloc, SPARE)?;
     let held = take_all(alloc)?;
     if block(alloc, STEP).is_ok() {
         return Ok(None);
@@ -110,6 +113,7 @@ mod tests {
 
     #[test]
     fn one_request(rt: HostRuntime) -> Result<(), Fail> {
+        grow_stack(rt.alloc())?;
         let alloc = rt.alloc();
         if let Some(answers) = outcomes(alloc, || block(alloc, 100).is_ok())? {
             let refused = answers.iter().take_while(|given| !**given).count();
@@ -124,6 +128,7 @@ mod tests {
 
     #[test]
     fn no_request(rt: HostRuntime) -> Result<(), Fail> {
+        grow_stack(rt.alloc())?;
         if let Some(answers) = outcomes(rt.alloc(), || true)? {
             assert!(rt; answers == [true; RUNS], "no request");
         }

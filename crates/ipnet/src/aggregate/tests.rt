@@ -10,7 +10,7 @@
 //! of the allocator. Where the allocator never refuses, as under a sanitizer, the runs show nothing.
 use super::same_addresses;
 use crate::net::{IpNet, Ipv4Net, Ipv6Net};
-use out_of_memory::{RUNS, outcomes};
+use out_of_memory::{RUNS, grow_stack, outcomes};
 use std::alloc::{AllocError, Global};
 use std::process::Abort;
 use std::test::Fail;
@@ -221,6 +221,7 @@ const IPV6_ANSWER: &str = "fd00::/31 fd00:2::/32";
 
 #[test]
 fn aggregate_refused(rt: HostRuntime) -> Result<(), Fail> {
+    grow_stack(rt.alloc())?;
     let alloc = rt.alloc();
     check_row::<IpNet>(&rt, alloc, "memory: aggregate", INPUT, ANSWER)?;
     let first = "memory: aggregate, first growth";
@@ -232,6 +233,7 @@ fn aggregate_refused(rt: HostRuntime) -> Result<(), Fail> {
 // Lists of more than 1 KiB: blocks that the allocator does not keep for the next request of the same size.
 #[test]
 fn aggregate_makes_one_growth(rt: HostRuntime) -> Result<(), Fail> {
+    grow_stack(rt.alloc())?;
     let alloc = rt.alloc();
     let label = "memory: aggregate, second growth";
     check_one_growth::<IpNet>(&rt, alloc, label, INPUT, 3, ANSWER)?;
@@ -242,6 +244,7 @@ fn aggregate_makes_one_growth(rt: HostRuntime) -> Result<(), Fail> {
 
 #[test]
 fn same_addresses_refused(rt: HostRuntime) -> Result<(), Fail> {
+    grow_stack(rt.alloc())?;
     let alloc = rt.alloc();
     // label, the lists, the answer
     let rows = [
@@ -271,6 +274,7 @@ fn same_addresses_refused(rt: HostRuntime) -> Result<(), Fail> {
 
 #[test]
 fn same_addresses_makes_two_growths(rt: HostRuntime) -> Result<(), Fail> {
+    grow_stack(rt.alloc())?;
     let alloc = rt.alloc();
     let label = "memory: same_addresses";
     let first = repeated::<IpNet>(&rt, alloc, "10.0.0.0/23", 33)?;
@@ -304,6 +308,7 @@ fn check_no_networks<N: Listed>(rt: &impl Abort, alloc: Global) -> Result<(), Al
 
 #[test]
 fn empty_lists_need_no_memory(rt: HostRuntime) -> Result<(), Fail> {
+    grow_stack(rt.alloc())?;
     let alloc = rt.alloc();
     check_no_networks::<IpNet>(&rt, alloc)?;
     check_no_networks::<Ipv4Net>(&rt, alloc)?;

@@ -2,7 +2,7 @@
 //! refused and the last is answered. Calls that promise to take none are answered in each run.
 use crate::statuses::{BAD_LINE, OK, OUT_OF_MEMORY};
 use crate::tests::calls::{IntoBuffer, YesOrNo};
-use out_of_memory::{RUNS, outcomes};
+use out_of_memory::{RUNS, grow_stack, outcomes};
 use std::alloc::Global;
 use std::process::Abort;
 use std::test::Fail;
@@ -74,6 +74,7 @@ fn check(rt: &impl Abort, label: &str, outcomes: Option<[Outcome; RUNS]>) {
 
 #[test]
 fn answers_into_buffers(rt: HostRuntime) -> Result<(), Fail> {
+    grow_stack(rt.alloc())?;
     let alloc = rt.alloc();
     // label, call, the other list, the answer
     let rows: [(&str, IntoBuffer, &[u8], &[u8]); 5] = [
@@ -92,6 +93,7 @@ fn answers_into_buffers(rt: HostRuntime) -> Result<(), Fail> {
 
 #[test]
 fn answers_of_yes_or_no(rt: HostRuntime) -> Result<(), Fail> {
+    grow_stack(rt.alloc())?;
     let alloc = rt.alloc();
     let runs = outcomes(alloc, || yes_outcome(alloc, YesOrNo::SameAddresses, WHOLE))?;
     check(&rt, "same addresses", runs);
@@ -110,6 +112,7 @@ fn status_of(alloc: Global, call: IntoBuffer, first: &[u8], second: &[u8]) -> u8
 
 #[test]
 fn no_memory_is_needed(rt: HostRuntime) -> Result<(), Fail> {
+    grow_stack(rt.alloc())?;
     let alloc = rt.alloc();
     // label, call, its arguments, the status
     let rows: [(&str, IntoBuffer, &[u8], &[u8], u8); 7] = [

@@ -2,7 +2,7 @@
 //! the calls need none.
 use crate::IpSet;
 use crate::tests::rows::{networks, set_of};
-use out_of_memory::{RUNS, outcomes};
+use out_of_memory::{RUNS, grow_stack, outcomes};
 use std::process::Abort;
 use std::test::Fail;
 
@@ -17,6 +17,7 @@ fn check_runs(rt: &impl Abort, answers: Option<[bool; RUNS]>, label: &str) {
 
 #[test]
 fn operations(rt: HostRuntime) -> Result<(), Fail> {
+    grow_stack(rt.alloc())?;
     let alloc = rt.alloc();
     let one = set_of(&rt, alloc, "10.0.0.0/24 10.0.2.0/24 10.0.4.0/24 fd00::/32")?;
     let other = set_of(&rt, alloc, "10.0.1.0/24 10.0.4.0/25 fd00::/33 fd00:2::/32")?;
@@ -62,6 +63,7 @@ fn operations(rt: HostRuntime) -> Result<(), Fail> {
 
 #[test]
 fn lists(rt: HostRuntime) -> Result<(), Fail> {
+    grow_stack(rt.alloc())?;
     let alloc = rt.alloc();
     let list = networks(&rt, alloc, "10.0.0.0/24 10.0.2.0/24 10.0.4.0/24 fd00::/32")?;
     let set = IpSet::from_networks(alloc, &list)?;

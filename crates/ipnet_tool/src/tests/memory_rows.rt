@@ -7,7 +7,7 @@
 use crate::program::run;
 use crate::tests::devices::{ArrayWriter, ByteReader};
 use crate::tool::{ToolError, aggregate_text, aggregate_text_legacy};
-use out_of_memory::{RUNS, outcomes};
+use out_of_memory::{RUNS, grow_stack, outcomes};
 use std::alloc::{AllocError, Global};
 use std::process::Abort;
 use std::test::Fail;
@@ -56,6 +56,7 @@ fn text_outcome(alloc: Global, text: &str, wanted: Result<&str, usize>) -> Outco
 
 #[test]
 fn text_tool(rt: HostRuntime) -> Result<(), Fail> {
+    grow_stack(rt.alloc())?;
     let alloc = rt.alloc();
     // label, text, the answer or the number of the bad line
     let rows: [(&str, &str, Result<&str, usize>); 4] = [
@@ -86,6 +87,7 @@ fn text_tool(rt: HostRuntime) -> Result<(), Fail> {
 
 #[test]
 fn text_tool_on_a_long_line(rt: HostRuntime) -> Result<(), Fail> {
+    grow_stack(rt.alloc())?;
     let alloc = rt.alloc();
     let text = "2001:db8:1111:2222:3333:4444:5555:6666/128";
     let wanted = Ok("2001:db8:1111:2222:3333:4444:5555:6666/128\n");
@@ -118,6 +120,7 @@ fn program_outcome(
 
 #[test]
 fn program(rt: HostRuntime) -> Result<(), Fail> {
+    grow_stack(rt.alloc())?;
     let alloc = rt.alloc();
     // label, input, status, standard output, standard error
     let rows: [(&str, &[u8], u8, &[u8], &[u8]); 3] = [
@@ -169,6 +172,7 @@ fn check_no_request<F: FnMut() -> bool>(
 
 #[test]
 fn no_request(rt: HostRuntime) -> Result<(), Fail> {
+    grow_stack(rt.alloc())?;
     let alloc = rt.alloc();
     check_no_request(&rt, alloc, "memory: tool on nothing", || {
         aggregate_text(alloc, "").is_ok_and(|text| text.is_empty())
