@@ -69,7 +69,8 @@ pub fn nets_of_one_family_stay_the_same(v4: Ipv4Net, v6: Ipv6Net, net: IpNet)
     ensures of_ipv6 { ⟦<IpNet as From<Ipv6Net>>⟧.from_gives v6 net ↔ (ip_network net ≡ ipv6_network v6) }
 {}
 
-/// Networks print as canonical text: under `{}` and `{:?}`, and under every width, fill and flag.
+/// Networks print as canonical text: under `{}` with every width, fill and flag, and under plain `{:?}`, for
+/// whose flags its own `fmt` has a clause.
 pub fn nets_print_canonical_text(v4: Ipv4Net, v6: Ipv6Net, net: IpNet)
     ensures of_ipv4 { ⟦<Ipv4Net as fmt::Display>⟧.output v4 ≡ Some (canonical_text (ipv4_network v4)) }
     ensures of_ipv6 { ⟦<Ipv6Net as fmt::Display>⟧.output v6 ≡ Some (canonical_text (ipv6_network v6)) }
