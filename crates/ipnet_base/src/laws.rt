@@ -1,6 +1,6 @@
 //! Facts of the definitions, each the contract of a function that does nothing. They show that networks, blocks and
-//! lists of networks, as `specs/` defines them, are what a reader takes them for. No part of the crate's surface
-//! for users.
+//! lists of networks, as `specs/` defines them, are what a reader takes them for. A caller whose own contract needs
+//! such a fact calls its function; a program never has to.
 ghost use Rattle.std.specs.Prelude.{◌≡◌, ◌≢◌, ℕ, ◌+◌, ◌-◌, ◌*◌, ◌^◌, ◌<◌, ◌≤◌, ◌⊎◌, ◌↔◌, Bool};
 ghost use Rattle.std.specs.Prelude.{List, [], ◌∷◌, ◌++◌, length, map, Contains, All, IsPermutation};
 ghost use Rattle.ipnet_base.specs.Address.{Family, Address, IsAddress, IsBetween, IsAcceptedBy, width, family_index};
@@ -153,8 +153,8 @@ pub fn same_set_has_same_maximal_blocks()
         → (test : Address → Bool) × ((x : Address) → IsBetween f start end x ↔ IsAcceptedBy test x) }
 {}
 
-/// No exact cover of a set under a minimum prefix length has fewer members than its maximal blocks, and one with as
-/// many is them, truncated and sorted.
+/// No exact cover of a set under a minimum prefix length has fewer members than its maximal blocks, and an exact cover
+/// with as many members is those same blocks, but for host bits and order.
 pub fn no_cover_is_shorter()
     ensures shortest { (test : Address → Bool) (m : ℕ) (blocks cover : List Network)
         → AreMaximalBlocks (IsAcceptedBy test) m blocks → IsExactCover (IsAcceptedBy test) m cover

@@ -34,7 +34,7 @@ pub enum ToolError {
     Memory,
 }
 
-/// The shortest list of networks that cover the addresses of the text's networks, in canonical text, one a
+/// The shortest list of networks that cover exactly the addresses of the text's networks, in canonical text, one a
 /// line.
 ///
 /// The text is cut at each "\n"; what stands after the last is a line too, unless it is empty. Empty lines

@@ -24,8 +24,8 @@ use std::net::Ipv4Addr;
 pub struct Ipv4Subnets {
     /// The first number of what is left. It saturates at the last address of all.
     start: u32,
-    /// The last number of what is left: that of the range, until a network ends at it or at the last address of all;
-    /// then 0, which lies below the start.
+    /// The last number of the range. It stays when a larger network ends at it, since the start goes past it then; it
+    /// becomes 0 once a network ends at the last address of all, or is the one address that was left.
     end: u32,
     /// The minimum prefix length of each network, as `u32`, the type of shift counts.
     min_prefix_len: u32,
