@@ -85,7 +85,7 @@ pub fn ip_netmask_reads_back(network: &IpNet) -> Result<u8, PrefixLenError>
 }
 
 /// The hosts of an IPv4 network below prefix length 31 are the addresses of its block but the least and the greatest.
-/// At 31 and 32, and of an IPv6 network at every length, they are the whole block.
+/// At 31 and 32, and of an IPv6 network at every prefix length, they are the whole block.
 pub fn hosts_lie_in_the_block()
     ensures ipv4_below_31 { (n : Network) (hosts : AddressRange) (x : Address) → n.family ≡ IPv4 → n.prefix_len < 31
         → IsHostRange n hosts

@@ -86,12 +86,13 @@ pub fn ip_ranges_clone()
 /// Ranges of each type are `Copy`, and fused iterators, which answer `None` ever after `None`; and they have a `Debug`,
 /// whose text no contract tells.
 //
-// The contract says nothing: it is the body that is not compiled where one of the nine is missing.
+// The contract says nothing: it is the body that is not compiled where one of the nine implementations, three for each
+// type, is missing.
 pub fn ranges_are_fused_and_debug(ipv4: &Ipv4AddrRange, ipv6: &Ipv6AddrRange, ip: &IpAddrRange) {
     is_fused_and_debug(ipv4);
     is_fused_and_debug(ipv6);
     is_fused_and_debug(ip);
 }
 
-/// Nothing: it can be called for such types alone.
+/// Does nothing when run: it compiles only for types that are `Copy`, fused and `Debug`.
 fn is_fused_and_debug<R: Copy + FusedIterator + Debug>(_: &R) {}
