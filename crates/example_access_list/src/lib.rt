@@ -34,7 +34,7 @@ pub struct AccessList {
 }
 
 impl AccessList {
-    /// The access list that allows and denies the addresses of these networks. The error is want of memory.
+    /// The access list that allows and denies the addresses of these networks. Fails only when memory runs out.
     pub fn new(
         alloc: Global,
         allow: &Vec<IpNet>,

@@ -5,7 +5,7 @@ use ipnet::{
 };
 use std::alloc::{AllocError, Global};
 
-/// Puts what the walk still gives after the list's own networks. The error is want of memory.
+/// Puts what the walk still gives after the list's own networks. Fails only when memory runs out.
 pub fn ipv4_push_all(walk: Ipv4Subnets, list: &mut Vec<Ipv4Net>) -> Result<(), AllocError> {
     for subnet in walk {
         list.push(subnet)?;
@@ -30,7 +30,7 @@ pub fn ip_push_all(walk: IpSubnets, list: &mut Vec<IpNet>) -> Result<(), AllocEr
 }
 
 /// The subnets of four addresses, of prefix length 30 in IPv4 and 126 in IPv6, and beside them the range of the hosts
-/// of each. A network with a longer prefix has none. The error is want of memory.
+/// of each. A network with a longer prefix has none. Fails only when memory runs out.
 pub fn links_with_hosts(
     alloc: Global,
     network: &IpNet,

@@ -1,6 +1,6 @@
 //! Walks and ranges as lists: what `collect` gives is exactly the list of the walk or the range.
 //!
-//! The error of each function is want of memory.
+//! Each function fails only when memory runs out.
 ghost use Rattle.std.specs.Prelude.{◌≡◌, ◌≤◌, length, map, reverse, IfOk};
 ghost use Rattle.ipnet.specs.Address.{ipv4_address, ipv6_address, ip_address};
 ghost use Rattle.ipnet.specs.Ranges.{AddressRange, addresses_of};

@@ -50,7 +50,7 @@ impl Pool {
 
     /// The next free subnet, which is handed out with that; `None` where all are.
     ///
-    /// The error is want of memory, and leaves the pool as it was.
+    /// Fails only when memory runs out, and leaves the pool as it was then.
     pub fn assign(&mut self) -> Result<Option<Ipv4Net>, AllocError>
         ensures next { IfOk result (λ answer. MatchOption answer
             ((free_of self.old ≡ []) × (free_of self.new ≡ []) × (assigned_of self.new ≡ assigned_of self.old))

@@ -46,9 +46,12 @@ fn truncated_and_joined<N: Net>(alloc: Global, networks: &Vec<N>) -> Result<Vec<
     Ok(list)
 }
 
-/// Pushes a network on the stack in the front of the list, where none of the stack stands after it. A network that the
-/// topmost covers is left out. While it and the topmost are the two halves of one supernet, both are replaced by that
-/// supernet. Answers how many networks the stack has then.
+/// Pushes a network on the stack that fills the front of the list; in the order of networks, none of the stack comes
+/// after it. A network that the topmost covers is left out. While it and the topmost are the two halves of one
+/// supernet, both are replaced by that supernet. Answers how many networks the stack has then.
+//
+// The topmost alone has to be asked: the stack is ascending, its networks share no address, and the new network starts
+// no earlier than the topmost. One below that covered it would share an address with the topmost.
 fn push_on_stack<N: Net>(list: &mut [N], stacked: usize, network: N) -> usize
     requires room { stacked < length list.old }
     requires joined { AreJoined (map N.network (take stacked list.old)) }
@@ -110,7 +113,8 @@ impl Ipv4Net {
     /// block, by ascending first address. Order, repeats and host bits of the input do not matter, and
     /// lists over the same addresses have the same aggregate.
     ///
-    /// Makes one list, as long as the input, and no other. The error is want of memory; an empty list needs none.
+    /// Allocates once: room for as many networks as the input has. Fails only when memory runs out; an empty list needs
+    /// none.
     ///
     /// ```text
     /// 10.0.1.0/24, 10.0.0.0/24, 10.0.0.7/25    become    10.0.0.0/23
@@ -133,7 +137,8 @@ impl Ipv6Net {
     /// block, by ascending first address. Order, repeats and host bits of the input do not matter, and
     /// lists over the same addresses have the same aggregate.
     ///
-    /// Makes one list, as long as the input, and no other. The error is want of memory; an empty list needs none.
+    /// Allocates once: room for as many networks as the input has. Fails only when memory runs out; an empty list needs
+    /// none.
     ///
     /// ```text
     /// fd00:1::/32, fd00::/32, fd00::7/64        become    fd00::/31
@@ -156,7 +161,8 @@ impl IpNet {
     /// block, IPv4 before IPv6 and by ascending first address. Order, repeats and host bits of the input do not
     /// matter, and lists over the same addresses have the same aggregate.
     ///
-    /// Makes one list, as long as the input, and no other. The error is want of memory; an empty list needs none.
+    /// Allocates once: room for as many networks as the input has. Fails only when memory runs out; an empty list needs
+    /// none.
     ///
     /// ```text
     /// fd00::/32, 10.0.1.0/24, 10.0.0.7/24    become    10.0.0.0/23, fd00::/32
@@ -227,7 +233,7 @@ pub fn is_aggregated(networks: &[IpNet]) -> bool
 /// Whether the two lists cover the same addresses. Both are aggregated, since lists that cover the same have one
 /// aggregate, and the answers compared.
 ///
-/// The error is want of memory. Two empty lists need none.
+/// Fails only when memory runs out. Two empty lists need none.
 ///
 /// ```text
 /// 10.0.0.0/25, 10.0.0.128/25 and 10.0.0.7/24 cover the same addresses; 10.0.0.0/25 covers fewer

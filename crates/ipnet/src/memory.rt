@@ -1,5 +1,4 @@
-//! Calls that take no memory, in runs of which the first has none to be had: each gives the answer that it gives
-//! with ample memory.
+//! Calls that take no memory: each is run with no memory available and then with more, and gives the same answer.
 use crate::aggregate::is_aggregated;
 use crate::net::IpNet;
 use crate::subnets::Ipv4Subnets;

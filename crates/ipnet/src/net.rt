@@ -44,6 +44,9 @@ pub(crate) trait Net: Copy + Ord {
         ensures { network result ≡ truncation (network self.now) };
 
     /// Whether the other's block lies in this one's.
+    //
+    // Beside `contains`, whose contract names a ghost member of `Contains`: a body generic over `Net` knows nothing of
+    // that member, and here the promise is in the words of networks.
     fn covers(&self, other: &Self) -> bool
         ensures { IsTrue result ↔ IsSubnetOf (network other.now) (network self.now) };
 
@@ -51,7 +54,7 @@ pub(crate) trait Net: Copy + Ord {
     fn is_other_half(&self, other: &Self) -> bool
         ensures { IsTrue result ↔ AreHalves (network self.now) (network other.now) };
 
-    /// The network that is one bit shorter and contains this one.
+    /// The network whose prefix is one bit shorter and whose block contains this one.
     fn joined(&self) -> Self
         requires { 0 < (network self.now).prefix_len }
         ensures { IsSupernetOf (network result) (network self.now) };
@@ -59,7 +62,7 @@ pub(crate) trait Net: Copy + Ord {
     /// Each value stands for a network.
     ghost valid: { (x : Self) → IsNetwork (network x) };
 
-    /// Values that stand for one network are one.
+    /// Values that stand for the same network are equal.
     ghost one_to_one: { (x y : Self) → network x ≡ network y → x ≡ y };
 
     /// The order of values is the order of networks.
@@ -105,8 +108,8 @@ impl IpNet {
         }
     }
 
-    /// The network of the address and a prefix length that the caller knows to be at most its width, 32 or 128; `new`
-    /// is the test.
+    /// The network of the address and a prefix length that the caller knows to be at most the width of the address, 32
+    /// or 128; use `new` where this is not known.
     ///
     /// ```text
     /// IpNet::new_assert(10.1.1.7, 32) is 10.1.1.7/32, and IpNet::new_assert(fd00::7, 33) is fd00::7/33
@@ -121,7 +124,7 @@ impl IpNet {
         }
     }
 
-    /// The network of the address and the prefix length that the netmask says; the address keeps its host bits.
+    /// The network of the address and the prefix length that the netmask stands for; the address keeps its host bits.
     ///
     /// The families of the two are not compared: an IPv4 address goes with an IPv6 mask of at most 32 ones, an IPv6
     /// address with any IPv4 mask. An error where the mask is none, or its prefix length above the width of the
@@ -252,7 +255,8 @@ impl IpNet {
         }
     }
 
-    /// The network that is one bit shorter and contains this one, without host bits; none at prefix length 0.
+    /// The network whose prefix is one bit shorter and whose block contains this one, without host bits; none at prefix
+    /// length 0.
     ///
     /// ```text
     /// that of 172.16.0.0/12 is 172.0.0.0/11
@@ -267,7 +271,7 @@ impl IpNet {
         }
     }
 
-    /// Whether both are of one family and have one prefix length above 0 and one supernet.
+    /// Whether both are of one family and have the same prefix length, above 0, and the same supernet.
     ///
     /// So each network of prefix length above 0 is its own sibling, and host bits do not matter.
     ///
@@ -322,7 +326,7 @@ impl IpNet {
 
     /// Whether the block contains the address, or all of the other network's block.
     ///
-    /// No across families: an IPv6 address that maps an IPv4 address is no IPv4 address.
+    /// False across families: an IPv4-mapped IPv6 address is not an IPv4 address.
     ///
     /// ```text
     /// 172.16.0.7/24 contains 172.16.0.0/25 and 172.16.0.9; 172.16.0.0/25 does not contain 172.16.0.0/24

@@ -6,13 +6,13 @@
 //! keeps its host bits.
 //!
 //! The legacy grammar reads each text of the strict one as the same network, and is wider in two places. Octets
-//! and lengths, which are always decimal, may have leading zeros, where the strict grammar takes no leading zero but
-//! 0 itself; and a "::" may stand for no group, with eight groups written beside it and at most seven of them before
-//! it, where the strict grammar, as RFC 4291 does, has it stand for one at least. The limits are the same in both, and
-//! leading zeros count as digits: an octet has 1 to 3 digits and is at most 255; a length has 1 or 2 digits in an IPv4
-//! text and is at most 32, and 1 to 3 digits in an IPv6 text and is at most 128; a group has 1 to 4 hexadecimal digits
-//! of either case, in both grammars with leading zeros or without. Every other text is refused, such as one with a
-//! blank, a sign, a zone or no length.
+//! and prefix lengths, which are always decimal, may have leading zeros, where the strict grammar takes no leading zero
+//! but 0 itself; and a "::" may stand for no group, with eight groups written beside it and at most seven of them
+//! before it, where the strict grammar, as RFC 4291 does, has it stand for one at least. The limits are the same in
+//! both, and leading zeros count as digits: an octet has 1 to 3 digits and is at most 255; a prefix length has 1 or 2
+//! digits in an IPv4 text and is at most 32, and 1 to 3 digits in an IPv6 text and is at most 128; a group has 1 to 4
+//! hexadecimal digits of either case, in both grammars with leading zeros or without. Every other text is refused, such
+//! as one with a blank, a sign, a zone or no prefix length.
 //!
 //! ```text
 //!                            from_str             parse_legacy
@@ -62,9 +62,9 @@ pub struct AddrParseError(());
 /// ```
 #[derive(Clone, Copy, Debug, PartialEq, Eq)]
 pub enum Grammar {
-    /// No leading zeros in octets and lengths, and a "::" stands for one group at least.
+    /// No leading zeros in octets and prefix lengths, and a "::" stands for one group at least.
     Strict,
-    /// Octets and lengths may have leading zeros, and a "::" may stand for no group.
+    /// Octets and prefix lengths may have leading zeros, and a "::" may stand for no group.
     Legacy,
 }
 
@@ -106,7 +106,7 @@ impl FromStr for Ipv4Net {
 
     ghost from_str_gives = { ReadsNetwork ipv4_network (IsIpv4NetworkText Strict) };
 
-    /// Reads a text of the strict grammar: a dotted address, "/" and a length (RFC 4632, section 3.1), no number
+    /// Reads a text of the strict grammar: a dotted address, "/" and a prefix length (RFC 4632, section 3.1), no number
     /// with a leading zero but 0 itself. Every other text is refused.
     ///
     /// ```text
@@ -121,11 +121,12 @@ impl FromStr for Ipv4Net {
 }
 
 impl Ipv4Net {
-    /// Reads a text of the legacy grammar, described in the module `parser`: a dotted address, "/" and a length
+    /// Reads a text of the legacy grammar, described in the module `parser`: a dotted address, "/" and a prefix length
     /// (RFC 4632, section 3.1), whose numbers may have leading zeros. What `from_str` reads is read alike.
     ///
     /// An error for every other text: where there are not four octets, or one has more than 3 digits or is above
-    /// 255; where the length is missing, has more than 2 digits or is above 32; and for the text of an IPv6 network.
+    /// 255; where the prefix length is missing, has more than 2 digits or is above 32; and for the text of an IPv6
+    /// network.
     ///
     /// ```text
     /// 10.1.1.9/24    Ok(10.1.1.9/24)
@@ -147,8 +148,8 @@ impl FromStr for Ipv6Net {
 
     ghost from_str_gives = { ReadsNetwork ipv6_network (IsIpv6NetworkText Strict) };
 
-    /// Reads a text of the strict grammar: an address (RFC 4291, section 2.2), "/" and a length (section 2.3). A "::"
-    /// stands for one group at least, and no decimal number but 0 itself has a leading zero. Every other text is
+    /// Reads a text of the strict grammar: an address (RFC 4291, section 2.2), "/" and a prefix length (section 2.3). A
+    /// "::" stands for one group at least, and no decimal number but 0 itself has a leading zero. Every other text is
     /// refused.
     ///
     /// ```text
@@ -164,13 +165,13 @@ impl FromStr for Ipv6Net {
 
 impl Ipv6Net {
     /// Reads a text of the legacy grammar, described in the module `parser`: an address (RFC 4291, section 2.2), "/"
-    /// and a length (section 2.3), where all numbers may have leading zeros and a "::" may stand for no group. What
-    /// `from_str` reads is read alike.
+    /// and a prefix length (section 2.3), where all numbers may have leading zeros and a "::" may stand for no group.
+    /// What `from_str` reads is read alike.
     ///
     /// An error for every other text: where the groups, with those of "::" and the two of an IPv4 address at the end,
     /// are not eight, or eight stand before a "::"; where a group has more than 4 digits; where an octet has more than
-    /// 3 digits or is above 255; where the length is missing, has more than 3 digits or is above 128; and for the text
-    /// of an IPv4 network.
+    /// 3 digits or is above 255; where the prefix length is missing, has more than 3 digits or is above 128; and for the
+    /// text of an IPv4 network.
     ///
     /// ```text
     /// fd00::9/32             Ok(fd00::9/32)

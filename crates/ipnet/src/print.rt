@@ -33,6 +33,9 @@ pub const IPV6_NETWORK_LEN: usize = "ffff:ffff:ffff:ffff:ffff:ffff:ffff:ffff/128
 const GROUPS_ROOM: usize = 8 * "ffff:".len();
 
 /// The buffer that a text is written into, piece by piece: it has room for the longest of all.
+//
+// One type, so that each private step has one body and one proof; a shorter text is then copied into the type that its
+// call names.
 type Buffer = ArrayString<IPV6_NETWORK_LEN>;
 
 /// The digit, in lower case.
@@ -94,7 +97,7 @@ fn push_octets(out: &mut Buffer, octets: [u8; 4])
     push_decimal(out, d);
 }
 
-/// Appends "/" and the length in decimal, without leading zeros.
+/// Appends "/" and the prefix length in decimal, without leading zeros.
 fn push_length(out: &mut Buffer, prefix_len: u8)
     requires { array_string_len out.old + 4 ≤ IPV6_NETWORK_LEN }
     ensures bytes { out.new.bytes ≡ out.old.bytes ++ codes "/" ++ decimal prefix_len }
@@ -139,6 +142,9 @@ fn push_groups(out: &mut Buffer, groups: &[u16])
 }
 
 /// The start and the length of the longest run of zero groups, the first one of that length.
+//
+// From the back, so that each place begins the run that is counted there; and by `>=`, so that of two as long the first
+// is kept, which is met last.
 fn longest_zero_run(groups: &[u16]) -> (usize, usize)
     ensures value { result ≡ text.longest_zero_run groups.now }
     ensures within { result.0 + result.1 ≤ length groups.now }
@@ -239,7 +245,7 @@ fn ipv4_network_text(net: &Ipv4Net) -> Buffer
 }
 
 impl Ipv4Net {
-    /// The canonical text of the network: its address with the host bits, "/", and the length in decimal without
+    /// The canonical text of the network: its address with the host bits, "/", and the prefix length in decimal without
     /// leading zeros.
     ///
     /// ```text
@@ -255,7 +261,7 @@ impl Ipv4Net {
 }
 
 impl Ipv6Net {
-    /// The canonical text of the network: its address with the host bits, "/", and the length in decimal without
+    /// The canonical text of the network: its address with the host bits, "/", and the prefix length in decimal without
     /// leading zeros.
     ///
     /// ```text
@@ -273,8 +279,8 @@ impl Ipv6Net {
 }
 
 impl IpNet {
-    /// The canonical text of the network of either family: its address with the host bits, "/", and the length in
-    /// decimal without leading zeros.
+    /// The canonical text of the network of either family: its address with the host bits, "/", and the prefix length
+    /// in decimal without leading zeros.
     ///
     /// ```text
     /// 10.1.1.0/24

@@ -20,8 +20,8 @@ pub mod walk_laws;
 pub use ipv4_subnets::Ipv4Subnets;
 pub use ipv6_subnets::Ipv6Subnets;
 
-/// A walk over a range of addresses of either family: it gives the networks of the walk of one family that it
-/// holds. It is made from such a walk by `From`, and by `IpNet::subnets`.
+/// A walk over a range of addresses of either family: an IPv4 walk or an IPv6 walk; gives that walk's networks. It is
+/// made from such a walk by `From`, and by `IpNet::subnets`.
 ///
 /// Walks of one family compare as [`Ipv4Subnets`] or [`Ipv6Subnets`] do, by what they store; an IPv4 one stands
 /// before every IPv6 one.
@@ -63,7 +63,8 @@ impl Iterator for IpSubnets {
 
     ghost remaining = { item_count ip_subnets_left };
 
-    /// What the walk that it holds gives next: `None`, then and ever after, where the start lies above the end.
+    /// What the walk that it holds gives next; or `None`, at this and every later call, where the start lies above the
+    /// end.
     fn next(&mut self) -> Option<IpNet>
         ensures steps { YieldsFirstBy ip_network ip_subnets_left self.old result self.new }
         ensures goes { IsSubnetStep ip_network ip_subnet_range ip_subnets_left self.old result self.new }

@@ -16,7 +16,7 @@ use crate::net::{IpNet, Ipv4Net, Ipv6Net};
 use crate::parser::{AddrParseError, Grammar};
 use std::net::{Ipv4Addr, Ipv6Addr};
 
-/// In either grammar a text writes one network at most, whose number and length are in the range of its family.
+/// In either grammar a text writes one network at most, whose number and prefix length are in the range of its family.
 pub fn one_network()
     ensures one { (grammar : Grammar) (text : List ℕ) (m n : Network)
         → IsNetworkText grammar text m → IsNetworkText grammar text n → m ≡ n }

@@ -23,13 +23,13 @@ pub use ipv6_range::Ipv6AddrRange;
 /// 255.255.255.254 + 5   255.255.255.255
 /// ```
 pub trait IpAdd<RHS> {
-    /// What a sum is.
+    /// The type of a sum.
     type Output;
 
     /// The output is the sum of the two.
     ghost is_sum: { Self → RHS → Self.Output → Type 0 };
 
-    /// The sum of the two, or the greatest address where that is less.
+    /// The sum of the two, or the greatest address where the sum lies above it.
     fn saturating_add(self, rhs: RHS) -> Self::Output
         ensures { is_sum self rhs result };
 }
@@ -42,7 +42,7 @@ pub trait IpAdd<RHS> {
 /// 192.168.1.5 - 5               192.168.1.0
 /// ```
 pub trait IpSub<RHS> {
-    /// What a difference is: a number between two addresses, an address below an address.
+    /// The type of a difference: a number of two addresses, an address of an address and a number.
     type Output;
 
     /// The output is what is left of the first without the second.
@@ -53,13 +53,13 @@ pub trait IpSub<RHS> {
         ensures { is_difference self rhs result };
 }
 
-/// The bits that two addresses, or an address and a number, have in common.
+/// Bitwise and of two addresses, or of an address and a number.
 ///
 /// ```text
 /// fd00:1234::1 & ffff::   fd00::
 /// ```
 pub trait IpBitAnd<RHS> {
-    /// What the common bits are.
+    /// The type of the bitwise and.
     type Output;
 
     /// The output has the bits that are set in both.
@@ -70,13 +70,13 @@ pub trait IpBitAnd<RHS> {
         ensures { is_and self rhs result };
 }
 
-/// The bits that two addresses, or an address and a number, have together.
+/// Bitwise or of two addresses, or of an address and a number.
 ///
 /// ```text
 /// 10.0.0.1 | 0.0.255.0   10.0.255.1
 /// ```
 pub trait IpBitOr<RHS> {
-    /// What the bits together are.
+    /// The type of the bitwise or.
     type Output;
 
     /// The output has the bits that are set in either.

@@ -1,6 +1,6 @@
 //! Facts of the definitions, each the contract of a function that does nothing. They show that networks, blocks and
-//! lists of networks, as `specs/` defines them, are what a reader takes them for. No part of the crate's surface
-//! for users.
+//! lists of networks, as `specs/` defines them, are what a reader takes them for. A caller whose own contract needs
+//! such a fact calls its function; a program never has to.
 ghost use Rattle.std.specs.Prelude.{◌≡◌, ◌≢◌, ℕ, ◌+◌, ◌-◌, ◌*◌, ◌^◌, ◌<◌, ◌≤◌, ◌⊎◌, ◌↔◌, Bool};
 ghost use Rattle.std.specs.Prelude.{List, [], ◌∷◌, ◌++◌, length, map, Contains, All, IsPermutation};
 ghost use Rattle.ipnet_base.specs.Address.{Family, Address, IsAddress, IsBetween, IsAcceptedBy, width, family_index};
@@ -39,13 +39,13 @@ pub fn own_address_is_between()
         → (low.number ≤ n.number) × (n.number ≤ high.number) }
 {}
 
-/// At full length a block is the network's own address alone.
+/// At the full prefix length a block is the network's own address alone.
 pub fn full_length_is_one_address()
     ensures { (n : Network) (x : Address) → n.prefix_len ≡ width n.family
         → InBlock n x ↔ ((x.family ≡ n.family) × (x.number ≡ n.number)) }
 {}
 
-/// At length 0 a block is all addresses of the family.
+/// At prefix length 0 a block is all addresses of the family.
 pub fn length_zero_is_all_addresses()
     ensures { (n : Network) (x : Address) → IsNetwork n → IsAddress x → n.prefix_len ≡ 0
         → InBlock n x ↔ (x.family ≡ n.family) }
@@ -73,7 +73,7 @@ pub fn truncation_is_one()
     ensures twice { (n : Network) → truncation (truncation n) ≡ truncation n }
 {}
 
-/// A network of a length above 0 has one supernet, and is one of the two halves of it.
+/// A network of a prefix length above 0 has one supernet, and is one of the two halves of it.
 pub fn supernet_is_one()
     ensures exists { (n : Network) → IsNetwork n → 0 < n.prefix_len → (s : Network) × IsSupernetOf s n }
     ensures one { (s t n : Network) → IsNetwork n → IsSupernetOf s n → IsSupernetOf t n → s ≡ t }
@@ -87,20 +87,20 @@ pub fn supernet_is_its_two_halves()
     ensures apart { (n k : Network) → AreHalves n k → AreDisjoint n k }
 {}
 
-/// To be siblings is symmetric, and each network of a length above 0 is its own sibling.
+/// Being siblings is symmetric, and each network of a prefix length above 0 is its own sibling.
 pub fn siblings_are_symmetric()
     ensures symmetric { (n k : Network) → AreSiblings n k → AreSiblings k n }
     ensures own { (n : Network) → 0 < n.prefix_len → AreSiblings n n }
 {}
 
-/// The netmask and the host mask of a length add up to the family's last number.
+/// The netmask and the host mask of a prefix length add up to the family's last number.
 pub fn masks_add_up()
     ensures { (f : Family) (prefix_len : ℕ) → prefix_len ≤ width f
         → netmask_number f prefix_len + hostmask_number f prefix_len ≡ greatest_number f }
 {}
 
-/// The netmask of a length has its ones at the places of the prefix, and the host mask at all others; and an address
-/// lies in a block exactly where it has the network's bits at the ones of the netmask.
+/// The netmask of a prefix length has its ones at the places of the prefix, and the host mask at all others; and an
+/// address lies in a block exactly where it has the network's bits at the ones of the netmask.
 pub fn masks_mark_the_prefix()
     ensures netmask { (f : Family) (prefix_len i : ℕ) → prefix_len ≤ width f → i < width f
         → (bit (netmask_number f prefix_len) i ≡ 1) ↔ (width f - prefix_len ≤ i) }
@@ -111,7 +111,7 @@ pub fn masks_mark_the_prefix()
         → bit x.number i ≡ bit n.number i) }
 {}
 
-/// A number is the netmask of one length at most.
+/// A number is the netmask of one prefix length at most.
 pub fn netmask_has_one_length()
     ensures { (f : Family) (number p q : ℕ) → IsNetmaskOf f number p → IsNetmaskOf f number q → p ≡ q }
 {}
@@ -123,15 +123,15 @@ pub fn order_is_strict_and_total()
     ensures total { (n k : Network) → (n ≡ k) ⊎ (IsBefore n k ⊎ IsBefore k n) }
 {}
 
-/// Truncated networks are ordered by family, then by the first address of their blocks, then by length.
+/// Truncated networks are ordered by family, then by the first address of their blocks, then by prefix length.
 pub fn truncated_networks_are_ordered_by_first_address()
     ensures { (n k : Network) (a b : Address) → IsTruncated n → IsTruncated k → IsLeastOf n a → IsLeastOf k b
         → IsBefore n k ↔ ((family_index a.family < family_index b.family)
         ⊎ ((a.family ≡ b.family) × ((a.number < b.number) ⊎ ((a.number ≡ b.number) × (n.prefix_len < k.prefix_len))))) }
 {}
 
-/// At most one list is the maximal blocks of a set under a minimum prefix length: of a set that a test tells, of what a
-/// list covers, of a range.
+/// At most one list is the maximal blocks of a set under a minimum prefix length: of a set given by a boolean test, of
+/// what a list covers, of a range.
 pub fn one_list_of_maximal_blocks()
     ensures of_set { (test : Address → Bool) (m : ℕ) (a b : List Network)
         → AreMaximalBlocks (IsAcceptedBy test) m a → AreMaximalBlocks (IsAcceptedBy test) m b → a ≡ b }
@@ -141,8 +141,8 @@ pub fn one_list_of_maximal_blocks()
         → AreMaximalBlocks (IsBetween f start end) m a → AreMaximalBlocks (IsBetween f start end) m b → a ≡ b }
 {}
 
-/// Sets with the same addresses have the same maximal blocks; what a list covers, and a range, are sets that a test
-/// tells.
+/// Sets with the same addresses have the same maximal blocks; what a list covers, and a range, are sets given by a
+/// boolean test.
 pub fn same_set_has_same_maximal_blocks()
     ensures of_set { (test other : Address → Bool) (m : ℕ) (blocks : List Network)
         → ((x : Address) → IsAcceptedBy test x ↔ IsAcceptedBy other x)
@@ -153,8 +153,8 @@ pub fn same_set_has_same_maximal_blocks()
         → (test : Address → Bool) × ((x : Address) → IsBetween f start end x ↔ IsAcceptedBy test x) }
 {}
 
-/// No exact cover of a set under a minimum prefix length has fewer members than its maximal blocks, and one with as
-/// many is them, truncated and sorted.
+/// No exact cover of a set under a minimum prefix length has fewer members than its maximal blocks, and an exact cover
+/// with as many members is those same blocks, but for host bits and order.
 pub fn no_cover_is_shorter()
     ensures shortest { (test : Address → Bool) (m : ℕ) (blocks cover : List Network)
         → AreMaximalBlocks (IsAcceptedBy test) m blocks → IsExactCover (IsAcceptedBy test) m cover
@@ -170,9 +170,10 @@ pub fn neighbours_show_an_aggregate()
         → AreAggregatedNeighbours networks ↔ IsAggregateOf networks networks }
 {}
 
-/// An aggregate of a list of networks is all that `IsCanonicalAggregateOf` says: it covers the same addresses, no list
-/// that does is shorter, it is one for all lists that cover the same, and the rest. Its networks share no address,
-/// whatever the list.
+/// An aggregate of a list of networks is all that `IsCanonicalAggregateOf` says: it covers the same addresses; no list
+/// that does is shorter, and one as short is this one but for host bits and order; it is no longer than the list; the
+/// list has no other aggregate; it is the aggregate of exactly the lists that cover the same addresses, so order,
+/// repeats and host bits do not matter; and it is its own aggregate. Its networks share no address, whatever the list.
 pub fn aggregate_is_canonical()
     ensures canonical { (networks answer : List Network) → All IsNetwork networks → IsAggregateOf answer networks
         → IsCanonicalAggregateOf answer networks }

@@ -10,8 +10,7 @@ pub mod laws;
 use crate::addr::{IpAddr, Ipv4Addr, Ipv6Addr};
 use thiserror::Error;
 
-/// The refusal of a prefix length longer than an address of the family, of one below the network's own where the
-/// subnets of a network are asked for, or of an address that is no netmask.
+/// A prefix length was above 32 or 128, or in `subnets` below the network's own; or an address was no netmask.
 ///
 /// Its text is `invalid IP prefix length`.
 ///
@@ -40,10 +39,10 @@ fn ipv6_netmask(prefix_len: u32) -> u128
     u128::MAX.checked_shl(128 - prefix_len).unwrap_or(0)
 }
 
-/// The prefix length, 0 to 32, of an IPv4 netmask: the number of its ones, which no zero stands before.
+/// The prefix length, 0 to 32, of an IPv4 netmask: the count of its leading ones.
 ///
-/// An address whose bits are not ones followed by zeros is refused. All zeros are the mask of length 0, all
-/// ones that of length 32.
+/// An address whose bits are not ones followed by zeros is refused. All zeros are the mask of prefix length 0, all
+/// ones that of 32.
 ///
 /// ```text
 /// 255.255.255.128   Ok(25)
@@ -62,10 +61,10 @@ pub fn ipv4_mask_to_prefix(mask: Ipv4Addr) -> Result<u8, PrefixLenError>
     }
 }
 
-/// The prefix length, 0 to 128, of an IPv6 netmask: the number of its ones, which no zero stands before.
+/// The prefix length, 0 to 128, of an IPv6 netmask: the count of its leading ones.
 ///
-/// An address whose bits are not ones followed by zeros is refused. All zeros are the mask of length 0, all
-/// ones that of length 128.
+/// An address whose bits are not ones followed by zeros is refused. All zeros are the mask of prefix length 0, all
+/// ones that of 128.
 ///
 /// ```text
 /// ffff:ffff:ffff::   Ok(48)

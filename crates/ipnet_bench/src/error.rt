@@ -32,7 +32,7 @@ pub enum BenchError {
     /// Standard output cannot be written.
     #[error("the figures cannot be written: {0}")]
     Output(io::Error),
-    /// A growth was refused.
+    /// An allocation was refused.
     #[error("out of memory")]
     Memory(#[from(alloc)] AllocError),
 }

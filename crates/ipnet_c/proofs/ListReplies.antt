@@ -93,7 +93,7 @@ aggregated grammar text bytes old new count_old count status answer utf8 told by
   bad_at_once = λ number u h. let clash = told.bad_at_once number h in absurd cc;
 }
 
--- want of memory in the tool
+-- memory ran out in the tool
 pub not_aggregated : (grammar : Grammar) (text buffer : List ℕ) (count : ℕ) → IsUtf8 text
     → IsTextAnswer grammar text (Err ToolErrors.Memory) → IsAggregateReply grammar text buffer buffer count count 3
 not_aggregated grammar text buffer count utf8 told = record {

@@ -113,7 +113,7 @@ other_refused operation text other buffer count_old count networks utf8 utf8_oth
   bad_at_once = λ number a b h. absurd (good_at_once Strict text networks written number h);
 }
 
--- want of memory
+-- memory ran out
 pub not_combined : (operation : Operation) (text other buffer : List ℕ) (count : ℕ) → IsUtf8 text → IsUtf8 other
     → (IsBlank text → ¬ (IsBlank other)) → IsGoodAtOnce Strict text
     → IsSetReply operation text other buffer buffer count count 3

@@ -13,7 +13,7 @@ pub(crate) const BAD_LINE: u8 = 1;
 /// The text is not UTF-8.
 pub(crate) const NOT_UTF8: u8 = 2;
 
-/// A growth was refused.
+/// An allocation was refused.
 pub(crate) const OUT_OF_MEMORY: u8 = 3;
 
 /// There is an answer, and the buffer is too short for it.

@@ -38,7 +38,7 @@ pub enum Failure {
     /// The input is not UTF-8.
     #[error("ipnet: input is not UTF-8")]
     NotUtf8,
-    /// A growth was refused.
+    /// An allocation was refused.
     #[error("ipnet: out of memory")]
     Memory,
     /// The line of this number, counted from 1 with the empty ones, is the first that is neither empty nor a
@@ -76,7 +76,7 @@ impl Failure {
 /// | 2 | `ipnet: takes no argument or the word legacy` | other arguments than none or `legacy`; nothing is read |
 /// | 3 | `ipnet: input cannot be read` | a read fails |
 /// | 3 | `ipnet: input is not UTF-8` | the input is not UTF-8 |
-/// | 3 | `ipnet: out of memory` | want of memory at any point, also while reading |
+/// | 3 | `ipnet: out of memory` | memory runs out at any point, also while reading |
 /// | 1 | `line N: invalid IP address syntax` | line N is the first that is neither empty nor a network |
 /// | 3 | `ipnet: output cannot be written` | a write or the flush after it fails; the answer may be out in part |
 /// | 0 | nothing | otherwise |
@@ -180,6 +180,9 @@ pub fn report<X: Write>(faults: &mut X, failure: Failure) -> u8
 }
 
 /// The bytes that the reader gives up to its end. A read that was interrupted is made again.
+//
+// A loop is proved to end, and a reader may be interrupted again and again: so it counts, here and in `write_whole`, up
+// to more calls than any run makes.
 fn read_all<R: Read>(alloc: Global, input: &mut R) -> Result<Vec<u8>, Failure>
     ensures bytes { IfOk result (λ bytes. Consumes (R.remaining input.old) (R.remaining input.new) bytes.items) }
     ensures end { OnOk result (IsAtEnd (R.remaining input.new)) }
@@ -205,8 +208,8 @@ fn read_all<R: Read>(alloc: Global, input: &mut R) -> Result<Vec<u8>, Failure>
     Err(Failure::Unreadable)
 }
 
-/// Writes the bytes and flushes the writer. A write that was interrupted is made again; where another fails, what went
-/// out is a front of the bytes.
+/// Writes the bytes and flushes the writer. A write that was interrupted is made again; where a write fails otherwise,
+/// the bytes written so far are a prefix of the answer.
 fn write_whole<W: Write>(out: &mut W, bytes: &[u8]) -> Result<(), Failure>
     ensures whole { OnOk result (Appends (W.contents out.old) (W.contents out.new) bytes.now) }
     ensures front { (front : List ℕ) × StartsWith bytes.now front

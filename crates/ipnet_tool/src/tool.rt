@@ -29,20 +29,20 @@ pub enum ToolError {
     /// network.
     #[error("line {0}: invalid IP address syntax")]
     Line(usize),
-    /// A growth was refused.
+    /// An allocation was refused.
     #[error("out of memory")]
     Memory,
 }
 
-/// The shortest list of networks that cover the addresses of the text's networks, in canonical text, one a
+/// The shortest list of networks that cover exactly the addresses of the text's networks, in canonical text, one a
 /// line.
 ///
 /// The text is cut at each "\n"; what stands after the last is a line too, unless it is empty. Empty lines
 /// are skipped, and each other line is read as [`IpNet`] by the strict grammar. The answer has the maximal
 /// aligned blocks of the addresses, IPv4 first, ascending, each followed by "\n". The first bad line is
-/// refused with its number, and a growth that is refused before that line is reached is want of memory; where
-/// only empty lines stand before it, there is no growth. A text of empty lines alone, or of none, has an empty answer,
-/// and takes no memory.
+/// refused with its number; if memory runs out before that line is reached, the error is `Memory`. Where only empty
+/// lines stand before it, no memory is needed. A text of empty lines alone, or of none, has an empty answer, and takes
+/// no memory.
 ///
 /// ```text
 /// aggregate_text(alloc, "10.0.1.0/24\n\n10.0.0.0/24")  is  Ok("10.0.0.0/23\n")

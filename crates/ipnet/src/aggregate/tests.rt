@@ -1,10 +1,10 @@
 //! `aggregate` and `same_addresses` where memory is short.
 //!
-//! Shown: with no memory to be had each call on lists that are not empty answers want of memory, and on empty
-//! lists `Ok`; as `outcomes` gives memory back, the calls answer want of memory until there is room, and the
-//! right answer in every run from then on; the lent lists are afterwards as before. The first run with an answer
-//! is the first one that is granted a list of the input's length, or for `same_addresses` two lists, and that run
-//! refuses one byte more beside them: so a second growth, or a third, would have been refused there.
+//! Shown: with no memory to be had each call on lists that are not empty answers `AllocError`, and on empty lists `Ok`;
+//! as `outcomes` gives memory back, the calls answer `AllocError` until there is room, and the right answer in every
+//! run from then on; the lent lists are afterwards as before. The first run with an answer is the first one that is
+//! granted a list of the input's length, or for `same_addresses` two lists, and that run refuses one byte more beside
+//! them: so a second growth, or a third, would have been refused there.
 //!
 //! Inferred: that a call makes no further growth after it has given memory back, since `outcomes` counts no calls
 //! of the allocator. Where the allocator never refuses, as under a sanitizer, the runs show nothing.
@@ -164,7 +164,7 @@ fn same_addresses_runs(
     Ok(answers)
 }
 
-/// Asserts that `aggregate` of the row's input tells want of memory until there is room, and then gives the answer.
+/// Asserts that `aggregate` of the row's input answers `AllocError` until there is room, and then gives the answer.
 fn check_row<N: Listed>(
     rt: &impl Abort,
     alloc: Global,

@@ -1,5 +1,6 @@
 //! What holds of all networks as bytes, and of all values of `CompactError`. The first three laws write a network and
-//! read it back; each other is a function with nothing to run, whose contract is the law.
+//! read it back; each of the others is a function with nothing to run, whose contract is the
+//! law.
 ghost use Rattle.std.specs.Prelude.{◌≡◌, Ok};
 ghost use Rattle.ipnet_base.specs.Values.{EqualsExactly, ClonesExactly};
 

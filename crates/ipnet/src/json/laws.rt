@@ -1,5 +1,5 @@
 //! What holds of all networks as JSON values, and of all values of `JsonError`. The first three laws write a network
-//! and read it back; each other is a function with nothing to run, whose contract is the law.
+//! and read it back; each of the others is a function with nothing to run, whose contract is the law.
 ghost use Rattle.std.specs.Prelude.{◌≡◌, Ok, IfOk};
 ghost use Rattle.ipnet_base.specs.Values.{EqualsExactly, ClonesExactly};
 

@@ -21,8 +21,8 @@ use ipnet_base::{Ipv4Addr, Ipv4AddrRange, PrefixLenError, ipv4_mask_to_prefix};
 /// ```
 //
 // Number and prefix length share one word, the number in the upper half and the prefix length in the lower, so that
-// the order of words is the order of networks: sorting, most of the time of `aggregate`, moves and compares single
-// words.
+// the order of words is the order of networks: sorting takes most of `aggregate`'s time, and so moves and compares
+// single words.
 #[derive(Clone, Copy, PartialEq, Eq, PartialOrd, Ord, Hash)]
 pub struct Ipv4Net {
     word: u64,
@@ -48,9 +48,9 @@ fn hostmask_number(prefix_len: u32) -> u32
     (u64::from(u32::MAX) >> prefix_len) as u32
 }
 
-/// The leading bits of the number, as many as a prefix of this length has.
+/// The leading bits of the number, as many as this prefix length says.
 //
-// A word wider than the number, since at prefix length 0 all of its bits are shifted out.
+// A word wider than the number, since at prefix length 0 all 32 bits are shifted out, and a `u32` takes no shift by 32.
 fn prefix_of(number: u32, prefix_len: u32) -> u64
     requires { prefix_len ≤ 32 }
     ensures { result ≡ number / 2 ^ (32 - prefix_len) }
@@ -87,7 +87,8 @@ impl Ipv4Net {
         Ok(Ipv4Net::new_assert(ip, prefix_len))
     }
 
-    /// The network of the address and a prefix length that the caller knows to be at most 32; `new` is the test.
+    /// The network of the address and a prefix length that the caller knows to be at most 32; use `new` where this is
+    /// not known.
     ///
     /// ```text
     /// Ipv4Net::new_assert(10.1.1.7, 24) is 10.1.1.7/24
@@ -99,7 +100,7 @@ impl Ipv4Net {
         Ipv4Net::from_number(ip.to_bits(), u32::from(prefix_len))
     }
 
-    /// The network of the address and the prefix length that the netmask says; the address keeps its host bits.
+    /// The network of the address and the prefix length that the netmask stands for; the address keeps its host bits.
     ///
     /// An error where the mask is not ones followed by zeros.
     ///
@@ -205,7 +206,8 @@ impl Ipv4Net {
         Ipv4Net::from_number(self.masked(len), len)
     }
 
-    /// The network that is one bit shorter and contains this one, without host bits; none at prefix length 0.
+    /// The network whose prefix is one bit shorter and whose block contains this one, without host bits; none at prefix
+    /// length 0.
     ///
     /// ```text
     /// that of 172.16.0.0/12 is 172.0.0.0/11
@@ -220,7 +222,7 @@ impl Ipv4Net {
         Some(self.joined())
     }
 
-    /// Whether both have one prefix length above 0 and one supernet.
+    /// Whether both have the same prefix length, above 0, and the same supernet.
     ///
     /// So each network of prefix length above 0 is its own sibling, and host bits do not matter.
     ///

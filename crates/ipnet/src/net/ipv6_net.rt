@@ -49,7 +49,7 @@ fn hostmask_number(prefix_len: u32) -> u128
     u128::MAX.checked_shr(prefix_len).unwrap_or(0)
 }
 
-/// The leading bits of the number, as many as a prefix of this length has.
+/// The leading bits of the number, as many as this prefix length says.
 fn prefix_of(number: u128, prefix_len: u32) -> u128
     requires { prefix_len ≤ 128 }
     ensures { result ≡ number / 2 ^ (128 - prefix_len) }
@@ -86,7 +86,8 @@ impl Ipv6Net {
         Ok(Ipv6Net::new_assert(ip, prefix_len))
     }
 
-    /// The network of the address and a prefix length that the caller knows to be at most 128; `new` is the test.
+    /// The network of the address and a prefix length that the caller knows to be at most 128; use `new` where this is
+    /// not known.
     ///
     /// ```text
     /// Ipv6Net::new_assert(fd00::7, 24) is fd00::7/24
@@ -98,7 +99,7 @@ impl Ipv6Net {
         Ipv6Net::from_number(ip.to_bits(), u32::from(prefix_len))
     }
 
-    /// The network of the address and the prefix length that the netmask says; the address keeps its host bits.
+    /// The network of the address and the prefix length that the netmask stands for; the address keeps its host bits.
     ///
     /// An error where the mask is not ones followed by zeros.
     ///
@@ -204,7 +205,8 @@ impl Ipv6Net {
         Ipv6Net::from_number(self.masked(len), len)
     }
 
-    /// The network that is one bit shorter and contains this one, without host bits; none at prefix length 0.
+    /// The network whose prefix is one bit shorter and whose block contains this one, without host bits; none at prefix
+    /// length 0.
     ///
     /// ```text
     /// that of fd00:ff00::/24 is fd00:fe00::/23
@@ -219,7 +221,7 @@ impl Ipv6Net {
         Some(self.joined())
     }
 
-    /// Whether both have one prefix length above 0 and one supernet.
+    /// Whether both have the same prefix length, above 0, and the same supernet.
     ///
     /// So each network of prefix length above 0 is its own sibling, and host bits do not matter.
     ///

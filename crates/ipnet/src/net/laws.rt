@@ -3,7 +3,7 @@
 //! addresses of a network are hosts, and how many.
 //!
 //! ```text
-//! 10.0.0.0/24 < 10.0.0.1/8 < 10.0.0.1/24 < ::/0, and no two of these are equal or hashed alike
+//! 10.0.0.0/24 < 10.0.0.1/8 < 10.0.0.1/24 < ::/0, and no two of these are equal or feed a hasher the same
 //! ```
 ghost use Rattle.std.specs.Prelude.{◌≡◌, ◌-◌, ◌^◌, ◌<◌, ◌≤◌, ◌↔◌, Contains};
 ghost use Rattle.ipnet_base.specs.Address.{Address, IPv4, IPv6};
@@ -20,8 +20,8 @@ use super::{IpNet, Ipv4Net, Ipv6Net};
 use ipnet_base::{PrefixLenError, ip_mask_to_prefix, ipv4_mask_to_prefix, ipv6_mask_to_prefix};
 use std::hash::Hash;
 
-/// Each IPv4 network has a number of 32 bits and a prefix length of at most 32. They are equal where they stand for
-/// one network, ordered as networks, and hashed alike exactly where equal.
+/// Each IPv4 network has a number of 32 bits and a prefix length of at most 32. Two are equal where they stand for the
+/// same network, are ordered as networks, and feed a hasher the same exactly where they are equal.
 pub fn ipv4_nets_compare_by_network()
     ensures valid { (n : Ipv4Net) → IsNetwork (ipv4_network n) }
     ensures compare { (a b : Ipv4Net) → ComparesBy ipv4_network IsBefore ⟦<Ipv4Net as PartialEq>⟧.eq
@@ -29,8 +29,8 @@ pub fn ipv4_nets_compare_by_network()
     ensures hash { (a b : Ipv4Net) → HashesBy ipv4_network ⟦<Ipv4Net as Hash>⟧.hash_input a b }
 {}
 
-/// Each IPv6 network has a number of 128 bits and a prefix length of at most 128. They are equal where they stand for
-/// one network, ordered as networks, and hashed alike exactly where equal.
+/// Each IPv6 network has a number of 128 bits and a prefix length of at most 128. Two are equal where they stand for
+/// the same network, are ordered as networks, and feed a hasher the same exactly where they are equal.
 pub fn ipv6_nets_compare_by_network()
     ensures valid { (n : Ipv6Net) → IsNetwork (ipv6_network n) }
     ensures compare { (a b : Ipv6Net) → ComparesBy ipv6_network IsBefore ⟦<Ipv6Net as PartialEq>⟧.eq
@@ -38,8 +38,9 @@ pub fn ipv6_nets_compare_by_network()
     ensures hash { (a b : Ipv6Net) → HashesBy ipv6_network ⟦<Ipv6Net as Hash>⟧.hash_input a b }
 {}
 
-/// Networks of either family have a number and a prefix length within its width. They are equal where they stand for
-/// one network, ordered as networks, so IPv4 before IPv6, and hashed alike exactly where equal.
+/// Networks of either family have a number and a prefix length within its width. Two are equal where they stand for
+/// the same network, are ordered as networks, so IPv4 before IPv6, and feed a hasher the same exactly where they are
+/// equal.
 pub fn ip_nets_compare_by_network()
     ensures valid { (n : IpNet) → IsNetwork (ip_network n) }
     ensures compare { (a b : IpNet) → ComparesBy ip_network IsBefore ⟦<IpNet as PartialEq>⟧.eq
@@ -84,7 +85,7 @@ pub fn ip_netmask_reads_back(network: &IpNet) -> Result<u8, PrefixLenError>
 }
 
 /// The hosts of an IPv4 network below prefix length 31 are the addresses of its block but the least and the greatest.
-/// At 31 and 32, and of an IPv6 network at every length, they are the whole block.
+/// At 31 and 32, and of an IPv6 network at every prefix length, they are the whole block.
 pub fn hosts_lie_in_the_block()
     ensures ipv4_below_31 { (n : Network) (hosts : AddressRange) (x : Address) → n.family ≡ IPv4 → n.prefix_len < 31
         → IsHostRange n hosts

@@ -1,8 +1,8 @@
-//! What the members of public traits say of each network type: which relation `contains` answers, which network is the
-//! default, which network another value is made into, and which text is printed.
+//! What the ghost members of public traits say of each network type: which relation `contains` answers, which network
+//! is the default, which network another value is made into, and which text is printed.
 //!
-//! A contract with a member in it, as `Contains::contains` has it, says no more than the member does: here that is held
-//! to the definitions.
+//! A contract that names a ghost member, as that of `Contains::contains` does, promises only what that member says;
+//! these laws state it in the words of `specs/`.
 ghost use Rattle.std.specs.Prelude.{◌≡◌, ◌↔◌, Some};
 ghost use Rattle.ipnet_base.specs.Address.{width, ipv4_address, ipv6_address, ip_address};
 ghost use Rattle.ipnet_base.specs.Network.{InBlock, IsSubnetOf};

@@ -212,7 +212,7 @@ impl<'a> Reader<'a> {
         Some(Ipv4Addr::new(first, second, third, fourth))
     }
 
-    /// A "/" and a length, which end the text.
+    /// A "/" and a prefix length, which end the text.
     #[tactic(auto, unfolding(crate::specs::ReaderSteps::read_length))]
     fn prefix_len(&mut self, most: usize, greatest: u8) -> Option<u8>
         ensures forward { IsForward self.old self.new }
@@ -231,7 +231,7 @@ impl<'a> Reader<'a> {
         }
     }
 
-    /// The address and the length of the IPv4 network whose first octet has been read, if the first run was one.
+    /// The address and the prefix length of the IPv4 network whose first octet has been read, if the first run was one.
     #[tactic(auto, unfolding(crate::specs::ReaderSteps::read_ipv4_network))]
     fn ipv4_network(&mut self, first: Option<u8>) -> Option<(Ipv4Addr, u8)>
         ensures forward { IsForward self.old self.new }
@@ -283,7 +283,7 @@ impl<'a> Reader<'a> {
         ))
     }
 
-    /// At most so many groups joined by ":". Their first run has been read.
+    /// Reads at most `room` groups joined by ":"; the first run of digits is already read.
     fn groups(&mut self, first: Run, room: usize) -> Option<Groups>
         requires { room ≤ 8 }
         ensures forward { IsForward self.old self.new }
@@ -344,6 +344,7 @@ impl<'a> Reader<'a> {
         if run.count == 0 {
             return Some(expand(head, &[]));
         }
+        // A strict "::" stands for one group at least, a legacy one may stand for none.
         let most = match self.grammar {
             Grammar::Strict => 7,
             Grammar::Legacy => 8,
@@ -373,7 +374,7 @@ impl<'a> Reader<'a> {
         }
     }
 
-    /// The address and the length of the IPv6 network whose first run has been read.
+    /// The address and the prefix length of the IPv6 network whose first run has been read.
     #[tactic(auto, unfolding(crate::specs::ReaderSteps::read_ipv6_network))]
     fn ipv6_network(&mut self, first: Run) -> Option<(Ipv6Addr, u8)>
         ensures forward { IsForward self.old self.new }

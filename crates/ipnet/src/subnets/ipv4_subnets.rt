@@ -24,8 +24,8 @@ use std::net::Ipv4Addr;
 pub struct Ipv4Subnets {
     /// The first number of what is left. It saturates at the last address of all.
     start: u32,
-    /// The last number of what is left: that of the range, until a network ends at it or at the last address of all;
-    /// then 0, which lies below the start.
+    /// The last number of the range. It stays when a larger network ends at it, since the start goes past it then; it
+    /// becomes 0 once a network ends at the last address of all, or is the one address that was left.
     end: u32,
     /// The minimum prefix length of each network, as `u32`, the type of shift counts.
     min_prefix_len: u32,
@@ -34,8 +34,10 @@ pub struct Ipv4Subnets {
     ghost min_prefix_fits: { min_prefix_len ≤ 32 },
 }
 
-/// The prefix length of the largest block with no more addresses than the range, whose last number lies this
-/// distance after its first.
+/// The prefix length of the largest block that is no longer than a range of `distance + 1` addresses.
+//
+// A range whose distance is zeros followed by ones is as long as a block. Of any other distance the highest one is the
+// size of the largest block that is no longer, which has one host bit fewer.
 fn range_prefix_len(distance: u32) -> u32
     ensures fits { result ≤ 32 }
     ensures most { IsMostBits distance (32 - result) }
@@ -80,7 +82,7 @@ impl Ipv4Subnets {
     ghost use Rattle.ipnet.specs.SubnetsLeft.{IsWalkOf, ipv4_range_of, ipv4_subnet_range, ipv4_subnets_left};
 
     /// The walk from the first address to the last, both of them in the range, by networks whose prefix length is
-    /// at least `min_prefix_len`. A start above the end is the walk that gives nothing. Under the minimum
+    /// at least `min_prefix_len`. With a start above the end the walk gives nothing. Under the minimum
     /// prefix length 0 a walk gives at most 62 networks.
     ///
     /// The caller sees to it that the minimum prefix length is at most 32, as by `min_prefix_len <= 32`.
@@ -103,6 +105,10 @@ impl Ipv4Subnets {
     }
 
     /// Leaves what lies after a block that ended at this number.
+    //
+    // The end becomes 0 as in the Rust crate, since `==`, the order and the hash see what is stored. At the last
+    // address of all it has to, as the start can go no further; where the start was the end, the new start alone would
+    // do.
     fn advance_past(&mut self, last: u32)
         ensures { IsAdvancedPast last (ipv4_subnet_range self.old) (ipv4_subnet_range self.new) }
     {
@@ -124,7 +130,7 @@ impl Iterator for Ipv4Subnets {
     ghost remaining = { item_count ipv4_subnets_left };
 
     /// The largest network that starts at the stored start, ends at or before the stored end and has at least the
-    /// minimum prefix length; or `None`, then and ever after, where the start lies above the end.
+    /// minimum prefix length; or `None`, at this and every later call, where the start lies above the end.
     ///
     /// The start becomes the address after the network, and saturates at the last address of all. The end becomes
     /// 0.0.0.0 where the network ended at that last address, or where the start was the end; otherwise it stays.

@@ -24,8 +24,8 @@ use std::net::Ipv6Addr;
 pub struct Ipv6Subnets {
     /// The first number of what is left. It saturates at the last address of all.
     start: u128,
-    /// The last number of what is left: that of the range, until a network ends at it or at the last address of all;
-    /// then 0, which lies below the start.
+    /// The last number of the range. It stays when a larger network ends at it, since the start goes past it then; it
+    /// becomes 0 once a network ends at the last address of all, or is the one address that was left.
     end: u128,
     /// The minimum prefix length of each network, as `u32`, the type of shift counts.
     min_prefix_len: u32,
@@ -34,8 +34,10 @@ pub struct Ipv6Subnets {
     ghost min_prefix_fits: { min_prefix_len ≤ 128 },
 }
 
-/// The prefix length of the largest block with no more addresses than the range, whose last number lies this
-/// distance after its first.
+/// The prefix length of the largest block that is no longer than a range of `distance + 1` addresses.
+//
+// A range whose distance is zeros followed by ones is as long as a block. Of any other distance the highest one is the
+// size of the largest block that is no longer, which has one host bit fewer.
 fn range_prefix_len(distance: u128) -> u32
     ensures fits { result ≤ 128 }
     ensures most { IsMostBits distance (128 - result) }
@@ -80,7 +82,7 @@ impl Ipv6Subnets {
     ghost use Rattle.ipnet.specs.SubnetsLeft.{IsWalkOf, ipv6_range_of, ipv6_subnet_range, ipv6_subnets_left};
 
     /// The walk from the first address to the last, both of them in the range, by networks whose prefix length is
-    /// at least `min_prefix_len`. A start above the end is the walk that gives nothing. Under the minimum
+    /// at least `min_prefix_len`. With a start above the end the walk gives nothing. Under the minimum
     /// prefix length 0 a walk gives at most 254 networks.
     ///
     /// The caller sees to it that the minimum prefix length is at most 128, as by `min_prefix_len <= 128`.
@@ -103,6 +105,10 @@ impl Ipv6Subnets {
     }
 
     /// Leaves what lies after a block that ended at this number.
+    //
+    // The end becomes 0 as in the Rust crate, since `==`, the order and the hash see what is stored. At the last
+    // address of all it has to, as the start can go no further; where the start was the end, the new start alone would
+    // do.
     fn advance_past(&mut self, last: u128)
         ensures { IsAdvancedPast last (ipv6_subnet_range self.old) (ipv6_subnet_range self.new) }
     {
@@ -124,7 +130,7 @@ impl Iterator for Ipv6Subnets {
     ghost remaining = { item_count ipv6_subnets_left };
 
     /// The largest network that starts at the stored start, ends at or before the stored end and has at least the
-    /// minimum prefix length; or `None`, then and ever after, where the start lies above the end.
+    /// minimum prefix length; or `None`, at this and every later call, where the start lies above the end.
     ///
     /// The start becomes the address after the network, and saturates at the last address of all. The end becomes
     /// `::` where the network ended at that last address, or where the start was the end; otherwise it stays.

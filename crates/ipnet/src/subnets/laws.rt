@@ -18,8 +18,8 @@ use std::fmt::Debug;
 use std::hash::Hash;
 use std::iter::FusedIterator;
 
-/// Each walk over an IPv4 range has a minimum prefix length of at most 32. They are equal where their stored ends and
-/// this length are, ordered by these, and hashed alike exactly where equal.
+/// Each walk over an IPv4 range has a minimum prefix length of at most 32. Two are equal where their stored ends and
+/// minimum prefix lengths are, are ordered by these, and feed a hasher the same exactly where they are equal.
 pub fn ipv4_walks_compare_by_range()
     ensures valid { (s : Ipv4Subnets) → (ipv4_subnet_range s).min_prefix_len ≤ 32 }
     ensures compare { (a b : Ipv4Subnets) → ComparesBy ipv4_subnet_range IsWalkBefore ⟦<Ipv4Subnets as PartialEq>⟧.eq
@@ -27,8 +27,8 @@ pub fn ipv4_walks_compare_by_range()
     ensures hash { (a b : Ipv4Subnets) → HashesBy ipv4_subnet_range ⟦<Ipv4Subnets as Hash>⟧.hash_input a b }
 {}
 
-/// Each walk over an IPv6 range has a minimum prefix length of at most 128. They are equal where their stored ends and
-/// this length are, ordered by these, and hashed alike exactly where equal.
+/// Each walk over an IPv6 range has a minimum prefix length of at most 128. Two are equal where their stored ends and
+/// minimum prefix lengths are, are ordered by these, and feed a hasher the same exactly where they are equal.
 pub fn ipv6_walks_compare_by_range()
     ensures valid { (s : Ipv6Subnets) → (ipv6_subnet_range s).min_prefix_len ≤ 128 }
     ensures compare { (a b : Ipv6Subnets) → ComparesBy ipv6_subnet_range IsWalkBefore ⟦<Ipv6Subnets as PartialEq>⟧.eq
@@ -36,8 +36,9 @@ pub fn ipv6_walks_compare_by_range()
     ensures hash { (a b : Ipv6Subnets) → HashesBy ipv6_subnet_range ⟦<Ipv6Subnets as Hash>⟧.hash_input a b }
 {}
 
-/// Walks of either family have a minimum prefix length within its width. They are equal where their families, stored
-/// ends and this length are, ordered by these with IPv4 before IPv6, and hashed alike exactly where equal.
+/// Walks of either family have a minimum prefix length within its width. Two are equal where their families, stored
+/// ends and minimum prefix lengths are, are ordered by these with IPv4 before IPv6, and feed a hasher the same exactly
+/// where they are equal.
 pub fn ip_walks_compare_by_range()
     ensures valid { (s : IpSubnets) → (ip_subnet_range s).min_prefix_len ≤ width (ip_subnet_range s).family }
     ensures compare { (a b : IpSubnets) → ComparesBy ip_subnet_range IsWalkBefore ⟦<IpSubnets as PartialEq>⟧.eq
@@ -63,12 +64,13 @@ pub fn ip_walks_clone()
 /// Walks of each type are `Copy`, and fused iterators, which answer `None` ever after `None`; and they have a `Debug`,
 /// whose text no contract tells.
 //
-// The contract says nothing: it is the body that is not compiled where one of the nine is missing.
+// The contract says nothing: it is the body that is not compiled where one of the nine implementations, three for each
+// type, is missing.
 pub fn walks_are_fused_and_debug(ipv4: &Ipv4Subnets, ipv6: &Ipv6Subnets, ip: &IpSubnets) {
     is_fused_and_debug(ipv4);
     is_fused_and_debug(ipv6);
     is_fused_and_debug(ip);
 }
 
-/// Nothing: it can be called for such types alone.
+/// Does nothing when run: it compiles only for types that are `Copy`, fused and `Debug`.
 fn is_fused_and_debug<W: Copy + FusedIterator + Debug>(_: &W) {}

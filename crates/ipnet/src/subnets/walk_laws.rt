@@ -1,7 +1,7 @@
-//! What holds of each walk, whatever it stores, and what the members of public traits say of walks.
+//! What holds of each walk, whatever it stores, and what the ghost members of public traits say of walks.
 //!
-//! A contract with a member in it, as that of std's `collect`, says no more than the member does: here that is held to
-//! the definitions.
+//! A contract that names a ghost member, as that of std's `collect` does, promises only what that member says; these
+//! laws state it in the words of `specs/`.
 ghost use Rattle.std.specs.Prelude.{◌≡◌, ◌↔◌, Option, IsNone};
 ghost use Rattle.std.specs.Iterator.{YieldsFirstBy, item_count};
 ghost use Rattle.ipnet.specs.NetworkOf.{ipv4_network, ipv6_network, ip_network};

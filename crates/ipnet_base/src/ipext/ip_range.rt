@@ -19,7 +19,7 @@ use std::iter::FusedIterator;
 ///     next()        10.0.0.0, leaves 10.0.0.1 to 10.0.0.3
 ///     next_back()   10.0.0.3, leaves 10.0.0.1 to 10.0.0.2
 ///     nth(1)        10.0.0.2, and nothing is left
-///     next()        None, then and ever after
+///     next()        None, at this and every later call
 /// ```
 #[derive(Clone, Copy, PartialEq, Eq, PartialOrd, Ord, Hash, Debug)]
 pub enum IpAddrRange {
@@ -56,7 +56,8 @@ impl From<Ipv6AddrRange> for IpAddrRange {
 impl IpAddrRange {
     ghost use Rattle.ipnet_base.specs.RangeOf.{ip_range, ip_addresses};
 
-    /// How many addresses are left, where a `usize` holds that number: an IPv6 range may have 2^128 of them.
+    /// How many addresses are left. The caller has shown that a `usize` holds the number: an IPv6 range may have 2^128
+    /// of them.
     ///
     /// `size_hint` is the test: it has an upper bound exactly where the number fits.
     ///
@@ -178,7 +179,7 @@ impl Iterator for IpAddrRange {
 
     ghost remaining = { λ r. at_most (address_count (ip_range r)) };
 
-    /// The first address that is left, or `None`, then and ever after, if none is.
+    /// The first address that is left, or `None` when none is left, at this and every later call.
     ///
     /// After its only address a range stores the ends 1 and 0; a range with no address keeps its ends.
     fn next(&mut self) -> Option<IpAddr>
@@ -213,7 +214,7 @@ impl DoubleEndedIterator for IpAddrRange {
 
     ghost next_back_gives = { YieldsLastBy ip_address ip_addresses };
 
-    /// The last address that is left, or `None`, then and ever after, if none is.
+    /// The last address that is left, or `None` when none is left, at this and every later call.
     ///
     /// After its only address a range stores the ends 1 and 0; a range with no address keeps its ends.
     fn next_back(&mut self) -> Option<IpAddr>

@@ -19,14 +19,14 @@ use std::iter::FusedIterator;
 ///     next()        10.0.0.0, leaves 10.0.0.1 to 10.0.0.3
 ///     next_back()   10.0.0.3, leaves 10.0.0.1 to 10.0.0.2
 ///     nth(1)        10.0.0.2, and nothing is left
-///     next()        None, then and ever after
+///     next()        None, at this and every later call
 /// ```
 #[derive(Clone, Copy, PartialEq, Eq, PartialOrd, Ord, Hash, Debug)]
 pub struct Ipv4AddrRange {
-    /// The number of the first address that is left; 1 once the last address was given, or `nth` or `nth_back` passed
-    /// over all.
+    /// The numbers `start..=end` are left. Once the last address was given, or `nth` or `nth_back` passed over all, the
+    /// two are 1 and 0; until then a range that was made with its start above its end keeps both.
     start: u32,
-    /// The number of the last address that is left; then 0, which lies below the start.
+    /// The last number that is left, or 0 as told at `start`.
     end: u32,
     ghost start_fits: { start < 2 ^ 32 },
     ghost end_fits: { end < 2 ^ 32 },
@@ -179,6 +179,9 @@ impl Ipv4AddrRange {
     }
 
     /// Stores the ends of a range that was walked to its end.
+    //
+    // 1 and 0 as in the Rust crate. A start one above the end would not always do: there is no number after the last
+    // address of all.
     fn use_up(&mut self)
         ensures { ipv4_range self.new ≡ with_ends (ipv4_range self.old) 1 0 }
     {
@@ -201,7 +204,7 @@ impl Iterator for Ipv4AddrRange {
 
     ghost remaining = { λ r. at_most (address_count (ipv4_range r)) };
 
-    /// The first address that is left, or `None`, then and ever after, if none is.
+    /// The first address that is left, or `None` when none is left, at this and every later call.
     ///
     /// After its only address a range stores the ends 1 and 0; a range with no address keeps its ends.
     fn next(&mut self) -> Option<Ipv4Addr>
@@ -238,7 +241,7 @@ impl DoubleEndedIterator for Ipv4AddrRange {
 
     ghost next_back_gives = { YieldsLastBy ipv4_address ipv4_addresses };
 
-    /// The last address that is left, or `None`, then and ever after, if none is.
+    /// The last address that is left, or `None` when none is left, at this and every later call.
     ///
     /// After its only address a range stores the ends 1 and 0; a range with no address keeps its ends.
     fn next_back(&mut self) -> Option<Ipv4Addr>

@@ -19,14 +19,14 @@ use std::iter::FusedIterator;
 ///     next()        fd00::, leaves fd00::1 to fd00::3
 ///     next_back()   fd00::3, leaves fd00::1 to fd00::2
 ///     nth(1)        fd00::2, and nothing is left
-///     next()        None, then and ever after
+///     next()        None, at this and every later call
 /// ```
 #[derive(Clone, Copy, PartialEq, Eq, PartialOrd, Ord, Hash, Debug)]
 pub struct Ipv6AddrRange {
-    /// The number of the first address that is left; 1 once the last address was given, or `nth` or `nth_back` passed
-    /// over all.
+    /// The numbers `start..=end` are left. Once the last address was given, or `nth` or `nth_back` passed over all, the
+    /// two are 1 and 0; until then a range that was made with its start above its end keeps both.
     start: u128,
-    /// The number of the last address that is left; then 0, which lies below the start.
+    /// The last number that is left, or 0 as told at `start`.
     end: u128,
     ghost start_fits: { start < 2 ^ 128 },
     ghost end_fits: { end < 2 ^ 128 },
@@ -51,7 +51,8 @@ impl Ipv6AddrRange {
         }
     }
 
-    /// How many addresses are left, where a `usize` holds that number: a range may have 2^128 of them.
+    /// How many addresses are left. The caller has shown that a `usize` holds the number: a range may have 2^128 of
+    /// them.
     ///
     /// `size_hint` is the test: it has an upper bound exactly where the number fits.
     ///
@@ -182,6 +183,9 @@ impl Ipv6AddrRange {
     }
 
     /// Stores the ends of a range that was walked to its end.
+    //
+    // 1 and 0 as in the Rust crate. A start one above the end would not always do: there is no number after the last
+    // address of all.
     fn use_up(&mut self)
         ensures { ipv6_range self.new ≡ with_ends (ipv6_range self.old) 1 0 }
     {
@@ -204,7 +208,7 @@ impl Iterator for Ipv6AddrRange {
 
     ghost remaining = { λ r. at_most (address_count (ipv6_range r)) };
 
-    /// The first address that is left, or `None`, then and ever after, if none is.
+    /// The first address that is left, or `None` when none is left, at this and every later call.
     ///
     /// After its only address a range stores the ends 1 and 0; a range with no address keeps its ends.
     fn next(&mut self) -> Option<Ipv6Addr>
@@ -250,7 +254,7 @@ impl DoubleEndedIterator for Ipv6AddrRange {
 
     ghost next_back_gives = { YieldsLastBy ipv6_address ipv6_addresses };
 
-    /// The last address that is left, or `None`, then and ever after, if none is.
+    /// The last address that is left, or `None` when none is left, at this and every later call.
     ///
     /// After its only address a range stores the ends 1 and 0; a range with no address keeps its ends.
     fn next_back(&mut self) -> Option<Ipv6Addr>

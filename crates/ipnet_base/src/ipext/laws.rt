@@ -44,22 +44,24 @@ pub fn calls_give_each_address_once()
         AllPairs (λ step later. step.answer ≡ None → later.answer ≡ None) steps }
 {}
 
-/// IPv4 ranges are equal where their stored ends are, ordered by these, and hashed alike exactly where equal.
+/// Two IPv4 ranges are equal where their stored ends are, are ordered by these, and feed a hasher the same exactly
+/// where they are equal.
 pub fn ipv4_ranges_compare_by_ends()
     ensures compare { (a b : Ipv4AddrRange) → ComparesBy ipv4_range IsRangeBefore ⟦<Ipv4AddrRange as PartialEq>⟧.eq
         ⟦<Ipv4AddrRange as Ord>⟧.cmp ⟦<Ipv4AddrRange as PartialOrd>⟧.partial_cmp a b }
     ensures hash { (a b : Ipv4AddrRange) → HashesBy ipv4_range ⟦<Ipv4AddrRange as Hash>⟧.hash_input a b }
 {}
 
-/// IPv6 ranges are equal where their stored ends are, ordered by these, and hashed alike exactly where equal.
+/// Two IPv6 ranges are equal where their stored ends are, are ordered by these, and feed a hasher the same exactly
+/// where they are equal.
 pub fn ipv6_ranges_compare_by_ends()
     ensures compare { (a b : Ipv6AddrRange) → ComparesBy ipv6_range IsRangeBefore ⟦<Ipv6AddrRange as PartialEq>⟧.eq
         ⟦<Ipv6AddrRange as Ord>⟧.cmp ⟦<Ipv6AddrRange as PartialOrd>⟧.partial_cmp a b }
     ensures hash { (a b : Ipv6AddrRange) → HashesBy ipv6_range ⟦<Ipv6AddrRange as Hash>⟧.hash_input a b }
 {}
 
-/// Ranges of either family are equal where their families and stored ends are, ordered by these with IPv4
-/// before IPv6, and hashed alike exactly where equal.
+/// Two ranges of either family are equal where their families and stored ends are, are ordered by these with IPv4
+/// before IPv6, and feed a hasher the same exactly where they are equal.
 pub fn ip_ranges_compare_by_ends()
     ensures compare { (a b : IpAddrRange) → ComparesBy ip_range IsRangeBefore ⟦<IpAddrRange as PartialEq>⟧.eq
         ⟦<IpAddrRange as Ord>⟧.cmp ⟦<IpAddrRange as PartialOrd>⟧.partial_cmp a b }
@@ -84,12 +86,13 @@ pub fn ip_ranges_clone()
 /// Ranges of each type are `Copy`, and fused iterators, which answer `None` ever after `None`; and they have a `Debug`,
 /// whose text no contract tells.
 //
-// The contract says nothing: it is the body that is not compiled where one of the nine is missing.
+// The contract says nothing: it is the body that is not compiled where one of the nine implementations, three for each
+// type, is missing.
 pub fn ranges_are_fused_and_debug(ipv4: &Ipv4AddrRange, ipv6: &Ipv6AddrRange, ip: &IpAddrRange) {
     is_fused_and_debug(ipv4);
     is_fused_and_debug(ipv6);
     is_fused_and_debug(ip);
 }
 
-/// Nothing: it can be called for such types alone.
+/// Does nothing when run: it compiles only for types that are `Copy`, fused and `Debug`.
 fn is_fused_and_debug<R: Copy + FusedIterator + Debug>(_: &R) {}

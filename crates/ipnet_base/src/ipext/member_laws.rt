@@ -1,9 +1,9 @@
-//! What the members of public traits say of each implementation: the output of each arithmetic operation is the sum,
-//! the difference, or the operation bit by bit, of the addresses' numbers; a range made from another is that range; and
-//! as an iterator a range gives its addresses from both ends.
+//! What the ghost members of public traits say of each implementation: the output of each arithmetic operation is the
+//! sum, the difference, or the operation bit by bit, of the addresses' numbers; a range made from another is that
+//! range; and as an iterator a range gives its addresses from both ends.
 //!
-//! A contract with a member in it, as `IpAdd::saturating_add` has it, says no more than the member does: here the
-//! member is said by the definitions.
+//! A contract that names a ghost member, as that of `IpAdd::saturating_add` does, promises only what that member says;
+//! these laws state it in the words of `specs/`.
 ghost use Rattle.std.specs.Prelude.{◌≡◌, ◌↔◌};
 ghost use Rattle.std.specs.Iterator.{YieldsFirstBy, YieldsLastBy, at_most};
 ghost use Rattle.std.specs.Net.Addr.{ipv4_bits, ipv6_bits};

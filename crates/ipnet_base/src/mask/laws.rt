@@ -18,8 +18,8 @@ pub fn prefix_len_errors_clone()
     ensures { ClonesExactly ⟦<PrefixLenError as Clone>⟧.is_clone ⟦<PrefixLenError as Clone>⟧.is_infallible }
 {}
 
-/// What reads a mask, and is `Ok` of the length of the netmask alone, refuses a number exactly where it is the netmask
-/// of no length.
+/// A result that is `Ok` exactly with the prefix length of a netmask is an error exactly where the number is no
+/// netmask.
 pub fn masks_of_no_length_are_refused(prefix_len: Result<u8, PrefixLenError>)
     ensures { (f : Family) (number : ℕ) → IsOkExactlyAt prefix_len (IsNetmaskOf f number)
         → IsErr prefix_len ↔ ((p : ℕ) → ¬ (IsNetmaskOf f number p)) }

@@ -1,5 +1,5 @@
-//! Want of memory: each run of a call tells it, and leaves what it was lent as it was, or answers; the first run is
-//! refused and the last is answered. Calls that promise to take none are answered in each run.
+//! Memory that runs out: each run of a call says so, and leaves what it was lent as it was, or answers; the first run
+//! is refused and the last is answered. Calls that promise to take no memory are answered in each run.
 use crate::statuses::{BAD_LINE, OK, OUT_OF_MEMORY};
 use crate::tests::calls::{IntoBuffer, YesOrNo};
 use out_of_memory::{RUNS, grow_stack, outcomes};
@@ -10,7 +10,7 @@ use std::test::Fail;
 /// How a run of a call ended.
 #[derive(Clone, Copy, Debug, PartialEq, Eq, Drop)]
 enum Outcome {
-    /// It told want of memory, and changed nothing.
+    /// It said that memory ran out, and changed nothing.
     Refused,
     /// It gave the answer that is right where memory is ample.
     Answered,
@@ -60,8 +60,8 @@ fn yes_outcome(alloc: Global, call: YesOrNo, second: &[u8]) -> Outcome {
     }
 }
 
-/// Each run told want of memory or gave the answer, the first the former and the last the latter. Between them answers
-/// and refusals may alternate: what one run gave back may serve a later one.
+/// Each run said that memory ran out or gave the answer, the first the former and the last the latter. Between them
+/// answers and refusals may alternate: what one run gave back may serve a later one.
 fn check(rt: &impl Abort, label: &str, outcomes: Option<[Outcome; RUNS]>) {
     if let Some(outcomes) = outcomes {
         for outcome in &outcomes {

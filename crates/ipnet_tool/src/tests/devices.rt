@@ -10,8 +10,8 @@ pub const WHOLE: usize = usize::MAX;
 /// The number of the call that fails, where none does: calls are counted from 1.
 pub const NEVER: usize = 0;
 
-/// Gives at most so many bytes a read, though never none before the end, and fails at one of its reads, or at some
-/// in a row.
+/// A reader over bytes: each read gives at most `most` bytes, and at least one before the end. Its reads number
+/// `fails_at` to `fails_to` fail.
 #[derive(Drop)]
 pub struct ByteReader<'a> {
     rest: &'a [u8],

@@ -1,4 +1,5 @@
-//! Rows on want of memory. Each call is made with ample memory, then with none to be had, and then with ever more.
+//! Rows on memory that runs out. Each call is made with ample memory, then with none to be had, and then with ever
+//! more.
 //!
 //! Each of these calls but one is refused up to some run, and answered from then on. The answer of a long line
 //! outgrows the first block that its string has. The allocator keeps each block that a run gave back for later
@@ -15,7 +16,7 @@ use std::test::Fail;
 /// How a run of a call ended.
 #[derive(Clone, Copy, Debug, PartialEq, Eq, Drop)]
 enum Outcome {
-    /// It told want of memory.
+    /// It said that memory ran out.
     Refused,
     /// It gave the answer that is right where memory is ample.
     Answered,
@@ -23,7 +24,7 @@ enum Outcome {
     Wrong,
 }
 
-/// Asserts that the runs told want of memory up to some run, and gave the answer from then on.
+/// Asserts that the runs said that memory ran out up to some run, and gave the answer from then on.
 fn check(rt: &impl Abort, label: &str, outcomes: &[Outcome; RUNS]) {
     let refused = outcomes
         .iter()
@@ -35,7 +36,7 @@ fn check(rt: &impl Abort, label: &str, outcomes: &[Outcome; RUNS]) {
     }
 }
 
-/// Asserts that each run told want of memory or gave the answer: the first run the former, the last the latter.
+/// Asserts that each run said that memory ran out or gave the answer: the first run the former, the last the latter.
 fn check_each(rt: &impl Abort, label: &str, outcomes: &[Outcome; RUNS]) {
     for outcome in outcomes {
         assert_ne!(rt; *outcome, Outcome::Wrong, "{label}");

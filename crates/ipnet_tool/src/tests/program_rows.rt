@@ -1,4 +1,4 @@
-//! Rows of the program.
+//! Whole runs of the program: arguments and input, and beside them both outputs and the status that have to come.
 use crate::program::run;
 use crate::tests::devices::{ArrayWriter, ByteReader, NEVER, WHOLE};
 use crate::tests::table::{bytes, cells, rows, text, words};
