@@ -170,8 +170,8 @@ impl Ipv6Net {
     ///
     /// An error for every other text: where the groups, with those of "::" and the two of an IPv4 address at the end,
     /// are not eight, or eight stand before a "::"; where a group has more than 4 digits; where an octet has more than
-    /// 3 digits or is above 255; where the prefix length is missing, has more than 3 digits or is above 128; and for the
-    /// text of an IPv4 network.
+    /// 3 digits or is above 255; where the prefix length is missing, has more than 3 digits or is above 128; and for
+    /// the text of an IPv4 network.
     ///
     /// ```text
     /// fd00::9/32             Ok(fd00::9/32)
