@@ -1,4 +1,5 @@
--- What the functions on numbers compute that the bodies of the network types call, at the width of either family.
+-- What the functions on numbers compute that the bodies of the network types call, at the width of either family; and
+-- that no network lies in one of the other family.
 use Rattle.std.proofs.Common.{◌≡◌, ◌≢◌, ℕ, ◌+◌, ◌-◌, ◌*◌, ◌/◌, ◌^◌, ◌<◌, ◌≤◌, ◌↔◌, refl, sym, ap, ◌∙◌, subst, arith}
 use Rattle.std.proofs.Common.{inl, inr, IsTrue, true, false, eqb, eqb-true, eq-eqb, bit_xor, shr-shr}
 use Rattle.std.proofs.Math.Nat.{div-eq_of_lt}

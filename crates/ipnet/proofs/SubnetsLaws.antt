@@ -1,4 +1,5 @@
--- How a step of a walk leaves the list of networks that it still gives, for both families.
+-- What is left to a walk, by its stored ends; how a step leaves that list, for both families; and the largest network
+-- at the start, by counts of bits.
 use Rattle.std.proofs.Common.{◌≡◌, ℕ, ◌+◌, ◌-◌, ◌^◌, ◌<◌, ◌≤◌, ◌⊎◌, ◌↔◌, List, [], ◌∷◌, Option, Some, None, IsNone}
 use Rattle.std.proofs.Common.{subst, sym, refl, ◌∙◌, arith, max, inl, inr, lit<}
 use mir.Val.{bits}

@@ -1,4 +1,5 @@
--- Aggregates of lists: the four conditions on neighbours, the shortest cover, equal answers and equal covers.
+-- Aggregates of lists: the four conditions on neighbours, disjoint networks, no more than the list has, equal answers
+-- and equal covers, aggregates of aggregates.
 use Rattle.std.proofs.Common.{◌≡◌, ◌+◌, ◌^◌, ◌<◌, ◌≤◌, ◌↔◌, List, ◌++◌, length, get_or, map, Contains, All, sym, ap}
 use Rattle.std.proofs.Common.{subst, arith, inl, inr}
 use Rattle.std.proofs.lemmas.Bool.{cases_lt}

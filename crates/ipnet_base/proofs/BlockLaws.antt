@@ -1,4 +1,4 @@
--- Laws of networks and their blocks.
+-- Blocks by leading bits, and by their first and last number; nested blocks, the halves of a supernet, truncations.
 use Rattle.std.proofs.Common.{◌≡◌, ℕ, ◌+◌, ◌*◌, ◌/◌, ◌^◌, ◌<◌, ◌≤◌, ◌≢◌, ◌⊎◌, refl, sym, ap, ◌∙◌, subst}
 use Rattle.std.proofs.Common.{arith, pow_pos, shr-shr, inl, inr}
 use Rattle.std.proofs.lemmas.Nat.{pow_below}

@@ -1,4 +1,5 @@
--- One network more on a stack of networks that shows the four conditions on neighbours.
+-- One network more on a list without host bits, and on a stack that shows the four conditions on neighbours: what the
+-- two loops of `aggregate` keep from turn to turn.
 use Rattle.std.proofs.Common.{◌≡◌, ℕ, ◌+◌, ◌-◌, ◌<◌, ◌≤◌, ◌⊎◌, ◌↔◌, List, [], ◌∷◌, ◌++◌, length, get_or}
 use Rattle.std.proofs.Common.{Contains, All, refl, sym, ap, ◌∙◌, subst, subst₂, arith, inl, inr, map, take}
 use Rattle.std.proofs.Common.{IsPermutation}

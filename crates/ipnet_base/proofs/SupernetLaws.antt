@@ -1,6 +1,6 @@
 -- Maximal blocks by supernets: a network is maximal where its supernet is not inside, each network inside a set that
 -- can be decided lies in a maximal one, sets with the same addresses have the same, and these show the four conditions
--- on neighbours.
+-- on neighbours. Lists with the same maximal blocks are those with the same cover.
 use Rattle.std.proofs.Common.{◌≡◌, ℕ, zero, suc, ◌+◌, ◌-◌, ◌*◌, ◌/◌, ◌^◌, ◌<◌, ◌≤◌, ◌↔◌, List, Contains}
 use Rattle.std.proofs.Common.{All, refl, sym, ap, ◌∙◌, subst, arith, inl, inr}
 use Rattle.std.proofs.lemmas.Bool.{cases_lt}

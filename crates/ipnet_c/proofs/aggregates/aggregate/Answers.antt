@@ -1,3 +1,4 @@
+-- The reply, of `ListReplies`, is proved of the text as UTF-8 hands it back, and so of the bytes that were lent.
 use Rattle.std.proofs.Common.{sym, subst, IsUtf8, Err}
 use Rattle.ipnet_tool.specs.Answers.{IsTextAnswer}
 use Rattle.ipnet_c.specs.Replies.{IsAggregateReply}

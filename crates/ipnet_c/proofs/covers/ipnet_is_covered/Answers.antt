@@ -1,3 +1,5 @@
+-- Each way out gives a reply of `ListReplies`. The answer rests on `covered_iff_in_one`: a list covers a network
+-- exactly where the network lies in one network of the list's aggregate.
 use Rattle.std.proofs.Common.{◌↔◌, Any, IsTrue, Ok, map, refl, sym, subst}
 use Rattle.std.proofs.lemmas.Bool.{false≢true}
 use Rattle.ipnet.specs.Network.{IsSubnetOf}

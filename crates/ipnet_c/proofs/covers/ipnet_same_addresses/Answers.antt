@@ -1,3 +1,5 @@
+-- Each way out gives a reply of `ListReplies`: the answer, or by the called functions' promises why there is none.
+-- Memory runs out neither for two texts of empty lines nor where the first text starts with a bad line.
 use Rattle.std.proofs.Common.{map, sym, ap, subst, Err}
 use Rattle.std.proofs.lemmas.Bool.{false≢true}
 use Rattle.ipnet.specs.Lines.{lines_of}

@@ -1,3 +1,4 @@
+-- The loop keeps that no block before contains the network: so one is found, or at the end there is none.
 use Rattle.std.proofs.Common.{ℕ, ◌<◌, length, slice_index_or, arith, refl}
 use Rattle.std.proofs.lemmas.Bool.{false≢true}
 use Rattle.ipnet.specs.Network.{IsSubnetOf}

@@ -1,3 +1,4 @@
+-- The text is cut at its first newline, or has none (`LineCuts`).
 use Rattle.std.proofs.Common.{ap₂, sym, ◌∙◌, ◌∷◌, lit<}
 use Rattle.ipnet.specs.Lines.{lines_of}
 use Rattle.ipnet_tool.proofs.LineCuts.{first_cut, no_cut}

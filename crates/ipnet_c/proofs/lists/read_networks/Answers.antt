@@ -1,3 +1,5 @@
+-- What was read and what is still to be read make the whole text: a line more, empty or a network, moves from the one
+-- to the other (`LineLaws`); where it is bad it is the first bad one (`EarlyLines`).
 use Rattle.std.proofs.Common.{◌≡◌, ℕ, ◌+◌, ◌<◌, ◌∷◌, ◌++◌, [], List, map, length, refl, sym, ap, ◌∙◌, subst, arith}
 use Rattle.std.proofs.Common.{rules, append-nil, append_assoc, inl, inr}
 use Rattle.std.proofs.lemmas.List.{map_push}

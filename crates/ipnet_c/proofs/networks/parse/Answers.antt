@@ -1,3 +1,4 @@
+-- The reply, of `NetworkReplies`, is proved of the text as UTF-8 hands it back, and so of the bytes that were lent.
 use Rattle.std.proofs.Common.{refl, sym, subst, ◌∙◌, IsUtf8}
 use Rattle.ipnet.specs.NetworkOf.{ip_network}
 use Rattle.ipnet_c.specs.Replies.{IsParseReply}

@@ -1,3 +1,6 @@
+-- Each way out gives a reply of `SetReplies`: the answer, or by the called functions' promises why there is none.
+-- Memory runs out neither for two texts of empty lines, since `are_empty` is asked first, nor where the first text
+-- starts with a bad line.
 use Rattle.std.proofs.Common.{[], map, sym, ap, ◌∙◌, subst, Err}
 use Rattle.std.proofs.lemmas.Bool.{false≢true}
 use Rattle.ipnet.specs.Lines.{lines_of, AreNetworksOf}

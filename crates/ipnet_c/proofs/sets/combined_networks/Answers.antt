@@ -1,3 +1,4 @@
+-- The blocks of the combined set are those of both lists: each of the two sets has its list's addresses.
 use Rattle.std.proofs.Common.{map}
 use Rattle.std.proofs.lemmas.Result.{IfOk-weaker}
 use Rattle.ipnet.specs.Blocks.{AreMaximalBlocks}

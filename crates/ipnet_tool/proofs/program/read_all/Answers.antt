@@ -1,3 +1,5 @@
+-- The loop keeps that the bytes are what the reader gave since the call: a piece more goes after them, and an
+-- interrupted read gave none.
 use Rattle.std.proofs.Common.{◌≡◌, ◌++◌, ◌∙◌, take, sym, subst, ap, append-nil}
 use Rattle.std.specs.Io.KnownBytes.{Consumes}
 use Rattle.std.proofs.KnownBytes.{Consumes-nil, Consumes-trans, Consumes-kept}

@@ -1,3 +1,5 @@
+-- The loop keeps that the writer got the first `written` bytes: a piece more goes after them, and an interrupted write
+-- took none.
 use Rattle.std.proofs.Common.{◌≡◌, ◌≤◌, ◌-◌, length, take, drop, take_all, length-drop, arith}
 use Rattle.std.proofs.KnownBytes.{Appends-trans, Appends-kept}
 use Rattle.std.proofs.Math.Seq.{take-add}

@@ -1,3 +1,5 @@
+-- The aggregates of the two families, one after the other, are that of both (`both_families`); no networks are none of
+-- either family.
 use Rattle.std.proofs.Common.{◌≡◌, []}
 use Rattle.ipnet_tool.proofs.AnswerLaws.{both_families, no_ipv4, no_ipv6}
 use Rattle.ipnet_tool.proofs.tool.aggregated.Goals as goal

@@ -1,3 +1,5 @@
+-- An answer is the lines' networks, aggregated and printed (`answer_from`). Memory runs out neither for a text of empty
+-- lines nor where the first line that is not empty is bad, as each of the three steps promises.
 use Rattle.std.proofs.Common.{◌≡◌, ◌∙◌, string_bytes, Ok, Err, Result, IsErrAnd, String, Global, sym, subst, ap}
 use Rattle.std.proofs.lemmas.Bool.{false≢true}
 use Rattle.ipnet_tool.specs.Answers.{IsTextAnswer, text_of_lines}

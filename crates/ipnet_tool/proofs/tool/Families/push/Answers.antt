@@ -1,3 +1,4 @@
+-- A network more in the list of its family covers as much as one more at the end of both lists.
 use Rattle.std.proofs.Common.{◌++◌, ◌∷◌, [], sym, subst}
 use Rattle.ipnet.specs.Blocks.{HaveSameCover}
 use Rattle.ipnet.specs.NetworkOf.{ip_network}
