@@ -45,18 +45,21 @@ fn combined(
     }
 }
 
-/// The fewest networks over the addresses that the operation makes of those of the two lists.
+/// The fewest networks over the addresses that the operation makes of those of the two lists. Each list is let go as
+/// soon as its set is made.
 fn combined_networks(
     alloc: Global,
     operation: Operation,
-    networks: &Vec<IpNet>,
-    others: &Vec<IpNet>,
+    networks: Vec<IpNet>,
+    others: Vec<IpNet>,
 ) -> Result<Vec<IpNet>, AllocError>
-    ensures { IfOk result (λ blocks. AreBlocksOfBoth operation (map ip_network networks.now.items)
-        (map ip_network others.now.items) (map ip_network blocks.items)) }
+    ensures { IfOk result (λ blocks. AreBlocksOfBoth operation (map ip_network networks.items)
+        (map ip_network others.items) (map ip_network blocks.items)) }
 {
-    let first = IpSet::from_networks(alloc, networks)?;
-    let second = IpSet::from_networks(alloc, others)?;
+    let first = IpSet::from_networks(alloc, &networks)?;
+    drop(networks);
+    let second = IpSet::from_networks(alloc, &others)?;
+    drop(others);
     combined(alloc, operation, &first, &second)?.networks(alloc)
 }
 
@@ -124,7 +127,7 @@ fn combine(
     if are_empty(&networks, &others) {
         return write_answer(&[], buffer, count);
     }
-    let Ok(blocks) = combined_networks(alloc, operation, &networks, &others) else {
+    let Ok(blocks) = combined_networks(alloc, operation, networks, others) else {
         return OUT_OF_MEMORY;
     };
     let Ok(answer) = printed(alloc, &blocks) else {

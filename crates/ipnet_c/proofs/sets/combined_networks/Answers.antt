@@ -11,8 +11,8 @@ use Rattle.ipnet_c.proofs.sets.combined_networks.Goals as goal
 pub returns : goal.returns
 returns c =
     let set = c.in_ok-combined.field-0 in
-    let networks = map ip_network c.args.networks.now.items in
-    let others = map ip_network c.args.others.now.items in
+    let networks = map ip_network c.args.networks.items in
+    let others = map ip_network c.args.others.items in
     IfOk-weaker c.networks.result (λ list. AreMaximalBlocks (IsMember set) 0 (map ip_network list.items))
     (λ list. AreBlocksOfBoth c.args.operation networks others (map ip_network list.items))
     (λ list h. blocks_of_both c.args.operation networks others (map ip_network list.items) set c.in_ok-first.first
