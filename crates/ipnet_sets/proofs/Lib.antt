@@ -9,3 +9,5 @@ pub mod SetRangeLaws
 pub mod SetEqualLaws
 pub mod CountLaws
 pub mod SetAlgebra
+pub mod RouteLaws
+pub mod RouteOrderLaws

@@ -4,3 +4,6 @@ pub mod Members
 pub mod SetRanges
 pub mod TurnRanges
 pub mod RangesLeft
+pub mod Routes
+pub mod RouteSteps
+pub mod RoutesOf

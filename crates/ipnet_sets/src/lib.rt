@@ -1,12 +1,14 @@
-//! Sets of addresses, kept by the numbers at which they begin and end.
+//! Sets of addresses, kept by the numbers at which they begin and end; and tables of routes.
 #![tactic(auto)]
 
 mod number;
+pub mod routes;
 pub mod set;
 mod set_ranges;
 #[cfg(test)]
 mod tests;
 mod turns;
 
+pub use routes::RouteTable;
 pub use set::IpSet;
 pub use set_ranges::IpSetRanges;

@@ -1,0 +1,41 @@
+use Rattle.std.proofs.Common.{length, sym, ap, ◌∙◌, subst}
+use Rattle.ipnet_base.specs.Blocks.{IsAscending}
+use Rattle.ipnet_sets.specs.Routes.{ip_routes, ip_networks}
+use Rattle.ipnet_sets.specs.RouteSteps.{IsTable, AreLinks}
+use Rattle.ipnet_sets.proofs.RouteLaws.{table_of, same_networks}
+use Rattle.ipnet_sets.proofs.RouteOrderLaws.{truncated_kept, table_members}
+use Rattle.ipnet_sets.proofs.routes.RouteTable.from_routes.Goals as goal
+
+pub links-requires : goal.links-requires
+links-requires g c =
+    let given = c.args.routes.items in
+    let kept = c.in_ok-routes.routes.items in
+    let members = table_members given c.truncate_all.new.routes.items c.sort.new.routes.items kept
+    c.truncate_all.ensures c.in_ok-sort.ensures.latest c.in_ok-routes.ensures.members in
+    subst (λ z. IsTable (ip_networks z)) (sym c.as_slice.ensures.value)
+    (table_of (ip_networks kept) (truncated_kept (ip_routes given) kept (λ q. (members q).0))
+    c.in_ok-routes.ensures.ascending)
+
+pub invariant_of-result : goal.invariant_of-result
+invariant_of-result g c =
+    let given = c.args.routes.items in
+    let kept = c.in_ok-routes.routes.items in
+    let links = c.in_ok-enclosing.enclosing.items in
+    let members = table_members given c.truncate_all.new.routes.items c.sort.new.routes.items kept
+    c.truncate_all.ensures c.in_ok-sort.ensures.latest c.in_ok-routes.ensures.members in
+    record {
+      table = table_of (ip_networks kept) (truncated_kept (ip_routes given) kept (λ q. (members q).0))
+          c.in_ok-routes.ensures.ascending;
+      links = subst (λ z. AreLinks (ip_networks z) links) c.as_slice.ensures.value c.in_ok-enclosing.ensures.links;
+      all = c.in_ok-enclosing.ensures.all ∙ ap length c.as_slice.ensures.value;
+    }
+
+pub returns : goal.returns
+returns g c =
+    let given = c.args.routes.items in
+    let kept = c.in_ok-routes.routes.items in
+    record {
+      ascending = subst IsAscending (sym (same_networks kept)) c.in_ok-routes.ensures.ascending;
+      members = table_members given c.truncate_all.new.routes.items c.sort.new.routes.items kept
+          c.truncate_all.ensures c.in_ok-sort.ensures.latest c.in_ok-routes.ensures.members;
+    }

@@ -1,0 +1,253 @@
+//! Routes: networks with a value each, and the longest of them that holds an address.
+ghost use Rattle.std.specs.Prelude.{◌≡◌, ℕ, ◌<◌, ◌≤◌, ◌↔◌, IsTrue, length, IfOk, OnOk, IsNone, IfSome};
+ghost use Rattle.std.specs.Prelude.{All, Any, Contains, IsPermutation};
+ghost use Rattle.ipnet_base.specs.Address.{ip_address};
+ghost use Rattle.ipnet_base.specs.Network.{Network, IsTruncated, IsBefore, truncation};
+ghost use Rattle.ipnet_base.specs.Blocks.{IsCoveredBy, IsAscending};
+ghost use Rattle.ipnet_base.specs.Stack.{IsBeforeOrEqual, IsInOrder};
+ghost use Rattle.ipnet.specs.NetworkOf.{ip_network};
+ghost use Rattle.ipnet_sets.specs.Routes.{Route, networks_of, ip_routes, ip_networks, without_host_bits, IsLatest};
+ghost use Rattle.ipnet_sets.specs.Routes.{IsTableOf, IsLongestMatch};
+ghost use Rattle.ipnet_sets.specs.RouteSteps.{EndsWith, AreOthers, IsTable, IsPlaceAfter, IsNearest, AreLinks};
+
+use ipnet::net::laws::ip_nets_compare_by_network;
+use ipnet::{IpAddr, IpNet};
+use std::alloc::{AllocError, Global};
+
+pub mod laws;
+
+/// A table of routes: networks of both families, each once, with a value each.
+///
+/// It answers which is the longest of its networks that holds an address, by halving and then following the links from
+/// each network to the nearest that encloses it.
+///
+/// ```text
+/// of 0.0.0.0/0, 10.0.0.0/8 and 10.1.0.0/16: 10.1.2.3 is in 10.1.0.0/16, 10.2.0.1 in 10.0.0.0/8, 11.0.0.1 in 0.0.0.0/0
+/// ```
+#[derive(Drop)]
+pub struct RouteTable<V> {
+    routes: Vec<(IpNet, V)>,
+    enclosing: Vec<usize>,
+    ghost table: { IsTable (ip_networks routes.items) },
+    ghost links: { AreLinks (ip_networks routes.items) enclosing.items },
+    ghost all: { length enclosing.items ≡ length routes.items },
+}
+
+/// Whether the two are one network.
+fn is_same(network: &IpNet, other: &IpNet) -> bool
+    ensures { IsTrue result ↔ (ip_network network.now ≡ ip_network other.now) }
+{
+    ip_nets_compare_by_network();
+    network == other
+}
+
+/// Takes the host bits of all networks away.
+fn truncate_all<V>(routes: &mut Vec<(IpNet, V)>)
+    ensures { ip_routes routes.new.items
+        ≡ without_host_bits (ip_routes routes.old.items) }
+{
+    for index in 0..routes.len() {
+        let network = routes[index].0.trunc();
+        routes[index].0 = network;
+    }
+}
+
+/// Puts the routes in the order of their networks. Those of one network stay in their order.
+fn sort<V>(routes: &mut Vec<(IpNet, V)>) -> Result<(), AllocError>
+    ensures order { OnOk result (IsInOrder (ip_networks routes.new.items)) }
+    ensures permutation { IsPermutation routes.old.items routes.new.items }
+    ensures latest { OnOk result ((route : Route V)
+        → IsLatest (ip_routes routes.new.items) route
+        ↔ IsLatest (ip_routes routes.old.items) route) }
+{
+    ip_nets_compare_by_network();
+    routes.sort_by_key(|route| route.0)?;
+    Ok(())
+}
+
+/// Whether the last of the routes is of the network.
+fn ends_with<V>(routes: &[(IpNet, V)], network: &IpNet) -> bool
+    ensures { IsTrue result ↔ EndsWith (ip_networks routes.now) (ip_network network.now) }
+{
+    if routes.is_empty() {
+        return false;
+    }
+    is_same(&routes[routes.len() - 1].0, network)
+}
+
+/// Takes the last of the routes away if it is of the network, which stands before none of theirs.
+fn drop_last<V: Drop>(routes: &mut Vec<(IpNet, V)>, network: &IpNet)
+    requires ascending { IsAscending (ip_networks routes.old.items) }
+    requires order { All (λ n. IsBeforeOrEqual n (ip_network network.now)) (ip_networks routes.old.items) }
+    ensures ascending { IsAscending (ip_networks routes.new.items) }
+    ensures before { All (λ n. IsBefore n (ip_network network.now)) (ip_networks routes.new.items) }
+    ensures others { AreOthers (ip_routes routes.old.items) (ip_network network.now) (ip_routes routes.new.items) }
+{
+    if ends_with(routes.as_slice(), network) {
+        routes.pop();
+    }
+}
+
+/// Of the routes of each network, which stand in order, the last.
+fn latest<V: Drop>(alloc: Global, routes: Vec<(IpNet, V)>) -> Result<Vec<(IpNet, V)>, AllocError>
+    requires { IsInOrder (ip_networks routes.items) }
+    ensures ascending { IfOk result (λ kept. IsAscending (ip_networks kept.items)) }
+    ensures members { IfOk result (λ kept. (route : Route V)
+        → Contains (ip_routes kept.items) route ↔ IsLatest (ip_routes routes.items) route) }
+{
+    let mut kept: Vec<(IpNet, V)> = Vec::new(alloc);
+    for route in routes {
+        drop_last(&mut kept, &route.0);
+        kept.push(route)?;
+    }
+    Ok(kept)
+}
+
+/// The place after the networks that are this one or stand before it, by halving the list.
+fn place_after<V>(routes: &[(IpNet, V)], network: &IpNet) -> usize
+    requires { IsTable (ip_networks routes.now) }
+    ensures { IsPlaceAfter (ip_networks routes.now) (ip_network network.now) result }
+{
+    ip_nets_compare_by_network();
+    let mut low = 0;
+    let mut high = routes.len();
+    while low < high {
+        let middle = low + (high - low) / 2;
+        let other = routes[middle].0;
+        if *network < other {
+            high = middle;
+        } else {
+            low = middle + 1;
+        }
+    }
+    low
+}
+
+/// The place after the nearest network before the limit that contains the network, or 0 where none does. Where one
+/// doesn't contain it, only those that enclose that one can.
+fn nearest<V>(routes: &[(IpNet, V)], enclosing: &[usize], limit: usize, network: &IpNet) -> usize
+    requires table { IsTable (ip_networks routes.now) }
+    requires links { AreLinks (ip_networks routes.now) enclosing.now }
+    requires within { limit ≤ length enclosing.now }
+    requires up_to { (k : Network) (c : Contains (ip_networks routes.now) k)
+        → c.0 < limit → IsBeforeOrEqual k (ip_network network.now) }
+    ensures { IsNearest (ip_networks routes.now) (ip_network network.now) limit result }
+{
+    let mut place = limit;
+    while place > 0 {
+        let other = routes[place - 1].0;
+        if other.contains(network) {
+            return place;
+        }
+        place = enclosing[place - 1];
+    }
+    0
+}
+
+/// For each network the place after the nearest one that encloses it.
+fn links<V>(alloc: Global, routes: &[(IpNet, V)]) -> Result<Vec<usize>, AllocError>
+    requires { IsTable (ip_networks routes.now) }
+    ensures all { IfOk result (λ links. length links.items ≡ length routes.now) }
+    ensures links { IfOk result (λ links. AreLinks (ip_networks routes.now) links.items) }
+{
+    let mut links = Vec::with_capacity(alloc, routes.len())?;
+    for index in 0..routes.len() {
+        let network = routes[index].0;
+        let link = nearest(routes, links.as_slice(), index, &network);
+        links.push(link)?;
+    }
+    Ok(links)
+}
+
+impl<V> RouteTable<V> {
+    ghost use Rattle.ipnet_sets.specs.RoutesOf.{routes_of};
+
+    /// The table of the routes, in whatever order. Networks are equal where they are without their host bits; of the
+    /// values given for equal ones the last stands. The error is want of memory.
+    ///
+    /// ```text
+    /// 10.0.0.0/8 with 1, 10.1.0.0/16 with 2, 10.0.0.7/8 with 3: 10.0.0.0/8 with 3, 10.1.0.0/16 with 2
+    /// ```
+    pub fn from_routes(alloc: Global, routes: Vec<(IpNet, V)>) -> Result<RouteTable<V>, AllocError>
+    where
+        V: Drop,
+        ensures { IfOk result (λ table. IsTableOf (ip_routes routes.items) (routes_of table)) }
+    {
+        let mut routes = routes;
+        truncate_all(&mut routes);
+        sort(&mut routes)?;
+        let routes = latest(alloc, routes)?;
+        let enclosing = links(alloc, routes.as_slice())?;
+        Ok(RouteTable { routes, enclosing })
+    }
+
+    /// The routes of the table, in the order of their networks: IPv4 before IPv6, then by number, then by length. Takes
+    /// no memory.
+    pub fn routes(&self) -> &[(IpNet, V)]
+        ensures routes { ip_routes result.now ≡ routes_of self.now }
+        ensures ascending { IsAscending (networks_of (routes_of self.now)) }
+        ensures truncated { All IsTruncated (networks_of (routes_of self.now)) }
+    {
+        self.routes.as_slice()
+    }
+
+    /// How many routes the table has.
+    pub fn len(&self) -> usize
+        ensures { result ≡ length (routes_of self.now) }
+    {
+        self.routes.len()
+    }
+
+    /// Whether the table has no route.
+    pub fn is_empty(&self) -> bool
+        ensures { IsTrue result ↔ (length (routes_of self.now) ≡ 0) }
+    {
+        self.routes.is_empty()
+    }
+
+    /// The value of the network, without its host bits, or `None` if the table doesn't have it. Takes no memory; the
+    /// time grows with the logarithm of the number of routes.
+    ///
+    /// ```text
+    /// of 10.0.0.0/8 with 1: 10.0.0.0/8 and 10.2.3.4/8 have 1; 10.0.0.0/9 has none
+    /// ```
+    pub fn get(&self, network: &IpNet) -> Option<&V>
+        ensures none { IsNone result
+            ↔ ¬ (Contains (networks_of (routes_of self.now)) (truncation (ip_network network.now))) }
+        ensures some { IfSome result (λ value.
+            Contains (routes_of self.now) (truncation (ip_network network.now), value.now)) }
+    {
+        let network = network.trunc();
+        let place = place_after(self.routes.as_slice(), &network);
+        if place == 0 {
+            return None;
+        }
+        let route = &self.routes[place - 1];
+        if !is_same(&route.0, &network) {
+            return None;
+        }
+        Some(&route.1)
+    }
+
+    /// The route of the longest network that holds the address, or `None` exactly where no network of the table holds
+    /// it. Takes no memory; the time grows with the logarithm of the number of routes, and with how many networks that
+    /// don't hold the address lie one in another.
+    ///
+    /// ```text
+    /// of 0.0.0.0/0, 10.0.0.0/8 and 10.1.0.0/16: 10.1.2.3 is in 10.1.0.0/16, 10.2.0.1 in 10.0.0.0/8
+    /// ```
+    pub fn longest_match(&self, ip: &IpAddr) -> Option<&(IpNet, V)>
+        ensures none { IsNone result ↔ ¬ (IsCoveredBy (networks_of (routes_of self.now)) (ip_address ip.now)) }
+        ensures some { IfSome result (λ route.
+            IsLongestMatch (routes_of self.now) (ip_address ip.now) (ip_network route.now.0, route.now.1)) }
+    {
+        let host = IpNet::from(*ip);
+        let routes = self.routes.as_slice();
+        let limit = place_after(routes, &host);
+        let place = nearest(routes, self.enclosing.as_slice(), limit, &host);
+        if place == 0 {
+            return None;
+        }
+        Some(&self.routes[place - 1])
+    }
+}
