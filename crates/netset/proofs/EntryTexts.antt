@@ -1,5 +1,6 @@
 -- The texts of entries: an address as a network of length 32, one address a text, and what was read.
-use Rattle.std.proofs.Common.{◌≡◌, ◌≢◌, ℕ, ◌+◌, ◌<◌, ◌≤◌, ◌⊎◌, ◌↔◌, List, [], ◌∷◌, ◌++◌, All, length, refl, sym, ap, ◌∙◌, arith}
+use Rattle.std.proofs.Common.{◌≡◌, ◌≢◌, ℕ, ◌+◌, ◌<◌, ◌≤◌, ◌⊎◌, ◌↔◌, List, [], ◌∷◌, ◌++◌, All, length, refl, sym, ap}
+use Rattle.std.proofs.Common.{◌∙◌, arith}
 use Rattle.std.proofs.Common.{inl, inr, append_assoc, subst, lit<, lit≤, codes, Option, Some, None, IsNone}
 use Rattle.std.proofs.Common.{Result, Ok, Err, IfOk, IfSome, ◌==◌}
 use Rattle.std.specs.Result.{result_ok}
@@ -15,7 +16,8 @@ use Rattle.ipnet.specs.NetworkTexts.{IsNetworkText, IsIpv4NetworkText, IsIpv6Net
 use Rattle.ipnet.proofs.WholeTexts.{one_network}
 use Rattle.netset.specs.Entries.{IsIpv4Text, IsIpv6Text, IsAddressText, IsPlainEntry, IsRangeFrom, WriteRange}
 use Rattle.netset.specs.Entries.{IsRangeEntry, IsEntryText, ReadsAs, IsNetworkEntry, IsAddressEntry}
-use Rattle.netset.proofs.AddressBytes.{IsAddressByte, ipv4_bytes, ipv6_bytes, decimal_bytes, one_front, one_back, middle}
+use Rattle.netset.proofs.AddressBytes.{IsAddressByte, ipv4_bytes, ipv6_bytes, decimal_bytes, one_front, one_back}
+use Rattle.netset.proofs.AddressBytes.{middle}
 use Rattle.netset.proofs.AddressBytes.{all_lack}
 
 -- ---- what was read
@@ -125,7 +127,7 @@ without_length grammar text n (inr h) =
     }
 
 -- a text writes one address at most
-pub one_address : (grammar : Grammar) (text : List ℕ) (x y : Address) → IsAddressText grammar text x
+one_address : (grammar : Grammar) (text : List ℕ) (x y : Address) → IsAddressText grammar text x
     → IsAddressText grammar text y → x ≡ y
 one_address grammar text x y h k =
     ap own_address (one_network grammar (text ++ codes "/32") (with_32 x) (with_32 y) (with_length grammar text x h)

@@ -1,5 +1,6 @@
 -- Lines of bytes, what they hold, and entries as text.
-use Rattle.std.proofs.Common.{◌≡◌, ℕ, ◌+◌, ◌-◌, ◌<◌, ◌≤◌, ◌⊎◌, Bool, true, false, List, [], ◌∷◌, ◌++◌, All, length, get_or}
+use Rattle.std.proofs.Common.{◌≡◌, ℕ, ◌+◌, ◌-◌, ◌<◌, ◌≤◌, ◌⊎◌, Bool, true, false, List, [], ◌∷◌, ◌++◌, All, length}
+use Rattle.std.proofs.Common.{get_or}
 use Rattle.std.proofs.Common.{take, drop, refl, sym, ap, ◌∙◌, subst, arith, inl, inr, append_assoc, eq-eqb, eqb-true}
 use Rattle.std.proofs.Common.{take_all, add-one, length-drop}
 use Rattle.std.specs.Char.{is_ascii_whitespace}
@@ -79,7 +80,8 @@ ascii_entry : (grammar : Grammar) (text : List ℕ) (range : AddressRange) → I
     → All (λ b. b < 128) text
 ascii_entry grammar text range (inl (inl h)) =
     let cut = network_cut grammar text h.network h.writes in
-    subst (All (λ b. b < 128)) (sym cut.spelled) (ascii_cut cut.front 47 cut.back (omega arith) cut.in_front cut.in_back)
+    subst (All (λ b. b < 128)) (sym cut.spelled)
+    (ascii_cut cut.front 47 cut.back (omega arith) cut.in_front cut.in_back)
 ascii_entry grammar text range (inl (inr h)) = ascii_bytes text (address_bytes grammar text h.address h.writes)
 ascii_entry grammar text range (inr h) =
     subst (All (λ b. b < 128)) (sym (h.spelled ∙ append_assoc h.first_text (45 ∷ []) h.last_text))

@@ -1,5 +1,6 @@
 -- A list that is read line by line.
-use Rattle.std.proofs.Common.{◌≡◌, ℕ, ◌+◌, ◌<◌, ◌≤◌, ◌⊎◌, ◌↔◌, List, [], ◌∷◌, ◌++◌, length, map, Any, refl, sym, ap, ◌∙◌}
+use Rattle.std.proofs.Common.{◌≡◌, ℕ, ◌+◌, ◌<◌, ◌≤◌, ◌⊎◌, ◌↔◌, List, [], ◌∷◌, ◌++◌, length, map, Any, refl, sym, ap}
+use Rattle.std.proofs.Common.{◌∙◌}
 use Rattle.std.proofs.Common.{arith, inl, inr, subst, append_assoc, append-nil}
 use Rattle.ipnet_base.proofs.ListLaws.{contains_nil}
 use Rattle.ipnet_base.specs.Address.{Address}
@@ -26,11 +27,11 @@ empty_line grammar list line [] texts entries refusals none h = h
 empty_line grammar list line (b ∷ text) texts entries refusals none h = absurd (omega arith)
 
 -- the entry that the text is
-abbrev pub entry_at : List ℕ → AddressRange → ListEntry
+abbrev entry_at : List ℕ → AddressRange → ListEntry
 entry_at text range = record { text = text; range = range }
 
 -- the line refused
-abbrev pub refusal_at : ℕ → ℕ → List ℕ → Refusal
+abbrev refusal_at : ℕ → ℕ → List ℕ → Refusal
 refusal_at list line text = record { list = list; line = line; text = text }
 
 entry_line : (grammar : Grammar) (list line : ℕ) (text : List ℕ) (texts : List (List ℕ)) (range : AddressRange)

@@ -1,5 +1,5 @@
 -- Lists that are read one after the other, and the text of an answer.
-use Rattle.std.proofs.Common.{◌≡◌, ◌≢◌, ℕ, ◌+◌, ◌<◌, ◌↔◌, List, [], ◌∷◌, ◌++◌, length, map, get_or, take, refl, sym, ap, ◌∙◌}
+use Rattle.std.proofs.Common.{◌≡◌, ℕ, ◌+◌, ◌<◌, ◌↔◌, List, [], ◌∷◌, ◌++◌, length, map, get_or, take, refl, sym, ap, ◌∙◌}
 use Rattle.std.proofs.Common.{arith, subst, append_assoc, append-nil, Vec, Global}
 use Rattle.std.proofs.lemmas.List.{length-map}
 use Rattle.ipnet_base.specs.Address.{Address}
@@ -10,7 +10,7 @@ use Rattle.netset.specs.declared.refused.RefusedLines.{RefusedLines}
 use Rattle.netset.specs.declared.answer.Request.{Request}
 use Rattle.netset.specs.declared.operation.Operation.{Operation}
 use Rattle.netset.specs.Bytes.{bytes_of}
-use Rattle.netset.specs.Answers.{AreListsRead, HasRefused, IsAnswer, IsSetText}
+use Rattle.netset.specs.Answers.{AreListsRead, IsAnswer, IsSetText}
 use Rattle.netset.specs.Lists.{ListEntry, Refusal, IsListRead, IsInEntries}
 use Rattle.netset.specs.ListSets.{HaveMembers, AreSetsOf, AreGoodSets}
 use Rattle.netset.specs.Operations.{IsCountFor, IsInResult}
@@ -59,15 +59,6 @@ members_push [] (e ∷ entries) set more h same = absurd h
 members_push (s ∷ sets) [] set more h same = absurd h
 members_push (s ∷ sets) (e ∷ entries) set more h same = (h.0, members_push sets entries set more h.1 same)
 
-pub none_read : (grammar : Grammar) (lines : RefusedLines) → AreRefused lines [] → AreSetsOf grammar [] [] lines
-none_read grammar lines none = record {
-  entries = [];
-  refusals = [];
-  read = (refl, refl);
-  members = tt;
-  kept = none;
-}
-
 pub one_more_read : (grammar : Grammar) (lists : List (List ℕ)) (sets new_sets : List IpSet) (old new : RefusedLines)
     (list : ℕ) (bytes : List ℕ) (set : IpSet) → list ≡ length lists → AreSetsOf grammar lists sets old
     → WasRead grammar list bytes (IsMember set) old new → new_sets ≡ sets ++ set ∷ []
@@ -84,30 +75,6 @@ one_more_read grammar lists sets new_sets old new list bytes set place h k pushe
   where
     zero_plus : (n : ℕ) → n ≡ 0 + n
     zero_plus n = omega arith
-
--- no line is refused
-pub good_sets : (grammar : Grammar) (lists : List (List ℕ)) (sets : List IpSet) (lines : RefusedLines)
-    → lines.count ≡ 0 → AreSetsOf grammar lists sets lines → AreGoodSets grammar lists sets
-good_sets grammar lists sets lines none h = record {
-  entries = h.entries;
-  read = subst (AreListsRead grammar 0 lists h.entries) (empty h.refusals (sym h.kept.count ∙ none)) h.read;
-  members = h.members;
-}
-  where
-    empty : (refusals : List Refusal) → length refusals ≡ 0 → refusals ≡ []
-    empty [] e = refl
-    empty (r ∷ refusals) e = absurd (omega arith)
-
--- or some are
-pub refused_sets : (grammar : Grammar) (lists : List (List ℕ)) (sets : List IpSet) (lines : RefusedLines)
-    → lines.count ≢ 0 → AreSetsOf grammar lists sets lines → HasRefused grammar lists lines
-refused_sets grammar lists sets lines some h = record {
-  entries = h.entries;
-  refusals = h.refusals;
-  read = h.read;
-  some = λ e. some (h.kept.count ∙ ap length e);
-  kept = h.kept;
-}
 
 -- the text of what the operation makes of the sets is the answer over the lists
 pub answer_of_sets : (request : Request) (lists : List (List ℕ)) (sets : List IpSet) (set : IpSet) (text : List ℕ)

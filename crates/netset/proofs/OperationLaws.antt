@@ -1,5 +1,6 @@
 -- What the operations make of lists, list by list.
-use Rattle.std.proofs.Common.{◌≡◌, ℕ, Bool, ◌+◌, ◌^◌, ◌<◌, ◌≤◌, ◌⊎◌, ◌↔◌, List, [], ◌∷◌, ◌++◌, length, get_or, take, All, Any, Contains}
+use Rattle.std.proofs.Common.{◌≡◌, ℕ, Bool, ◌+◌, ◌^◌, ◌<◌, ◌≤◌, ◌⊎◌, ◌↔◌, List, [], ◌∷◌, ◌++◌, length, get_or, take}
+use Rattle.std.proofs.Common.{All, Any, Contains}
 use Rattle.std.proofs.Common.{refl, sym, ap, ◌∙◌, arith, inl, inr, subst, zero, suc, not, ◌==◌, IsTrue, ne_eqb}
 use Rattle.std.proofs.lemmas.List.{take_more}
 use Rattle.std.proofs.lemmas.List.Elements.{All-nil, All-cons, All-head, All-tail}
@@ -58,11 +59,6 @@ module _ {L : Type 0} (In : L → Address → Type 0) (lists : List L) (i : ℕ)
       let all = all_push (λ l. In l x) (take i lists) list in
       rw next_list (λ h. ((h.0, (all.0 h.1).0), (all.0 h.1).1), λ h. (h.0.0, all.1 (h.0.1, h.1)))
 
--- the first alone, where no other was taken yet
-pub each_first : {L : Type 0} (In : L → Address → Type 0) (first : L) (x : Address)
-    → IsInEach In (first ∷ []) x ↔ In first x
-each_first In first x = (λ h. h.0, λ h. (h, All-nil (λ l. In l x)))
-
 -- no list, no address
 pub some_none : {L : Type 0} (In : L → Address → Type 0) (x : Address) → IsInSome In [] x → ⊥
 some_none In x h = contains_nil h.1 (h.0, h.2, h.3)
@@ -83,14 +79,14 @@ none_of_all In (list ∷ lists) x =
 
 -- ---- counts
 
-pub count_none : (InSet : Address → Type 0) (n : ℕ) → IsCountOf InSet n → n ≡ 0 → (x : Address) → InSet x → ⊥
+count_none : (InSet : Address → Type 0) (n : ℕ) → IsCountOf InSet n → n ≡ 0 → (x : Address) → InSet x → ⊥
 count_none InSet n h e x is = none h.addresses (sym (h.count ∙ e)) ((h.members x).1 is)
   where
     none : (xs : List Address) → 0 ≡ length xs → Contains xs x → ⊥
     none [] e k = contains_nil x k
     none (y ∷ xs) e k = omega (arith, e)
 
-pub count_some : (InSet : Address → Type 0) (n : ℕ) → IsCountOf InSet n → 0 < n → (x : Address) × InSet x
+count_some : (InSet : Address → Type 0) (n : ℕ) → IsCountOf InSet n → 0 < n → (x : Address) × InSet x
 count_some InSet n h some = one h.addresses (h.members) (omega (arith, h.count))
   where
     one : (xs : List Address) → ((x : Address) → Contains xs x ↔ InSet x) → 0 < length xs → (x : Address) × InSet x

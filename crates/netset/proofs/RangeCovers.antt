@@ -1,12 +1,14 @@
 -- Networks with the addresses of an entry.
-use Rattle.std.proofs.Common.{◌≡◌, ℕ, ◌+◌, ◌-◌, ◌*◌, ◌/◌, ◌^◌, ◌<◌, ◌≤◌, ◌⊎◌, ◌↔◌, List, [], ◌∷◌, ◌++◌, refl, sym, ap, ◌∙◌}
+use Rattle.std.proofs.Common.{◌≡◌, ℕ, ◌+◌, ◌-◌, ◌*◌, ◌/◌, ◌^◌, ◌<◌, ◌≤◌, ◌⊎◌, ◌↔◌, List, [], ◌∷◌, ◌++◌, refl, sym, ap}
+use Rattle.std.proofs.Common.{◌∙◌}
 use Rattle.std.proofs.Common.{arith, inl, inr, subst, add-zero}
 use Rattle.ipnet_base.specs.Address.{Family, IPv4, IPv6, Address, IsBetween, width}
 use Rattle.ipnet_base.specs.Network.{Network, InBlock, first_of, last_of, host_bits}
 use Rattle.ipnet_base.specs.Blocks.{IsCoveredBy}
 use Rattle.ipnet_base.specs.Ranges.{AddressRange}
 use Rattle.ipnet_base.proofs.BlockLaws.{between_from_block, block_from_between}
-use Rattle.ipnet_base.proofs.CoverLaws.{cover_push, cover_append, cover_append_left, cover_append_right, cover_append_cases}
+use Rattle.ipnet_base.proofs.CoverLaws.{cover_push, cover_append, cover_append_left, cover_append_right}
+use Rattle.ipnet_base.proofs.CoverLaws.{cover_append_cases}
 use Rattle.ipnet_base.proofs.CoverLaws.{cover_one}
 use Rattle.ipnet.specs.NetworkParts.{network_at}
 use Rattle.ipnet_sets.specs.SetRanges.{range_of, IsInRange}

@@ -1,5 +1,6 @@
 -- The refused lines that are kept, as more are added.
-use Rattle.std.proofs.Common.{◌≡◌, ℕ, zero, suc, ◌+◌, ◌<◌, ◌≤◌, List, [], ◌∷◌, ◌++◌, length, take, map, refl, sym, ap, ◌∙◌, arith}
+use Rattle.std.proofs.Common.{◌≡◌, ℕ, zero, suc, ◌+◌, ◌<◌, ◌≤◌, List, [], ◌∷◌, ◌++◌, length, take, map, refl, sym, ap}
+use Rattle.std.proofs.Common.{◌∙◌, arith}
 use Rattle.std.proofs.Common.{append_assoc, append-nil, take_all, length-append, add-zero}
 use Rattle.std.proofs.lemmas.List.{length-map, take-append-le}
 use Rattle.netset.specs.declared.refused.RefusedLines.{RefusedLines}

@@ -12,7 +12,8 @@ use Rattle.netset.specs.declared.operation.Operation.TheVariants.{Union, Interse
 use Rattle.netset.specs.declared.operation.Operation.TheVariants.{Complement}
 use Rattle.netset.specs.Lists.{ListEntry, IsInEntries}
 use Rattle.netset.specs.ListSets.{HaveMembers}
-use Rattle.netset.specs.Operations.{IsInSome, IsInEach, IsInFirstAlone, IsInOneAlone, IsInComplement, IsInResult, IsChosen}
+use Rattle.netset.specs.Operations.{IsInSome, IsInEach, IsInFirstAlone, IsInOneAlone, IsInComplement, IsInResult}
+use Rattle.netset.specs.Operations.{IsChosen}
 use Rattle.netset.proofs.OperationLaws.{some_none}
 
 -- both ways at once

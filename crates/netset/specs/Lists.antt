@@ -54,7 +54,8 @@ pub record IsNextEntry (grammar : Grammar) (text : List ℕ) (entries more : Lis
   pub writes : IsEntryText grammar text range
 
 -- the line is the next that is refused, and its text is no entry
-pub record IsNextRefusal (grammar : Grammar) (list line : ℕ) (text : List ℕ) (refusals more : List Refusal) : Type 0 where
+pub record IsNextRefusal (grammar : Grammar) (list line : ℕ) (text : List ℕ) (refusals more : List Refusal) : Type
+    0 where
   pub next : refusals ≡ record { list = list; line = line; text = text } ∷ more
   pub no_entry : IsNoEntry grammar text
 

@@ -59,7 +59,8 @@ fn read_address(
 /// before the first.
 fn range_entry(first: IpAddr, last: IpAddr) -> Option<Entry>
     ensures some { IfSome result (λ e. IsRangeFrom (ip_address first) (ip_address last) (entry_range e)) }
-    ensures none { IsNone result ↔ ((range : AddressRange) → ¬ (IsRangeFrom (ip_address first) (ip_address last) range)) }
+    ensures none { IsNone result ↔ ((range : AddressRange)
+        → ¬ (IsRangeFrom (ip_address first) (ip_address last) range)) }
 {
     match (first, last) {
         (IpAddr::V4(first), IpAddr::V4(last)) if first.to_bits() <= last.to_bits() => {

@@ -6,7 +6,8 @@ use Rattle.netset.proofs.operation.union_of.Goals as goal
 
 pub loop-set-preserved : goal.loop-set-preserved
 loop-set-preserved c = λ x.
-    let more = some_more IsMember c.args.sets.now c.loop-set.set-index c.set-item.result (omega arith) c.set-item.is x in
+    let more =
+    some_more IsMember c.args.sets.now c.loop-set.set-index c.set-item.result (omega arith) c.set-item.is x in
     let was = c.loop-set.invariant x in
     let step = c.in_ok-whole.ensures.members x in (
       λ h. more.1 (elim (step.0 h) [ inl a ↦ inl (was.0 a) | inr b ↦ inr b ]),
