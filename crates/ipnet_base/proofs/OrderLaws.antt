@@ -35,7 +35,7 @@ IsBefore-asymmetric n k h i =
     (before_by_numbers n k h) (before_by_numbers k n i)
 
 -- the order is transitive
-IsBefore-transitive : (n k l : Network) → IsBefore n k → IsBefore k l → IsBefore n l
+pub IsBefore-transitive : (n k l : Network) → IsBefore n k → IsBefore k l → IsBefore n l
 IsBefore-transitive n k l (inl h) (inl i) = inl (omega arith)
 IsBefore-transitive n k l (inl h) (inr i) = inl (omega (arith, h, ap family_index i.0))
 IsBefore-transitive n k l (inr h) (inl i) = inl (omega (arith, i, ap family_index h.0))
@@ -55,7 +55,7 @@ IsBeforeOrEqual-transitive n k l (inr h) (inl e) = inr (subst (IsBefore n) e h)
 IsBeforeOrEqual-transitive n k l (inr h) (inr i) = inr (IsBefore-transitive n k l h i)
 
 -- the order of networks is total
-order_total : (n k : Network) → IsBeforeOrEqual n k ⊎ IsBefore k n
+pub order_total : (n k : Network) → IsBeforeOrEqual n k ⊎ IsBefore k n
 order_total n k =
     elim (cases_order (family_index n.family) (family_index k.family)) [
       | inr (inl lt) ↦ inl (inr (inl lt))

@@ -14,8 +14,8 @@ use Rattle.ipnet_base.specs.Values.{ComparesBy}
 use Rattle.ipnet_base.proofs.BlockLaws.{own, own_in, nested, nested_or_disjoint, block_between}
 use Rattle.ipnet_base.proofs.BlockLaws.{same_from_block}
 use Rattle.ipnet_base.proofs.ListLaws.{pair_at, one_place, all_at, contains_at, pairs_weaker}
-use Rattle.ipnet_base.proofs.UniqueLaws.{IsBefore-asymmetric}
-use Rattle.ipnet_base.proofs.StackLaws.{IsBeforeOrEqual-transitive, IsBefore-transitive, order_total}
+use Rattle.ipnet_base.proofs.OrderLaws.{IsBefore-asymmetric, IsBefore-transitive, IsBeforeOrEqual-transitive}
+use Rattle.ipnet_base.proofs.OrderLaws.{order_total}
 use Rattle.ipnet.specs.declared.net.IpNet.{IpNet}
 use Rattle.ipnet.specs.NetworkOf.{ip_network}
 use Rattle.ipnet.specs.NetLaws.{ip_valid}

@@ -1,0 +1,11 @@
+-- Lemmas of this crate.
+pub mod AddressBytes
+pub mod EntryTexts
+pub mod RefusalLaws
+pub mod RangeCovers
+pub mod ListLines
+pub mod ListReading
+pub mod OperationLaws
+pub mod SameResults
+pub mod AnswerTexts
+pub mod ListsReading
