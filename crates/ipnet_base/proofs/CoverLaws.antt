@@ -39,7 +39,7 @@ cover_cons n networks x = (to, from)
         cover_member (n ∷ networks) a.1 x (contains_there n networks a.1 (covering_member networks x a)) a.4
 
 -- one network alone
-cover_one : (n : Network) (x : Address) → IsCoveredBy (n ∷ []) x ↔ InBlock n x
+pub cover_one : (n : Network) (x : Address) → IsCoveredBy (n ∷ []) x ↔ InBlock n x
 cover_one n x = (
   λ a. elim ((cover_cons n [] x).0 a) [ inl b ↦ b | inr c ↦ absurd (cover_nil x c) ],
   λ a. (cover_cons n [] x).1 (inl a),

@@ -13,6 +13,7 @@ ghost use Rattle.netset.specs.ListSets.{AreSetsOf, AreGoodSets, IsReadFailure};
 use crate::list::read_set;
 use crate::operation::{Operation, combined};
 use crate::refused::RefusedLines;
+use ipnet::text_laws::{ipv4_address_text_is_of_octets, ipv6_address_text_is_of_groups};
 use ipnet::{Grammar, IpAddr, IpAddrRange, IpNet, ipv4_addr_text, ipv6_addr_text};
 use ipnet_sets::IpSet;
 use std::alloc::{AllocError, Global};
@@ -67,8 +68,14 @@ fn push_address(text: &mut String, address: IpAddr) -> Result<(), AllocError>
         OnOk result (string_bytes text.new ≡ string_bytes text.old ++ address_text a.family a.number) }
 {
     match address {
-        IpAddr::V4(address) => text.push_str(ipv4_addr_text(address).as_str()),
-        IpAddr::V6(address) => text.push_str(ipv6_addr_text(address).as_str()),
+        IpAddr::V4(address) => {
+            ipv4_address_text_is_of_octets(address);
+            text.push_str(ipv4_addr_text(address).as_str())
+        }
+        IpAddr::V6(address) => {
+            ipv6_address_text_is_of_groups(address);
+            text.push_str(ipv6_addr_text(address).as_str())
+        }
     }
 }
 

@@ -1,6 +1,6 @@
 use Rattle.std.proofs.Common.{◌≡◌, rules, sym}
 use Rattle.std.proofs.lemmas.Fn.{always_returns_same}
-use Rattle.ipnet_base.proofs.StackLaws.{in_order_from_sort}
+use Rattle.ipnet_base.proofs.OrderLaws.{in_order_from_sort}
 use Rattle.ipnet.specs.NetworkOf.{ip_network}
 use Rattle.ipnet_sets.proofs.RouteLaws.{before_is_less}
 use Rattle.ipnet_sets.proofs.RouteOrderLaws.{tied_by_network, latest_kept}
