@@ -21,6 +21,11 @@ fn denial_stands_before_allowance(rt: HostRuntime) -> Result<(), Fail> {
         let address = text.parse::<IpAddr>()?;
         assert_eq!(rt; list.allows(&address), allowed, "{text}");
     }
+    let mut open = Vec::new(rt.alloc());
+    for text in ["10.0.0.0/24", "10.0.1.0/25", "fd00::/32"] {
+        open.push(text.parse::<IpNet>()?)?;
+    }
+    assert_eq!(rt; list.networks(rt.alloc())?, open);
     Ok(())
 }
 

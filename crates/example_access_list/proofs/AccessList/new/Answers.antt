@@ -1,10 +1,13 @@
 use Rattle.example_access_list.proofs.AccessList.new.Goals as goal
 
--- each list covers what it covered before
-pub returns-clause-same : goal.returns-clause-same
-returns-clause-same c x =
-    let allow = c.in_ok-allow.ensures.aggregate.addresses x in
-    let deny = c.in_ok-deny.ensures.aggregate.addresses x in (
-      λ old. record { allowed = allow.0 old.allowed; undenied = λ covered. old.undenied (deny.1 covered) },
-      λ new. record { allowed = allow.1 new.allowed; undenied = λ covered. new.undenied (deny.0 covered) },
+-- the difference has what the one set has and the other has not, and each set what its networks cover
+pub returns : goal.returns
+returns c x =
+    let allowed = c.in_ok-allowed.ensures x in
+    let denied = c.in_ok-denied.ensures x in
+    let rest = c.in_ok-open.ensures.members x in (
+      λ is_let_in.
+          let both = rest.0 is_let_in in
+          record { allowed = allowed.0 both.0; undenied = λ covered. both.1 (denied.1 covered) },
+      λ h. rest.1 (allowed.1 h.allowed, λ member. h.undenied (denied.0 member)),
     )
