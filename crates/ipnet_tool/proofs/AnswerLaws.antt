@@ -1,7 +1,7 @@
 -- The networks of a text by family, their aggregates, and the text of these.
 use Rattle.std.proofs.Common.{◌≡◌, ℕ, ◌+◌, ◌<◌, ◌↔◌, inl, inr, subst, take, List, [], ◌∷◌, ◌++◌, map, length}
 use Rattle.std.proofs.Common.{get_or, Ok, Err, String, Global, string_bytes, refl, sym, ap, ◌∙◌, append_assoc}
-use Rattle.std.proofs.Common.{append-nil, All}
+use Rattle.std.proofs.Common.{append-nil, All, Result, OnOk}
 use Rattle.std.proofs.lemmas.List.Elements.{All-map}
 use Rattle.std.proofs.lemmas.List.{map_push, take_more}
 use Rattle.ipnet.specs.Address.{IPv4, IPv6}
@@ -13,7 +13,7 @@ use Rattle.ipnet.specs.declared.net.ipv4_net.Ipv4Net.{Ipv4Net}
 use Rattle.ipnet.specs.declared.net.ipv6_net.Ipv6Net.{Ipv6Net}
 use Rattle.ipnet.proofs.FamilyLaws.{aggregate_of_families}
 use Rattle.ipnet.proofs.CoverLaws.{cover_append_left, cover_append_right, cover_append_cases, HaveSameCover-append}
-use Rattle.ipnet.proofs.CoverLaws.{HaveSameCover-sym}
+use Rattle.ipnet.proofs.CoverLaws.{HaveSameCover-sym, HaveSameCover-trans}
 use Rattle.ipnet.proofs.AggregateLaws.{aggregate_of_same_cover}
 use Rattle.ipnet.specs.declared.parser.Grammar.{Grammar}
 use Rattle.ipnet.specs.Lines.{lines_of, AreNetworksOf, IsFirstBadLine}
@@ -67,24 +67,22 @@ cover_moved a b n x = (
   ],
 )
 
--- the networks of both families with one IPv4 network more, or one IPv6 network more
-pub pushed_ipv4 : (ipv4 new : List Ipv4Net) (ipv6 : List Ipv6Net) (n : Ipv4Net) → new ≡ ipv4 ++ n ∷ []
-    → HaveSameCover (map ipv4_network new ++ map ipv6_network ipv6)
-    ((map ipv4_network ipv4 ++ map ipv6_network ipv6) ++ ipv4_network n ∷ [])
-pushed_ipv4 ipv4 new ipv6 n e =
-    subst (λ z. HaveSameCover (z ++ map ipv6_network ipv6)
-    ((map ipv4_network ipv4 ++ map ipv6_network ipv6) ++ ipv4_network n ∷ []))
-    (sym (ap (map ipv4_network) e ∙ map_push ipv4_network ipv4 n))
-    (cover_moved (map ipv4_network ipv4) (map ipv6_network ipv6) (ipv4_network n))
+-- the networks of both families, where those of the first cover one network more, or those of the second
+pub first_covers_more : (a new b : List Network) (n : Network) → HaveSameCover new (a ++ n ∷ [])
+    → HaveSameCover (new ++ b) ((a ++ b) ++ n ∷ [])
+first_covers_more a new b n h =
+    HaveSameCover-trans (new ++ b) ((a ++ n ∷ []) ++ b) ((a ++ b) ++ n ∷ [])
+    (HaveSameCover-append new b (a ++ n ∷ []) b h (λ x. (λ c. c, λ c. c))) (cover_moved a b n)
 
-pub pushed_ipv6 : (ipv4 : List Ipv4Net) (ipv6 new : List Ipv6Net) (n : Ipv6Net) → new ≡ ipv6 ++ n ∷ []
-    → HaveSameCover (map ipv4_network ipv4 ++ map ipv6_network new)
-    ((map ipv4_network ipv4 ++ map ipv6_network ipv6) ++ ipv6_network n ∷ [])
-pushed_ipv6 ipv4 ipv6 new n e =
-    subst (λ z. HaveSameCover z ((map ipv4_network ipv4 ++ map ipv6_network ipv6) ++ ipv6_network n ∷ []))
-    (append_assoc (map ipv4_network ipv4) (map ipv6_network ipv6) (ipv6_network n ∷ [])
-    ∙ ap (λ z. map ipv4_network ipv4 ++ z) (sym (ap (map ipv6_network) e ∙ map_push ipv6_network ipv6 n)))
-    (λ x. (λ a. a, λ a. a))
+pub second_covers_more : (a b new : List Network) (n : Network) → HaveSameCover new (b ++ n ∷ [])
+    → HaveSameCover (a ++ new) ((a ++ b) ++ n ∷ [])
+second_covers_more a b new n h =
+    subst (HaveSameCover (a ++ new)) (sym (append_assoc a b (n ∷ [])))
+    (HaveSameCover-append a new a (b ++ n ∷ []) (λ x. (λ c. c, λ c. c)) h)
+
+pub OnOk_then : {T E P Q : Type 0} (r : Result T E) → OnOk r P → (P → Q) → OnOk r Q
+OnOk_then (Ok x) h then = then h
+OnOk_then (Err e) h then = h
 
 -- a cover is that of the networks so far and of those to come, also after one of the latter has come
 pub cover_moves_on : (whole old new more : List Network) (n : Network) → HaveSameCover new (old ++ n ∷ [])

@@ -1,5 +1,6 @@
 //! The text tool: a list of networks, one a line, into the shortest list of the same addresses.
-ghost use Rattle.std.specs.Prelude.{◌≡◌, ℕ, ◌<◌, [], ◌∷◌, List, ◌++◌, length, All, Err, IsOk, IfOk, IsOkAnd, OnOk};
+ghost use Rattle.std.specs.Prelude.{◌≡◌, ℕ, ◌<◌, [], ◌∷◌, List, ◌++◌, map, length, All};
+ghost use Rattle.std.specs.Prelude.{Err, IsOk, IfOk, IsOkAnd, OnOk, IfSome};
 ghost use Rattle.std.specs.Prelude.{string_bytes};
 ghost use Rattle.ipnet.specs.Network.{Network};
 ghost use Rattle.ipnet.specs.Blocks.{HaveSameCover, IsAggregateOf};
@@ -109,6 +110,68 @@ fn read_line(line: &str, grammar: Grammar) -> Result<IpNet, AddrParseError>
     }
 }
 
+/// A type of networks of one family, of which two may be joined to one.
+trait Join: Copy {
+    /// The network that a value stands for.
+    ghost network: { Self → Network };
+
+    /// One network with exactly the addresses of this one and of the other, where the other lies in this one or is the
+    /// other half of its supernet.
+    fn joined(&self, other: &Self) -> Option<Self>
+        ensures { IfSome result (λ whole.
+            HaveSameCover (network whole ∷ []) (network self.now ∷ network other.now ∷ [])) };
+}
+
+impl Join for Ipv4Net {
+    ghost use Rattle.ipnet.specs.NetworkOf.{ipv4_network};
+
+    ghost network = { ipv4_network };
+
+    fn joined(&self, other: &Ipv4Net) -> Option<Ipv4Net> {
+        if self.contains(other) {
+            return Some(*self);
+        }
+        if self.is_sibling(other) {
+            return self.supernet();
+        }
+        None
+    }
+}
+
+impl Join for Ipv6Net {
+    ghost use Rattle.ipnet.specs.NetworkOf.{ipv6_network};
+
+    ghost network = { ipv6_network };
+
+    fn joined(&self, other: &Ipv6Net) -> Option<Ipv6Net> {
+        if self.contains(other) {
+            return Some(*self);
+        }
+        if self.is_sibling(other) {
+            return self.supernet();
+        }
+        None
+    }
+}
+
+/// Appends a network, joined with the last ones as far as they can be: most lists that people keep are in order, and
+/// then take the memory of their answer, not that of all their lines.
+fn push_joined<N: Join>(list: &mut Vec<N>, network: N) -> Result<(), AllocError>
+    ensures { OnOk result (HaveSameCover (map N.network list.new.items)
+        (map N.network list.old.items ++ N.network network ∷ [])) }
+{
+    let mut next = network;
+    while let Some(last) = list.last() {
+        let Some(whole) = last.joined(&next) else {
+            break;
+        };
+        next = whole;
+        list.pop();
+    }
+    list.push(next)?;
+    Ok(())
+}
+
 impl Families {
     ghost use Rattle.ipnet_tool.specs.Families.{networks_of};
 
@@ -117,10 +180,9 @@ impl Families {
         ensures { OnOk result (HaveSameCover (networks_of self.new) (networks_of self.old ++ ip_network network ∷ [])) }
     {
         match network {
-            IpNet::V4(network) => self.ipv4.push(network)?,
-            IpNet::V6(network) => self.ipv6.push(network)?,
+            IpNet::V4(network) => push_joined(&mut self.ipv4, network),
+            IpNet::V6(network) => push_joined(&mut self.ipv6, network),
         }
-        Ok(())
     }
 }
 

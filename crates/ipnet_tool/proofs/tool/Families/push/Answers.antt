@@ -1,22 +1,27 @@
 -- A network more in the list of its family covers as much as one more at the end of both lists.
-use Rattle.std.proofs.Common.{◌++◌, ◌∷◌, [], sym, subst}
+use Rattle.std.proofs.Common.{◌++◌, ◌∷◌, [], map, sym, subst, OnOk}
 use Rattle.ipnet.specs.Blocks.{HaveSameCover}
-use Rattle.ipnet.specs.NetworkOf.{ip_network}
+use Rattle.ipnet.specs.NetworkOf.{ipv4_network, ipv6_network, ip_network}
 use Rattle.ipnet_tool.specs.Families.{networks_of}
-use Rattle.ipnet_tool.proofs.AnswerLaws.{pushed_ipv4, pushed_ipv6}
+use Rattle.ipnet_tool.proofs.AnswerLaws.{OnOk_then, first_covers_more, second_covers_more}
 use Rattle.ipnet_tool.proofs.tool.Families.push.Goals as goal
 
-pub returns-in_ok-push-in-V4 : goal.returns-in_ok-push-in-V4
-returns-in_ok-push-in-V4 c =
+pub returns-in-V4 : goal.returns-in-V4
+returns-in-V4 c =
     let old = c.args.self.now in
-    subst (λ n. HaveSameCover (networks_of (record { ipv4 = c.push.new.self; ipv6 = old.ipv6 }))
-    (networks_of old ++ ip_network n ∷ [])) (sym c.in-V4.is)
-    (pushed_ipv4 old.ipv4.items c.push.new.self.items old.ipv6.items c.in-V4.network c.in_ok-push-in-V4.ensures.items)
+    let made = c.push_joined.new.list in
+    subst (λ n. OnOk c.push_joined.result (HaveSameCover (networks_of (record { ipv4 = made; ipv6 = old.ipv6 }))
+    (networks_of old ++ ip_network n ∷ []))) (sym c.in-V4.is)
+    (OnOk_then c.push_joined.result c.push_joined.ensures
+    (first_covers_more (map ipv4_network old.ipv4.items) (map ipv4_network made.items)
+    (map ipv6_network old.ipv6.items) (ipv4_network c.in-V4.network)))
 
-pub returns-in_ok-push-in-V6 : goal.returns-in_ok-push-in-V6
-returns-in_ok-push-in-V6 c =
+pub returns-in-V6 : goal.returns-in-V6
+returns-in-V6 c =
     let old = c.args.self.now in
-    subst (λ n. HaveSameCover (networks_of (record { ipv4 = old.ipv4; ipv6 = c.push-in-V6.new.self }))
-    (networks_of old ++ ip_network n ∷ [])) (sym c.in-V6.is)
-    (pushed_ipv6 old.ipv4.items old.ipv6.items c.push-in-V6.new.self.items c.in-V6.network
-    c.in_ok-push-in-V6.ensures.items)
+    let made = c.push_joined-in-V6.new.list in
+    subst (λ n. OnOk c.push_joined-in-V6.result (HaveSameCover (networks_of (record { ipv4 = old.ipv4; ipv6 = made }))
+    (networks_of old ++ ip_network n ∷ []))) (sym c.in-V6.is)
+    (OnOk_then c.push_joined-in-V6.result c.push_joined-in-V6.ensures
+    (second_covers_more (map ipv4_network old.ipv4.items) (map ipv6_network old.ipv6.items)
+    (map ipv6_network made.items) (ipv6_network c.in-V6.network)))
