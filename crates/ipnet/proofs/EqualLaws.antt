@@ -40,12 +40,12 @@ ip_equal (V6 x) (V6 y) = (
       ),
 )
 
-both_true : (a b : Bool) → (a && b ≡ true) ↔ ((a ≡ true) × (b ≡ true))
+pub both_true : (a b : Bool) → (a && b ≡ true) ↔ ((a ≡ true) × (b ≡ true))
 both_true true b = (λ e. (refl, e), λ e. e.1)
 both_true false b = (λ e. cc, λ e. cc)
 
 -- so are two lists
-lists_equal : {X : Type 0} (E : X → X → Bool) → ((x y : X) → (E x y ≡ true) ↔ (x ≡ y)) → (xs ys : List X)
+pub lists_equal : {X : Type 0} (E : X → X → Bool) → ((x y : X) → (E x y ≡ true) ↔ (x ≡ y)) → (xs ys : List X)
     → (pointwise E xs ys ≡ true) ↔ (xs ≡ ys)
 lists_equal E h [] [] = (λ e. refl, λ e. refl)
 lists_equal E h [] (y ∷ ys) = (λ e. cc, λ e. cc)

@@ -9,6 +9,7 @@ use Rattle.std.proofs.lemmas.Bool.Decides.{nat_tests}
 use Rattle.std.specs.Ordering.{ordering_then, partial_ordering_then}
 use Rattle.std.specs.Cmp.Lexicographic.{slice_cmp, slice_partial_cmp}
 use Rattle.ipnet_base.specs.Address.{Family, IPv4, IPv6, Address, IsAddress, width, greatest_number}
+use Rattle.ipnet.proofs.EqualLaws.{both_true, lists_equal}
 use Rattle.ipnet_sets.specs.declared.set.IpSet.{IpSet}
 use Rattle.ipnet_sets.specs.Turns.{is_inside, AreTurns}
 use Rattle.ipnet_sets.specs.Members.{turns_of, is_member, IsMember, HaveSameAddresses}
@@ -103,33 +104,14 @@ same_addresses a b e g x = (
     both IPv4 n = ap (λ z. is_inside (map (λ n. n) z) n) e
     both IPv6 n = ap (λ z. is_inside (map (λ n. n) z) n) g
 
--- tests of lists of numbers
 numbers_equal : (x y : ℕ) → (nat_eq x y ≡ true) ↔ (x ≡ y)
 numbers_equal x y = (eqb-true x y, eq-eqb x y)
-
-both_true : (a b : Bool) → (a && b ≡ true) ↔ ((a ≡ true) × (b ≡ true))
-both_true true b = (λ e. (refl, e), λ e. e.1)
-both_true false b = (λ e. cc, λ e. cc)
-
-lists_equal : (xs ys : List ℕ) → (pointwise nat_eq xs ys ≡ true) ↔ (xs ≡ ys)
-lists_equal [] [] = (λ e. refl, λ e. refl)
-lists_equal [] (y ∷ ys) = (λ e. cc, λ e. cc)
-lists_equal (x ∷ xs) [] = (λ e. cc, λ e. cc)
-lists_equal (x ∷ xs) (y ∷ ys) =
-    let rest = lists_equal xs ys in
-    let both = both_true (nat_eq x y) (pointwise nat_eq xs ys) in (
-      λ e. ap₂ (λ z zs. z ∷ zs) ((numbers_equal x y).0 (both.0 e).0) (rest.0 (both.0 e).1),
-      λ e.
-          let head : x ≡ y = cc in
-          let tail : xs ≡ ys = cc in
-          both.1 ((numbers_equal x y).1 head, rest.1 tail),
-    )
 
 pub equal_by_addresses : (a b : IpSet) → (pointwise nat_eq a.ipv4.items b.ipv4.items
     && pointwise nat_eq a.ipv6.items b.ipv6.items ≡ true) ↔ HaveSameAddresses a b
 equal_by_addresses a b =
-    let ipv4 = lists_equal a.ipv4.items b.ipv4.items in
-    let ipv6 = lists_equal a.ipv6.items b.ipv6.items in
+    let ipv4 = lists_equal nat_eq numbers_equal a.ipv4.items b.ipv4.items in
+    let ipv6 = lists_equal nat_eq numbers_equal a.ipv6.items b.ipv6.items in
     let both = both_true (pointwise nat_eq a.ipv4.items b.ipv4.items) (pointwise nat_eq a.ipv6.items b.ipv6.items) in (
       λ e. same_addresses a b (ipv4.0 (both.0 e).0) (ipv6.0 (both.0 e).1),
       λ same. let words = same_words a b same in both.1 (ipv4.1 words.0, ipv6.1 words.1),

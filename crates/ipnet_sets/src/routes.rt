@@ -163,7 +163,7 @@ impl<V> RouteTable<V> {
     ghost use Rattle.ipnet_sets.specs.RoutesOf.{routes_of};
 
     /// The table of the routes, in whatever order. Networks are equal where they are without their host bits; of the
-    /// values given for equal ones the last stands. The error is want of memory.
+    /// values given for equal ones the last stands. Fails only when memory runs out; an empty list needs none.
     ///
     /// ```text
     /// 10.0.0.0/8 with 1, 10.1.0.0/16 with 2, 10.0.0.7/8 with 3: 10.0.0.0/8 with 3, 10.1.0.0/16 with 2

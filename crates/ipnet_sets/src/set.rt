@@ -78,8 +78,8 @@ impl IpSet {
 
     /// The set of the addresses from the first to the last, both of them in it.
     ///
-    /// It is empty where the start is above the end, or the two are of different families. The error is want of
-    /// memory.
+    /// It is empty where the start is above the end, or the two are of different families. Fails only when memory runs
+    /// out.
     ///
     /// ```text
     /// from 10.0.0.3 to 10.0.0.8: 10.0.0.3, 10.0.0.4, 10.0.0.5, 10.0.0.6, 10.0.0.7, 10.0.0.8
@@ -127,7 +127,7 @@ impl IpSet {
     }
 
     /// The set of the addresses that lie in the networks' blocks. Order, repeats, overlaps and host bits of the list
-    /// do not matter. The error is want of memory.
+    /// do not matter. Fails only when memory runs out; an empty list needs none.
     ///
     /// ```text
     /// 10.0.0.0/30, 10.0.0.4/31: 10.0.0.0-10.0.0.5
@@ -166,7 +166,7 @@ impl IpSet {
         Ok(IpSet { ipv4, ipv6 })
     }
 
-    /// The addresses that are in this set or in the other. The error is want of memory.
+    /// The addresses that are in this set or in the other. Fails only when memory runs out.
     ///
     /// ```text
     /// 10.0.0.0-10.0.0.5 and 10.0.0.3-10.0.0.9: 10.0.0.0-10.0.0.9
@@ -179,7 +179,7 @@ impl IpSet {
         self.combined(alloc, Operation::Union, other)
     }
 
-    /// The addresses that are in this set and in the other. The error is want of memory.
+    /// The addresses that are in this set and in the other. Fails only when memory runs out.
     ///
     /// ```text
     /// 10.0.0.0-10.0.0.5 and 10.0.0.3-10.0.0.9: 10.0.0.3-10.0.0.5
@@ -192,7 +192,7 @@ impl IpSet {
         self.combined(alloc, Operation::Intersection, other)
     }
 
-    /// The addresses that are in this set and not in the other. The error is want of memory.
+    /// The addresses that are in this set and not in the other. Fails only when memory runs out.
     ///
     /// ```text
     /// 10.0.0.0-10.0.0.5 and 10.0.0.3-10.0.0.9: 10.0.0.0-10.0.0.2
@@ -205,7 +205,7 @@ impl IpSet {
         self.combined(alloc, Operation::Difference, other)
     }
 
-    /// The addresses that are in one of the two sets alone. The error is want of memory.
+    /// The addresses that are in one of the two sets alone. Fails only when memory runs out.
     ///
     /// ```text
     /// 10.0.0.0-10.0.0.5 and 10.0.0.3-10.0.0.9: 10.0.0.0-10.0.0.2 and 10.0.0.6-10.0.0.9
@@ -218,7 +218,7 @@ impl IpSet {
         self.combined(alloc, Operation::SymmetricDifference, other)
     }
 
-    /// The addresses of both families that are not in this set. The error is want of memory.
+    /// The addresses of both families that are not in this set. Fails only when memory runs out.
     ///
     /// ```text
     /// of no address: 0.0.0.0-255.255.255.255 and ::-ffff:ffff:ffff:ffff:ffff:ffff:ffff:ffff
@@ -226,6 +226,7 @@ impl IpSet {
     pub fn complement(&self, alloc: Global) -> Result<IpSet, AllocError>
         ensures { IfOk result (λ s. (x : Address) → IsAddress x → IsMember s x ↔ ¬ (IsMember self.now x)) }
     {
+        // One turn, at 0, is the set of all numbers: what is in that or in this set alone is not in this set.
         let not_both = Operation::SymmetricDifference;
         let ipv4 = turns::combine(alloc, not_both, self.ipv4.as_slice(), &[0])?;
         let ipv6 = turns::combine(alloc, not_both, self.ipv6.as_slice(), &[0])?;
@@ -330,7 +331,7 @@ impl IpSet {
 
     /// The networks of the set: the maximal blocks that lie in it, which are the fewest networks that have together its
     /// addresses, without host bits and in order. Sets with the same addresses give the same list, and the networks of
-    /// a set made from a list are its aggregate. The error is want of memory.
+    /// a set made from a list are its aggregate. Fails only when memory runs out; the empty set needs none.
     ///
     /// ```text
     /// of 10.0.0.0 to 10.0.0.5: 10.0.0.0/30, 10.0.0.4/31
@@ -412,7 +413,7 @@ impl Clone for IpSet {
 
     ghost is_clone = { λ s t. (x : Address) → IsMember t x ↔ IsMember s x };
 
-    /// A set with the same addresses. The error is want of memory.
+    /// A set with the same addresses. Fails only when memory runs out.
     fn clone(&self) -> Result<IpSet, AllocError> {
         let ipv4 = self.ipv4.clone()?;
         let ipv6 = self.ipv6.clone()?;

@@ -1,4 +1,6 @@
-//! Sets compared with a plain model, a byte whose bits are eight cells of addresses; rows; and memory that runs out.
+//! Sets and tables of routes compared with plain models; rows; and memory that runs out.
 mod memory_rows;
 mod model;
+mod route_model;
+mod route_rows;
 mod rows;

@@ -1,3 +1,4 @@
+-- The routes come in order, so the next one can be of the network of the last that is kept, and of no other.
 use Rattle.std.proofs.Common.{◌≡◌, ◌↔◌, [], ◌∷◌, ◌++◌, take, length, Contains, rules, map-id, sym, ap, ◌∙◌, subst}
 use Rattle.std.proofs.Common.{subst₂}
 use Rattle.std.proofs.lemmas.List.{map-append}

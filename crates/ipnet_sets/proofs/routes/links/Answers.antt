@@ -1,3 +1,4 @@
+-- A table's networks ascend, so all that enclose a network stand before it, and there their links are known.
 use Rattle.std.proofs.Common.{◌≡◌, ◌+◌, [], ◌∷◌, ◌++◌, length, get_or, Contains, inr, arith}
 use Rattle.std.proofs.Common.{refl, sym, ap, ◌∙◌, subst₂}
 use Rattle.std.proofs.lemmas.List.{length-map, length_push, get_or_push, get_or_append_left}

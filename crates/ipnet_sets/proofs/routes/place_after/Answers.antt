@@ -1,3 +1,5 @@
+-- The networks before `low` stand no later than the one asked for, and those from `high` on after it, until the two
+-- meet.
 use Rattle.std.proofs.Common.{◌+◌, ◌-◌, ◌/◌, length, get_or, arith, sym, ◌∙◌}
 use Rattle.std.proofs.lemmas.List.{length-map}
 use Rattle.ipnet.specs.NetworkOf.{ip_network}

@@ -1,3 +1,5 @@
+-- The sort is stable by the networks, so the routes of each network stay in their order, and the last of them stays the
+-- last.
 use Rattle.std.proofs.Common.{◌≡◌, rules, sym}
 use Rattle.std.proofs.lemmas.Fn.{always_returns_same}
 use Rattle.ipnet_base.proofs.OrderLaws.{in_order_from_sort}

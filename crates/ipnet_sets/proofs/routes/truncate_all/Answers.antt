@@ -1,3 +1,4 @@
+-- After i turns the first i networks are without host bits, each with its own value, and the rest is as it was.
 use Rattle.std.proofs.Common.{◌<◌, length, get_or, inl, inr, refl, sym, ap, ap₂, ◌∙◌, arith}
 use Rattle.std.proofs.lemmas.Bool.{cases_eq}
 use Rattle.std.proofs.lemmas.List.{length-set, get_or-set_other}

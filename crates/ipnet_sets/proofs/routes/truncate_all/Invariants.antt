@@ -1,3 +1,4 @@
+-- The first routes, as many as the index says, have their networks without host bits, and the others are as they were.
 use Rattle.std.proofs.Common.{◌≡◌, ◌<◌, ◌≤◌, ℕ, length, get_or}
 use Rattle.ipnet_base.specs.Network.{truncation}
 use Rattle.ipnet.specs.declared.net.IpNet.{IpNet}

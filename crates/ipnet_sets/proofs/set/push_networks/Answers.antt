@@ -1,3 +1,4 @@
+-- Each turn pushes the networks of the first range that is left, and those of the ranges after it stay to be pushed.
 use Rattle.std.proofs.Common.{◌≡◌, ◌∷◌, [], map, sym, ap, ◌∙◌, refl}
 use Rattle.ipnet.specs.NetworkOf.{ip_network}
 use Rattle.ipnet.specs.SubnetsLeft.{ip_subnets_left}

@@ -1,3 +1,4 @@
+-- What is pushed, with the networks of the ranges that are left, is the networks of all ranges.
 use Rattle.std.proofs.Common.{map, length}
 use Rattle.ipnet.specs.NetworkOf.{ip_network}
 use Rattle.ipnet_sets.specs.Turns.{AreTurns}

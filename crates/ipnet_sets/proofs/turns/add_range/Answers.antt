@@ -1,3 +1,4 @@
+-- The set is opened at the first number and, where the last is not the family's own, closed just after it.
 use Rattle.std.proofs.Common.{◌≡◌, ◌+◌, ◌++◌, ◌∷◌, [], map, sym, ap, ◌∙◌, subst, arith}
 use Rattle.std.proofs.lemmas.List.{map_push}
 use Rattle.ipnet_base.proofs.ListLaws.{true_gives}

@@ -1,3 +1,5 @@
+-- What is made so far holds what the operation takes of the numbers up to here; it has an odd count of turns exactly
+-- where the last of these is taken, so it turns only where that changes.
 use Rattle.std.proofs.Common.{◌≡◌, ◌≤◌, ◌++◌, ◌∷◌, [], All, not, length, map, sym, ap, ◌∙◌}
 use Rattle.std.proofs.Common.{subst, arith}
 use Rattle.std.proofs.lemmas.List.{map_push, length-map}

@@ -1,3 +1,4 @@
+-- The turns before both places are combined into what is made so far.
 use Rattle.std.proofs.Common.{◌+◌, ◌-◌, ◌≤◌, All, length, map}
 use Rattle.ipnet_base.specs.Address.{greatest_number}
 use Rattle.ipnet_sets.proofs.TurnLaws.{IsCombining}

@@ -1,3 +1,4 @@
+-- Each turn counts the first range that is left, and the rest stays to be counted.
 use Rattle.std.proofs.Common.{◌≡◌, ◌∷◌, map, sym, ap, ◌∙◌}
 use Rattle.ipnet_sets.specs.SetRanges.{range_of}
 use Rattle.ipnet_sets.specs.TurnRanges.{ranges_of, count_of}

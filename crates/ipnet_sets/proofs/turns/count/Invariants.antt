@@ -1,3 +1,4 @@
+-- What is counted, with the counts of the ranges that are left, is the count of all.
 use Rattle.std.proofs.Common.{◌≡◌, ◌+◌, map, length}
 use Rattle.ipnet_sets.specs.Turns.{AreTurns}
 use Rattle.ipnet_sets.specs.TurnRanges.{ranges_of, count_of}

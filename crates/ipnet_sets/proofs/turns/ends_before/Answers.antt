@@ -1,3 +1,4 @@
+-- No turn is above the number, so the set ends just before it exactly where the last turn is not below it.
 use Rattle.std.proofs.Common.{◌≡◌, ◌<◌, length, map, arith, refl, Bool, true, false, IsTrue, not}
 use Rattle.std.proofs.lemmas.List.{length-map}
 use Rattle.ipnet_sets.proofs.InsideLaws.{last_at, some_from_empty}

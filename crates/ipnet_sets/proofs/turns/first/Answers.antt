@@ -1,3 +1,4 @@
+-- Nothing is inside before the first turn, and the first turn itself is.
 use Rattle.std.proofs.Common.{◌<◌, length, map, arith}
 use Rattle.std.proofs.lemmas.List.{length-map}
 use Rattle.ipnet_sets.specs.Turns.{IsLeastInside}

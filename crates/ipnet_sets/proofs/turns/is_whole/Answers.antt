@@ -1,3 +1,4 @@
+-- A set has all numbers of the family exactly where it has one turn, and that at 0.
 use Rattle.std.proofs.Common.{length, map, arith}
 use Rattle.std.proofs.lemmas.Bool.{eqb-true}
 use Rattle.std.proofs.lemmas.List.{length-map}

@@ -1,3 +1,5 @@
+-- With an odd count of turns the set runs to the family's last number; with an even one it ends just before the last
+-- turn.
 use Rattle.std.proofs.Common.{◌≡◌, ◌%◌, ◌<◌, length, map, sym, ap, ◌∙◌, subst, arith}
 use Rattle.std.proofs.lemmas.List.{length-map}
 use Rattle.ipnet_base.specs.Address.{greatest_number}

@@ -1,3 +1,5 @@
+-- The operation takes a number of two sets exactly where it takes one at which either of them turns; as long as it
+-- takes none, what is made is empty.
 use Rattle.std.proofs.Common.{[], map, sym, ◌∙◌}
 use Rattle.ipnet_sets.proofs.TurnLaws.{combining_same, combined_at, turn_fits}
 use Rattle.ipnet_sets.proofs.turns.makes_nothing.Goals as goal

@@ -1,3 +1,5 @@
+-- Where the set ends just before the first number, that end goes; else all turns are below the number, which becomes
+-- one more.
 use Rattle.std.proofs.Common.{◌≡◌, ◌-◌, ◌++◌, ◌∷◌, [], ◌<◌, ℕ, List, All, length, map, take, sym, ap, ◌∙◌, subst}
 use Rattle.std.proofs.lemmas.List.{map_push, length-map, take-map}
 use Rattle.std.specs.Vec.{vec_len}

@@ -1,3 +1,4 @@
+-- The turns before `low` are at most the number, and those from `high` on are above it, until the two meet.
 use Rattle.std.proofs.Common.{◌+◌, ◌-◌, ◌/◌, ◌≤◌, length, map, sym, arith, inl, inr}
 use Rattle.std.proofs.lemmas.Bool.{cases_lt}
 use Rattle.std.proofs.lemmas.List.{length-map}

@@ -1,3 +1,4 @@
+-- Where the table has the network, it stands just before the place after it, so the route there alone is asked.
 use Rattle.std.proofs.Common.{◌≡◌, ◌-◌, true, false, length, Contains, refl, sym, ap, ◌∙◌, subst, subst₂, arith}
 use Rattle.std.proofs.lemmas.List.{length-map}
 use Rattle.ipnet_base.specs.Network.{truncation}

@@ -1,3 +1,5 @@
+-- Networks that hold the address stand before the place after its host network, the longest of them last, so the
+-- nearest is the match.
 use Rattle.std.proofs.Common.{◌≡◌, ◌-◌, ◌<◌, true, false, length, Contains, refl, sym, subst, arith}
 use Rattle.std.proofs.lemmas.List.{length-map}
 use Rattle.ipnet_base.specs.Address.{ip_address}

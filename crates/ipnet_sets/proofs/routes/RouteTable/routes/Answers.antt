@@ -1,3 +1,4 @@
+-- The networks of a table ascend, without host bits.
 use Rattle.std.proofs.Common.{All, sym, subst}
 use Rattle.ipnet_base.specs.Network.{IsTruncated}
 use Rattle.ipnet_base.specs.Blocks.{IsAscending}

@@ -1,3 +1,5 @@
+-- Each network lies after all that its family's turns hold so far, so its range goes to their end; once all are read,
+-- the turns hold what the networks cover.
 use Rattle.std.proofs.Common.{◌+◌, map, refl, sym, ap, subst₂, arith}
 use Rattle.std.proofs.lemmas.List.{length-map}
 use Rattle.ipnet_base.specs.Address.{IPv4, IPv6, ipv4_address, ipv6_address}

@@ -1,3 +1,4 @@
+-- After i turns the numbers of the first i networks are inside, by families.
 use Rattle.std.proofs.Common.{map}
 use Rattle.ipnet.specs.NetworkOf.{ip_network}
 use Rattle.ipnet_sets.specs.Turns.{by_family}

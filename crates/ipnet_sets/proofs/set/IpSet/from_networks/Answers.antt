@@ -1,3 +1,4 @@
+-- The aggregate covers what the list does, and its neighbours show that it is one.
 use Rattle.std.proofs.Common.{◌↔◌, map, sym, subst}
 use Rattle.std.proofs.lemmas.Result.{IfOk-weaker}
 use Rattle.ipnet_base.specs.Address.{Address}

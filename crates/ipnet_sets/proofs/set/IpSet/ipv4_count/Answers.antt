@@ -1,3 +1,5 @@
+-- The ranges of IPv4 have at most 2^32 addresses together, so the count fits its word, and it is that of a list of
+-- them.
 use Rattle.std.proofs.Common.{map, sym, ap, subst, arith}
 use Rattle.ipnet_base.specs.Address.{IPv4}
 use Rattle.ipnet_sets.specs.Turns.{AreTurns}

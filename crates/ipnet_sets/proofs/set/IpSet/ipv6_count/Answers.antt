@@ -1,3 +1,4 @@
+-- The ranges of IPv6 have 2^128 addresses exactly where the set is whole, and fewer fit the word.
 use Rattle.std.proofs.Common.{map, sym, ap, refl, subst}
 use Rattle.ipnet_base.specs.Address.{IPv6}
 use Rattle.ipnet_base.proofs.ListLaws.{true_gives, false_gives}

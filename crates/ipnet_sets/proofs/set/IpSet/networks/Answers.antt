@@ -1,3 +1,4 @@
+-- The networks pushed are those of the ranges of IPv4 and then of IPv6, and these are the maximal blocks of the set.
 use Rattle.std.proofs.Common.{map, sym, ap, subst}
 use Rattle.ipnet_base.specs.Address.{IPv4, IPv6}
 use Rattle.ipnet.specs.NetworkOf.{ip_network}

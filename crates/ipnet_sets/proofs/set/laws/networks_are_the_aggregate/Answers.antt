@@ -1,3 +1,4 @@
+-- The set has the addresses that the list covers, so the maximal blocks of both are one list.
 use Rattle.std.proofs.Common.{map}
 use Rattle.std.proofs.lemmas.Result.{IfOk-weaker}
 use Rattle.ipnet_base.specs.Blocks.{IsCoveredBy, AreMaximalBlocks, IsAggregateOf}

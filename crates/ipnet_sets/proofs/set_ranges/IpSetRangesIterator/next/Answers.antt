@@ -1,3 +1,4 @@
+-- What is left after the first range are turns again.
 use Rattle.ipnet_base.specs.Address.{IPv4, IPv6}
 use Rattle.ipnet_sets.proofs.SetRangeLaws.{turns_after}
 use Rattle.ipnet_sets.proofs.set_ranges.IpSetRangesIterator.next.Goals as goal
