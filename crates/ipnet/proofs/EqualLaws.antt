@@ -1,18 +1,18 @@
 -- What the derived `==` of two lists of networks tells.
-use Rattle.std.proofs.Common.{◌≡◌, ℕ, ◌*◌, ◌+◌, ◌/◌, ◌%◌, ◌^◌, ◌&&◌, ◌↔◌, Bool, true, false, IsTrue, eqb, List, []}
-use Rattle.std.proofs.Common.{◌∷◌, map, refl, sym, ap, ap₂, ◌∙◌, arith, eq-eqb}
+use Rattle.std.proofs.Common.{◌≡◌, ℕ, ◌*◌, ◌+◌, ◌/◌, ◌%◌, ◌^◌, ◌&&◌, ◌↔◌, Bool, true, false, IsTrue, eqb, List, [], ◌∷◌}
+use Rattle.std.proofs.Common.{map, refl, sym, ap, ap₂, ◌∙◌, arith, eq-eqb}
 use Rattle.std.proofs.lemmas.Bool.{eqb-true}
 use Rattle.std.proofs.lemmas.Bool.Decides.{nat_tests}
+use lib.Pointwise.{pointwise}
 use Rattle.ipnet_base.specs.Network.{IsNetwork}
 use Rattle.ipnet_base.specs.Blocks.{HaveSameCover, IsAggregateOf}
 use Rattle.ipnet_base.proofs.AggregateLaws.{same_aggregate_iff_same_cover}
+use Rattle.ipnet_base.proofs.ListLaws.{All-read}
 use Rattle.ipnet.specs.declared.net.IpNet.{IpNet}
 use Rattle.ipnet.specs.declared.net.IpNet.TheVariants.{V4, V6}
 use Rattle.ipnet.specs.contracts.net.IpNetPartialEq.TheImpl.{eq-value}
 use Rattle.ipnet.specs.NetworkOf.{ipv4_network_of, ipv6_network, ip_network}
 use Rattle.ipnet.specs.NetLaws.{ip_valid, ip_one_to_one}
-use Rattle.ipnet.proofs.JoinedLaws.{All-read}
-use lib.Pointwise.{pointwise}
 
 three_equal : (a b c d p q : ℕ) → (eqb a b && (eqb c d && eqb p q) ≡ true) ↔ ((a ≡ b) × ((c ≡ d) × (p ≡ q)))
 three_equal a b c d p q = (

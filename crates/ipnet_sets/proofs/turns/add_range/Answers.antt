@@ -1,6 +1,6 @@
 use Rattle.std.proofs.Common.{◌≡◌, ◌+◌, ◌++◌, ◌∷◌, [], map, sym, ap, ◌∙◌, subst, arith}
 use Rattle.std.proofs.lemmas.List.{map_push}
-use Rattle.ipnet_base.proofs.ListLaws.{true_gives}
+use Rattle.ipnet_base.proofs.ResultLaws.{true_gives}
 use Rattle.ipnet_sets.specs.Turns.{IsExtended}
 use Rattle.ipnet_sets.proofs.ExtendLaws.{extended_push}
 use Rattle.ipnet_sets.proofs.turns.add_range.Goals as goal

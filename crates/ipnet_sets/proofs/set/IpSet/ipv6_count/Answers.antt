@@ -1,6 +1,6 @@
 use Rattle.std.proofs.Common.{map, sym, ap, refl, subst}
 use Rattle.ipnet_base.specs.Address.{IPv6}
-use Rattle.ipnet_base.proofs.ListLaws.{true_gives, false_gives}
+use Rattle.ipnet_base.proofs.ResultLaws.{true_gives, false_gives}
 use Rattle.ipnet_sets.specs.Turns.{AreTurns}
 use Rattle.ipnet_sets.specs.Members.{IsMemberOf, IsCountOf}
 use Rattle.ipnet_sets.proofs.CountLaws.{count_of_family, all_of_family, not_whole_fits}
