@@ -80,8 +80,8 @@ uint8_t ipnet_aggregate_text_legacy(const uint8_t *text, size_t text_len, uint8_
  * BAD_LINE_IN_OTHER  `*line` is that of `other`, and `text` has none
  * NOT_UTF8           exactly where `text` is not
  * OTHER_NOT_UTF8     exactly where `text` is, and `other` is not
- * OUT_OF_MEMORY      never where all lines of both are empty, nor where the first line of `text` that is not empty is
- *                    bad
+ * OUT_OF_MEMORY      never where all lines of both are empty, nor where the first line that is not empty, of `text`
+ *                    and then of `other`, is bad
  *
  * `*same` changes at OK alone, `*line` at the two statuses of a bad line alone.
  *
@@ -100,8 +100,8 @@ uint8_t ipnet_same_addresses(const uint8_t *text, size_t text_len, const uint8_t
  * BAD_LINE_IN_OTHER  `*count` is that of `other`, and `text` has none
  * NOT_UTF8           exactly where `text` is not
  * OTHER_NOT_UTF8     exactly where `text` is, and `other` is not
- * OUT_OF_MEMORY      never where all lines of both are empty, nor where the first line of `text` that is not empty is
- *                    bad
+ * OUT_OF_MEMORY      never where all lines of both are empty, nor where the first line that is not empty, of `text`
+ *                    and then of `other`, is bad
  *
  * `buffer` changes at OK alone, and keeps what stands after the answer; `*count` keeps its value at the last three.
  *

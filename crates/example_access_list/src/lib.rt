@@ -24,11 +24,7 @@ impl AccessList {
     ghost use Rattle.example_access_list.specs.AccessLists.{IsAllowed, IsLetIn};
 
     /// The access list that allows and denies the addresses of these networks. Fails only when memory runs out.
-    pub fn new(
-        alloc: Global,
-        allow: &Vec<IpNet>,
-        deny: &Vec<IpNet>,
-    ) -> Result<AccessList, AllocError>
+    pub fn new(alloc: Global, allow: &Vec<IpNet>, deny: &Vec<IpNet>) -> Result<Self, AllocError>
         ensures { IfOk result (λ list. (x : Address) → IsLetIn list x
             ↔ IsAllowed (map ip_network allow.now.items) (map ip_network deny.now.items) x) }
     {

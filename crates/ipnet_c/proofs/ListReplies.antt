@@ -67,7 +67,7 @@ blank_is_ascii : (text : List ℕ) → IsBlank text → IsAscii text
 blank_is_ascii [] h = IsAscii-nil
 blank_is_ascii (b ∷ text) h = ascii_first b text (b == 10) refl (λ rest. blank_is_ascii text rest) h
 
-blank_is_utf8 : (text : List ℕ) → IsBlank text → IsUtf8 text
+pub blank_is_utf8 : (text : List ℕ) → IsBlank text → IsUtf8 text
 blank_is_utf8 text h = IsUtf8-from_ascii text (blank_is_ascii text h)
 
 -- ---- a list aggregated
@@ -125,6 +125,7 @@ compared text other same_old same line networks others answer utf8 utf8_other wr
   line_kept = λ a b. refl;
   empty = λ a b. refl;
   bad_at_once = λ number a b h. absurd (good_at_once Strict text networks written number h);
+  bad_at_once_in_other = λ number none b h. absurd (good_at_once Strict other others written_other number h);
 }
 
 pub first_not_utf8 : (text other : List ℕ) (same line : ℕ) → ¬ (IsUtf8 text)
@@ -140,6 +141,7 @@ first_not_utf8 text other same line invalid = record {
   line_kept = λ a b. refl;
   empty = λ a b. absurd (invalid (blank_is_utf8 text a));
   bad_at_once = λ number a b h. absurd (invalid a);
+  bad_at_once_in_other = λ number none b h. absurd (invalid (blank_is_utf8 text none));
 }
 
 pub other_not_utf8 : (text other : List ℕ) (same line : ℕ) → IsUtf8 text → ¬ (IsUtf8 other)
@@ -155,6 +157,7 @@ other_not_utf8 text other same line utf8 invalid = record {
   line_kept = λ a b. refl;
   empty = λ a b. absurd (invalid (blank_is_utf8 other b));
   bad_at_once = λ number a b h. absurd (invalid b);
+  bad_at_once_in_other = λ number none b h. absurd (invalid b);
 }
 
 pub other_refused : (text other : List ℕ) (same line_old line : ℕ) (networks : List Network) → IsUtf8 text
@@ -171,12 +174,13 @@ other_refused text other same line_old line networks utf8 utf8_other written bad
   line_kept = λ a b. absurd (b refl);
   empty = λ a b. absurd (some b);
   bad_at_once = λ number a b h. absurd (good_at_once Strict text networks written number h);
+  bad_at_once_in_other = λ number none b h. refl;
 }
 
 pub not_compared : (text other : List ℕ) (same line : ℕ) → IsUtf8 text → IsUtf8 other
-    → (IsBlank text → ¬ (IsBlank other))
-    → IsGoodAtOnce Strict text → IsSameAddressesReply text other same same line line 3
-not_compared text other same line utf8 utf8_other some good = record {
+    → (IsBlank text → ¬ (IsBlank other)) → IsGoodAtOnce Strict text → (IsBlank text → IsGoodAtOnce Strict other)
+    → IsSameAddressesReply text other same same line line 3
+not_compared text other same line utf8 utf8_other some good good_other = record {
   known = inr (inr (inr (inr (inr refl))));
   ok = λ e. absurd (differ 3 0 refl e);
   bad_line = λ e. absurd (differ 3 1 refl e);
@@ -187,6 +191,7 @@ not_compared text other same line utf8 utf8_other some good = record {
   line_kept = λ a b. refl;
   empty = λ a b. absurd (some a b);
   bad_at_once = λ number a b h. absurd (good number h);
+  bad_at_once_in_other = λ number none b h. absurd (good_other none number h);
 }
 
 -- ---- a list asked for a network

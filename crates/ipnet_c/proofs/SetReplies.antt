@@ -14,7 +14,7 @@ use Rattle.ipnet_c.specs.Replies.{IsCombined, AreBlocksOfBoth, IsSetText, IsSetR
 use Rattle.ipnet_c.specs.declared.sets.Operation.{Operation}
 use Rattle.ipnet_c.specs.declared.sets.Operation.TheVariants.{Union, Intersection, Difference}
 use Rattle.ipnet_c.proofs.StatusLaws.{differ, not_other}
-use Rattle.ipnet_c.proofs.ListReplies.{IsGoodAtOnce, good_at_once, IsBlank}
+use Rattle.ipnet_c.proofs.ListReplies.{IsGoodAtOnce, good_at_once, IsBlank, blank_is_utf8}
 
 -- the same is made of two sets with the same addresses
 IsCombined-same : (operation : Operation) (A B C D : Type 0) → A ↔ C → B ↔ D
@@ -88,6 +88,25 @@ combined operation text other answer old new count_old count status utf8 utf8_ot
   ];
   empty = λ none none_other e. not_other status 3 known refl refl e;
   bad_at_once = λ number a b h. absurd (good_at_once Strict text is.networks is.written number h);
+  bad_at_once_in_other = λ number none b h. absurd (good_at_once Strict other is.others is.written_other number h);
+}
+
+-- the first text is no text
+pub first_not_utf8 : (operation : Operation) (text other buffer : List ℕ) (count : ℕ) → ¬ (IsUtf8 text)
+    → IsSetReply operation text other buffer buffer count count 2
+first_not_utf8 operation text other buffer count invalid = record {
+  known = inr (inr (inr (inr (inl refl))));
+  ok = λ e. absurd (differ 2 0 refl e);
+  too_short = λ e. absurd (differ 2 4 refl e);
+  bad_line = λ e. absurd (differ 2 1 refl e);
+  bad_line_in_other = λ e. absurd (differ 2 9 refl e);
+  not_utf8 = (λ e. invalid, λ h. refl);
+  other_not_utf8 = (λ e. absurd (differ 2 10 refl e), λ h. absurd (invalid h.0));
+  buffer_kept = λ e. refl;
+  count_kept = λ e. refl;
+  empty = λ a b e. differ 2 3 refl e;
+  bad_at_once = λ number a b h. absurd (invalid a);
+  bad_at_once_in_other = λ number none b h. absurd (invalid (blank_is_utf8 text none));
 }
 
 -- a bad line of the other text
@@ -110,13 +129,14 @@ other_refused operation text other buffer count_old count networks utf8 utf8_oth
   ];
   empty = λ a b e. differ 9 3 refl e;
   bad_at_once = λ number a b h. absurd (good_at_once Strict text networks written number h);
+  bad_at_once_in_other = λ number none b h. refl;
 }
 
 -- memory ran out
 pub not_combined : (operation : Operation) (text other buffer : List ℕ) (count : ℕ) → IsUtf8 text → IsUtf8 other
-    → (IsBlank text → ¬ (IsBlank other)) → IsGoodAtOnce Strict text
+    → (IsBlank text → ¬ (IsBlank other)) → IsGoodAtOnce Strict text → (IsBlank text → IsGoodAtOnce Strict other)
     → IsSetReply operation text other buffer buffer count count 3
-not_combined operation text other buffer count utf8 utf8_other some good = record {
+not_combined operation text other buffer count utf8 utf8_other some good good_other = record {
   known = inr (inr (inr (inr (inr (inr refl)))));
   ok = λ e. absurd (differ 3 0 refl e);
   too_short = λ e. absurd (differ 3 4 refl e);
@@ -128,4 +148,5 @@ not_combined operation text other buffer count utf8 utf8_other some good = recor
   count_kept = λ e. refl;
   empty = λ a b e. some a b;
   bad_at_once = λ number a b h. absurd (good number h);
+  bad_at_once_in_other = λ number none b h. absurd (good_other none number h);
 }

@@ -54,11 +54,14 @@ pub record IsSameAddressesReply (text other : List ℕ) (same_old same line_old 
   pub other_not_utf8 : (status ≡ statuses.other_not_utf8) ↔ (IsUtf8 text × ¬ (IsUtf8 other))
   pub same_kept : status ≢ statuses.ok → same ≡ same_old
   pub line_kept : status ≢ statuses.bad_line → status ≢ statuses.bad_line_in_other → line ≡ line_old
-  -- what needs no memory: two texts of empty lines alone, and a first text whose first line that is not empty is bad
+  -- what needs no memory: two texts of empty lines alone; a first text whose first line that is not empty is bad; and
+  -- such an other text, where the first has empty lines alone
   pub empty : All (λ line. line ≡ []) (lines_of text) → All (λ line. line ≡ []) (lines_of other)
       → status ≡ statuses.ok
   pub bad_at_once : (number : ℕ) → IsUtf8 text → IsUtf8 other → StartsWithBadLine Strict (lines_of text) number
       → status ≡ statuses.bad_line
+  pub bad_at_once_in_other : (number : ℕ) → All (λ line. line ≡ []) (lines_of text) → IsUtf8 other
+      → StartsWithBadLine Strict (lines_of other) number → status ≡ statuses.bad_line_in_other
 
 -- ---- sets made of two lists
 
@@ -101,11 +104,14 @@ pub record IsSetReply (operation : Operation) (text other old new : List ℕ) (c
   pub buffer_kept : status ≢ statuses.ok → new ≡ old
   pub count_kept : (status ≡ statuses.not_utf8) ⊎ ((status ≡ statuses.other_not_utf8)
       ⊎ (status ≡ statuses.out_of_memory)) → count ≡ count_old
-  -- what needs no memory: two texts of empty lines alone, and a first text whose first line that is not empty is bad
+  -- what needs no memory: two texts of empty lines alone; a first text whose first line that is not empty is bad; and
+  -- such an other text, where the first has empty lines alone
   pub empty : All (λ line. line ≡ []) (lines_of text) → All (λ line. line ≡ []) (lines_of other)
       → status ≢ statuses.out_of_memory
   pub bad_at_once : (number : ℕ) → IsUtf8 text → IsUtf8 other → StartsWithBadLine Strict (lines_of text) number
       → status ≡ statuses.bad_line
+  pub bad_at_once_in_other : (number : ℕ) → All (λ line. line ≡ []) (lines_of text) → IsUtf8 other
+      → StartsWithBadLine Strict (lines_of other) number → status ≡ statuses.bad_line_in_other
 
 -- ---- lists asked for a network
 

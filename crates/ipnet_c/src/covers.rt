@@ -20,8 +20,8 @@ use std::str;
 /// The status is 0, or 1 where a line of the first text is no network, and 9 where one of the other is and none of the
 /// first, with the number of the first such line, counted from 1 with the empty ones, in `line`; 2 where the first text
 /// is not UTF-8, and 10 where the other alone is not; 3 where memory is short, which never comes where all lines of
-/// both are empty, nor where the first line of the first text that is not empty is bad. `same` changes at 0 alone,
-/// `line` at 1 and 9.
+/// both are empty, nor where the first line that is not empty, of the first text and then of the other, is bad. `same`
+/// changes at 0 alone, `line` at 1 and 9.
 ///
 /// ```text
 /// "10.0.0.0/25\n10.0.0.128/25" and "10.0.0.7/24"    0, and 1

@@ -19,7 +19,7 @@ use std::str;
 
 /// What is made of the addresses of two lists.
 #[derive(Clone, Copy)]
-pub enum Operation {
+pub(crate) enum Operation {
     /// The addresses of the one or of the other.
     Union,
     /// The addresses of both.
@@ -145,8 +145,8 @@ fn combine(
 /// The status is 0, or 4 where the buffer is too short, with the length needed in `count`; 1 where a line of the first
 /// text is no network, and 9 where one of the other is and none of the first, with the number of the first such line,
 /// counted from 1 with the empty ones, in `count`; 2 where the first text is not UTF-8, and 10 where the other alone is
-/// not; 3 where memory is short, which never comes where all lines of both are empty, nor where the first line of the
-/// first text that is not empty is bad. The buffer changes at 0 alone, `count` at 0, 1, 4 and 9.
+/// not; 3 where memory is short, which never comes where all lines of both are empty, nor where the first line that is
+/// not empty, of the first text and then of the other, is bad. The buffer changes at 0 alone, `count` at 0, 1, 4 and 9.
 ///
 /// ```text
 /// "10.0.0.0/25" and "10.0.0.128/25"    0, and the text "10.0.0.0/24\n"

@@ -30,8 +30,8 @@ pub record StartsWithBadLine (grammar : Grammar) (lines : List (List ℕ)) (numb
   pub first : IsFirstBadLine grammar lines number
   pub empty : All (λ line. line ≡ []) first.before
 
--- What the text tool gives for a text in this grammar: the answer, or the first bad line, or want of memory. The last
--- comes neither where all lines are empty nor where the first line that is not empty is bad.
+-- What the text tool gives for a text in this grammar: the answer, or the first bad line, or that memory ran out. The
+-- last comes neither where all lines are empty nor where the first line that is not empty is bad.
 pub record IsTextAnswer (grammar : Grammar) (text : List ℕ) (result : Result (String Global) ToolError) : Type 0 where
   pub empty : All (λ line. line ≡ []) (lines_of text) → IsOkAnd result (λ answer. string_bytes answer ≡ [])
   pub answer : IfOk result (λ answer. IsAnswerTo grammar text (string_bytes answer))

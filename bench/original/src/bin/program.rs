@@ -2,8 +2,8 @@
 //! same addresses on standard output.
 //!
 //! It has the statuses and messages of this repository's program, and like it writes nothing before it has read to the
-//! input's end. Its grammar is the crate's own, which also takes leading zeros, and want of memory ends it as it ends
-//! any Rust program.
+//! input's end. Its grammar is the crate's own, which also takes leading zeros, and where memory runs out it ends as
+//! any Rust program does.
 
 use std::fmt;
 use std::io::{self, BufRead, BufReader, BufWriter, Write};

@@ -1,6 +1,6 @@
 //! Memory that runs out: each run of a call says so, and leaves what it was lent as it was, or answers; the first run
 //! is refused and the last is answered. Calls that promise to take no memory are answered in each run.
-use crate::statuses::{BAD_LINE, OK, OUT_OF_MEMORY};
+use crate::statuses::{BAD_LINE, BAD_LINE_IN_OTHER, OK, OUT_OF_MEMORY};
 use crate::tests::calls::{IntoBuffer, YesOrNo};
 use out_of_memory::{RUNS, grow_stack, outcomes};
 use std::alloc::Global;
@@ -110,60 +110,98 @@ fn status_of(alloc: Global, call: IntoBuffer, first: &[u8], second: &[u8]) -> u8
     call.call(alloc, first, second, &mut buffer, &mut count)
 }
 
+/// The status of the comparison.
+fn comparison_status_of(alloc: Global, first: &[u8], second: &[u8]) -> u8 {
+    let mut answer = UNTOUCHED;
+    let mut line = UNTOLD;
+    YesOrNo::SameAddresses.call(alloc, first, second, &mut answer, &mut line)
+}
+
+/// Label, call, its arguments, and the status.
+type StatusRow = (&'static str, IntoBuffer, &'static [u8], &'static [u8], u8);
+
+const NO_MEMORY: [StatusRow; 10] = [
+    (
+        "an empty list aggregated",
+        IntoBuffer::Aggregate,
+        b"",
+        b"",
+        OK,
+    ),
+    (
+        "the union of empty lists",
+        IntoBuffer::Union,
+        b"",
+        b"\n",
+        OK,
+    ),
+    (
+        "the difference of empty lists",
+        IntoBuffer::Difference,
+        b"",
+        b"",
+        OK,
+    ),
+    (
+        "a bad line at once",
+        IntoBuffer::Aggregate,
+        b"\nx",
+        b"",
+        BAD_LINE,
+    ),
+    (
+        "a bad line at once, of two lists",
+        IntoBuffer::Intersection,
+        b"\nx",
+        LIST,
+        BAD_LINE,
+    ),
+    (
+        "a bad line at once in the other list, of a union",
+        IntoBuffer::Union,
+        b"\n",
+        b"\nx",
+        BAD_LINE_IN_OTHER,
+    ),
+    (
+        "a bad line at once in the other list, of an intersection",
+        IntoBuffer::Intersection,
+        b"",
+        b"x\n10.0.0.0/24",
+        BAD_LINE_IN_OTHER,
+    ),
+    (
+        "a bad line at once in the other list, of a difference",
+        IntoBuffer::Difference,
+        b"\n\n",
+        b"\n\nx",
+        BAD_LINE_IN_OTHER,
+    ),
+    ("a network read", IntoBuffer::Parse, b"10.0.0.7/24", b"", OK),
+    (
+        "a network printed",
+        IntoBuffer::Print,
+        b"\x00\x0a\x00\x00\x00\x17",
+        b"",
+        OK,
+    ),
+];
+
 #[test]
 fn no_memory_is_needed(rt: HostRuntime) -> Result<(), Fail> {
     grow_stack(rt.alloc())?;
     let alloc = rt.alloc();
-    // label, call, its arguments, the status
-    let rows: [(&str, IntoBuffer, &[u8], &[u8], u8); 7] = [
-        (
-            "an empty list aggregated",
-            IntoBuffer::Aggregate,
-            b"",
-            b"",
-            OK,
-        ),
-        (
-            "the union of empty lists",
-            IntoBuffer::Union,
-            b"",
-            b"\n",
-            OK,
-        ),
-        (
-            "the difference of empty lists",
-            IntoBuffer::Difference,
-            b"",
-            b"",
-            OK,
-        ),
-        (
-            "a bad line at once",
-            IntoBuffer::Aggregate,
-            b"\nx",
-            b"",
-            BAD_LINE,
-        ),
-        (
-            "a bad line at once, of two lists",
-            IntoBuffer::Intersection,
-            b"\nx",
-            LIST,
-            BAD_LINE,
-        ),
-        ("a network read", IntoBuffer::Parse, b"10.0.0.7/24", b"", OK),
-        (
-            "a network printed",
-            IntoBuffer::Print,
-            b"\x00\x0a\x00\x00\x00\x17",
-            b"",
-            OK,
-        ),
-    ];
-    for (label, call, first, second, status) in rows {
+    for (label, call, first, second, status) in NO_MEMORY {
         if let Some(runs) = outcomes(alloc, || status_of(alloc, call, first, second))? {
             assert!(rt; runs == [status; RUNS], "{label}");
         }
+    }
+    let runs = outcomes(alloc, || comparison_status_of(alloc, b"\n", b"\nx"))?;
+    if let Some(runs) = runs {
+        assert!(rt;
+            runs == [BAD_LINE_IN_OTHER; RUNS],
+            "a bad line at once in the other list, compared"
+        );
     }
     Ok(())
 }

@@ -9,8 +9,8 @@ use std::test::Fail;
 
 /// A system that gives these words as arguments, the program's own name first. Each ends with a byte 0.
 #[derive(Drop)]
-struct System<'a> {
-    words: &'a [u8],
+pub struct System<'a> {
+    pub words: &'a [u8],
 }
 
 /// How many bytes stand before the first byte 0.

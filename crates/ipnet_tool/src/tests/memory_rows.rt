@@ -5,7 +5,8 @@
 //! outgrows the first block that its string has. The allocator keeps each block that a run gave back for later
 //! requests of the same size, and so it may find none for the next size: answers and refusals alternate until there
 //! is room for all.
-use crate::program::run;
+use crate::program::{Failure, arguments, run};
+use crate::tests::argument_rows::System;
 use crate::tests::devices::{ArrayWriter, ByteReader};
 use crate::tool::{ToolError, aggregate_text, aggregate_text_legacy};
 use out_of_memory::{RUNS, grow_stack, outcomes};
@@ -193,5 +194,29 @@ fn no_request(rt: HostRuntime) -> Result<(), Fail> {
         "memory: tool, a bad line after an empty one",
         || { aggregate_text(alloc, "\n10.0.0.0/24\r\n") == Err(ToolError::Line(2)) },
     )?;
+    Ok(())
+}
+
+/// How the arguments `ipnet legacy` are read.
+fn arguments_outcome(alloc: Global) -> Outcome {
+    let system = System {
+        words: b"ipnet\0legacy\0",
+    };
+    match arguments(&(system, alloc)) {
+        Ok(words) if words.len() == 1 && words.iter().all(|word| word.as_str() == "legacy") => {
+            Outcome::Answered
+        }
+        Err(Failure::Memory) => Outcome::Refused,
+        _ => Outcome::Wrong,
+    }
+}
+
+#[test]
+fn program_arguments(rt: HostRuntime) -> Result<(), Fail> {
+    grow_stack(rt.alloc())?;
+    let alloc = rt.alloc();
+    if let Some(outcomes) = outcomes(alloc, || arguments_outcome(alloc))? {
+        check_each(&rt, "memory: arguments", &outcomes);
+    }
     Ok(())
 }

@@ -82,7 +82,7 @@ fn errors(rt: HostRuntime) -> Result<(), Fail> {
             "line 3: invalid IP address syntax",
         ),
         (
-            "want of memory in the tool",
+            "memory ran out in the tool",
             ToolError::Memory,
             "out of memory",
         ),

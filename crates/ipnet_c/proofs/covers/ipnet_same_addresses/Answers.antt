@@ -1,5 +1,6 @@
 -- Each way out gives a reply of `ListReplies`: the answer, or by the called functions' promises why there is none.
--- Memory runs out neither for two texts of empty lines nor where the first text starts with a bad line.
+-- Memory runs out neither for two texts of empty lines nor where the first line that is not empty, of the first text
+-- and then of the other, is bad.
 use Rattle.std.proofs.Common.{map, sym, ap, subst, Err}
 use Rattle.std.proofs.lemmas.Bool.{false≢true}
 use Rattle.ipnet.specs.Lines.{lines_of}
@@ -29,6 +30,7 @@ returns-in-Err-Memory c =
     not_compared c.args.text.now c.args.other.now c.args.same.now c.args.line.now utf8 utf8_other
     (λ none. absurd (false≢true (c.in-Err-Memory.ensures.empty (subst IsBlank (sym same) none))))
     (subst (IsGoodAtOnce Strict) same good)
+    (λ none. absurd (false≢true (c.in-Err-Memory.ensures.empty (subst IsBlank (sym same) none))))
 
 pub returns-in-Err-Line-read_networks : goal.returns-in-Err-Line-read_networks
 returns-in-Err-Line-read_networks c =
@@ -47,11 +49,14 @@ pub returns-in-Err-Memory-read_networks : goal.returns-in-Err-Memory-read_networ
 returns-in-Err-Memory-read_networks c =
     let (same, utf8) = c.in-Ok.ensures.cases in
     let (same_other, utf8_other) = c.in-Ok-from_utf8.ensures.cases in
+    let good : IsGoodAtOnce Strict c.in-Ok-from_utf8.other.now =
+    λ number h. let clash = c.in-Err-Memory-read_networks.ensures.bad_at_once number h in absurd cc in
     not_compared c.args.text.now c.args.other.now c.args.same.now c.args.line.now utf8 utf8_other
     (λ none none_other.
     false≢true (c.in-Err-Memory-read_networks.ensures.empty (subst IsBlank (sym same_other) none_other)))
     (good_at_once Strict c.args.text.now (map ip_network c.in-Ok-read_networks.networks.items)
     (rw same at c.in-Ok-read_networks.ensures.networks))
+    (λ none. subst (IsGoodAtOnce Strict) same_other good)
 
 pub returns-in_default-same_addresses : goal.returns-in_default-same_addresses
 returns-in_default-same_addresses c =
@@ -66,6 +71,7 @@ returns-in_default-same_addresses c =
     (none_of_none (lines_of c.args.text.now) networks written none)
     (none_of_none (lines_of c.args.other.now) others written_other none_other))
     (good_at_once Strict c.args.text.now (map ip_network networks) written)
+    (λ none. good_at_once Strict c.args.other.now (map ip_network others) written_other)
 
 pub returns : goal.returns
 returns c =

@@ -1,6 +1,6 @@
 -- Each way out gives a reply of `SetReplies`: the answer, or by the called functions' promises why there is none.
--- Memory runs out neither for two texts of empty lines, since `are_empty` is asked first, nor where the first text
--- starts with a bad line.
+-- Memory runs out neither for two texts of empty lines, since `are_empty` is asked first, nor where the first line that
+-- is not empty, of the first text and then of the other, is bad.
 use Rattle.std.proofs.Common.{[], map, sym, ap, ◌∙◌, subst, Err}
 use Rattle.std.proofs.lemmas.Bool.{false≢true}
 use Rattle.ipnet.specs.Lines.{lines_of, AreNetworksOf}
@@ -8,8 +8,13 @@ use Rattle.ipnet.specs.NetworkOf.{ip_network}
 use Rattle.ipnet.specs.declared.parser.Grammar.TheVariants.{Strict}
 use Rattle.ipnet_c.specs.Replies.{IsSetReply}
 use Rattle.ipnet_c.proofs.ListReplies.{IsGoodAtOnce, good_at_once, IsBlank, none_of_none}
-use Rattle.ipnet_c.proofs.SetReplies.{combined, other_refused, not_combined, empty_of_empty}
+use Rattle.ipnet_c.proofs.SetReplies.{combined, first_not_utf8, other_refused, not_combined, empty_of_empty}
 use Rattle.ipnet_c.proofs.sets.combine.Goals as goal
+
+pub returns-in_default : goal.returns-in_default
+returns-in_default c =
+    first_not_utf8 c.args.operation c.args.text.now c.args.other.now c.args.buffer.now c.args.count.now
+    c.in_default.ensures.cases.0
 
 pub returns-then-are_empty : goal.returns-then-are_empty
 returns-then-are_empty c =
@@ -35,6 +40,7 @@ returns-in-Err-Memory c =
     not_combined c.args.operation c.args.text.now c.args.other.now c.args.buffer.now c.args.count.now utf8 utf8_other
     (λ none. absurd (false≢true (c.in-Err-Memory.ensures.empty (subst IsBlank (sym same) none))))
     (subst (IsGoodAtOnce Strict) same good)
+    (λ none. absurd (false≢true (c.in-Err-Memory.ensures.empty (subst IsBlank (sym same) none))))
 
 pub returns-in-Err-Line-read_networks : goal.returns-in-Err-Line-read_networks
 returns-in-Err-Line-read_networks c =
@@ -52,11 +58,14 @@ pub returns-in-Err-Memory-read_networks : goal.returns-in-Err-Memory-read_networ
 returns-in-Err-Memory-read_networks c =
     let (same, utf8) = c.in-Ok.ensures.cases in
     let (same_other, utf8_other) = c.in-Ok-from_utf8.ensures.cases in
+    let good : IsGoodAtOnce Strict c.in-Ok-from_utf8.other.now =
+    λ number h. let clash = c.in-Err-Memory-read_networks.ensures.bad_at_once number h in absurd cc in
     not_combined c.args.operation c.args.text.now c.args.other.now c.args.buffer.now c.args.count.now utf8 utf8_other
     (λ none none_other.
     false≢true (c.in-Err-Memory-read_networks.ensures.empty (subst IsBlank (sym same_other) none_other)))
     (good_at_once Strict c.args.text.now (map ip_network c.in-Ok-read_networks.networks.items)
     (rw same at c.in-Ok-read_networks.ensures.networks))
+    (λ none. subst (IsGoodAtOnce Strict) same_other good)
 
 pub returns-in_default-combined_networks : goal.returns-in_default-combined_networks
 returns-in_default-combined_networks c =
@@ -71,6 +80,8 @@ returns-in_default-combined_networks c =
     )))
     (good_at_once Strict c.args.text.now (map ip_network c.in-Ok-read_networks.networks.items)
     (rw same at c.in-Ok-read_networks.ensures.networks))
+    (λ none. good_at_once Strict c.args.other.now (map ip_network c.in-Ok-read_networks-2.others.items)
+    (rw same_other at c.in-Ok-read_networks-2.ensures.networks))
 
 pub returns-in_default-printed : goal.returns-in_default-printed
 returns-in_default-printed c =
@@ -85,6 +96,8 @@ returns-in_default-printed c =
     )))
     (good_at_once Strict c.args.text.now (map ip_network c.in-Ok-read_networks.networks.items)
     (rw same at c.in-Ok-read_networks.ensures.networks))
+    (λ none. good_at_once Strict c.args.other.now (map ip_network c.in-Ok-read_networks-2.others.items)
+    (rw same_other at c.in-Ok-read_networks-2.ensures.networks))
 
 pub returns : goal.returns
 returns c =
