@@ -84,138 +84,137 @@ both_begin c k =
     ∙ sym (div-mul-add c (2 ^ (k + 1)) (2 ^ k) (pow_below k (k + 1) (omega arith)))
     ∙ ap (λ z. z / 2 ^ (k + 1)) (sym (upper_half c k))
 
--- two members with k open bits, one for each half, would be halves of one supernet, and neighbours
-no_halves : (networks : List Network) → All IsNetwork networks → AreJoined networks
-    → (family : Family) (k c : ℕ) → k + 1 ≤ width family
-    → (n l : Network) → Contains networks n → Contains networks l → n.family ≡ family → l.family ≡ family
-    → host_bits n ≡ k → host_bits l ≡ k → n.number / 2 ^ host_bits n ≡ 2 * c → l.number / 2 ^ host_bits l ≡ 2 * c + 1
-    → ⊥
-no_halves networks valid joined family k c le n l in_n in_l fn fl bn bl qn ql =
-    adjacent_at (λ x y. ¬ (AreHalves x y)) networks joined.unjoined n l in_n in_l
-    (touching networks (ends_before_all networks joined) n l in_n in_l (fn ∙ sym fl) touch)
-    halves
-  where
-    sizes : 2 ^ host_bits n ≡ 2 ^ host_bits l
-    sizes = ap (λ m. 2 ^ m) (bn ∙ sym bl)
+-- Networks that show the conditions on neighbours.
+module _ (networks : List Network) (valid : All IsNetwork networks) (joined : AreJoined networks) where
+  -- two members with k open bits, one for each half, would be halves of one supernet, and neighbours
+  no_halves : (family : Family) (k c : ℕ) → k + 1 ≤ width family
+      → (n l : Network) → Contains networks n → Contains networks l → n.family ≡ family → l.family ≡ family
+      → host_bits n ≡ k → host_bits l ≡ k → n.number / 2 ^ host_bits n ≡ 2 * c → l.number / 2 ^ host_bits l ≡ 2 * c + 1
+      → ⊥
+  no_halves family k c le n l in_n in_l fn fl bn bl qn ql =
+      adjacent_at (λ x y. ¬ (AreHalves x y)) networks joined.unjoined n l in_n in_l
+      (touching networks (ends_before_all networks joined) n l in_n in_l (fn ∙ sym fl) touch)
+      halves
+    where
+      sizes : 2 ^ host_bits n ≡ 2 ^ host_bits l
+      sizes = ap (λ m. 2 ^ m) (bn ∙ sym bl)
 
-    first_n : first_of n ≡ (2 * c) * 2 ^ host_bits l
-    first_n = ap₂ ◌*◌ qn sizes
+      first_n : first_of n ≡ (2 * c) * 2 ^ host_bits l
+      first_n = ap₂ ◌*◌ qn sizes
 
-    number_l : l.number ≡ (2 * c + 1) * 2 ^ host_bits l
-    number_l = number_from_truncated l (all_at IsTruncated networks joined.truncated l in_l) ∙ ap
-        (λ q. q * 2 ^ host_bits l) ql
+      number_l : l.number ≡ (2 * c + 1) * 2 ^ host_bits l
+      number_l = number_from_truncated l (all_at IsTruncated networks joined.truncated l in_l) ∙ ap
+          (λ q. q * 2 ^ host_bits l) ql
 
-    touch : l.number ≡ last_of n + 1
-    touch = omega (arith, first_n, number_l, sizes, pow_pos (host_bits n))
+      touch : l.number ≡ last_of n + 1
+      touch = omega (arith, first_n, number_l, sizes, pow_pos (host_bits n))
 
-    ql' : l.number / 2 ^ host_bits n ≡ 2 * c + 1
-    ql' = ap (λ m. l.number / m) sizes ∙ ql
+      ql' : l.number / 2 ^ host_bits n ≡ 2 * c + 1
+      ql' = ap (λ m. l.number / m) sizes ∙ ql
 
-    halves : AreHalves n l
-    halves = record {
-      siblings = record {
-        same_family = fn ∙ sym fl;
-        same_len = same_len_from_bits n l (all_at IsNetwork networks valid n in_n)
-            (all_at IsNetwork networks valid l in_l) (fn ∙ sym fl) (bn ∙ sym bl);
-        has_supernet = omega (arith, le, bn, ap width fn);
-        same_supernet =
-            sym (shr-shr n.number (host_bits n) 1) ∙ ap (λ q. q / 2) qn
-            ∙ omega arith
-            ∙ sym (ap (λ q. q / 2) ql') ∙ shr-shr l.number (host_bits n) 1;
-      };
-      differ = λ e. omega (arith, e, qn, ql');
-    }
+      halves : AreHalves n l
+      halves = record {
+        siblings = record {
+          same_family = fn ∙ sym fl;
+          same_len = same_len_from_bits n l (all_at IsNetwork networks valid n in_n)
+              (all_at IsNetwork networks valid l in_l) (fn ∙ sym fl) (bn ∙ sym bl);
+          has_supernet = omega (arith, le, bn, ap width fn);
+          same_supernet =
+              sym (shr-shr n.number (host_bits n) 1) ∙ ap (λ q. q / 2) qn
+              ∙ omega arith
+              ∙ sym (ap (λ q. q / 2) ql') ∙ shr-shr l.number (host_bits n) 1;
+        };
+        differ = λ e. omega (arith, e, qn, ql');
+      }
 
-lies_step : (networks : List Network) → All IsNetwork networks → AreJoined networks
-    → (family : Family) (k c : ℕ) → k + 1 ≤ width family
-    → LiesInOne networks family k (2 * c) → LiesInOne networks family k (2 * c + 1)
-    → LiesInOne networks family (k + 1) c
-lies_step networks valid joined family k c le (n, in_n, fn, bn, en) (l, in_l, fl, bl, el) =
-    elim (cases_lt k (host_bits n)) [
-      | inl more ↦ (n, in_n, fn, omega (arith, more), ap (λ z. z / 2 ^ host_bits n) (sym (double c k)) ∙ en)
-      | inr no_more ↦ elim (cases_lt k (host_bits l)) [
-        | inl more ↦ (
-          l,
-          in_l,
-          fl,
-          omega (arith, more),
-          coarser (k + 1) (host_bits l) (c * 2 ^ (k + 1)) ((2 * c + 1) * 2 ^ k) (omega (arith, more)) (both_begin c k)
-              ∙ el,
-        )
-        | inr nor_more ↦
-            let hn : host_bits n ≡ k = omega (arith, bn, no_more) in
-            let hl : host_bits l ≡ k = omega (arith, bl, nor_more) in
-            absurd (no_halves networks valid joined family k c le n l in_n in_l fn fl hn hl
-            (sym en ∙ ap (λ m. ((2 * c) * 2 ^ k) / 2 ^ m) hn ∙ begins (2 * c) k)
-            (sym el ∙ ap (λ m. ((2 * c + 1) * 2 ^ k) / 2 ^ m) hl ∙ begins (2 * c + 1) k))
+  lies_step : (family : Family) (k c : ℕ) → k + 1 ≤ width family
+      → LiesInOne networks family k (2 * c) → LiesInOne networks family k (2 * c + 1)
+      → LiesInOne networks family (k + 1) c
+  lies_step family k c le (n, in_n, fn, bn, en) (l, in_l, fl, bl, el) =
+      elim (cases_lt k (host_bits n)) [
+        | inl more ↦ (n, in_n, fn, omega (arith, more), ap (λ z. z / 2 ^ host_bits n) (sym (double c k)) ∙ en)
+        | inr no_more ↦ elim (cases_lt k (host_bits l)) [
+          | inl more ↦ (
+            l,
+            in_l,
+            fl,
+            omega (arith, more),
+            coarser (k + 1) (host_bits l) (c * 2 ^ (k + 1)) ((2 * c + 1) * 2 ^ k) (omega (arith, more)) (both_begin c k)
+                ∙ el,
+          )
+          | inr nor_more ↦
+              let hn : host_bits n ≡ k = omega (arith, bn, no_more) in
+              let hl : host_bits l ≡ k = omega (arith, bl, nor_more) in
+              absurd (no_halves family k c le n l in_n in_l fn fl hn hl
+              (sym en ∙ ap (λ m. ((2 * c) * 2 ^ k) / 2 ^ m) hn ∙ begins (2 * c) k)
+              (sym el ∙ ap (λ m. ((2 * c + 1) * 2 ^ k) / 2 ^ m) hl ∙ begins (2 * c + 1) k))
+        ]
       ]
-    ]
 
-lies_in_one : (networks : List Network) → All IsNetwork networks → AreJoined networks
-    → (family : Family) (k c : ℕ) → k ≤ width family → IsCovered networks family k c → LiesInOne networks family k c
-lies_in_one networks valid joined family zero c le cover =
-    let x : Address = record { family = family; number = c } in
-    let w : IsCoveredBy networks x = cover x refl (div-one c) in
-    (w.1, (w.0, w.2, w.3), sym w.4.same_family, omega arith, rw mul-one w.4.same_prefix)
-lies_in_one networks valid joined family (suc k) c le cover =
-    subst (λ m. LiesInOne networks family m c) (add-one k)
-    (lies_step networks valid joined family k c (omega arith)
-    (lies_in_one networks valid joined family k (2 * c) (omega arith)
-    (λ x f e. cover x f (half x.number (2 * c) e (omega arith))))
-    (lies_in_one networks valid joined family k (2 * c + 1) (omega arith)
-    (λ x f e. cover x f (half x.number (2 * c + 1) e (omega arith)))))
-  where
-    half : (y q : ℕ) → y / 2 ^ k ≡ q → q / 2 ≡ c → y / 2 ^ suc k ≡ c
-    half y q e h = subst (λ m. y / 2 ^ m ≡ c) (add-one k) (sym (shr-shr y k 1) ∙ ap (λ z. z / 2) e ∙ h)
+  lies_in_one : (family : Family) (k c : ℕ) → k ≤ width family → IsCovered networks family k c
+      → LiesInOne networks family k c
+  lies_in_one family zero c le cover =
+      let x : Address = record { family = family; number = c } in
+      let w : IsCoveredBy networks x = cover x refl (div-one c) in
+      (w.1, (w.0, w.2, w.3), sym w.4.same_family, omega arith, rw mul-one w.4.same_prefix)
+  lies_in_one family (suc k) c le cover =
+      subst (λ m. LiesInOne networks family m c) (add-one k)
+      (lies_step family k c (omega arith)
+      (lies_in_one family k (2 * c) (omega arith)
+      (λ x f e. cover x f (half x.number (2 * c) e (omega arith))))
+      (lies_in_one family k (2 * c + 1) (omega arith)
+      (λ x f e. cover x f (half x.number (2 * c + 1) e (omega arith)))))
+    where
+      half : (y q : ℕ) → y / 2 ^ k ≡ q → q / 2 ≡ c → y / 2 ^ suc k ≡ c
+      half y q e h = subst (λ m. y / 2 ^ m ≡ c) (add-one k) (sym (shr-shr y k 1) ∙ ap (λ z. z / 2) e ∙ h)
 
--- a truncated network whose block is covered lies in one member
-subnet_of_one : (networks : List Network) → All IsNetwork networks → AreJoined networks
-    → (k : Network) → ((x : Address) → InBlock k x → IsCoveredBy networks x) → (n : Network) × Contains networks n
-    × IsSubnetOf k n
-subnet_of_one networks valid joined k covered =
-    let found : LiesInOne networks k.family (host_bits k) (k.number / 2 ^ host_bits k) =
-    lies_in_one networks valid joined k.family (host_bits k) (k.number / 2 ^ host_bits k) (omega arith)
-    (λ x f e. covered x (record { same_family = f; same_prefix = e })) in (
-      found.0,
-      found.1,
-      nested k found.0 (at k (first_of k)) (first_in k)
-          (record { same_family = sym found.2; same_prefix = found.4 }) found.3,
-    )
+  -- a truncated network whose block is covered lies in one member
+  subnet_of_one : (k : Network) → ((x : Address) → InBlock k x → IsCoveredBy networks x)
+      → (n : Network) × Contains networks n
+      × IsSubnetOf k n
+  subnet_of_one k covered =
+      let found : LiesInOne networks k.family (host_bits k) (k.number / 2 ^ host_bits k) =
+      lies_in_one k.family (host_bits k) (k.number / 2 ^ host_bits k) (omega arith)
+      (λ x f e. covered x (record { same_family = f; same_prefix = e })) in (
+        found.0,
+        found.1,
+        nested k found.0 (at k (first_of k)) (first_in k)
+            (record { same_family = sym found.2; same_prefix = found.4 }) found.3,
+      )
 
--- so the networks are all the maximal blocks of their cover
-pub AreMaximalBlocks-from_neighbours : (networks : List Network) → All IsNetwork networks → AreJoined networks
-    → AreMaximalBlocks (IsCoveredBy networks) 0 networks
-AreMaximalBlocks-from_neighbours networks valid joined = record {
-  ascending = pairs_weaker LiesBefore IsBefore before_from_ends networks ends;
-  members = λ n. (member_is_maximal n, maximal_is_member n);
-}
-  where
-    ends : AllPairs LiesBefore networks
-    ends = ends_before_all networks joined
+  -- so the networks are all the maximal blocks of their cover
+  pub AreMaximalBlocks-from_neighbours : AreMaximalBlocks (IsCoveredBy networks) 0 networks
+  AreMaximalBlocks-from_neighbours = record {
+    ascending = pairs_weaker LiesBefore IsBefore before_from_ends networks ends;
+    members = λ n. (member_is_maximal n, maximal_is_member n);
+  }
+    where
+      ends : AllPairs LiesBefore networks
+      ends = ends_before_all networks joined
 
-    member_is_inside : (n : Network) → Contains networks n → IsInside (IsCoveredBy networks) 0 n
-    member_is_inside n c = record {
-      network = all_at IsNetwork networks valid n c;
-      truncated = all_at IsTruncated networks joined.truncated n c;
-      long_enough = omega arith;
-      within = λ x a. any_from_contains (λ m. InBlock m x) networks n c a;
-    }
+      member_is_inside : (n : Network) → Contains networks n → IsInside (IsCoveredBy networks) 0 n
+      member_is_inside n c = record {
+        network = all_at IsNetwork networks valid n c;
+        truncated = all_at IsTruncated networks joined.truncated n c;
+        long_enough = omega arith;
+        within = λ x a. any_from_contains (λ m. InBlock m x) networks n c a;
+      }
 
-    member_is_maximal : (n : Network) → Contains networks n → IsMaximal (IsCoveredBy networks) 0 n
-    member_is_maximal n c = record {
-      inside = member_is_inside n c;
-      largest = λ k i s.
-          let (m, in_m, k_in_m) = subnet_of_one networks valid joined k i.within in
-          let one : m ≡ n = one_member networks joined.truncated ends m n in_m c (own n)
-          (k_in_m (own n) (s (own n) (own_in n))) (own_in n) in
-          same_from_block k n i.network (member_is_inside n c).network i.truncated (member_is_inside n c).truncated
-          (subst (λ z. IsSubnetOf k z) one k_in_m, s);
-    }
+      member_is_maximal : (n : Network) → Contains networks n → IsMaximal (IsCoveredBy networks) 0 n
+      member_is_maximal n c = record {
+        inside = member_is_inside n c;
+        largest = λ k i s.
+            let (m, in_m, k_in_m) = subnet_of_one k i.within in
+            let one : m ≡ n = one_member networks joined.truncated ends m n in_m c (own n)
+            (k_in_m (own n) (s (own n) (own_in n))) (own_in n) in
+            same_from_block k n i.network (member_is_inside n c).network i.truncated (member_is_inside n c).truncated
+            (subst (λ z. IsSubnetOf k z) one k_in_m, s);
+      }
 
-    maximal_is_member : (n : Network) → IsMaximal (IsCoveredBy networks) 0 n → Contains networks n
-    maximal_is_member n h =
-        let (m, in_m, n_in_m) = subnet_of_one networks valid joined n h.inside.within in
-        subst (Contains networks) (h.largest m (member_is_inside m in_m) n_in_m) in_m
+      maximal_is_member : (n : Network) → IsMaximal (IsCoveredBy networks) 0 n → Contains networks n
+      maximal_is_member n h =
+          let (m, in_m, n_in_m) = subnet_of_one n h.inside.within in
+          subst (Contains networks) (h.largest m (member_is_inside m in_m) n_in_m) in_m
 
 -- of two maximal networks the one that stands before the other ends before it
 pub lies_before_from_maximal : (InSet : Address → Type 0) (least : ℕ) (n k : Network) → IsMaximal InSet least n
