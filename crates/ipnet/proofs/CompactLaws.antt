@@ -10,6 +10,7 @@ use Rattle.ipnet.specs.CanonicalTexts.{address_octets}
 use Rattle.ipnet_base.specs.Results.{IsOkExactlyAt}
 use Rattle.ipnet.specs.Bytes.{network_bytes, octet_count, HasUnknownVariant}
 use Rattle.ipnet_base.proofs.DigitLaws.{number_back}
+use Rattle.ipnet_base.proofs.NetworkLaws.{same_network}
 use Rattle.ipnet.proofs.NumberOctets.{sixteen_again}
 
 -- the number that the octets write
@@ -68,9 +69,11 @@ same_parts IPv6 a b p q fit fit' e = (
   ap (λ bytes. get_or bytes 16 0) e,
 )
 
-same_network : (family : Family) (n k : Network) → n.family ≡ family → k.family ≡ family → IsNetwork n → IsNetwork k
+-- and so the network
+network_from_bytes : (family : Family) (n k : Network) → n.family ≡ family → k.family ≡ family → IsNetwork n
+    → IsNetwork k
     → network_bytes n ≡ network_bytes k → n ≡ k
-same_network family n k of_n of_k u v e =
+network_from_bytes family n k of_n of_k u v e =
     let fit : n.number < 2 ^ width family = subst (λ f. n.number < 2 ^ width f) of_n u.address_fits in
     let fit' : k.number < 2 ^ width family = subst (λ f. k.number < 2 ^ width f) of_k v.address_fits in
     let bytes : address_octets family n.number ++ n.prefix_len ∷ []
@@ -78,7 +81,7 @@ same_network family n k of_n of_k u v e =
     ap (λ f. address_octets f n.number ++ n.prefix_len ∷ []) (sym of_n) ∙ e
     ∙ ap (λ f. address_octets f k.number ++ k.prefix_len ∷ []) of_k in
     let parts = same_parts family n.number k.number n.prefix_len k.prefix_len fit fit' bytes in
-    λ i. record { family = (of_n ∙ sym of_k) i; number = parts.0 i; prefix_len = parts.1 i }
+    same_network n k (of_n ∙ sym of_k) parts.0 parts.1
 
 -- Where values stand for networks of one family, each network one, bytes of a value are no other value's.
 pub ok_at_bytes : {N E : Type 0} (network_of : N → Network) (family : Family)
@@ -89,7 +92,7 @@ pub ok_at_bytes : {N E : Type 0} (network_of : N → Network) (family : Family)
     → IsOkExactlyAt {E = E} (Ok value) (λ n. bytes ≡ network_bytes (network_of n))
 ok_at_bytes network_of family of_family valid one value bytes e = λ n. (
   λ ok. let same : value ≡ n = cc in subst (λ x. bytes ≡ network_bytes (network_of x)) same e,
-  λ e'. ap Ok (one value n (same_network family (network_of value) (network_of n) (of_family value) (of_family n)
+  λ e'. ap Ok (one value n (network_from_bytes family (network_of value) (network_of n) (of_family value) (of_family n)
       (valid value) (valid n) (sym e ∙ e'))),
 )
 

@@ -1,18 +1,18 @@
 -- What the derived `==` of two lists of networks tells.
-use Rattle.std.proofs.Common.{◌≡◌, ℕ, ◌*◌, ◌+◌, ◌/◌, ◌%◌, ◌^◌, ◌&&◌, ◌↔◌, Bool, true, false, IsTrue, eqb, List, []}
-use Rattle.std.proofs.Common.{◌∷◌, map, refl, sym, ap, ap₂, ◌∙◌, arith, eq-eqb}
-use Rattle.std.proofs.lemmas.Bool.{eqb-true}
+use Rattle.std.proofs.Common.{◌≡◌, ℕ, ◌*◌, ◌+◌, ◌/◌, ◌%◌, ◌^◌, ◌&&◌, ◌↔◌, Bool, true, IsTrue, eqb, List, [], ◌∷◌}
+use Rattle.std.proofs.Common.{map, refl, sym, ap, ap₂, ◌∙◌, arith, eq-eqb}
+use Rattle.std.proofs.lemmas.Bool.{eqb-true, and_parts, and_from}
 use Rattle.std.proofs.lemmas.Bool.Decides.{nat_tests}
+use lib.Pointwise.{pointwise}
 use Rattle.ipnet_base.specs.Network.{IsNetwork}
 use Rattle.ipnet_base.specs.Blocks.{HaveSameCover, IsAggregateOf}
 use Rattle.ipnet_base.proofs.AggregateLaws.{same_aggregate_iff_same_cover}
+use Rattle.ipnet_base.proofs.ListLaws.{All-read}
 use Rattle.ipnet.specs.declared.net.IpNet.{IpNet}
 use Rattle.ipnet.specs.declared.net.IpNet.TheVariants.{V4, V6}
 use Rattle.ipnet.specs.contracts.net.IpNetPartialEq.TheImpl.{eq-value}
 use Rattle.ipnet.specs.NetworkOf.{ipv4_network_of, ipv6_network, ip_network}
 use Rattle.ipnet.specs.NetLaws.{ip_valid, ip_one_to_one}
-use Rattle.ipnet.proofs.JoinedLaws.{All-read}
-use lib.Pointwise.{pointwise}
 
 three_equal : (a b c d p q : ℕ) → (eqb a b && (eqb c d && eqb p q) ≡ true) ↔ ((a ≡ b) × ((c ≡ d) × (p ≡ q)))
 three_equal a b c d p q = (
@@ -40,10 +40,6 @@ ip_equal (V6 x) (V6 y) = (
       ),
 )
 
-pub both_true : (a b : Bool) → (a && b ≡ true) ↔ ((a ≡ true) × (b ≡ true))
-both_true true b = (λ e. (refl, e), λ e. e.1)
-both_true false b = (λ e. cc, λ e. cc)
-
 -- so are two lists
 pub lists_equal : {X : Type 0} (E : X → X → Bool) → ((x y : X) → (E x y ≡ true) ↔ (x ≡ y)) → (xs ys : List X)
     → (pointwise E xs ys ≡ true) ↔ (xs ≡ ys)
@@ -51,10 +47,10 @@ lists_equal E h [] [] = (λ e. refl, λ e. refl)
 lists_equal E h [] (y ∷ ys) = (λ e. cc, λ e. cc)
 lists_equal E h (x ∷ xs) [] = (λ e. cc, λ e. cc)
 lists_equal E h (x ∷ xs) (y ∷ ys) = (
-  λ e. let both = (both_true (E x y) (pointwise E xs ys)).0 e in
+  λ e. let both = and_parts (E x y) (pointwise E xs ys) e in
       ap₂ (λ z zs. z ∷ zs) ((h x y).0 both.0) ((lists_equal E h xs ys).0 both.1),
   λ e. let head : x ≡ y = cc in let tail : xs ≡ ys = cc in
-      (both_true (E x y) (pointwise E xs ys)).1 ((h x y).1 head, (lists_equal E h xs ys).1 tail),
+      and_from (E x y) (pointwise E xs ys) ((h x y).1 head) ((lists_equal E h xs ys).1 tail),
 )
 
 -- lists of values that stand for the same networks are one

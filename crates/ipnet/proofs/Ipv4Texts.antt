@@ -1,4 +1,5 @@
--- `read_octet`, `read_dotted`, `read_length` and `read_ipv4_network` read their part of the grammar, and nothing else.
+-- `read_octet`, `read_dotted`, `read_prefix_len` and `read_ipv4_network` read their part of the grammar, and nothing
+-- else.
 use Rattle.std.proofs.Common.{◌≡◌, ℕ, ◌≤◌, true, ◌==◌, List, [], ◌∷◌, ◌++◌, length, Some, refl, sym, ap, ◌∙◌, subst}
 use Rattle.std.proofs.Common.{arith, append_assoc, append-nil, lit≤, le-leb, eqb-true}
 use Rattle.std.proofs.lemmas.Bool.{and_parts, leb-true}
@@ -12,7 +13,7 @@ use Rattle.std.specs.Int.{w32, from_be_bytes}
 use Rattle.ipnet_base.specs.Network.{Network}
 use Rattle.ipnet.specs.NetworkOf.{ipv4_network_of}
 use Rattle.ipnet.specs.NetworkTexts.{IsIpv4NetworkText}
-use Rattle.ipnet.specs.ReaderSteps.{read_byte, digit_run, decimal_of, read_octet, read_dotted, read_length}
+use Rattle.ipnet.specs.ReaderSteps.{read_byte, digit_run, decimal_of, read_octet, read_dotted, read_prefix_len}
 use Rattle.ipnet.specs.ReaderSteps.{read_ipv4_network}
 use Rattle.ipnet.proofs.DigitTexts.{AllDigits_hex, digit_run-append, digit_run_sound, decimal_of_complete}
 use Rattle.ipnet.proofs.DigitTexts.{decimal_of_sound}
@@ -147,10 +148,11 @@ both_parts : (text ds more front after digits : List ℕ) → text ≡ ds ++ mor
     → after ≡ 47 ∷ digits → text ≡ ds ++ front ++ (47 ∷ []) ++ digits
 both_parts text ds more front after digits e₁ e₂ e₃ = e₁ ∙ rw (e₂, e₃) (simp append_assoc)
 
-pub read_length_complete : (grammar : Grammar) (most greatest : ℕ) (text : List ℕ) (n : ℕ) → most ≤ 3 → greatest ≤ 255
-    → IsDecimal grammar most greatest text n → read_length grammar most greatest (47 ∷ text) ≡ Some n
-unfolding read_length
-read_length_complete grammar most greatest text n few low h =
+pub read_prefix_len_complete : (grammar : Grammar) (most greatest : ℕ) (text : List ℕ) (n : ℕ) → most ≤ 3
+    → greatest ≤ 255
+    → IsDecimal grammar most greatest text n → read_prefix_len grammar most greatest (47 ∷ text) ≡ Some n
+unfolding read_prefix_len
+read_prefix_len_complete grammar most greatest text n few low h =
     let run = rw append-nil at (decimal_run grammar most greatest text n [] (omega arith) h (lit≤ tt)) in
     let octet : IsOctet grammar text n = record {
       digits = h.digits;
@@ -161,11 +163,11 @@ read_length_complete grammar most greatest text n few low h =
     } in
     rw (run, decimal_of_complete grammar text n octet, le-leb n greatest h.small, le-leb (length text) most h.short)
 
-pub read_length_sound : (grammar : Grammar) (most greatest : ℕ) (text : List ℕ) (n : ℕ)
-    → read_length grammar most greatest text ≡ Some n
+pub read_prefix_len_sound : (grammar : Grammar) (most greatest : ℕ) (text : List ℕ) (n : ℕ)
+    → read_prefix_len grammar most greatest text ≡ Some n
     → (digits : List ℕ) × (text ≡ 47 ∷ digits) × IsDecimal grammar most greatest digits n
-unfolding read_length
-read_length_sound grammar most greatest text n e =
+unfolding read_prefix_len
+read_prefix_len_sound grammar most greatest text n e =
     option_and_then_some _ (read_byte 47 text) _ e λ digits slash e₁.
     option_and_then_some _ (decimal_of grammar (digit_run 4 digits).0) _ e₁ λ o octet e₂.
     let (tests, value) = cond_some _ _ _ e₂ in
@@ -201,7 +203,7 @@ read_ipv4_network_complete grammar text network h =
       octet_run grammar dots.t₁ dots.a _ dots.is_a (lit≤ tt),
       decimal_of_complete grammar dots.t₁ dots.a dots.is_a,
       read_dotted_complete grammar h.address_text h.octets after dots (lit≤ tt),
-      read_length_complete grammar 2 32 h.length_text network.prefix_len (lit≤ tt) (lit≤ tt) h.writes_length,
+      read_prefix_len_complete grammar 2 32 h.length_text network.prefix_len (lit≤ tt) (lit≤ tt) h.writes_length,
     )
 
 pub read_ipv4_network_sound : (grammar : Grammar) (text octets : List ℕ) (n : ℕ)
@@ -211,12 +213,12 @@ unfolding read_ipv4_network
 read_ipv4_network_sound grammar text octets n e =
     option_and_then_some _ (decimal_of grammar (digit_run 4 text).0) _ e λ first octet e₁.
     option_and_then_some _ (read_dotted grammar first (digit_run 4 text).1) _ e₁ λ address read e₂.
-    option_and_then_some _ (read_length grammar 2 32 address.1) _ e₂ λ m length_read e₃.
+    option_and_then_some _ (read_prefix_len grammar 2 32 address.1) _ e₂ λ m length_read e₃.
     let (octets_are, n_is) = some_pair_parts address.0 octets m n e₃ in
     let run = digit_run_sound 4 text in
     let (front, split, dotted) =
     read_dotted_sound grammar (digit_run 4 text).0 first (digit_run 4 text).1 address.0 address.1 octet read in
-    let (digits, slash, decimal) = read_length_sound grammar 2 32 address.1 m length_read in
+    let (digits, slash, decimal) = read_prefix_len_sound grammar 2 32 address.1 m length_read in
     record {
       address_text = (digit_run 4 text).0 ++ front;
       length_text = digits;

@@ -2,7 +2,7 @@
 use Rattle.std.proofs.Common.{◌≡◌, ◌≢◌, ℕ, zero, suc, ◌+◌, ◌*◌, ◌-◌, ◌<◌, ◌≤◌, ◌⊎◌, Bool, true, false, ◌==◌, nat_lt}
 use Rattle.std.proofs.Common.{List, [], ◌∷◌, ◌++◌, length, get_or, drop, Option, Some, None, cond, refl, sym, ap, ◌∙◌}
 use Rattle.std.proofs.Common.{subst, arith, inl, inr, append_assoc, append-nil, lit≤, lt-ltb, eq-eqb, ne_eqb, eqb-true}
-use Rattle.std.proofs.lemmas.Bool.{and_parts, cases_eq, ltb-true}
+use Rattle.std.proofs.lemmas.Bool.{and_parts, cases_eq, ltb-true, cases_Bool}
 use Rattle.std.proofs.lemmas.Option.{none-some, same_Some, option_and_then_some, some_pair_parts}
 use Rattle.std.proofs.NetLemmas.Options.{cond_none, map_some}
 use Rattle.std.proofs.NetLemmas.Numbers.{NoDigit}
@@ -229,10 +229,6 @@ record Found (grammar : Grammar) (room : ℕ) (ds text groups : List ℕ) (dotte
   some : 0 < length groups
   fits : length groups ≤ room
 
-bool_cases : (b : Bool) → (b ≡ true) ⊎ (b ≡ false)
-bool_cases true = inl refl
-bool_cases false = inr refl
-
 colon_first : (text : List ℕ) → is_single_colon text ≡ true → text ≡ 58 ∷ drop 1 text
 colon_first [] e = cc
 colon_first (c ∷ text) e = let (colon, _) = and_parts _ _ e in ap (λ b. b ∷ text) (eqb-true c 58 colon)
@@ -351,7 +347,7 @@ groups_sound grammar (suc room) ds text groups dotted rest all short e =
       | inr other ↦
           option_and_then_some _ (group_of ds) _ (rw (ne_eqb _ 46 other) at e) λ g group e₁.
           let is = group_of_sound ds g all short group in
-          elim (bool_cases (is_single_colon text)) [
+          elim (cases_Bool (is_single_colon text)) [
             | inl colon ↦
                 map_some _ (groups_at grammar room (drop 1 text)) _ (rw colon at e₁) λ found read same.
                 let run = digit_run_sound 4 (drop 1 text) in
@@ -403,7 +399,7 @@ read_compressed_sound grammar head_text head text groups rest short e =
     let ds = (digit_run 4 two).0 in
     let left = (digit_run 4 two).1 in
     let colons = two_colons text one two first second in
-    elim (bool_cases (length ds == 0)) [
+    elim (cases_Bool (length ds == 0)) [
       | inl none ↦
           let (groups_are, rest_is) = some_pair_parts (expanded head []) groups left rest (rw none at e₂) in
           let all : two ≡ rest = run.spelled ∙ ap (λ t. t ++ left) (empty_run ds none) ∙ rest_is in
@@ -474,7 +470,7 @@ read_ipv6_sound grammar text groups rest e =
     let run = digit_run_sound 4 text in
     let ds = (digit_run 4 text).0 in
     let left = (digit_run 4 text).1 in
-    elim (bool_cases (length ds == 0)) [
+    elim (cases_Bool (length ds == 0)) [
       | inl none ↦
           let found = read_compressed_sound grammar [] [] left groups rest (omega arith) (rw none at e) in
           let (front, split, is) = to_elided grammar [] [] left groups rest refl (omega arith) found in

@@ -1,23 +1,20 @@
 -- Lists in which nothing is left to join: the stack of a sweep as the aggregate of a list, and what tests of neighbours
 -- tell.
-use Rattle.std.proofs.Common.{◌≡◌, ℕ, ◌+◌, ◌-◌, ◌<◌, ◌↔◌, IsTrue, true, false, ltb, eqb, List, [], ◌∷◌, ◌++◌, map}
-use Rattle.std.proofs.Common.{take, length, get_or, All, refl, sym, ap, ◌∙◌, subst, subst₂, arith, inl, inr, eq-eqb}
+use Rattle.std.proofs.Common.{◌≡◌, ℕ, ◌+◌, ◌-◌, ◌<◌, ◌↔◌, IsTrue, true, false, ltb, eqb, List, [], ◌∷◌, ◌++◌, map, take}
+use Rattle.std.proofs.Common.{length, get_or, All, refl, sym, ap, ◌∙◌, subst, subst₂, arith, inl, inr, eq-eqb}
 use Rattle.std.proofs.lemmas.Bool.{ltb-true, lt-ltb, eqb-true}
 use Rattle.std.proofs.lemmas.List.{length-map, map_more, get_or-map}
-use Rattle.std.proofs.lemmas.List.Elements.{All-map}
 use Rattle.ipnet_base.specs.Address.{family_index}
 use Rattle.ipnet_base.specs.Network.{Network, IsNetwork, IsTruncated, AreHalves, truncation, last_of}
 use Rattle.ipnet_base.specs.Blocks.{IsCoveredBy, HaveSameCover, IsAggregateOf}
-use Rattle.ipnet_base.proofs.BlockLaws.{between_from_block, number_from_truncated, truncated_from_number}
 use Rattle.ipnet_base.specs.Stack.{LiesBefore, AreJoined}
-use Rattle.ipnet_base.proofs.NeighbourLaws.{ends_by_numbers, AreMaximalBlocks-from_neighbours}
-use Rattle.ipnet_base.proofs.SupernetLaws.{AreMaximalBlocks-same_set, neighbours_from_blocks}
+use Rattle.ipnet_base.proofs.BlockLaws.{between_from_block}
+use Rattle.ipnet_base.proofs.NetworkLaws.{number_from_truncated, truncated_from_number}
+use Rattle.ipnet_base.proofs.EndLaws.{ends_by_numbers}
+use Rattle.ipnet_base.proofs.NeighbourLaws.{AreMaximalBlocks-from_neighbours, neighbours_from_blocks}
+use Rattle.ipnet_base.proofs.UniqueLaws.{AreMaximalBlocks-same_set}
 use Rattle.ipnet_base.proofs.StackLaws.{neighbours_push}
 use Rattle.ipnet.proofs.FrontLaws.{front_length, front_last}
-
--- what holds of each value as it is read holds of a list of them
-pub All-read : {X Y : Type 0} (P : Y → Type 0) (f : X → Y) → ((x : X) → P (f x)) → (xs : List X) → All P (map f xs)
-All-read P f h xs = All-map P f xs (λ k d l. h (get_or xs k d))
 
 -- a stack that covers what the list covers is its aggregate
 pub aggregate_from_stack : (given stack : List Network) → All IsNetwork stack → AreJoined stack

@@ -1,4 +1,4 @@
--- Lemmas that the proofs of this crate share.
+-- Lemmas that the proofs of this crate share, and those of the base crate that proofs above it name.
 pub mod NumberLaws
 pub mod HostLaws
 pub mod NetOrderLaws
@@ -8,24 +8,22 @@ pub mod WalkValueLaws
 pub mod FrontLaws
 pub mod JoinedLaws
 pub mod EqualLaws
-pub use Rattle.ipnet_base.proofs.BlockLaws
 pub mod NumberOctets
-pub mod ReaderTurns
 pub mod DigitTexts
+pub mod ReaderTurns
 pub mod Ipv4Texts
 pub mod Ipv6Texts
+pub mod Ipv6Forms
 pub mod WholeTexts
 pub mod StrictTexts
-pub mod PrintedTexts
-pub mod StdTexts
-pub mod Ipv6Forms
 pub mod ValidTexts
 pub mod PrintedDigits
+pub mod StdTexts
+pub mod PrintedTexts
 pub mod ZeroRuns
 pub mod LineLaws
 pub mod CompactLaws
 pub mod JsonLaws
 pub use Rattle.ipnet_base.proofs.CoverLaws
-pub use Rattle.ipnet_base.proofs.FamilyLaws
 pub use Rattle.ipnet_base.proofs.AggregateLaws
-pub use Rattle.ipnet_base.proofs.WalkLaws
+pub use Rattle.ipnet_base.proofs.SeparationLaws

@@ -1,19 +1,20 @@
 -- The network types are ordered as networks, and feed a hasher all that tells two networks apart.
-use Rattle.std.proofs.Common.{◌≡◌, ℕ, ◌+◌, ◌*◌, ◌/◌, ◌%◌, ◌^◌, ◌<◌, ◌⊎◌, ◌↔◌, List, [], ◌∷◌, inl, inr}
-use Rattle.std.proofs.Common.{refl, ap, sym, ◌∙◌, arith, Ordering, Less, Equal, Greater, nat_cmp}
+use Rattle.std.proofs.Common.{◌≡◌, ℕ, ◌+◌, ◌*◌, ◌/◌, ◌%◌, ◌^◌, ◌<◌, ◌⊎◌, ◌↔◌, List, [], ◌∷◌, inl, inr, refl, ap, sym}
+use Rattle.std.proofs.Common.{◌∙◌, arith, Ordering, Less, Equal, Greater, nat_cmp}
 use Rattle.std.specs.Cmp.{ranks}
 use Rattle.std.proofs.lemmas.Bool.{cases_order}
 use Rattle.std.specs.Ordering.{MatchOrdering, ordering_then}
 use Rattle.std.specs.Hash.{le_bytes}
 use Rattle.ipnet_base.specs.Network.{Network, IsBefore}
-use Rattle.ipnet_base.proofs.BlockLaws.{same_network}
-use Rattle.ipnet_base.proofs.ValueLaws.{same_by_bytes, families_fed_apart}
+use Rattle.ipnet_base.proofs.NetworkLaws.{same_network}
+use Rattle.ipnet_base.proofs.DigitLaws.{same_by_bytes}
+use Rattle.ipnet_base.proofs.ValueLaws.{families_fed_apart}
 use Rattle.ipnet.specs.declared.net.IpNet.{IpNet}
-use Rattle.ipnet.specs.declared.net.IpNet.TheVariants as Ip
 use Rattle.ipnet.specs.declared.net.ipv4_net.Ipv4Net.{Ipv4Net}
 use Rattle.ipnet.specs.declared.net.ipv6_net.Ipv6Net.{Ipv6Net}
 use Rattle.ipnet.specs.NetworkOf.{ipv4_network, ipv6_network, ip_network}
 use Rattle.ipnet.specs.NetLaws.{ipv4_one_to_one, ipv6_one_to_one, ip_one_to_one}
+use Rattle.ipnet.specs.declared.net.IpNet.TheVariants as Ip
 
 -- a comparison, and where that ends even, a second one
 then_ranks : (r s : Ordering) (P Q R P' Q' R' : Type 0) → MatchOrdering r P Q R → MatchOrdering s P' Q' R'

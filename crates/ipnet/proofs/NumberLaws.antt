@@ -1,16 +1,14 @@
--- What the functions on numbers compute that the bodies of the network types call, at the width of either family; and
--- that no network lies in one of the other family.
-use Rattle.std.proofs.Common.{◌≡◌, ◌≢◌, ℕ, ◌+◌, ◌-◌, ◌*◌, ◌/◌, ◌^◌, ◌<◌, ◌≤◌, ◌↔◌, refl, sym, ap, ◌∙◌, subst, arith}
-use Rattle.std.proofs.Common.{inl, inr, IsTrue, true, false, eqb, eqb-true, eq-eqb, bit_xor, shr-shr}
+-- What the functions on numbers compute that the bodies of the network types call, at the width of either family.
+use Rattle.std.proofs.Common.{◌≡◌, ◌≢◌, ℕ, ◌+◌, ◌-◌, ◌*◌, ◌/◌, ◌^◌, ◌<◌, ◌↔◌, refl, sym, ap, ◌∙◌, subst, arith, inl}
+use Rattle.std.proofs.Common.{inr, IsTrue, eqb, eqb-true, eq-eqb, bit_xor, shr-shr}
 use Rattle.std.proofs.Math.Nat.{div-eq_of_lt}
 use Rattle.std.proofs.lemmas.Nat.{xor_shr}
 use Rattle.std.specs.Int.Bits.{xor_self, xor_zero_l, xor_zero_r, xor_assoc}
 use Rattle.std.proofs.lemmas.Bool.{cases_eq}
 use Rattle.ipnet_base.specs.Address.{width, address_at}
-use Rattle.ipnet_base.specs.Network.{Network, IsNetwork, host_bits, InBlock, IsSubnetOf, AreHalves}
-use Rattle.ipnet_base.specs.Network.{IsTruncationOf, IsSupernetOf, truncation}
-use Rattle.ipnet_base.proofs.BlockLaws.{own, own_in, nested, bits_from_subnet, same_network}
-use Rattle.ipnet_base.proofs.NetworkLaws.{IsTruncationOf-truncation}
+use Rattle.ipnet_base.specs.Network.{Network, IsNetwork, host_bits, InBlock, AreHalves, IsTruncationOf, IsSupernetOf}
+use Rattle.ipnet_base.specs.Network.{truncation}
+use Rattle.ipnet_base.proofs.NetworkLaws.{same_network, IsTruncationOf-truncation}
 use Rattle.ipnet_base.proofs.SupernetLaws.{supernet, IsSupernetOf-supernet}
 
 -- Numbers are equal where no bit tells them apart.
@@ -52,14 +50,6 @@ in_block_test n number len a same a_is = (
     leading : a ≡ bit_xor (number / 2 ^ host_bits n) (n.number / 2 ^ host_bits n)
     leading =
         a_is ∙ ap (λ p. bit_xor number n.number / 2 ^ (width n.family - p)) same ∙ xor_shr number n.number (host_bits n)
-
--- A block lies in another exactly where its prefix is no shorter and its own address is in the other.
-pub longer_from_subnet : (n k : Network) → IsNetwork n → IsNetwork k → IsSubnetOf n k → k.prefix_len ≤ n.prefix_len
-longer_from_subnet n k u v s =
-    omega (arith, bits_from_subnet n k s, ap width (s (own n) (own_in n)).same_family, u.prefix_fits, v.prefix_fits)
-
-pub subnet_from_own : (n k : Network) → k.prefix_len ≤ n.prefix_len → InBlock k (own n) → IsSubnetOf n k
-subnet_from_own n k le h = nested n k (own n) (own_in n) h (omega (arith, le, ap width h.same_family))
 
 -- Networks of one length are different halves exactly where their leading bits differ in the last alone.
 pub halves_test : (n k : Network) (len a : ℕ) → IsNetwork n → IsNetwork k → n.family ≡ k.family → len ≡ n.prefix_len
@@ -117,14 +107,6 @@ supernet_from_numbers s n len number u shorter number_is s_is =
     s_is ∙ same_network (record { family = n.family; number = number; prefix_len = len }) (supernet n) refl kept
     (omega arith) in
     subst (λ t. IsSupernetOf t n) (sym same) (IsSupernetOf-supernet n u (omega arith))
-
--- what is never so is answered by no
-pub never : (P : Type 0) → ¬ P → IsTrue false ↔ P
-never P fails = (λ t. let wrong : false ≡ true = t in absurd (cc), λ p. absurd (fails p))
-
--- blocks and addresses of two families have nothing in common
-pub families_apart : (n k : Network) → (n.family ≡ k.family → ⊥) → IsSubnetOf n k → ⊥
-families_apart n k other s = other (s (own n) (own_in n)).same_family
 
 -- The leading bits and the length make the truncation.
 pub truncation_from_numbers : (t n : Network) (len number : ℕ) → IsNetwork n → len ≡ n.prefix_len

@@ -1,14 +1,15 @@
 -- The octets of a number, its groups, and the number again.
 use Rattle.std.proofs.Common.{◌≡◌, ℕ, zero, suc, ◌+◌, ◌*◌, ◌/◌, ◌%◌, ◌^◌, ◌<◌, List, [], ◌∷◌, length, get_or, refl, sym}
 use Rattle.std.proofs.Common.{ap, ◌∙◌, arith, lit<}
-use Rattle.std.proofs.Math.Nat.{mod-eq_of_lt, mul_comm, pow-zero, pow-succ'}
-use Rattle.std.proofs.lemmas.Nat.{div-mul-add, mod-mul-add, mul-add-lt, mod_below, be_bytes_4}
+use Rattle.std.proofs.Math.Nat.{mod-eq_of_lt}
+use Rattle.std.proofs.lemmas.Nat.{div-mul-add, mod-mul-add, mod_below, be_bytes_4}
 use Rattle.std.specs.Int.{w32, w128, to_be_bytes, from_be_bytes, bytes_high_first}
 use Rattle.std.specs.declared.net.ipv4_addr.Ipv4Addr.{Ipv4Addr}
 use Rattle.std.specs.declared.net.ipv6_addr.Ipv6Addr.{Ipv6Addr}
 use Rattle.std.specs.Net.Addr.{segments_of, octets_of, ipv4_octets, ipv6_segments, ipv4_bits, ipv6_bits, IsIpv4Addr}
 use Rattle.std.specs.Net.Addr.{IsIpv6Addr}
-use Rattle.ipnet_base.proofs.DigitLaws.{value, byte_at_below, pairs, halves, value-bytes_high_first}
+use Rattle.ipnet_base.proofs.DigitLaws.{value, value_below, below_all, byte_at_below, pairs, halves}
+use Rattle.ipnet_base.proofs.DigitLaws.{value-bytes_high_first}
 
 -- the octets of a number are bytes
 pub octet_fits : (len n : ℕ) → (k : ℕ) → get_or (bytes_high_first len n) k 0 < 2 ^ 8
@@ -35,13 +36,7 @@ AreOctets bytes = (k : ℕ) → get_or bytes k 0 < 256
 
 number_below : (bytes : List ℕ) → AreOctets bytes → value 256 bytes < 256 ^ length bytes
 unfolding AreOctets
-number_below [] fit = rw (pow-zero 256) (omega arith)
-number_below (b ∷ bytes) fit =
-    let below =
-    mul-add-lt b (256 ^ length bytes) (value 256 bytes) 256 (fit 0) (number_below bytes (λ k. fit (suc k))) in
-    let p : 256 ^ suc (length bytes) ≡ 256 * 256 ^ length bytes = pow-succ' 256 (length bytes) in
-    let turned = mul_comm 256 (256 ^ length bytes) in
-    omega (arith, below, p, turned)
+number_below bytes fit = value_below 256 bytes (below_all 256 bytes fit)
 
 -- octets that write one number are the same
 same_octets : (xs ys : List ℕ) → length xs ≡ length ys → AreOctets xs → AreOctets ys → value 256 xs ≡ value 256 ys

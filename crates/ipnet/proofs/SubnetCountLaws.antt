@@ -8,12 +8,13 @@ use Rattle.ipnet_base.specs.Network.{Network, IsNetwork, InBlock, IsLeastOf, IsG
 use Rattle.ipnet_base.specs.Blocks.{IsMaximal, AreMaximalBlocks}
 use Rattle.ipnet_base.specs.Subnets.{SubnetRange, IsLargestSubnetAt}
 use Rattle.ipnet_base.proofs.BlockLaws.{own, own_in, last_fits, between_from_block, block_from_between}
-use Rattle.ipnet_base.proofs.BlockLaws.{first_from_least, last_from_greatest, nested, same_from_block}
-use Rattle.ipnet_base.proofs.ExactCoverLaws.{maximal_blocks_apart}
-use Rattle.ipnet_base.proofs.ListLaws.{contains_nil, contains_cases, all_from_members, all_at}
-use Rattle.ipnet_base.proofs.SupernetLaws.{AreMaximalBlocks-same_set}
+use Rattle.ipnet_base.proofs.BlockLaws.{first_from_least, last_from_greatest}
+use Rattle.ipnet_base.proofs.NestingLaws.{nested}
+use Rattle.ipnet_base.proofs.NetworkLaws.{same_from_block}
+use Rattle.ipnet_base.proofs.UniqueLaws.{AreMaximalBlocks-nil, maximal_blocks_apart, AreMaximalBlocks-same_set}
 use Rattle.ipnet_base.proofs.UniqueLaws.{AreMaximalBlocks-unique}
-use Rattle.ipnet_base.proofs.WalkLaws.{AreMaximalBlocks-nil, AreMaximalBlocks-uncons, step_from_bits}
+use Rattle.ipnet_base.proofs.ListLaws.{contains_nil, contains_cases, all_from_members, all_at}
+use Rattle.ipnet_base.proofs.WalkLaws.{AreMaximalBlocks-uncons, step_from_bits}
 use Rattle.ipnet.specs.NetworkParts.{IsSubnetOfLength, AreSubnetsOfLength, IsBlockRange}
 
 -- the networks have this length, and there are so many

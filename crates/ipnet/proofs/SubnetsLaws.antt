@@ -1,28 +1,23 @@
--- What is left to a walk, by its stored ends; how a step leaves that list, for both families; and the largest network
--- at the start, by counts of bits.
-use Rattle.std.proofs.Common.{◌≡◌, ℕ, ◌+◌, ◌-◌, ◌^◌, ◌<◌, ◌≤◌, ◌⊎◌, ◌↔◌, List, [], ◌∷◌, Option, Some, None, IsNone}
-use Rattle.std.proofs.Common.{subst, sym, refl, ◌∙◌, arith, max, inl, inr, lit<}
-use mir.Val.{bits}
-use Rattle.std.specs.Int.{Width, trailing_zeros}
+-- What is left to a walk, by its stored ends, and how a step leaves that list, for both families.
+use Rattle.std.proofs.Common.{◌≡◌, ℕ, ◌+◌, ◌^◌, ◌<◌, ◌≤◌, ◌⊎◌, ◌↔◌, List, [], ◌∷◌, Option, Some, None, IsNone}
+use Rattle.std.proofs.Common.{subst, sym, ◌∙◌, arith, inl, inr, lit<}
 use Rattle.std.proofs.lemmas.Bool.{cases_eq}
 use Rattle.ipnet_base.specs.Address.{Family, Address, IPv4, IPv6, IsBetween, width, greatest_number}
-use Rattle.ipnet_base.specs.Network.{Network, IsGreatestOf, last_of}
+use Rattle.ipnet_base.specs.Network.{Network, last_of}
 use Rattle.ipnet_base.specs.Blocks.{AreMaximalBlocks}
-use Rattle.ipnet_base.specs.Subnets.{SubnetRange, IsAdvancedPast, IsLargestSubnetAt, IsMostBits}
-use Rattle.ipnet_base.proofs.BlockLaws.{last_in, at, between_from_block}
-use Rattle.ipnet_base.proofs.UniqueLaws.{AreMaximalBlocks-unique}
-use Rattle.ipnet_base.proofs.SupernetLaws.{AreMaximalBlocks-same_set}
-use Rattle.ipnet_base.proofs.ExactCoverLaws.{IsShortestCover-of_range, maximal_blocks_apart}
+use Rattle.ipnet_base.specs.Subnets.{SubnetRange, IsAdvancedPast, IsLargestSubnetAt}
+use Rattle.ipnet_base.proofs.BlockLaws.{last_in, at}
+use Rattle.ipnet_base.proofs.UniqueLaws.{AreMaximalBlocks-nil, AreMaximalBlocks-unique, AreMaximalBlocks-same_set}
+use Rattle.ipnet_base.proofs.UniqueLaws.{maximal_blocks_apart}
+use Rattle.ipnet_base.proofs.ExactCoverLaws.{IsShortestCover-of_range}
 use Rattle.ipnet_base.proofs.CountLaws.{maximal_blocks_bound}
-use Rattle.ipnet_base.proofs.WalkLaws.{AreMaximalBlocks-nil, AreMaximalBlocks-step, blocks_exist, FitsFrom}
-use Rattle.ipnet_base.proofs.WalkLaws.{step_from_bits}
-use Rattle.ipnet_base.proofs.StepLaws.{fits_by_counts, counts_by_fits}
+use Rattle.ipnet_base.proofs.WalkLaws.{AreMaximalBlocks-step, blocks_exist}
 use Rattle.ipnet.specs.SubnetsLeft.{IsInRange, IsWalkOf, IsSubnetStep, ipv4_subnet_range, ipv4_subnets_left}
 use Rattle.ipnet.specs.SubnetsLeft.{ipv6_subnet_range, ipv6_subnets_left, ip_subnet_range, ip_subnets_left}
 use Rattle.ipnet.specs.declared.subnets.IpSubnets.{IpSubnets}
-use Rattle.ipnet.specs.declared.subnets.IpSubnets.TheVariants as Ip
 use Rattle.ipnet.specs.declared.subnets.ipv4_subnets.Ipv4Subnets.{Ipv4Subnets}
 use Rattle.ipnet.specs.declared.subnets.ipv6_subnets.Ipv6Subnets.{Ipv6Subnets}
+use Rattle.ipnet.specs.declared.subnets.IpSubnets.TheVariants as Ip
 
 -- the list is the maximal blocks of the range
 abbrev AreLeft : SubnetRange → List Network → Type 0
@@ -163,26 +158,3 @@ left_advanced old new n networks rest fits step advanced before after =
     (AreMaximalBlocks-same_set (IsInRange new) (IsBetween old.family (last_of n + 1) old.end) old.min_prefix_len rest
     (left_after old new (last_of n) advanced
     (end_becomes old new (last_of n) (omega (arith, fits)) within.0 within.1 advanced)) later))
-
--- the greatest address of a block has its last number
-pub greatest_is_last : (n : Network) (x : Address) → IsGreatestOf n x → x.number ≡ last_of n
-greatest_is_last n x g =
-    omega (arith, (between_from_block n x g.inside).to_end, g.greatest (at n (last_of n)) (last_in n))
-
--- the counts by which the code finds the largest network at the start
-pub largest_by_counts : (f : Family) (w : Width) → bits w ≡ width f → trailing_zeros w 0 ≡ bits w
-    → (s e m by_range p : ℕ)
-    → s ≤ e → s < 2 ^ bits w → e < 2 ^ width f → m ≤ width f → by_range ≤ width f → trailing_zeros w s ≤ width f
-    → IsMostBits (e - s) (width f - by_range) → p ≡ max (max by_range (width f - trailing_zeros w s)) m
-    → IsLargestSubnetAt f s e m (record { family = f; number = s; prefix_len = p })
-largest_by_counts f w same zero_is s e m by_range p le s_fits e_fits m_fits r_fits z_fits most p_is =
-    let fits : FitsFrom s e (width f - p) =
-    fits_by_counts w s e (width f - by_range) (trailing_zeros w s) le s_fits most refl zero_is (width f - p)
-    (omega (arith, p_is)) (omega (arith, p_is, z_fits)) in
-    step_from_bits f s e m (width f - p) le e_fits m_fits (omega (arith, p_is)) fits
-    (λ b b_fits good.
-    let both =
-    counts_by_fits w s e (width f - by_range) (trailing_zeros w s) le s_fits most refl zero_is b
-    (omega (arith, b_fits, same)) good in
-    omega (arith, both, b_fits, p_is, m_fits, r_fits, z_fits))
-    p (omega (arith, p_is, m_fits, r_fits, z_fits))

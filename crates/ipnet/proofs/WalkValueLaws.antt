@@ -4,12 +4,13 @@ use mathlib.Core.HLevel.{is_prop→PathP}
 use Rattle.std.specs.Coded.{le_prop}
 use Rattle.std.specs.Hash.{le_bytes}
 use Rattle.ipnet_base.specs.Subnets.{SubnetRange}
-use Rattle.ipnet_base.proofs.ValueLaws.{same_by_bytes, families_fed_apart}
+use Rattle.ipnet_base.proofs.DigitLaws.{same_by_bytes}
+use Rattle.ipnet_base.proofs.ValueLaws.{families_fed_apart}
 use Rattle.ipnet.specs.SubnetsLeft.{ipv4_subnet_range, ipv6_subnet_range, ip_subnet_range}
 use Rattle.ipnet.specs.declared.subnets.IpSubnets.{IpSubnets}
-use Rattle.ipnet.specs.declared.subnets.IpSubnets.TheVariants as Ip
 use Rattle.ipnet.specs.declared.subnets.ipv4_subnets.Ipv4Subnets.{Ipv4Subnets}
 use Rattle.ipnet.specs.declared.subnets.ipv6_subnets.Ipv6Subnets.{Ipv6Subnets}
+use Rattle.ipnet.specs.declared.subnets.IpSubnets.TheVariants as Ip
 
 same_range : (r s : SubnetRange) → r.family ≡ s.family → r.start ≡ s.start → r.end ≡ s.end
     → r.min_prefix_len ≡ s.min_prefix_len → r ≡ s

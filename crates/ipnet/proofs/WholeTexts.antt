@@ -6,7 +6,7 @@ use Rattle.std.specs.Int.{w32, w128, from_be_bytes}
 use Rattle.std.specs.Net.Addr.{octets_of}
 use Rattle.ipnet_base.specs.Address.{IPv4, IPv6}
 use Rattle.ipnet_base.specs.Network.{Network}
-use Rattle.ipnet_base.proofs.BlockLaws.{same_network}
+use Rattle.ipnet_base.proofs.NetworkLaws.{same_network}
 use Rattle.ipnet.specs.declared.parser.reader.Run.{Run}
 use Rattle.ipnet.specs.declared.net.IpNet.{IpNet}
 use Rattle.ipnet.specs.declared.net.ipv4_net.Ipv4Net.{Ipv4Net}
@@ -17,9 +17,10 @@ use Rattle.ipnet.specs.declared.parser.Grammar.{Grammar}
 use Rattle.ipnet.specs.Numerals.{IsDecimal, IsGroup}
 use Rattle.ipnet.specs.AddressTexts.{IsGroups, EndsInIpv4, IsIpv6AddressText}
 use Rattle.ipnet.specs.NetworkTexts.{IsIpv4NetworkText, IsIpv6NetworkText, IsNetworkText, WritesNone, ReadsNetwork}
-use Rattle.ipnet.specs.ReaderSteps.{run_of, digit_run, decimal_of, read_length, read_ipv4_network, read_ipv6_network}
+use Rattle.ipnet.specs.ReaderSteps.{run_of, digit_run, decimal_of, read_prefix_len, read_ipv4_network}
+use Rattle.ipnet.specs.ReaderSteps.{read_ipv6_network}
 use Rattle.ipnet.proofs.DigitTexts.{digit_run-append}
-use Rattle.ipnet.proofs.Ipv4Texts.{Dots-from, Dots-rest, octet_run, read_length_complete, read_length_sound}
+use Rattle.ipnet.proofs.Ipv4Texts.{Dots-from, Dots-rest, octet_run, read_prefix_len_complete, read_prefix_len_sound}
 use Rattle.ipnet.proofs.Ipv4Texts.{read_ipv4_network_complete}
 use Rattle.ipnet.proofs.Ipv6Texts.{ipv6_at, read_ipv6_complete, read_ipv6_sound}
 
@@ -38,7 +39,7 @@ read_ipv6_network_complete grammar text network h =
     rw (
       shown,
       read_ipv6_complete grammar h.address_text h.groups h.length_text h.writes_address,
-      read_length_complete grammar 3 128 h.length_text network.prefix_len (lit≤ tt) (lit≤ tt) h.writes_length,
+      read_prefix_len_complete grammar 3 128 h.length_text network.prefix_len (lit≤ tt) (lit≤ tt) h.writes_length,
     )
 
 pub read_ipv6_network_sound : (grammar : Grammar) (text groups : List ℕ) (n : ℕ)
@@ -47,10 +48,10 @@ pub read_ipv6_network_sound : (grammar : Grammar) (text groups : List ℕ) (n : 
 unfolding read_ipv6_network
 read_ipv6_network_sound grammar text groups n e =
     option_and_then_some _ (ipv6_at grammar text) _ e λ address read e₁.
-    option_and_then_some _ (read_length grammar 3 128 address.1) _ e₁ λ m length_read e₂.
+    option_and_then_some _ (read_prefix_len grammar 3 128 address.1) _ e₁ λ m length_read e₂.
     let (groups_are, n_is) = some_pair_parts address.0 groups m n e₂ in
     let (front, split, is) = read_ipv6_sound grammar text address.0 address.1 read in
-    let (digits, slash, decimal) = read_length_sound grammar 3 128 address.1 m length_read in
+    let (digits, slash, decimal) = read_prefix_len_sound grammar 3 128 address.1 m length_read in
     record {
       address_text = front;
       length_text = digits;

@@ -85,8 +85,8 @@ read_dotted grammar a text = do
   Some (a ∷ b.0 ∷ c.0 ∷ d.0 ∷ [], d.1)
 
 -- a "/" and a length, which end the text
-unfoldable pub read_length : Grammar → ℕ → ℕ → List ℕ → Option ℕ
-read_length grammar most greatest text = do
+unfoldable pub read_prefix_len : Grammar → ℕ → ℕ → List ℕ → Option ℕ
+read_prefix_len grammar most greatest text = do
   digits ← read_byte slash text
   let run = digit_run 4 digits
   n ← decimal_of grammar run.0
@@ -97,7 +97,7 @@ unfoldable pub read_ipv4_network : Grammar → Option ℕ → List ℕ → Optio
 read_ipv4_network grammar octet text = do
   first ← octet
   address ← read_dotted grammar first text
-  prefix_len ← read_length grammar 2 32 address.1
+  prefix_len ← read_prefix_len grammar 2 32 address.1
   Some (address.0, prefix_len)
 
 -- groups, whether a dotted address stands for the last two, and the text after them
@@ -153,5 +153,5 @@ read_ipv6 grammar first text =
 unfoldable pub read_ipv6_network : Grammar → Run → List ℕ → Option (List ℕ × ℕ)
 read_ipv6_network grammar first text = do
   address ← read_ipv6 grammar first text
-  prefix_len ← read_length grammar 3 128 address.1
+  prefix_len ← read_prefix_len grammar 3 128 address.1
   Some (address.0, prefix_len)

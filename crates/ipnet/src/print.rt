@@ -98,7 +98,7 @@ fn push_octets(out: &mut Buffer, octets: [u8; 4])
 }
 
 /// Appends "/" and the prefix length in decimal, without leading zeros.
-fn push_length(out: &mut Buffer, prefix_len: u8)
+fn push_prefix_len(out: &mut Buffer, prefix_len: u8)
     requires { array_string_len out.old + 4 ≤ IPV6_NETWORK_LEN }
     ensures bytes { out.new.bytes ≡ out.old.bytes ++ codes "/" ++ decimal prefix_len }
     ensures shorter { prefix_len < 100 → array_string_len out.new ≤ array_string_len out.old + 3 }
@@ -240,7 +240,7 @@ fn ipv4_network_text(net: &Ipv4Net) -> Buffer
 {
     let mut out = Buffer::new();
     push_octets(&mut out, Ipv4Addr::from_bits(net.number()).octets());
-    push_length(&mut out, net.prefix_len());
+    push_prefix_len(&mut out, net.prefix_len());
     out
 }
 
@@ -273,7 +273,7 @@ impl Ipv6Net {
     {
         let mut out = ArrayString::new();
         push_ipv6(&mut out, Ipv6Addr::from_bits(self.number()));
-        push_length(&mut out, self.prefix_len());
+        push_prefix_len(&mut out, self.prefix_len());
         out
     }
 }

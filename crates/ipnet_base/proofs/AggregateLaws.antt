@@ -1,73 +1,54 @@
--- Aggregates of lists: the four conditions on neighbours, disjoint networks, no more than the list has, equal answers
--- and equal covers, aggregates of aggregates.
-use Rattle.std.proofs.Common.{◌≡◌, ◌+◌, ◌^◌, ◌<◌, ◌≤◌, ◌↔◌, List, ◌++◌, length, get_or, map, Contains, All, sym, ap}
-use Rattle.std.proofs.Common.{subst, arith, inl, inr}
-use Rattle.std.proofs.lemmas.Bool.{cases_lt}
-use Rattle.ipnet_base.specs.Address.{Address, IsAddress, width, family_index}
+-- Aggregates of lists: what they cover, disjoint networks, no more than the list has, equal answers and equal covers,
+-- aggregates of aggregates.
+use Rattle.std.proofs.Common.{◌≡◌, ◌≤◌, ◌↔◌, List, ◌++◌, length, map, Contains, All, sym, subst, arith}
 use Rattle.ipnet_base.specs.Network.{Network, IsNetwork, InBlock, truncation}
 use Rattle.ipnet_base.specs.Blocks.{IsCoveredBy, HaveSameCover, IsExactCover, IsShortestCover, ArePairwiseDisjoint}
-use Rattle.ipnet_base.specs.Blocks.{IsAggregateOf, IsCanonicalAggregateOf, AreAggregatedNeighbours}
-use Rattle.ipnet_base.proofs.BlockLaws.{between_from_block, last_fits}
-use Rattle.ipnet_base.proofs.ListLaws.{all_at}
-use Rattle.ipnet_base.proofs.UniqueLaws.{AreMaximalBlocks-unique}
-use Rattle.ipnet_base.proofs.OrderLaws.{same_family_from_index}
-use Rattle.ipnet_base.specs.Stack.{LiesBefore, AreJoined}
-use Rattle.ipnet_base.proofs.NeighbourLaws.{AreMaximalBlocks-from_neighbours}
+use Rattle.ipnet_base.specs.Blocks.{IsAggregateOf, IsCanonicalAggregateOf, AreMaximalBlocks}
+use Rattle.ipnet_base.proofs.ListLaws.{all_at, any_from_contains}
+use Rattle.ipnet_base.proofs.UniqueLaws.{AreMaximalBlocks-unique, AreMaximalBlocks-same_set, maximal_blocks_apart}
 use Rattle.ipnet_base.proofs.DecidedLaws.{IsDecided-cover}
-use Rattle.ipnet_base.proofs.SupernetLaws.{blocks_cover, AreMaximalBlocks-same_set}
-use Rattle.ipnet_base.proofs.SupernetLaws.{same_blocks_iff_same_cover, neighbours_from_blocks}
 use Rattle.ipnet_base.proofs.CoverLaws.{HaveSameCover-sym, HaveSameCover-trans, HaveSameCover-append}
-use Rattle.ipnet_base.proofs.CoverLaws.{cover_same_members, cover_truncation}
-use Rattle.ipnet_base.proofs.ExactCoverLaws.{IsExactCover-of_maximal, IsShortestCover-of_maximal, maximal_blocks_apart}
+use Rattle.ipnet_base.proofs.CoverLaws.{cover_same_members, cover_truncation, covered_fits}
+use Rattle.ipnet_base.proofs.ExactCoverLaws.{IsExactCover-of_maximal, IsShortestCover-of_maximal}
+use Rattle.ipnet_base.proofs.NetworkLaws.{truncation_in, in_truncation, IsTruncated-truncation, IsNetwork-truncation}
+use Rattle.ipnet_base.proofs.MaximalLaws.{maximal_above}
 
--- the four conditions are the three that lemmas take
-pub AreJoined-from_neighbours : (networks : List Network) → AreAggregatedNeighbours networks → AreJoined networks
-AreJoined-from_neighbours networks h = record {
-  truncated = h.truncated;
-  apart = λ k d l. lies (get_or networks k d) (get_or networks (k + 1) d) (h.ipv4_first k d l) (h.apart k d l);
-  unjoined = h.unjoined;
-}
+-- the maximal blocks of a cover cover it
+blocks_cover : (networks blocks : List Network) → All IsNetwork networks
+    → AreMaximalBlocks (IsCoveredBy networks) 0 blocks → HaveSameCover blocks networks
+blocks_cover networks blocks valid h x = (to, from)
   where
-    lies : (n k : Network) → family_index n.family ≤ family_index k.family
-        → (n.family ≡ k.family → (x : Address) → InBlock n x → x.number < k.number) → LiesBefore n k
-    lies n k le apart = elim (cases_lt (family_index n.family) (family_index k.family)) [
-      | inl lt ↦ inl lt
-      | inr ge ↦ let same : n.family ≡ k.family = same_family_from_index n.family k.family (omega (arith, le, ge)) in
-          inr (same, apart same)
-    ]
+    to : IsCoveredBy blocks x → IsCoveredBy networks x
+    to a = ((h.members a.1).0 (a.0, a.2, a.3)).inside.within x a.4
 
-AreAggregatedNeighbours-from_joined : (networks : List Network) → AreJoined networks
-    → AreAggregatedNeighbours networks
-AreAggregatedNeighbours-from_joined networks h = record {
-  truncated = h.truncated;
-  ipv4_first = λ k d l. in_order (get_or networks k d) (get_or networks (k + 1) d) (h.apart k d l);
-  apart = λ k d l. apart (get_or networks k d) (get_or networks (k + 1) d) (h.apart k d l);
-  unjoined = h.unjoined;
-}
+    from : IsCoveredBy networks x → IsCoveredBy blocks x
+    from a =
+        let n : Network = a.1 in
+        let c : Contains networks n = (a.0, a.2, a.3) in
+        let (m, max, sub) = maximal_above (IsCoveredBy networks) 0 (IsDecided-cover networks) (truncation n) (record {
+          network = IsNetwork-truncation n (all_at IsNetwork networks valid n c);
+          truncated = IsTruncated-truncation n;
+          long_enough = omega arith;
+          within = λ y b. any_from_contains (λ k. InBlock k y) networks n c (truncation_in n y b);
+        }) in
+        any_from_contains (λ k. InBlock k x) blocks m ((h.members m).1 max) (sub x (in_truncation n x a.4))
+
+-- A list is the blocks of another list's cover exactly where the two lists cover the same, given that it is
+-- the blocks of its own cover.
+same_blocks_iff_same_cover : (networks others blocks : List Network) → All IsNetwork networks
+    → All IsNetwork others → AreMaximalBlocks (IsCoveredBy networks) 0 blocks
+    → AreMaximalBlocks (IsCoveredBy others) 0 blocks ↔ HaveSameCover others networks
+same_blocks_iff_same_cover networks others blocks u v h = (to, from)
   where
-    in_order : (n k : Network) → LiesBefore n k → family_index n.family ≤ family_index k.family
-    in_order n k (inl lt) = omega (arith, lt)
-    in_order n k (inr h) = omega (arith, ap family_index h.0)
+    to : AreMaximalBlocks (IsCoveredBy others) 0 blocks → HaveSameCover others networks
+    to k x =
+        let a : IsCoveredBy blocks x ↔ IsCoveredBy networks x = blocks_cover networks blocks u h x in
+        let b : IsCoveredBy blocks x ↔ IsCoveredBy others x = blocks_cover others blocks v k x in
+        (λ c. a.0 (b.1 c), λ c. b.0 (a.1 c))
 
-    apart : (n k : Network) → LiesBefore n k → n.family ≡ k.family → (x : Address) → InBlock n x → x.number < k.number
-    apart n k (inl lt) same = absurd (omega (arith, lt, ap family_index same))
-    apart n k (inr h) same = h.1
-
--- a list meets the four conditions exactly where it is its own aggregate
-pub neighbours_iff_own_aggregate : (networks : List Network) → All IsNetwork networks
-    → AreAggregatedNeighbours networks ↔ IsAggregateOf networks networks
-neighbours_iff_own_aggregate networks valid = (
-  λ h. AreMaximalBlocks-from_neighbours networks valid (AreJoined-from_neighbours networks h),
-  λ h. AreAggregatedNeighbours-from_joined networks (neighbours_from_blocks networks h),
-)
-
--- what a list of networks covers is addresses
-pub covered_fits : (networks : List Network) → All IsNetwork networks → (x : Address) → IsCoveredBy networks x
-    → IsAddress x
-covered_fits networks valid x a =
-    let n : Network = a.1 in
-    let u : IsNetwork n = all_at IsNetwork networks valid n (a.0, a.2, a.3) in
-    omega (arith, (between_from_block n x a.4).to_end, last_fits n u, ap (λ f. 2 ^ width f) a.4.same_family)
+    from : HaveSameCover others networks → AreMaximalBlocks (IsCoveredBy others) 0 blocks
+    from same = AreMaximalBlocks-same_set (IsCoveredBy networks) (IsCoveredBy others) 0 blocks
+        (λ x. ((same x).1, (same x).0)) h
 
 -- an aggregate covers what its list covers, is the shortest list that does, and shares no address within
 pub IsExactCover-of_aggregate : (networks answer : List Network) → All IsNetwork networks

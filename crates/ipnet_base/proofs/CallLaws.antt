@@ -1,10 +1,10 @@
 -- Any mix of calls on a range: each address comes at most once, and exactly once where none is passed over.
-use Rattle.std.proofs.Common.{◌≡◌, ◌≢◌, ℕ, ◌+◌, ◌-◌, ◌<◌, ◌≤◌, Option, Some, None, List, [], ◌∷◌, ◌++◌, length}
-use Rattle.std.proofs.Common.{All, AllPairs, Any, Contains, IfSome, IfNone, MatchOption, IsPermutation, refl, sym, ap}
-use Rattle.std.proofs.Common.{ap₂, ◌∙◌, subst, arith, suc, inl, inr}
+use Rattle.std.proofs.Common.{◌≡◌, ◌≢◌, ℕ, ◌+◌, ◌-◌, ◌<◌, ◌≤◌, Option, Some, None, List, [], ◌∷◌, ◌++◌, All}
+use Rattle.std.proofs.Common.{AllPairs, Any, Contains, IfSome, IfNone, MatchOption, IsPermutation, refl, sym, ap, ap₂}
+use Rattle.std.proofs.Common.{◌∙◌, subst, arith, suc, inl, inr}
 use Rattle.std.specs.List.{cons_option}
 use Rattle.std.proofs.lemmas.Bool.{cases_lt, cases_eq}
-use Rattle.std.proofs.lemmas.List.{append-nil, length-append}
+use Rattle.std.proofs.lemmas.List.{append-nil, length-append, nil_from_length}
 use Rattle.std.proofs.lemmas.List.Sorted.{length_permutation, IsPermutation-refl, IsPermutation-sym}
 use Rattle.std.proofs.lemmas.List.Sorted.{IsPermutation-to_front, IsPermutation-cons, IsPermutation-trans}
 use Rattle.ipnet_base.specs.Address.{Address, IsBetween, address_at}
@@ -13,7 +13,8 @@ use Rattle.ipnet_base.specs.Ranges.{IsNthBack, Call, Next, NextBack, Nth, NthBac
 use Rattle.ipnet_base.specs.Ranges.{given}
 use Rattle.ipnet_base.proofs.ListLaws.{contains_nil, contains_cases, pairs_cons, all_from_members}
 use Rattle.ipnet_base.proofs.RangeLaws.{addresses_none, addresses_first, addresses_last, used_up, addresses_one}
-use Rattle.ipnet_base.proofs.RangeLaws.{contains_from_between, IsNext-yields, IsNextBack-yields}
+use Rattle.ipnet_base.proofs.RangeLaws.{contains_from_between}
+use Rattle.ipnet_base.proofs.RangeCallLaws.{IsNext-yields, IsNextBack-yields}
 
 -- the address lies in the range
 abbrev IsIn : AddressRange → Address → Type 0
@@ -264,10 +265,6 @@ nothing_left : (xs ys : List Address) → IsPermutation (xs ++ ys) [] → ys ≡
 nothing_left xs ys h =
     let len = length_permutation (xs ++ ys) [] h in
     nil_from_length ys (omega (arith, length-append xs ys, len))
-  where
-    nil_from_length : (zs : List Address) → length zs ≡ 0 → zs ≡ []
-    nil_from_length [] e = refl
-    nil_from_length (z ∷ zs) e = absurd (omega arith)
 
 left_after_none : (r : AddressRange) (answer : Option Address) (t : AddressRange) → Spends r answer t → answer ≡ None
     → addresses_of t ≡ []

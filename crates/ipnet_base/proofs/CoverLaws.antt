@@ -1,12 +1,16 @@
 -- What lists of networks cover: the empty list, one network more, two lists joined; and what keeps a cover.
 use Rattle.std.proofs.Common.{◌⊎◌, ◌↔◌, List, [], ◌∷◌, ◌++◌, map, Contains, IsPermutation, sym, subst, inl, inr}
+use Rattle.std.proofs.Common.{◌^◌, All, ap, arith}
 use Rattle.std.proofs.lemmas.List.Elements.{Contains-append_left, Contains-append_right, Contains-append_cases}
 use Rattle.std.proofs.lemmas.List.Sorted.{Contains-permutation, IsPermutation-sym}
-use Rattle.ipnet_base.specs.Address.{Address}
+use Rattle.ipnet_base.specs.Address.{Address, IsAddress, width}
 use Rattle.ipnet_base.specs.Network.{Network, IsNetwork, InBlock, IsSubnetOf, AreHalves, IsSupernetOf, truncation}
 use Rattle.ipnet_base.specs.Blocks.{IsCoveredBy, HaveSameCover}
-use Rattle.ipnet_base.proofs.BlockLaws.{truncation_in, in_truncation, supernet_to_halves, halves_to_supernet}
+use Rattle.ipnet_base.proofs.NetworkLaws.{truncation_in, in_truncation}
+use Rattle.ipnet_base.proofs.SupernetLaws.{supernet_to_halves, halves_to_supernet}
 use Rattle.ipnet_base.proofs.ListLaws.{contains_nil, contains_here, contains_there, contains_cases, any_from_contains}
+use Rattle.ipnet_base.proofs.ListLaws.{all_at}
+use Rattle.ipnet_base.proofs.BlockLaws.{between_from_block, last_fits}
 
 -- an address in the block of a member is covered
 cover_member : (networks : List Network) (n : Network) (x : Address) → Contains networks n → InBlock n x
@@ -17,6 +21,14 @@ cover_member networks n x c a = any_from_contains (λ m. InBlock m x) networks n
 abbrev pub covering_member : (networks : List Network) (x : Address) (a : IsCoveredBy networks x)
     → Contains networks a.1
 covering_member networks x a = (a.0, a.2, a.3)
+
+-- what a list of networks covers is addresses
+pub covered_fits : (networks : List Network) → All IsNetwork networks → (x : Address) → IsCoveredBy networks x
+    → IsAddress x
+covered_fits networks valid x a =
+    let n : Network = a.1 in
+    let u : IsNetwork n = all_at IsNetwork networks valid n (a.0, a.2, a.3) in
+    omega (arith, (between_from_block n x a.4).to_end, last_fits n u, ap (λ f. 2 ^ width f) a.4.same_family)
 
 -- the empty list covers nothing
 pub cover_nil : (x : Address) → IsCoveredBy [] x → ⊥
@@ -168,4 +180,24 @@ cover_of_joined s n k networks u p halves x = (to, from)
         | inl c ↦ (cover_cons n (k ∷ networks) x).1 (inl c)
         | inr c ↦ (cover_cons n (k ∷ networks) x).1 (inr ((cover_cons k networks x).1 (inl c)))
       ]
+    ]
+
+-- two halves at the end of a list cover what their supernet covers
+pub joined_cover : (ys : List Network) (t next s : Network) → IsNetwork t → AreHalves t next → IsSupernetOf s t
+    → (x : Address)
+    → (IsCoveredBy ys x ⊎ InBlock s x) ↔ (IsCoveredBy (ys ++ t ∷ []) x ⊎ InBlock next x)
+joined_cover ys t next s u halves p x = (down, up)
+  where
+    down : IsCoveredBy ys x ⊎ InBlock s x → IsCoveredBy (ys ++ t ∷ []) x ⊎ InBlock next x
+    down (inl c) = inl ((cover_push ys t x).1 (inl c))
+    down (inr a) = elim (supernet_to_halves s t next u p halves x a) [
+      | inl b ↦ inl ((cover_push ys t x).1 (inr b))
+      | inr b ↦ inr b
+    ]
+
+    up : IsCoveredBy (ys ++ t ∷ []) x ⊎ InBlock next x → IsCoveredBy ys x ⊎ InBlock s x
+    up (inr b) = inr (halves_to_supernet s t next u p halves x (inr b))
+    up (inl c) = elim ((cover_push ys t x).0 c) [
+      | inl d ↦ inl d
+      | inr d ↦ inr (halves_to_supernet s t next u p halves x (inl d))
     ]

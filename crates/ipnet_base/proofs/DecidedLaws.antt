@@ -1,11 +1,12 @@
 -- Sets of addresses that can be decided: covers and ranges, what a test tells, and whether a block lies in one.
-use Rattle.std.proofs.Common.{◌≡◌, ℕ, zero, suc, ◌+◌, ◌-◌, ◌/◌, ◌^◌, ◌<◌, ◌⊎◌, ◌↔◌, List, [], ◌∷◌, Bool, true}
-use Rattle.std.proofs.Common.{false, IsTrue, refl, sym, subst, arith, inl, inr, pow_pos}
+use Rattle.std.proofs.Common.{◌≡◌, ℕ, zero, suc, ◌+◌, ◌-◌, ◌/◌, ◌^◌, ◌<◌, ◌⊎◌, ◌↔◌, List, [], ◌∷◌, Bool, true, false}
+use Rattle.std.proofs.Common.{IsTrue, refl, sym, subst, arith, inl, inr, pow_pos}
 use Rattle.std.proofs.lemmas.Bool.{cases_lt, cases_eq}
 use Rattle.ipnet_base.specs.Address.{Family, Address, IsBetween, IsAcceptedBy}
 use Rattle.ipnet_base.specs.Network.{Network, host_bits, InBlock, first_of, last_of}
 use Rattle.ipnet_base.specs.Blocks.{IsCoveredBy}
-use Rattle.ipnet_base.proofs.BlockLaws.{at, between_from_block, block_from_between, cases_family}
+use Rattle.ipnet_base.proofs.BlockLaws.{at, between_from_block, block_from_between}
+use Rattle.ipnet_base.proofs.FamilyLaws.{cases_family}
 use Rattle.ipnet_base.proofs.ListLaws.{contains_here, contains_there, contains_cases, any_from_contains}
 
 -- a set that can be decided

@@ -1,8 +1,9 @@
--- Numbers and their digits, the highest first: the order of digits is the order of the number that they write.
-use Rattle.std.proofs.Common.{◌≡◌, ℕ, ◌+◌, ◌*◌, ◌/◌, ◌%◌, ◌^◌, ◌<◌, List, [], ◌∷◌, length, slice_index, refl, sym}
-use Rattle.std.proofs.Common.{ap, ◌∙◌, arith, zero, suc, inl, inr}
+-- Numbers and their digits: the order of digits is the order of the number that they write, and the bytes of a number
+-- tell it.
+use Rattle.std.proofs.Common.{◌≡◌, ℕ, ◌+◌, ◌*◌, ◌/◌, ◌%◌, ◌^◌, ◌<◌, List, [], ◌∷◌, length, slice_index, refl, sym, ap}
+use Rattle.std.proofs.Common.{◌∙◌, arith, zero, suc, inl, inr}
 use Rattle.std.specs.Bool.{⊤}
-use Rattle.std.specs.Int.{w32, w128, byte_at, bytes_high_first, to_be_bytes, from_be_bytes}
+use Rattle.std.specs.Int.{w32, w128, byte_at, bytes_high_first, to_be_bytes, from_be_bytes, bytes_low_first}
 use Rattle.std.specs.Net.Addr.{octets_of, segments_of}
 use Rattle.std.specs.Cmp.Lexicographic.{slice_cmp}
 use Rattle.std.specs.Ordering.{nat_cmp, ordering_then}
@@ -10,7 +11,9 @@ use Rattle.std.proofs.lemmas.Bool.{cases_lt}
 use Rattle.std.proofs.lemmas.Bool.Decides.{nat_tests}
 use Rattle.std.proofs.lemmas.Nat.{mul-add-lt, div-mul-add, mod-mul-add, mod_below}
 use Rattle.std.proofs.Math.Arith.{mod-mul}
-use Rattle.std.proofs.Math.Nat.{mul_comm, pow-zero, pow-succ', div-one, mod-eq_of_lt, one-le-pow}
+use Rattle.std.proofs.Math.Nat.{mul_comm, pow-zero, pow-succ', div-one, mod-eq_of_lt, one-le-pow, div-eq_of_lt}
+use Rattle.std.proofs.Math.Nat.{div-div-eq-div-mul, pow-suc}
+use Rattle.std.specs.Hash.{le_bytes}
 
 -- the number that the digits write to the base r
 abbrev pub value : ℕ → List ℕ → ℕ
@@ -18,11 +21,11 @@ value r [] = 0
 value r (x ∷ xs) = x * r ^ length xs + value r xs
 
 -- each is a digit to the base r
-abbrev Below : ℕ → List ℕ → Type 0
+abbrev pub Below : ℕ → List ℕ → Type 0
 Below r [] = ⊤
 Below r (x ∷ xs) = (x < r) × Below r xs
 
-value_below : (r : ℕ) (xs : List ℕ) → Below r xs → value r xs < r ^ length xs
+pub value_below : (r : ℕ) (xs : List ℕ) → Below r xs → value r xs < r ^ length xs
 value_below r [] h = rw (pow-zero r) (omega arith)
 value_below r (x ∷ xs) h =
     let lower = mul-add-lt x (r ^ length xs) (value r xs) r h.0 (value_below r xs h.1) in
@@ -64,7 +67,7 @@ cmp_value r (x ∷ xs) (y ∷ ys) e h k =
     ∙ cmp_first x y (r ^ length xs) (value r xs) (value r ys) (value_below r xs h.1) by
     ∙ ap (λ (l : ℕ). nat_cmp (x * r ^ length xs + value r xs) (y * r ^ l + value r ys)) same
 
-below_all : (r : ℕ) (xs : List ℕ) → ((k : ℕ) → slice_index xs k < r) → Below r xs
+pub below_all : (r : ℕ) (xs : List ℕ) → ((k : ℕ) → slice_index xs k < r) → Below r xs
 below_all r [] h = tt
 below_all r (x ∷ xs) h = (h 0, below_all r xs (λ k. h (suc k)))
 
@@ -161,3 +164,28 @@ number_back n fits = whole ∙ value-bytes_high_first 16 n ∙ mod-eq_of_lt fits
 pub octets_back : (n : ℕ) → n < 2 ^ 128 → from_be_bytes w128 (octets_of (segments_of (to_be_bytes w128 n))) ≡ n
 unfolding pairs
 octets_back n fits = ap (from_be_bytes w128) (octets_of-segments_of 8 n) ∙ number_back n fits
+
+-- ---- bytes, the lowest first
+
+-- what is left of a number above its byte i
+above_byte : (i x : ℕ) → x / 256 ^ suc i ≡ x / 256 ^ i / 256
+above_byte i x = ap (λ p. x / p) (pow-suc 256 i) ∙ sym (div-div-eq-div-mul x (256 ^ i) 256)
+
+-- numbers with the same n bytes from byte i on, and the same above these, are the same from byte i on
+same_above : (n i top x y : ℕ) → top ≡ i + n → x / 256 ^ top ≡ y / 256 ^ top
+    → bytes_low_first i n x ≡ bytes_low_first i n y → x / 256 ^ i ≡ y / 256 ^ i
+same_above zero i top x y at high e = let here : top ≡ i = omega (arith, at) in rw (sym here) high
+same_above (suc n) i top x y at high e =
+    let byte : byte_at i x ≡ byte_at i y = cc in
+    let rest : bytes_low_first (suc i) n x ≡ bytes_low_first (suc i) n y = cc in
+    let later = same_above n (suc i) top x y (omega (arith, at)) high rest in
+    let quotient : x / 256 ^ i / 256 ≡ y / 256 ^ i / 256 = sym (above_byte i x) ∙ later ∙ above_byte i y in
+    let digit : x / 256 ^ i % 256 ≡ y / 256 ^ i % 256 = sym (byte_at-pow i x) ∙ byte ∙ byte_at-pow i y in
+    omega (arith, quotient, digit)
+
+-- numbers of n bytes with the same bytes are equal
+pub same_by_bytes : (n x y : ℕ) → x < 256 ^ n → y < 256 ^ n → le_bytes n x ≡ le_bytes n y → x ≡ y
+unfolding le_bytes
+same_by_bytes n x y h k e =
+    let high : x / 256 ^ n ≡ y / 256 ^ n = div-eq_of_lt h ∙ sym (div-eq_of_lt k) in
+    sym (div-one x) ∙ same_above n 0 n x y (omega arith) high e ∙ div-one y

@@ -1,16 +1,13 @@
 -- Maximal blocks as exact and shortest covers: of every set of addresses that can be decided, and of ranges.
-use Rattle.std.proofs.Common.{◌≡◌, ℕ, ◌-◌, ◌/◌, ◌^◌, ◌<◌, ◌≤◌, List, sym}
-use Rattle.std.proofs.Common.{ap, ◌∙◌, subst, arith}
+use Rattle.std.proofs.Common.{◌≡◌, ℕ, ◌-◌, ◌/◌, ◌^◌, ◌<◌, ◌≤◌, List, sym, ap, ◌∙◌, subst, arith}
 use Rattle.std.proofs.Math.Nat.{div-one}
 use Rattle.ipnet_base.specs.Address.{Family, Address, IsAddress, width, IsBetween}
-use Rattle.ipnet_base.specs.Network.{Network, IsNetwork, InBlock, AreDisjoint, IsBefore}
+use Rattle.ipnet_base.specs.Network.{Network, IsNetwork, InBlock}
 use Rattle.ipnet_base.specs.Blocks.{IsCoveredBy, IsInside, AreMaximalBlocks, IsExactCover, IsShortestCover}
-use Rattle.ipnet_base.specs.Blocks.{ArePairwiseDisjoint}
 use Rattle.ipnet_base.proofs.BlockLaws.{own_in}
-use Rattle.ipnet_base.proofs.ListLaws.{any_from_contains, all_from_members, pairs_from_members}
-use Rattle.ipnet_base.proofs.OrderLaws.{IsBefore-asymmetric}
-use Rattle.ipnet_base.proofs.ShortestLaws.{one_maximal, shortest, one_as_short}
-use Rattle.ipnet_base.proofs.SupernetLaws.{maximal_above}
+use Rattle.ipnet_base.proofs.ListLaws.{any_from_contains, all_from_members}
+use Rattle.ipnet_base.proofs.ShortestLaws.{shortest, one_as_short}
+use Rattle.ipnet_base.proofs.MaximalLaws.{maximal_above}
 use Rattle.ipnet_base.proofs.DecidedLaws.{IsDecided, IsDecided-between}
 
 -- maximal blocks that cover their set are its shortest cover
@@ -22,15 +19,6 @@ IsShortestCover-of_maximal InSet least networks blocks exact = record {
   shortest = λ cover other. shortest InSet least networks cover blocks other;
   only = λ cover other same. one_as_short InSet least networks cover blocks other same;
 }
-
--- maximal blocks share no address
-pub maximal_blocks_apart : (InSet : Address → Type 0) (least : ℕ) (networks : List Network)
-    → AreMaximalBlocks InSet least networks → ArePairwiseDisjoint networks
-maximal_blocks_apart InSet least networks blocks = pairs_from_members IsBefore AreDisjoint networks
-    (λ n k c e before x a b.
-    let one : n ≡ k = one_maximal InSet least n k ((blocks.members n).0 c) ((blocks.members k).0 e) x a b in
-    IsBefore-asymmetric n n (subst (IsBefore n) (sym one) before) (subst (IsBefore n) (sym one) before))
-    blocks.ascending
 
 -- the network of one address
 abbrev pub single : Address → Network

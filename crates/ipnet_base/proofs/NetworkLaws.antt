@@ -1,17 +1,59 @@
--- Single networks: the ends of blocks, inclusion, truncations, supernets, siblings.
-use Rattle.std.proofs.Common.{◌≡◌, ℕ, ◌+◌, ◌-◌, ◌*◌, ◌/◌, ◌^◌, ◌<◌, ◌≤◌, ◌≢◌, ◌↔◌, refl, sym, ap, ◌∙◌, subst}
-use Rattle.std.proofs.Common.{arith, inl, inr, pow_pos, pow-add, shr-shr, mul-le-mul_right}
-use Rattle.std.proofs.lemmas.Bool.{cases_eq}
-use Rattle.std.proofs.Math.Nat.{mul-div_cancel}
-use Rattle.ipnet_base.specs.Address.{Address, IsAddress, IsBetween, width}
-use Rattle.ipnet_base.specs.Network.{Network, IsNetwork, host_bits, InBlock, HaveSameBlock, IsTruncated}
-use Rattle.ipnet_base.specs.Network.{IsTruncationOf, IsSupernetOf, AreSiblings, AreHalves, IsLeastOf}
-use Rattle.ipnet_base.specs.Network.{IsGreatestOf, truncation, first_of, last_of}
-use Rattle.ipnet_base.proofs.PrefixLaws.{block_from, first_in_block, block_end_fits}
-use Rattle.ipnet_base.proofs.BlockLaws.{at, own, own_in, nested, block_from_between, first_from_least}
-use Rattle.ipnet_base.proofs.BlockLaws.{last_from_greatest, IsLeastOf-first, IsGreatestOf-last, last_fits}
-use Rattle.ipnet_base.proofs.BlockLaws.{number_from_truncated, same_network, same_from_block, IsTruncated-truncation}
-use Rattle.ipnet_base.proofs.BlockLaws.{IsNetwork-truncation, truncation_in, in_truncation, supernet_bits}
+-- Networks told by their parts and, where they are truncated, by their blocks; truncations.
+use Rattle.std.proofs.Common.{◌≡◌, ◌*◌, ◌/◌, ◌^◌, ◌↔◌, refl, sym, ap, ◌∙◌, subst, arith}
+use Rattle.ipnet_base.specs.Address.{width}
+use Rattle.ipnet_base.specs.Network.{Network, IsNetwork, host_bits, InBlock, HaveSameBlock, IsTruncated, IsTruncationOf}
+use Rattle.ipnet_base.specs.Network.{truncation, first_of, IsSubnetOf}
+use Rattle.ipnet_base.proofs.PrefixLaws.{block_from, first_in_block}
+use Rattle.ipnet_base.proofs.BlockLaws.{at, own, own_in, first_in}
+use Rattle.ipnet_base.proofs.NestingLaws.{bits_from_subnet}
+
+-- networks of the same parts are equal
+pub same_network : (n k : Network) → n.family ≡ k.family → n.number ≡ k.number → n.prefix_len ≡ k.prefix_len → n ≡ k
+same_network n k f a l = λ i. record { family = f i; number = a i; prefix_len = l i }
+
+-- networks of one family with as many open bits have one length
+pub same_len_from_bits : (n k : Network) → IsNetwork n → IsNetwork k → n.family ≡ k.family → host_bits n ≡ host_bits k
+    → n.prefix_len ≡ k.prefix_len
+same_len_from_bits n k u v f e = omega (arith, e, ap width f, u.prefix_fits, v.prefix_fits)
+
+-- a truncated network's own number is the first
+pub number_from_truncated : (n : Network) → IsTruncated n → n.number ≡ first_of n
+number_from_truncated n t =
+    omega (arith, t (at n (first_of n)) (first_in n), block_from (host_bits n) n.number n.number refl)
+
+pub truncated_from_number : (n : Network) → n.number ≡ first_of n → IsTruncated n
+truncated_from_number n e x h = omega (arith, block_from (host_bits n) x.number n.number h.same_prefix)
+
+-- truncated networks with equal blocks are equal
+pub same_from_block : (n k : Network) → IsNetwork n → IsNetwork k → IsTruncated n → IsTruncated k → HaveSameBlock n k
+    → n ≡ k
+same_from_block n k u v s t h =
+    let there : InBlock k (own n) = h.0 (own n) (own_in n) in
+    let back : InBlock n (own k) = h.1 (own k) (own_in k) in
+    let bits : host_bits n ≡ host_bits k = omega (arith, bits_from_subnet n k h.0, bits_from_subnet k n h.1) in
+    same_network n k there.same_family
+    (omega (arith, t (own n) there, s (own k) back))
+    (same_len_from_bits n k u v there.same_family bits)
+
+-- a truncation is truncated, is a network, and has the block that it is made from
+pub IsTruncated-truncation : (n : Network) → IsTruncated (truncation n)
+IsTruncated-truncation n =
+    truncated_from_number (truncation n) (ap (λ q. q * 2 ^ host_bits n) (sym (first_in_block (host_bits n) n.number)))
+
+pub IsNetwork-truncation : (n : Network) → IsNetwork n → IsNetwork (truncation n)
+IsNetwork-truncation n h =
+    record {
+      address_fits = omega (arith, h.address_fits, block_from (host_bits n) n.number n.number refl);
+      prefix_fits = h.prefix_fits;
+    }
+
+pub truncation_in : (n : Network) → IsSubnetOf (truncation n) n
+truncation_in n x h =
+    record { same_family = h.same_family; same_prefix = h.same_prefix ∙ first_in_block (host_bits n) n.number }
+
+pub in_truncation : (n : Network) → IsSubnetOf n (truncation n)
+in_truncation n x h =
+    record { same_family = h.same_family; same_prefix = h.same_prefix ∙ sym (first_in_block (host_bits n) n.number) }
 
 -- blocks contain each other exactly where the truncations are equal
 pub same_block_iff_same_truncation : (n k : Network) → IsNetwork n → IsNetwork k
@@ -60,107 +102,3 @@ truncation_twice n =
 
 pub truncation_of_truncated : (n : Network) → IsTruncated n → truncation n ≡ n
 truncation_of_truncated n t = same_network (truncation n) n refl (sym (number_from_truncated n t)) refl
-
--- a network's own number lies between the least and the greatest of its block
-pub least_to_own : (n : Network) (x : Address) → IsLeastOf n x → x.number ≤ n.number
-least_to_own n x h = h.least (own n) (own_in n)
-
-pub own_to_greatest : (n : Network) (x : Address) → IsGreatestOf n x → n.number ≤ x.number
-own_to_greatest n x h = h.greatest (own n) (own_in n)
-
--- a network has one supernet at most
-pub IsSupernetOf-unique : (s t n : Network) → IsNetwork n → IsSupernetOf s n → IsSupernetOf t n → s ≡ t
-IsSupernetOf-unique s t n u p q = same_from_block s t p.network q.network p.truncated q.truncated (
-  nested s t (own n) (p.contains (own n) (own_in n)) (q.contains (own n) (own_in n))
-      (omega (arith, supernet_bits s n u p, supernet_bits t n u q)),
-  nested t s (own n) (q.contains (own n) (own_in n)) (p.contains (own n) (own_in n))
-      (omega (arith, supernet_bits s n u p, supernet_bits t n u q)),
-)
-
--- to be siblings is symmetric, and each network of length above 0 is its own
-pub AreSiblings-symmetric : (n k : Network) → AreSiblings n k → AreSiblings k n
-AreSiblings-symmetric n k h = record {
-  same_family = sym h.same_family;
-  same_len = sym h.same_len;
-  has_supernet = omega (arith, h.same_len, h.has_supernet);
-  same_supernet = subst (λ b. k.number / 2 ^ (b + 1) ≡ n.number / 2 ^ (b + 1)) bits (sym h.same_supernet);
-}
-  where
-    bits : host_bits n ≡ host_bits k
-    bits = omega (arith, ap width h.same_family, h.same_len)
-
-pub AreSiblings-reflexive : (n : Network) → 0 < n.prefix_len → AreSiblings n n
-AreSiblings-reflexive n long = record { same_family = refl; same_len = refl; has_supernet = long; same_supernet = refl }
-
--- a network's block has a least and a greatest address
-pub least_exists : (n : Network) → IsNetwork n → (x : Address) × IsAddress x × IsLeastOf n x
-least_exists n u = (
-  at n (first_of n),
-  omega (arith, u.address_fits, block_from (host_bits n) n.number n.number refl),
-  IsLeastOf-first n (at n (first_of n)) refl refl,
-)
-
-pub greatest_exists : (n : Network) → IsNetwork n → (x : Address) × IsAddress x × IsGreatestOf n x
-greatest_exists n u = (at n (last_of n), last_fits n u, IsGreatestOf-last n (at n (last_of n)) refl refl)
-
--- and every address of its family between these two
-pub block_is_between : (n : Network) (low high x : Address) → IsLeastOf n low → IsGreatestOf n high
-    → InBlock n x ↔ IsBetween n.family low.number high.number x
-block_is_between n low high x p q = (
-  λ a. record { of_family = a.same_family; from_start = p.least x a; to_end = q.greatest x a },
-  λ b. block_from_between n x (record {
-    of_family = b.of_family;
-    from_start = omega (arith, b.from_start, first_from_least n low p);
-    to_end = omega (arith, b.to_end, last_from_greatest n high q);
-  }),
-)
-
--- the network of the other bits but for the last is the other half
-half_of_bits : (n : Network) (c : ℕ) → IsNetwork n → 0 < n.prefix_len → c / 2 ≡ n.number / 2 ^ host_bits n / 2
-    → c ≢ n.number / 2 ^ host_bits n
-    → (k : Network) × IsNetwork k × AreHalves n k
-half_of_bits n c u long same other = (record n { number = c * 2 ^ host_bits n }, network, halves)
-  where
-    bits : host_bits n + 1 ≤ width n.family
-    bits = omega (arith, u.prefix_fits, long)
-
-    above : n.number / 2 ^ (host_bits n + 1) ≡ c / 2
-    above = sym (shr-shr n.number (host_bits n) 1) ∙ sym same
-
-    room : (c + 1) * 2 ^ host_bits n ≤ (c / 2 * 2 + 2) * 2 ^ host_bits n
-    room = mul-le-mul_right (2 ^ host_bits n) (omega arith)
-
-    network : IsNetwork (record n { number = c * 2 ^ host_bits n })
-    network = record {
-      address_fits = omega (
-        arith,
-        room,
-        block_end_fits (width n.family) (host_bits n + 1) n.number bits u.address_fits,
-        ap (λ q. q * 2 ^ (host_bits n + 1)) above,
-        pow-add 2 (host_bits n) 1,
-        ap (λ z. c / 2 * z) (pow-add 2 (host_bits n) 1),
-        pow_pos (host_bits n),
-      );
-      prefix_fits = u.prefix_fits;
-    }
-
-    halves : AreHalves n (record n { number = c * 2 ^ host_bits n })
-    halves = record {
-      siblings = record {
-        same_family = refl;
-        same_len = refl;
-        has_supernet = long;
-        same_supernet =
-            above ∙ ap (λ q. q / 2) (sym (mul-div_cancel c (pow_pos (host_bits n))))
-            ∙ shr-shr (c * 2 ^ host_bits n) (host_bits n) 1;
-      };
-      differ = λ e. other (sym (e ∙ mul-div_cancel c (pow_pos (host_bits n))));
-    }
-
-pub other_half_exists : (n : Network) → IsNetwork n → 0 < n.prefix_len → (k : Network) × IsNetwork k × AreHalves n k
-other_half_exists n u long =
-    elim (cases_eq (n.number / 2 ^ host_bits n) (n.number / 2 ^ host_bits n / 2 * 2)) [
-      | inl even ↦ half_of_bits n (n.number / 2 ^ host_bits n + 1) u long (omega (arith, even)) (λ e. omega (arith, e))
-      | inr odd ↦ half_of_bits n (n.number / 2 ^ host_bits n - 1) u long (omega (arith, odd))
-          (λ e. omega (arith, e, odd))
-    ]

@@ -1,13 +1,14 @@
 -- The order of networks: strict, total, that of first addresses; and lists in it.
-use Rattle.std.proofs.Common.{◌≡◌, ℕ, zero, suc, ◌+◌, ◌<◌, ◌⊎◌, ◌↔◌, List, [], ◌∷◌, length, get_or, map, refl}
-use Rattle.std.proofs.Common.{sym, ap, ◌∙◌, subst, subst₂, arith, inl, inr, IsSorted, Ordering, Less, is_lt, add-one}
-use Rattle.std.proofs.Common.{true, false}
+use Rattle.std.proofs.Common.{◌≡◌, ℕ, zero, suc, ◌+◌, ◌<◌, ◌⊎◌, ◌↔◌, List, [], ◌∷◌, length, get_or, map, sym, ap, ◌∙◌}
+use Rattle.std.proofs.Common.{subst, subst₂, arith, inl, inr, IsSorted, Ordering, Less, is_lt, add-one, true, false}
 use Rattle.std.proofs.lemmas.Bool.{cases_eq, cases_order}
 use Rattle.std.proofs.lemmas.List.{length-map, get_or-map}
-use Rattle.ipnet_base.specs.Address.{Family, IPv4, IPv6, Address, family_index}
+use Rattle.ipnet_base.specs.Address.{Address, family_index}
 use Rattle.ipnet_base.specs.Network.{Network, IsTruncated, IsBefore, IsLeastOf}
 use Rattle.ipnet_base.specs.Stack.{IsBeforeOrEqual, IsInOrder}
-use Rattle.ipnet_base.proofs.BlockLaws.{same_network, first_from_least, number_from_truncated}
+use Rattle.ipnet_base.proofs.NetworkLaws.{same_network, number_from_truncated}
+use Rattle.ipnet_base.proofs.BlockLaws.{first_from_least}
+use Rattle.ipnet_base.proofs.FamilyLaws.{same_family_from_index}
 
 -- the order of networks by numbers alone
 abbrev OrderedBy : (f g a b p q : ℕ) → Type 0
@@ -20,13 +21,6 @@ before_by_numbers n k (inr h) = inr (ap family_index h.0, h.1)
 
 asymmetric_by_numbers : (f g a b p q : ℕ) → OrderedBy f g a b p q → OrderedBy g f b a q p → ⊥
 asymmetric_by_numbers f g a b p q h k = omega arith
-
--- the place of a family in the order tells the family
-pub same_family_from_index : (f g : Family) → family_index f ≡ family_index g → f ≡ g
-same_family_from_index IPv4 IPv4 e = refl
-same_family_from_index IPv4 IPv6 e = absurd (omega (arith, e))
-same_family_from_index IPv6 IPv4 e = absurd (omega (arith, e))
-same_family_from_index IPv6 IPv6 e = refl
 
 -- no two networks stand before each other
 pub IsBefore-asymmetric : (n k : Network) → IsBefore n k → IsBefore k n → ⊥

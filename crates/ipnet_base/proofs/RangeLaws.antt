@@ -1,19 +1,14 @@
--- The list that a range gives, and what the calls on a range do to it.
-use Rattle.std.proofs.Common.{◌≡◌, ℕ, ◌+◌, ◌-◌, ◌<◌, ◌≤◌, Option, Some, None, [], ◌∷◌, ◌++◌, length, map, take, drop}
-use Rattle.std.proofs.Common.{reverse, slice_get, slice_index_or, option_map, Contains, AllPairs, MatchOption, refl}
-use Rattle.std.proofs.Common.{sym, ap, ap₂, ◌∙◌, subst, arith, zero, suc, inl, inr, length-append}
-use Rattle.std.specs.Iterator.{YieldsFirstBy, YieldsLastBy}
+-- The list that a range gives: its length, its ends, the item at a place, what lies between two places, its members.
+use Rattle.std.proofs.Common.{◌≡◌, ℕ, ◌+◌, ◌-◌, ◌<◌, ◌≤◌, Some, None, [], ◌∷◌, ◌++◌, length, map, take, drop, reverse}
+use Rattle.std.proofs.Common.{slice_get, slice_index_or, Contains, AllPairs, refl, sym, ap, ap₂, ◌∙◌, subst, arith}
+use Rattle.std.proofs.Common.{zero, suc}
 use Rattle.std.specs.List.{range_with_len}
-use Rattle.std.proofs.lemmas.Bool.{cases_lt, cases_eq}
 use Rattle.std.proofs.lemmas.List.{length-reverse, get_or-reverse}
 use Rattle.std.proofs.lemmas.List.FromFn.{length-map-range_with_len, get_or-map-range_with_len, map-range_with_len_more}
 use Rattle.std.proofs.lemmas.List.FromFn.{take-map-range_with_len}
 use Rattle.std.proofs.lemmas.Option.{slice_get-get_or, slice_get_past}
 use Rattle.ipnet_base.specs.Address.{Address, IsBetween, address_at}
-use Rattle.ipnet_base.specs.Ranges.{AddressRange, numbers_between, addresses_of, address_count, with_ends, IsNext}
-use Rattle.ipnet_base.specs.Ranges.{IsNextBack, IsNth, IsNthBack, IsRangeStep, IsRangeStepBack}
-
--- ---- the list of a range
+use Rattle.ipnet_base.specs.Ranges.{AddressRange, numbers_between, addresses_of, address_count, with_ends}
 
 pub length-addresses_of : (r : AddressRange) → length (addresses_of r) ≡ address_count r
 unfolding numbers_between
@@ -49,7 +44,8 @@ addresses_one r e =
 pub used_up : (r : AddressRange) → addresses_of (with_ends r 1 0) ≡ []
 used_up r = addresses_none (with_ends r 1 0) (omega arith)
 
-addresses_at : (r : AddressRange) (n : ℕ) → n < address_count r
+-- the item at a place, from the start and from the end
+pub addresses_at : (r : AddressRange) (n : ℕ) → n < address_count r
     → slice_get (addresses_of r) n ≡ Some (address_at r.family (r.start + n))
 unfolding numbers_between
 addresses_at r n h =
@@ -57,10 +53,10 @@ addresses_at r n h =
     ∙ ap Some (get_or-map-range_with_len (address_at r.family) r.start (address_count r) n (r.start + n)
     (address_at r.family 0) h refl)
 
-addresses_past : (r : AddressRange) (n : ℕ) → address_count r ≤ n → slice_get (addresses_of r) n ≡ None
+pub addresses_past : (r : AddressRange) (n : ℕ) → address_count r ≤ n → slice_get (addresses_of r) n ≡ None
 addresses_past r n h = slice_get_past (addresses_of r) n (omega (arith, length-addresses_of r, h))
 
-addresses_back_at : (r : AddressRange) (n : ℕ) → n < address_count r
+pub addresses_back_at : (r : AddressRange) (n : ℕ) → n < address_count r
     → slice_get (reverse (addresses_of r)) n ≡ Some (address_at r.family (r.end - n))
 unfolding numbers_between
 addresses_back_at r n h =
@@ -72,7 +68,8 @@ addresses_back_at r n h =
     ∙ get_or-map-range_with_len (address_at r.family) r.start (address_count r) (length (addresses_of r) - 1 - n)
     (r.end - n) (address_at r.family 0) (omega (arith, len, h)) (omega (arith, len, h)))
 
-addresses_back_past : (r : AddressRange) (n : ℕ) → address_count r ≤ n → slice_get (reverse (addresses_of r)) n ≡ None
+pub addresses_back_past : (r : AddressRange) (n : ℕ) → address_count r ≤ n
+    → slice_get (reverse (addresses_of r)) n ≡ None
 addresses_back_past r n h =
     slice_get_past (reverse (addresses_of r)) n
     (omega (arith, length-addresses_of r, length-reverse (addresses_of r), h))
@@ -87,13 +84,15 @@ drop-range_with_len f a (suc c) (suc k) =
     drop-range_with_len f (a + 1) c k
     ∙ ap₂ (λ x n. map f (range_with_len x n)) (omega arith) (omega arith)
 
-addresses_from : (r : AddressRange) (k : ℕ) → drop k (addresses_of r) ≡ addresses_of (with_ends r (r.start + k) r.end)
+-- what is left of the list from a place on, and up to one
+pub addresses_from : (r : AddressRange) (k : ℕ)
+    → drop k (addresses_of r) ≡ addresses_of (with_ends r (r.start + k) r.end)
 unfolding numbers_between
 addresses_from r k =
     drop-range_with_len (address_at r.family) r.start (address_count r) k
     ∙ ap (λ n. map (address_at r.family) (range_with_len (r.start + k) n)) (omega arith)
 
-addresses_up_to : (r : AddressRange) (k : ℕ) → k < address_count r
+pub addresses_up_to : (r : AddressRange) (k : ℕ) → k < address_count r
     → take (address_count r - k) (addresses_of r) ≡ addresses_of (with_ends r r.start (r.end - k))
 unfolding numbers_between
 addresses_up_to r k h =
@@ -132,152 +131,3 @@ addresses_ascend r i j d lt l =
     let at_i = ap (λ (x : Address). x.number) (address_in_list r i d (omega (arith, lt, l, len))) in
     let at_j = ap (λ (x : Address). x.number) (address_in_list r j d (omega (arith, l, len))) in
     omega (arith, at_i, at_j, lt)
-
--- ---- the first, the last, and the item at a place, and what is left after these
-
-pub IsNext-yields : (r : AddressRange) (answer : Option Address) (s : AddressRange) → IsNext r answer s
-    → MatchOption answer ((addresses_of r ≡ []) × (addresses_of s ≡ [])) (λ x. addresses_of r ≡ x ∷ addresses_of s)
-IsNext-yields r answer s h = elim (cases_lt r.end r.start) [
-  | inl empty ↦ let n = h.none empty in rw (n.0, n.1) (addresses_none r empty, addresses_none r empty)
-  | inr start_le ↦ elim (cases_lt r.start r.end) [
-    | inl below ↦ let n = h.several below in rw (n.0, n.1) (addresses_first r (omega arith))
-    | inr end_le ↦ let e : r.start ≡ r.end = omega arith in
-        let n = h.one e in rw (n.0, n.1, used_up r) (addresses_one r e)
-  ]
-]
-
-pub IsNextBack-yields : (r : AddressRange) (answer : Option Address) (s : AddressRange) → IsNextBack r answer s
-    → MatchOption answer ((addresses_of r ≡ []) × (addresses_of s ≡ []))
-    (λ x. addresses_of r ≡ addresses_of s ++ x ∷ [])
-IsNextBack-yields r answer s h = elim (cases_lt r.end r.start) [
-  | inl empty ↦ let n = h.none empty in rw (n.0, n.1) (addresses_none r empty, addresses_none r empty)
-  | inr start_le ↦ elim (cases_lt r.start r.end) [
-    | inl below ↦ let n = h.several below in rw (n.0, n.1) (addresses_last r (omega arith) (omega arith))
-    | inr end_le ↦ let e : r.start ≡ r.end = omega arith in
-        let n = h.one e in rw (n.0, n.1, used_up r) (addresses_one r e)
-  ]
-]
-
--- so the ends tell all that `next` does
-pub range_step : {R A : Type 0} {address_of : A → Address} {range_of : R → AddressRange} {old new : R}
-    {answer : Option A}
-    → IsNext (range_of old) (option_map address_of answer) (range_of new)
-    → IsRangeStep address_of range_of old answer new
-range_step {answer = None} h = record { progress = record { on = λ _. tt; keeps = tt; rests = λ _. tt }; ends = h }
-range_step {address_of = address_of} {range_of = range_of} {old = old} {new = new} {answer = Some x} h =
-    let one_less = ap length (IsNext-yields (range_of old) (Some (address_of x)) (range_of new) h) in
-    record {
-      progress =
-          record {
-            on =
-                λ _. (
-                  tt,
-                  tt,
-                  omega (
-                    arith,
-                    one_less,
-                    length-addresses_of (range_of old),
-                    length-addresses_of (range_of new),
-                  ),
-                );
-            keeps = tt;
-            rests = λ _. tt;
-          };
-      ends = h;
-    }
-
-pub yields_first : {R A : Type 0} {address_of : A → Address} {range_of : R → AddressRange} {old new : R}
-    {answer : Option A}
-    → IsRangeStep address_of range_of old answer new
-    → YieldsFirstBy address_of (λ r. addresses_of (range_of r)) old answer new
-yields_first {range_of = range_of} {old = old} {new = new} {answer = None} step =
-    IsNext-yields (range_of old) None (range_of new) step.ends
-yields_first {address_of = address_of} {range_of = range_of} {old = old} {new = new} {answer = Some x} step =
-    IsNext-yields (range_of old) (Some (address_of x)) (range_of new) step.ends
-
-pub range_step_back : {R A : Type 0} {address_of : A → Address} {range_of : R → AddressRange} {old new : R}
-    {answer : Option A}
-    → IsNextBack (range_of old) (option_map address_of answer) (range_of new)
-    → IsRangeStepBack address_of range_of old answer new
-range_step_back {answer = None} h = record { progress = record { on = λ _. tt; keeps = tt; rests = λ _. tt }; ends = h }
-range_step_back {address_of = address_of} {range_of = range_of} {old = old} {new = new} {answer = Some x} h =
-    let rest = addresses_of (range_of new) in
-    let one_less =
-    ap length (IsNextBack-yields (range_of old) (Some (address_of x)) (range_of new) h)
-    ∙ length-append rest (address_of x ∷ []) in
-    record {
-      progress =
-          record {
-            on =
-                λ _. (
-                  tt,
-                  tt,
-                  omega (
-                    arith,
-                    one_less,
-                    length-addresses_of (range_of old),
-                    length-addresses_of (range_of new),
-                  ),
-                );
-            keeps = tt;
-            rests = λ _. tt;
-          };
-      ends = h;
-    }
-
-pub yields_last : {R A : Type 0} {address_of : A → Address} {range_of : R → AddressRange} {old new : R}
-    {answer : Option A}
-    → IsRangeStepBack address_of range_of old answer new
-    → YieldsLastBy address_of (λ r. addresses_of (range_of r)) old answer new
-yields_last {range_of = range_of} {old = old} {new = new} {answer = None} step =
-    IsNextBack-yields (range_of old) None (range_of new) step.ends
-yields_last {address_of = address_of} {range_of = range_of} {old = old} {new = new} {answer = Some x} step =
-    IsNextBack-yields (range_of old) (Some (address_of x)) (range_of new) step.ends
-
-pub IsNth-item : (n : ℕ) (r : AddressRange) (answer : Option Address) (s : AddressRange) → IsNth n r answer s
-    → answer ≡ slice_get (addresses_of r) n
-IsNth-item n r answer s h = elim (cases_lt n (address_count r)) [
-  | inr past ↦ (h.past past).0 ∙ sym (addresses_past r n past)
-  | inl within ↦ elim (cases_eq (n + 1) (address_count r)) [
-    | inl e ↦ (h.last e).0 ∙ ap (λ m. Some (address_at r.family m)) (omega arith) ∙ sym (addresses_at r n within)
-    | inr ne ↦ (h.before (omega arith)).0 ∙ sym (addresses_at r n within)
-  ]
-]
-
-pub IsNth-left : (n : ℕ) (r : AddressRange) (answer : Option Address) (s : AddressRange) → IsNth n r answer s
-    → addresses_of s ≡ drop (n + 1) (addresses_of r)
-IsNth-left n r answer s h = elim (cases_lt (n + 1) (address_count r)) [
-  | inl within ↦ ap addresses_of (h.before within).1
-      ∙ sym (addresses_from r (n + 1) ∙ ap (λ m. addresses_of (with_ends r m r.end)) (omega arith))
-  | inr up ↦
-      let none : drop (n + 1) (addresses_of r) ≡ [] =
-      addresses_from r (n + 1) ∙ addresses_none (with_ends r (r.start + (n + 1)) r.end) (omega arith) in
-      elim (cases_eq (n + 1) (address_count r)) [
-        | inl e ↦ ap addresses_of (h.last e).1 ∙ used_up r ∙ sym none
-        | inr ne ↦ ap addresses_of (h.past (omega arith)).1 ∙ used_up r ∙ sym none
-      ]
-]
-
-pub IsNthBack-item : (n : ℕ) (r : AddressRange) (answer : Option Address) (s : AddressRange) → IsNthBack n r answer s
-    → answer ≡ slice_get (reverse (addresses_of r)) n
-IsNthBack-item n r answer s h = elim (cases_lt n (address_count r)) [
-  | inr past ↦ (h.past past).0 ∙ sym (addresses_back_past r n past)
-  | inl within ↦ elim (cases_eq (n + 1) (address_count r)) [
-    | inl e ↦ (h.first e).0 ∙ ap (λ m. Some (address_at r.family m)) (omega arith) ∙ sym (addresses_back_at r n within)
-    | inr ne ↦ (h.after (omega arith)).0 ∙ sym (addresses_back_at r n within)
-  ]
-]
-
-pub IsNthBack-left : (n : ℕ) (r : AddressRange) (answer : Option Address) (s : AddressRange) → IsNthBack n r answer s
-    → addresses_of s ≡ take (address_count r - (n + 1)) (addresses_of r)
-IsNthBack-left n r answer s h = elim (cases_lt (n + 1) (address_count r)) [
-  | inl within ↦ ap addresses_of (h.after within).1
-      ∙ sym (addresses_up_to r (n + 1) within ∙ ap (λ m. addresses_of (with_ends r r.start m)) (omega arith))
-  | inr up ↦
-      let zero_left : address_count r - (n + 1) ≡ 0 = omega arith in
-      let none : take (address_count r - (n + 1)) (addresses_of r) ≡ [] = rw zero_left refl in
-      elim (cases_eq (n + 1) (address_count r)) [
-        | inl e ↦ ap addresses_of (h.first e).1 ∙ used_up r ∙ sym none
-        | inr ne ↦ ap addresses_of (h.past (omega arith)).1 ∙ used_up r ∙ sym none
-      ]
-]

@@ -1,16 +1,16 @@
--- Sets that are separated: the maximal blocks of both together are those of the first, followed by those of the
--- second. And networks that are known to be maximal, and to cover the set, are all its maximal blocks.
-use Rattle.std.proofs.Common.{◌≡◌, ℕ, ◌≤◌, ◌⊎◌, List, ◌++◌, Contains, All, refl, sym, ap, subst, arith, inl, inr}
+-- Sets that are separated, as are those that networks of two families cover: the maximal blocks of both together are
+-- those of the first, followed by those of the second.
+use Rattle.std.proofs.Common.{◌≡◌, ℕ, ◌≤◌, ◌⊎◌, List, ◌++◌, All, refl, sym, ap, arith, inl, inr, ◌∙◌}
 use Rattle.std.proofs.lemmas.List.Elements.{Contains-append_left, Contains-append_right, Contains-append_cases}
-use Rattle.ipnet_base.specs.Address.{Address, family_index, IsAddressBefore}
+use Rattle.ipnet_base.specs.Address.{Address, family_index, IsAddressBefore, Family, IPv4, IPv6}
 use Rattle.ipnet_base.specs.Network.{Network, InBlock, IsTruncated, IsBefore}
-use Rattle.ipnet_base.specs.Blocks.{IsCoveredBy, IsInside, IsMaximal, IsAscending, AreMaximalBlocks, IsAggregateOf}
-use Rattle.ipnet_base.specs.Blocks.{IsInEither, AreSeparated}
+use Rattle.ipnet_base.specs.Blocks.{IsCoveredBy, IsInside, IsMaximal, AreMaximalBlocks, IsAggregateOf, IsInEither}
+use Rattle.ipnet_base.specs.Blocks.{AreSeparated}
 use Rattle.ipnet_base.proofs.BlockLaws.{own, own_in, block_between}
 use Rattle.ipnet_base.proofs.ListLaws.{all_at, pairs_append}
 use Rattle.ipnet_base.proofs.CoverLaws.{covering_member, cover_append}
-use Rattle.ipnet_base.proofs.ShortestLaws.{one_maximal}
-use Rattle.ipnet_base.proofs.SupernetLaws.{AreMaximalBlocks-same_set}
+use Rattle.ipnet_base.proofs.MaximalLaws.{IsInside-of_block}
+use Rattle.ipnet_base.proofs.UniqueLaws.{AreMaximalBlocks-same_set}
 
 -- an address comes before none of its family with a number that is no greater
 not_before : (x y : Address) → IsAddressBefore x y → x.family ≡ y.family → y.number ≤ x.number → ⊥
@@ -21,16 +21,6 @@ not_before x y (inr h) same le = omega (arith, h.1, le)
 before_from_own : (n k : Network) → IsAddressBefore (own n) (own k) → IsBefore n k
 before_from_own n k (inl h) = inl h
 before_from_own n k (inr h) = inr (h.0, inl h.1)
-
--- a network inside a part of the set is inside the set
-inside_wider : (Part Whole : Address → Type 0) (least : ℕ) → ((x : Address) → Part x → Whole x) → (n : Network)
-    → IsInside Part least n → IsInside Whole least n
-inside_wider Part Whole least up n i = record {
-  network = i.network;
-  truncated = i.truncated;
-  long_enough = i.long_enough;
-  within = λ x a. up x (i.within x a);
-}
 
 module _ (First Second : Address → Type 0) (least : ℕ) (apart : AreSeparated First Second) where
   -- no address is in both sets
@@ -56,29 +46,31 @@ module _ (First Second : Address → Type 0) (least : ℕ) (apart : AreSeparated
 
   narrowed : (Part : Address → Type 0) (n : Network) → IsInside (IsInEither First Second) least n
       → ((x : Address) → InBlock n x → Part x) → IsInside Part least n
-  narrowed Part n i within = record {
-    network = i.network;
-    truncated = i.truncated;
-    long_enough = i.long_enough;
-    within = within;
-  }
+  narrowed Part n i within = IsInside-of_block (IsInEither First Second) Part least n i within
+
+  -- and one in either set lies in both together
+  from_first : (n : Network) → IsInside First least n → IsInside (IsInEither First Second) least n
+  from_first n i = IsInside-of_block First (IsInEither First Second) least n i (λ x a. inl (i.within x a))
+
+  from_second : (n : Network) → IsInside Second least n → IsInside (IsInEither First Second) least n
+  from_second n i = IsInside-of_block Second (IsInEither First Second) least n i (λ x a. inr (i.within x a))
 
   maximal_of_either : (n : Network) → IsMaximal (IsInEither First Second) least n
       → IsMaximal First least n ⊎ IsMaximal Second least n
   maximal_of_either n h = elim (one_side n h.inside.truncated h.inside.within) [
     | inl low ↦ inl (record {
       inside = narrowed First n h.inside low;
-      largest = λ k i s. h.largest k (inside_wider First (IsInEither First Second) least (λ x a. inl a) k i) s;
+      largest = λ k i s. h.largest k (from_first k i) s;
     })
     | inr high ↦ inr (record {
       inside = narrowed Second n h.inside high;
-      largest = λ k i s. h.largest k (inside_wider Second (IsInEither First Second) least (λ x a. inr a) k i) s;
+      largest = λ k i s. h.largest k (from_second k i) s;
     })
   ]
 
   maximal_of_first : (n : Network) → IsMaximal First least n → IsMaximal (IsInEither First Second) least n
   maximal_of_first n h = record {
-    inside = inside_wider First (IsInEither First Second) least (λ x a. inl a) n h.inside;
+    inside = from_first n h.inside;
     largest = λ k i s. elim (one_side k i.truncated i.within) [
       | inl low ↦ h.largest k (narrowed First k i low) s
       | inr high ↦ absurd (not_both (own n) (h.inside.within (own n) (own_in n)) (high (own n) (s (own n) (own_in n))))
@@ -87,7 +79,7 @@ module _ (First Second : Address → Type 0) (least : ℕ) (apart : AreSeparated
 
   maximal_of_second : (n : Network) → IsMaximal Second least n → IsMaximal (IsInEither First Second) least n
   maximal_of_second n h = record {
-    inside = inside_wider Second (IsInEither First Second) least (λ x a. inr a) n h.inside;
+    inside = from_second n h.inside;
     largest = λ k i s. elim (one_side k i.truncated i.within) [
       | inr high ↦ h.largest k (narrowed Second k i high) s
       | inl low ↦ absurd (not_both (own n) (low (own n) (s (own n) (own_in n))) (h.inside.within (own n) (own_in n)))
@@ -125,20 +117,33 @@ IsAggregateOf-append networks others first second apart h k =
     (λ x. ((cover_append networks others x).1, (cover_append networks others x).0))
     (AreMaximalBlocks-append (IsCoveredBy networks) (IsCoveredBy others) 0 apart first second h k)
 
--- ascending networks, each maximal in the set, that cover it are all its maximal blocks
-pub AreMaximalBlocks-from_members : (InSet : Address → Type 0) (least : ℕ) (networks : List Network)
-    → IsAscending networks → All (IsMaximal InSet least) networks → ((x : Address) → InSet x → IsCoveredBy networks x)
-    → AreMaximalBlocks InSet least networks
-AreMaximalBlocks-from_members InSet least networks ascending maximal covered = record {
-  ascending = ascending;
-  members = λ n. (all_at (IsMaximal InSet least) networks maximal n, back n);
+-- every network of the list is of the family
+abbrev AreOfFamily : Family → List Network → Type 0
+AreOfFamily f networks = All (λ n. n.family ≡ f) networks
+
+-- networks of one family cover addresses of it alone
+covered_family : (f : Family) (networks : List Network) → AreOfFamily f networks → (x : Address)
+    → IsCoveredBy networks x → x.family ≡ f
+covered_family f networks all x a =
+    a.4.same_family ∙ all_at (λ n. n.family ≡ f) networks all a.1 (covering_member networks x a)
+
+-- what IPv4 networks cover and what IPv6 networks cover is separated
+AreSeparated-families : (ipv4 ipv6 : List Network) → AreOfFamily IPv4 ipv4 → AreOfFamily IPv6 ipv6
+    → AreSeparated (IsCoveredBy ipv4) (IsCoveredBy ipv6)
+AreSeparated-families ipv4 ipv6 of4 of6 = record {
+  before = λ x y a b.
+      inl (omega (
+        arith,
+        ap family_index (covered_family IPv4 ipv4 of4 x a),
+        ap family_index (covered_family IPv6 ipv6 of6 y b),
+      ));
+  gap = λ x y a b same.
+      let clash : IPv4 ≡ IPv6 = sym (covered_family IPv4 ipv4 of4 x a) ∙ same ∙ covered_family IPv6 ipv6 of6 y b in
+      absurd (cc);
 }
-  where
-    back : (n : Network) → IsMaximal InSet least n → Contains networks n
-    back n h =
-        let a : IsCoveredBy networks (own n) = covered (own n) (h.inside.within (own n) (own_in n)) in
-        let c : Contains networks a.1 = covering_member networks (own n) a in
-        subst (Contains networks)
-        (sym (one_maximal InSet least n a.1 h (all_at (IsMaximal InSet least) networks maximal a.1 c) (own n)
-        (own_in n) a.4))
-        c
+
+-- the aggregate of the IPv4 networks, followed by that of the IPv6 networks, is the aggregate of all
+pub aggregate_of_families : (ipv4 ipv6 blocks4 blocks6 : List Network) → AreOfFamily IPv4 ipv4 → AreOfFamily IPv6 ipv6
+    → IsAggregateOf blocks4 ipv4 → IsAggregateOf blocks6 ipv6 → IsAggregateOf (blocks4 ++ blocks6) (ipv4 ++ ipv6)
+aggregate_of_families ipv4 ipv6 blocks4 blocks6 of4 of6 h k =
+    IsAggregateOf-append ipv4 ipv6 blocks4 blocks6 (AreSeparated-families ipv4 ipv6 of4 of6) h k

@@ -1,32 +1,23 @@
 -- No exact cover is shorter than the maximal blocks, and one as short is them, truncated and sorted.
-use Rattle.std.proofs.Common.{◌≡◌, ℕ, ◌<◌, ◌≤◌, List, [], ◌++◌, length, get_or, map, Contains, AllPairs}
-use Rattle.std.proofs.Common.{IsPermutation, sym, ap, ◌∙◌, subst, arith, inl, inr}
+use Rattle.std.proofs.Common.{◌≡◌, ℕ, ◌<◌, ◌≤◌, List, [], ◌++◌, length, get_or, map, Contains, AllPairs, IsPermutation}
+use Rattle.std.proofs.Common.{sym, ap, ◌∙◌, subst, arith, inl, inr}
 use Rattle.std.specs.List.{AllZip}
 use Rattle.std.proofs.lemmas.List.{length-append, nil_from_length, same_lists, get_or-map, length-map, append-nil}
-use Rattle.std.proofs.lemmas.List.Sorted.{IsPermutation-sym, Contains-permutation}
-use Rattle.std.proofs.lemmas.List.Sorted.{length_permutation, IsPermutation-map}
+use Rattle.std.proofs.lemmas.List.Sorted.{IsPermutation-sym, Contains-permutation, length_permutation}
+use Rattle.std.proofs.lemmas.List.Sorted.{IsPermutation-map}
 use Rattle.std.proofs.lemmas.List.Elements.{length_all_zip, AllZip-get_or}
 use Rattle.std.proofs.lemmas.Bool.{cases_order}
 use Rattle.ipnet_base.specs.Address.{Address}
 use Rattle.ipnet_base.specs.Network.{Network, IsNetwork, InBlock, IsSubnetOf, IsBefore, truncation}
 use Rattle.ipnet_base.specs.Blocks.{IsInside, IsMaximal, AreMaximalBlocks, IsExactCover}
-use Rattle.ipnet_base.proofs.BlockLaws.{own, own_in, nested_or_disjoint, same_from_block, IsTruncated-truncation}
-use Rattle.ipnet_base.proofs.BlockLaws.{IsNetwork-truncation, truncation_in, in_truncation}
-use Rattle.ipnet_base.proofs.ListLaws.{contains_at, at_place}
-use Rattle.ipnet_base.proofs.ListLaws.{pairs_from_members, pair_at, any_from_contains, all_at}
-use Rattle.ipnet_base.proofs.OrderLaws.{IsBefore-asymmetric}
+use Rattle.ipnet_base.proofs.BlockLaws.{own, own_in}
+use Rattle.ipnet_base.proofs.NestingLaws.{nested_or_disjoint}
+use Rattle.ipnet_base.proofs.NetworkLaws.{same_from_block, IsTruncated-truncation, IsNetwork-truncation, truncation_in}
+use Rattle.ipnet_base.proofs.NetworkLaws.{in_truncation}
+use Rattle.ipnet_base.proofs.ListLaws.{contains_at, at_place, pairs_from_members, pair_at, any_from_contains, all_at}
 use Rattle.ipnet_base.proofs.ListLaws.{partners, partners_no_more}
-
--- maximal networks that share an address are one
-pub one_maximal : (InSet : Address → Type 0) (least : ℕ) (n k : Network) → IsMaximal InSet least n
-    → IsMaximal InSet least k
-    → (x : Address) → InBlock n x → InBlock k x → n ≡ k
-one_maximal InSet least n k p q x a b =
-    elim (nested_or_disjoint n k) [
-      | inl s ↦ sym (p.largest k q.inside s)
-      | inr (inl s) ↦ q.largest n p.inside s
-      | inr (inr d) ↦ absurd (d x a b)
-    ]
+use Rattle.ipnet_base.proofs.OrderLaws.{IsBefore-asymmetric}
+use Rattle.ipnet_base.proofs.MaximalLaws.{one_maximal}
 
 -- What an exact cover and the maximal blocks of one set have to do with each other.
 module _ (InSet : Address → Type 0) (least : ℕ) (networks cover : List Network)

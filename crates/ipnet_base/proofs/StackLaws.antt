@@ -1,49 +1,20 @@
--- One network more on a list without host bits, and on a stack that shows the four conditions on neighbours: what the
--- two loops of `aggregate` keep from turn to turn.
-use Rattle.std.proofs.Common.{◌≡◌, ℕ, ◌+◌, ◌-◌, ◌<◌, ◌≤◌, ◌⊎◌, ◌↔◌, List, [], ◌∷◌, ◌++◌, length, get_or}
-use Rattle.std.proofs.Common.{Contains, All, refl, sym, ap, ◌∙◌, subst, subst₂, arith, inl, inr, map, take}
-use Rattle.std.proofs.Common.{IsPermutation}
-use Rattle.std.proofs.lemmas.Bool.{cases_lt}
-use Rattle.std.proofs.lemmas.List.{length_push, get_or_push, get_or_append_left, length-map, take_more}
-use Rattle.std.proofs.lemmas.List.{take_all}
+-- One network more on a stack that shows the four conditions on neighbours: what the sweep of `aggregate` keeps from
+-- turn to turn.
+use Rattle.std.proofs.Common.{◌≡◌, ℕ, ◌+◌, ◌-◌, ◌<◌, ◌⊎◌, ◌↔◌, List, [], ◌∷◌, ◌++◌, length, get_or, Contains, All, refl}
+use Rattle.std.proofs.Common.{sym, ap, ◌∙◌, subst, subst₂, arith, inl, inr, map, take, IsPermutation}
+use Rattle.std.proofs.lemmas.List.{length_push, get_or_push, get_or_append_left, length-map, take_more, take_all}
 use Rattle.std.proofs.lemmas.List.Elements.{All-push, All-weaker}
 use Rattle.std.proofs.lemmas.List.Sorted.{IsPermutation-map}
-use Rattle.ipnet_base.specs.Network.{truncation, Network, IsNetwork, host_bits, InBlock, IsSubnetOf, IsTruncated}
-use Rattle.ipnet_base.specs.Network.{IsBefore, AreHalves, IsSupernetOf}
+use Rattle.ipnet_base.specs.Network.{Network, IsNetwork, InBlock, IsSubnetOf, IsTruncated, IsBefore, AreHalves}
+use Rattle.ipnet_base.specs.Network.{IsSupernetOf}
 use Rattle.ipnet_base.specs.Blocks.{HaveSameCover, IsCoveredBy}
-use Rattle.ipnet_base.specs.Address.{Address, width, family_index}
-use Rattle.ipnet_base.specs.Stack.{LiesBefore, AreJoined, IsBeforeOrEqual, IsInOrder, IsListWith, IsStackWith}
-use Rattle.ipnet_base.specs.Stack.{IsStackOfFirst}
-use Rattle.ipnet_base.proofs.BlockLaws.{truncation_in, in_truncation, own, own_in, block_between}
-use Rattle.ipnet_base.proofs.BlockLaws.{nested_or_disjoint, nested, supernet_to_halves, halves_to_supernet}
+use Rattle.ipnet_base.specs.Address.{Address}
+use Rattle.ipnet_base.specs.Stack.{LiesBefore, AreJoined, IsBeforeOrEqual, IsInOrder, IsStackWith, IsStackOfFirst}
+use Rattle.ipnet_base.proofs.BlockLaws.{own, own_in}
 use Rattle.ipnet_base.proofs.OrderLaws.{IsBeforeOrEqual-transitive}
-use Rattle.ipnet_base.proofs.ListLaws.{adjacent_push}
-use Rattle.ipnet_base.proofs.CoverLaws.{cover_push, cover_permutation}
-use Rattle.ipnet_base.proofs.ListLaws.{any_from_contains, at_place}
-
--- what stands no later and does not cover the next ends before it
-ends_before_next : (t n : Network) → IsNetwork t → IsNetwork n → IsTruncated t → IsTruncated n
-    → IsBeforeOrEqual t n → (IsSubnetOf n t → ⊥) → LiesBefore t n
-ends_before_next t n u v tt_ tn (inl e) out = absurd (out (subst (λ z. IsSubnetOf z t) e (λ x a. a)))
-ends_before_next t n u v tt_ tn (inr (inl h)) out = inl h
-ends_before_next t n u v tt_ tn (inr (inr (f, order))) out =
-    elim (nested_or_disjoint t n) [
-      | inr (inl n_in_t) ↦ absurd (out n_in_t)
-      | inl t_in_n ↦
-          let least : n.number ≤ t.number = tn (own t) (t_in_n (own t) (own_in t)) in
-          let bits : host_bits n ≤ host_bits t = omega (arith, least, order, ap width f) in
-          absurd (out (nested n t (own t) (t_in_n (own t) (own_in t)) (own_in t) bits))
-      | inr (inr apart) ↦ inr (
-        f,
-        λ x a. elim (cases_lt x.number n.number) [
-          | inl lt ↦ lt
-          | inr ge ↦ absurd (apart (own n) (between x a ge) (own_in n))
-        ],
-      )
-    ]
-  where
-    between : (x : Address) → InBlock t x → n.number ≤ x.number → InBlock t (own n)
-    between x a ge = block_between t x (own n) a (sym f) (omega (arith, order)) ge
+use Rattle.ipnet_base.proofs.ListLaws.{adjacent_push, any_from_contains, at_place}
+use Rattle.ipnet_base.proofs.CoverLaws.{cover_push, cover_permutation, joined_cover}
+use Rattle.ipnet_base.proofs.EndLaws.{ends_before_next, supernet_start, ends_before_supernet}
 
 stack_truncated : (xs : List Network) (n : Network) → AreJoined xs → IsTruncated n → All IsTruncated (xs ++ n ∷ [])
 stack_truncated xs n joined t = All-push IsTruncated xs n joined.truncated t
@@ -70,115 +41,13 @@ neighbours_pop xs n joined = record {
       (get_or_append_left xs (n ∷ []) d (k + 1) l) (joined.unjoined k d (omega (arith, l, length_push xs n)));
 }
 
--- the supernet of two halves stands where the first of them does
-supernet_start : (s t n : Network) → IsNetwork t → IsSupernetOf s t → AreHalves t n → IsTruncated t
-    → IsTruncated n → LiesBefore t n → s.number ≡ t.number
-supernet_start s t n u p h tr tn ends =
-    let up : s.number ≤ t.number = p.truncated (own t) (p.contains (own t) (own_in t)) in
-    elim (supernet_to_halves s t n u p h (own s) (own_in s)) [
-      | inl a ↦ omega (arith, up, tr (own s) a)
-      | inr b ↦ omega (arith, up, tn (own s) b, starts_after ends)
-    ]
-  where
-    starts_after : LiesBefore t n → t.number < n.number
-    starts_after (inl i) = absurd (omega (arith, i, ap family_index h.siblings.same_family))
-    starts_after (inr i) = i.1 (own t) (own_in t)
-
--- what ends before the first half ends before the supernet, and the supernet stands before that half
-ends_before_supernet : (m s t : Network) → IsSupernetOf s t → s.number ≡ t.number → LiesBefore m t → LiesBefore m s
-ends_before_supernet m s t p e (inl h) =
-    inl (omega (arith, h, ap family_index (p.contains (own t) (own_in t)).same_family))
-ends_before_supernet m s t p e (inr h) =
-    inr (h.0 ∙ (p.contains (own t) (own_in t)).same_family, λ x a. omega (arith, h.1 x a, e))
-
+-- the supernet of two halves stands before the first of them
 supernet_before : (s t : Network) → IsSupernetOf s t → s.number ≡ t.number → IsBefore s t
 supernet_before s t p e = inr (sym (p.contains (own t) (own_in t)).same_family, inr (e, omega (arith, p.shorter)))
 
--- the last of a list that has one
+-- the last of a list that has one ends before the network
 abbrev LastLiesBefore : List Network → Network → Type 0
 LastLiesBefore xs n = (d : Network) → 0 < length xs → LiesBefore (get_or xs (length xs - 1) d) n
-
--- two halves at the end of a list cover what their supernet covers
-joined_cover : (ys : List Network) (t next s : Network) → IsNetwork t → AreHalves t next → IsSupernetOf s t
-    → (x : Address)
-    → (IsCoveredBy ys x ⊎ InBlock s x) ↔ (IsCoveredBy (ys ++ t ∷ []) x ⊎ InBlock next x)
-joined_cover ys t next s u halves p x = (down, up)
-  where
-    down : IsCoveredBy ys x ⊎ InBlock s x → IsCoveredBy (ys ++ t ∷ []) x ⊎ InBlock next x
-    down (inl c) = inl ((cover_push ys t x).1 (inl c))
-    down (inr a) = elim (supernet_to_halves s t next u p halves x a) [
-      | inl b ↦ inl ((cover_push ys t x).1 (inr b))
-      | inr b ↦ inr b
-    ]
-
-    up : IsCoveredBy (ys ++ t ∷ []) x ⊎ InBlock next x → IsCoveredBy ys x ⊎ InBlock s x
-    up (inr b) = inr (halves_to_supernet s t next u p halves x (inr b))
-    up (inl c) = elim ((cover_push ys t x).0 c) [
-      | inl d ↦ inl d
-      | inr d ↦ inr (halves_to_supernet s t next u p halves x (inl d))
-    ]
-
--- Between two joins of networks in whatever order: none has a host bit, and the list and the next network cover what
--- the old list and the network that came do.
-pub record IsAdding (old : List Network) (came : Network) (xs : List Network) (next : Network) : Type 0 where
-  pub truncated : All IsTruncated xs
-  pub next_truncated : IsTruncated next
-  pub cover : (x : Address) → (IsCoveredBy xs x ⊎ InBlock next x) ↔ (IsCoveredBy old x ⊎ InBlock came x)
-
-pub adding_start : (old : List Network) (came : Network) → All IsTruncated old → IsTruncated came
-    → IsAdding old came old came
-adding_start old came joined t = record { truncated = joined; next_truncated = t; cover = λ x. (λ h. h, λ h. h) }
-
-pub adding_step : (old : List Network) (came : Network) (ys : List Network) (t next s : Network) → IsNetwork t
-    → IsAdding old came (ys ++ t ∷ []) next → AreHalves t next → IsSupernetOf s t → IsAdding old came ys s
-adding_step old came ys t next s u h halves p = record {
-  truncated = λ k d l. subst IsTruncated (get_or_append_left ys (t ∷ []) d k l)
-      (h.truncated k d (omega (arith, l, length_push ys t)));
-  next_truncated = p.truncated;
-  cover = λ x. let joined = joined_cover ys t next s u halves p x in
-      (λ c. (h.cover x).0 (joined.0 c), λ c. joined.1 ((h.cover x).1 c));
-}
-
-pub adding_end : (old : List Network) (came : Network) (xs : List Network) (next : Network)
-    → IsAdding old came xs next → IsListWith old came (xs ++ next ∷ [])
-adding_end old came xs next h = record {
-  truncated = All-push IsTruncated xs next h.truncated h.next_truncated;
-  cover = λ x. let pushed = cover_push xs next x in (λ c. (h.cover x).0 (pushed.0 c), λ c. pushed.1 ((h.cover x).1 c));
-}
-
--- the first i networks are in the list, but for host bits
-pub record IsListOfFirst (given : List Network) (i : ℕ) (list : List Network) : Type 0 where
-  pub truncated : All IsTruncated list
-  pub cover : (x : Address) → IsCoveredBy list x ↔ IsCoveredBy (take i given) x
-
-pub list_of_first_more : (given : List Network) (i : ℕ) (came : Network) (list new : List Network) → i < length given
-    → get_or given i came ≡ came
-    → IsListOfFirst given i list → IsListWith list (truncation came) new → IsListOfFirst given (i + 1) new
-list_of_first_more given i came list new l e h p = record {
-  truncated = p.truncated;
-  cover = λ x. (to x, from x);
-}
-  where
-    more : take (i + 1) given ≡ take i given ++ came ∷ []
-    more = take_more given i came l ∙ ap (λ z. take i given ++ z ∷ []) e
-
-    to : (x : Address) → IsCoveredBy new x → IsCoveredBy (take (i + 1) given) x
-    to x a = subst (λ z. IsCoveredBy z x) (sym more) ((cover_push (take i given) came x).1
-        (elim ((p.cover x).0 a) [ inl b ↦ inl ((h.cover x).0 b) | inr b ↦ inr (truncation_in came x b) ]))
-
-    from : (x : Address) → IsCoveredBy (take (i + 1) given) x → IsCoveredBy new x
-    from x a = (p.cover x).1 (elim ((cover_push (take i given) came x).0 (subst (λ z. IsCoveredBy z x) more a)) [
-      | inl b ↦ inl ((h.cover x).1 b)
-      | inr b ↦ inr (in_truncation came x b)
-    ])
-
-pub list_of_first_whole : (given : List Network) (i : ℕ) (list : List Network) → length given ≤ i
-    → IsListOfFirst given i list → HaveSameCover list given
-list_of_first_whole given i list le h x =
-    let all : take i given ≡ given = take_all i given le in (
-      λ a. subst (λ z. IsCoveredBy z x) all ((h.cover x).0 a),
-      λ a. (h.cover x).1 (subst (λ z. IsCoveredBy z x) (sym all) a),
-    )
 
 -- Between two joins: the stack shows the conditions and ends before the next network, nothing stands after
 -- the network that came, and the cover is that of the old stack and that network.

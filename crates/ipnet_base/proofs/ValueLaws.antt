@@ -1,43 +1,15 @@
--- Values of the range types: equal where their ends are, and told apart by the bytes that a hasher is fed.
-use Rattle.std.proofs.Common.{◌≡◌, ◌↔◌, ℕ, ◌+◌, ◌/◌, ◌%◌, ◌^◌, ◌<◌, List, [], ◌∷◌, refl, sym, ap, ◌∙◌, arith, zero, suc}
+-- Values of the range types: equal where their ends are, and told apart by what a hasher is fed.
+use Rattle.std.proofs.Common.{◌≡◌, ◌↔◌, ℕ, ◌^◌, ◌<◌, List, [], ◌∷◌, refl, sym, ap, ◌∙◌, arith}
 use mathlib.Core.HLevel.{is_prop→PathP}
 use Rattle.std.specs.Coded.{le_prop}
 use Rattle.std.specs.Hash.{le_bytes}
-use Rattle.std.specs.Int.{byte_at, bytes_low_first}
-use Rattle.std.proofs.Math.Nat.{div-eq_of_lt, div-div-eq-div-mul, div-one, pow-suc}
 use Rattle.ipnet_base.specs.Ranges.{AddressRange}
 use Rattle.ipnet_base.specs.RangeOf.{ipv4_range, ipv6_range, ip_range}
 use Rattle.ipnet_base.specs.declared.ipext.ip_range.IpAddrRange.{IpAddrRange}
-use Rattle.ipnet_base.specs.declared.ipext.ip_range.IpAddrRange.TheVariants as Ip
 use Rattle.ipnet_base.specs.declared.ipext.ipv4_range.Ipv4AddrRange.{Ipv4AddrRange}
 use Rattle.ipnet_base.specs.declared.ipext.ipv6_range.Ipv6AddrRange.{Ipv6AddrRange}
-
-byte_at_is : (i x : ℕ) → byte_at i x ≡ x / 256 ^ i % 256
-byte_at_is zero x = ap (λ y. y % 256) (sym (div-one x))
-byte_at_is (suc i) x = refl
-
--- what is left of a number above its byte i
-above : (i x : ℕ) → x / 256 ^ suc i ≡ x / 256 ^ i / 256
-above i x = ap (λ p. x / p) (pow-suc 256 i) ∙ sym (div-div-eq-div-mul x (256 ^ i) 256)
-
--- numbers with the same n bytes from byte i on, and the same above these, are the same from byte i on
-same_above : (n i top x y : ℕ) → top ≡ i + n → x / 256 ^ top ≡ y / 256 ^ top
-    → bytes_low_first i n x ≡ bytes_low_first i n y → x / 256 ^ i ≡ y / 256 ^ i
-same_above zero i top x y at high e = let here : top ≡ i = omega (arith, at) in rw (sym here) high
-same_above (suc n) i top x y at high e =
-    let byte : byte_at i x ≡ byte_at i y = cc in
-    let rest : bytes_low_first (suc i) n x ≡ bytes_low_first (suc i) n y = cc in
-    let later = same_above n (suc i) top x y (omega (arith, at)) high rest in
-    let quotient : x / 256 ^ i / 256 ≡ y / 256 ^ i / 256 = sym (above i x) ∙ later ∙ above i y in
-    let digit : x / 256 ^ i % 256 ≡ y / 256 ^ i % 256 = sym (byte_at_is i x) ∙ byte ∙ byte_at_is i y in
-    omega (arith, quotient, digit)
-
--- numbers of n bytes with the same bytes are equal
-pub same_by_bytes : (n x y : ℕ) → x < 256 ^ n → y < 256 ^ n → le_bytes n x ≡ le_bytes n y → x ≡ y
-unfolding le_bytes
-same_by_bytes n x y h k e =
-    let high : x / 256 ^ n ≡ y / 256 ^ n = div-eq_of_lt h ∙ sym (div-eq_of_lt k) in
-    sym (div-one x) ∙ same_above n 0 n x y (omega arith) high e ∙ div-one y
+use Rattle.ipnet_base.proofs.DigitLaws.{same_by_bytes}
+use Rattle.ipnet_base.specs.declared.ipext.ip_range.IpAddrRange.TheVariants as Ip
 
 -- of a type of two families a hasher is fed the family's place first, so no input is one of both
 pub families_fed_apart : (xs ys : List (List ℕ)) → le_bytes 8 0 ∷ xs ≡ le_bytes 8 1 ∷ ys → ⊥

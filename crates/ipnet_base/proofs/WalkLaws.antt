@@ -8,10 +8,11 @@ use Rattle.ipnet_base.specs.Network.{Network, host_bits, InBlock, IsSubnetOf, Is
 use Rattle.ipnet_base.specs.Blocks.{IsInside, IsMaximal, AreMaximalBlocks}
 use Rattle.ipnet_base.specs.Subnets.{StartsAt, IsLargestSubnetAt}
 use Rattle.ipnet_base.proofs.BlockLaws.{at, own, own_in, last_in, between_from_block, block_from_between}
-use Rattle.ipnet_base.proofs.BlockLaws.{number_from_truncated, truncated_from_number, nested_or_disjoint}
-use Rattle.ipnet_base.proofs.BlockLaws.{bits_from_subnet, same_network}
-use Rattle.ipnet_base.proofs.ListLaws.{contains_nil, contains_here, contains_there, contains_cases, pairs_cons}
-use Rattle.ipnet_base.proofs.UniqueLaws.{AreMaximalBlocks-unique}
+use Rattle.ipnet_base.proofs.NetworkLaws.{number_from_truncated, truncated_from_number, same_network}
+use Rattle.ipnet_base.proofs.NestingLaws.{nested_or_disjoint, bits_from_subnet}
+use Rattle.ipnet_base.proofs.ListLaws.{contains_here, contains_there, contains_cases, pairs_cons}
+use Rattle.ipnet_base.proofs.MaximalLaws.{IsInside-of_block}
+use Rattle.ipnet_base.proofs.UniqueLaws.{AreMaximalBlocks-nil, AreMaximalBlocks-unique}
 
 -- the step is a maximal block of the range
 pub IsMaximal-from_step : (f : Family) (s e m : ℕ) (n : Network) → IsLargestSubnetAt f s e m n
@@ -44,24 +45,10 @@ module _ (InSet Rest : Address → Type 0) (least : ℕ) (n : Network) (rest : L
     (apart : (x : Address) → InBlock n x → Rest x → ⊥)
     (blocks : AreMaximalBlocks Rest least rest) where
   inside_back : (k : Network) → IsInside Rest least k → IsInside InSet least k
-  inside_back k i =
-      record {
-        network = i.network;
-        truncated = i.truncated;
-        long_enough = i.long_enough;
-        within =
-            λ x a. back x (i.within x a);
-      }
+  inside_back k i = IsInside-of_block Rest InSet least k i (λ x a. back x (i.within x a))
 
   inside_rest : (k : Network) → IsInside InSet least k → AreDisjoint n k → IsInside Rest least k
-  inside_rest k i d =
-      record {
-        network = i.network;
-        truncated = i.truncated;
-        long_enough = i.long_enough;
-        within =
-            λ x a. go x a (split x (i.within x a));
-      }
+  inside_rest k i d = IsInside-of_block InSet Rest least k i (λ x a. go x a (split x (i.within x a)))
     where
       go : (x : Address) → InBlock k x → InBlock n x ⊎ Rest x → Rest x
       go x a (inl b) = absurd (d x b a)
@@ -109,14 +96,6 @@ module _ (InSet Rest : Address → Type 0) (least : ℕ) (n : Network) (rest : L
         | inl e ↦ subst (Contains (n ∷ rest)) e (contains_here n rest)
         | inr r ↦ contains_there n rest z ((blocks.members z).1 r)
       ]
-
--- no block lies in an empty set
-pub AreMaximalBlocks-nil : (InSet : Address → Type 0) (least : ℕ) → ((x : Address) → InSet x → ⊥)
-    → AreMaximalBlocks InSet least []
-AreMaximalBlocks-nil InSet least none = record {
-  ascending = λ i j d l m. absurd (omega arith);
-  members = λ z. (λ c. absurd (contains_nil z c), λ h. absurd (none (own z) (h.inside.within (own z) (own_in z))));
-}
 
 -- the step in front of the blocks of what is left after it
 pub AreMaximalBlocks-step : (f : Family) (s e m : ℕ) (n : Network) (rest : List Network) → IsLargestSubnetAt f s e m n

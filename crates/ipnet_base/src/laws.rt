@@ -40,13 +40,13 @@ pub fn own_address_is_between()
 {}
 
 /// At the full prefix length a block is the network's own address alone.
-pub fn full_length_is_one_address()
+pub fn full_prefix_len_is_one_address()
     ensures { (n : Network) (x : Address) → n.prefix_len ≡ width n.family
         → InBlock n x ↔ ((x.family ≡ n.family) × (x.number ≡ n.number)) }
 {}
 
 /// At prefix length 0 a block is all addresses of the family.
-pub fn length_zero_is_all_addresses()
+pub fn zero_prefix_len_is_all_addresses()
     ensures { (n : Network) (x : Address) → IsNetwork n → IsAddress x → n.prefix_len ≡ 0
         → InBlock n x ↔ (x.family ≡ n.family) }
 {}
@@ -112,7 +112,7 @@ pub fn masks_mark_the_prefix()
 {}
 
 /// A number is the netmask of one prefix length at most.
-pub fn netmask_has_one_length()
+pub fn netmask_has_one_prefix_len()
     ensures { (f : Family) (number p q : ℕ) → IsNetmaskOf f number p → IsNetmaskOf f number q → p ≡ q }
 {}
 

@@ -7,10 +7,10 @@ use Rattle.ipnet.specs.Network.{Network, IsNetwork, IsSubnetOf, truncation}
 use Rattle.ipnet.specs.Blocks.{IsCoveredBy, IsAggregateOf}
 use Rattle.ipnet.specs.NetworkOf.{ip_network}
 use Rattle.ipnet.specs.declared.net.IpNet.{IpNet}
-use Rattle.ipnet_base.proofs.BlockLaws.{IsTruncated-truncation, IsNetwork-truncation, truncation_in, in_truncation}
+use Rattle.ipnet_base.proofs.NetworkLaws.{IsTruncated-truncation, IsNetwork-truncation, truncation_in, in_truncation}
 use Rattle.ipnet_base.proofs.ListLaws.{any_from_contains, at_place}
 use Rattle.ipnet_base.proofs.DecidedLaws.{IsDecided-cover}
-use Rattle.ipnet_base.proofs.SupernetLaws.{maximal_above}
+use Rattle.ipnet_base.proofs.MaximalLaws.{maximal_above}
 use Rattle.ipnet_c.specs.Replies.{IsBlockCoveredBy}
 
 pub covered_iff_in_one : (networks blocks : List Network) (n : Network) → IsNetwork n → IsAggregateOf blocks networks

@@ -6,8 +6,7 @@ use Rattle.ipnet.specs.Blocks.{IsCoveredBy, AreMaximalBlocks}
 use Rattle.ipnet.specs.Lines.{lines_of, AreNetworksOf, IsFirstBadLine}
 use Rattle.ipnet.specs.declared.parser.Grammar.TheVariants.{Strict}
 use Rattle.ipnet.proofs.LineLaws.{all_good}
-use Rattle.ipnet.proofs.WalkLaws.{AreMaximalBlocks-nil}
-use Rattle.ipnet_base.proofs.SupernetLaws.{AreMaximalBlocks-same_set}
+use Rattle.ipnet_base.proofs.UniqueLaws.{AreMaximalBlocks-same_set, AreMaximalBlocks-nil}
 use Rattle.ipnet_sets.specs.declared.set.IpSet.{IpSet}
 use Rattle.ipnet_sets.specs.Members.{IsMember}
 use Rattle.ipnet_c.specs.Buffers.{IsWritten, IsTooLong}

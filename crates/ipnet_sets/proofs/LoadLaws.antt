@@ -8,15 +8,14 @@ use Rattle.std.proofs.lemmas.List.Elements.{All-weaker, All-map}
 use Rattle.ipnet_base.specs.Address.{Family, IPv4, IPv6, Address, IsAddress, greatest_number, family_index}
 use Rattle.ipnet_base.specs.Network.{Network, IsNetwork, InBlock, IsTruncated, IsLeastOf, IsGreatestOf}
 use Rattle.ipnet_base.specs.Blocks.{IsCoveredBy, IsAggregateOf, AreAggregatedNeighbours}
-use Rattle.ipnet_base.proofs.BlockLaws.{own, own_in, cases_family}
+use Rattle.ipnet_base.proofs.BlockLaws.{own, own_in, block_is_between}
+use Rattle.ipnet_base.proofs.FamilyLaws.{cases_family}
 use Rattle.ipnet_base.proofs.ListLaws.{all_at, pair_at}
-use Rattle.ipnet_base.proofs.NetworkLaws.{block_is_between}
+use Rattle.ipnet_base.proofs.EndLaws.{ends_before_all, ends_apart}
+use Rattle.ipnet_base.proofs.NeighbourLaws.{AreJoined-from_neighbours, neighbours_iff_own_aggregate}
+use Rattle.ipnet_base.proofs.AggregateLaws.{aggregate_of_aggregate, aggregate_valid, IsExactCover-of_aggregate}
+use Rattle.ipnet_base.proofs.CoverLaws.{covered_fits, cover_push}
 use Rattle.ipnet_base.specs.Stack.{LiesBefore}
-use Rattle.ipnet_base.proofs.NeighbourLaws.{ends_before_all, ends_apart}
-use Rattle.ipnet_base.proofs.AggregateLaws.{AreJoined-from_neighbours, neighbours_iff_own_aggregate}
-use Rattle.ipnet_base.proofs.AggregateLaws.{aggregate_of_aggregate, aggregate_valid, covered_fits}
-use Rattle.ipnet_base.proofs.AggregateLaws.{IsExactCover-of_aggregate}
-use Rattle.ipnet_base.proofs.CoverLaws.{cover_push}
 use Rattle.ipnet.specs.declared.net.IpNet.{IpNet}
 use Rattle.ipnet.specs.NetworkOf.{ip_network}
 use Rattle.ipnet.specs.NetLaws.{ip_valid}

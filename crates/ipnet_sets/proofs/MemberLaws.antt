@@ -4,8 +4,7 @@ use Rattle.std.proofs.Common.{refl, ap, ◌∙◌, subst, subst₂, arith}
 use Rattle.std.proofs.lemmas.List.{length-map}
 use Rattle.ipnet_base.specs.Address.{Family, IPv4, IPv6, Address, IsAddress, IsBetween, width, greatest_number}
 use Rattle.ipnet_base.specs.Network.{Network, IsNetwork, InBlock, IsLeastOf, IsGreatestOf}
-use Rattle.ipnet_base.proofs.NetworkLaws.{block_is_between}
-use Rattle.ipnet_base.proofs.BlockLaws.{between_from_block, last_fits}
+use Rattle.ipnet_base.proofs.BlockLaws.{block_is_between, between_from_block, last_fits}
 use Rattle.ipnet_sets.specs.declared.set.IpSet.{IpSet}
 use Rattle.ipnet_sets.specs.declared.turns.Operation.{Operation}
 use Rattle.ipnet_sets.specs.Turns.{is_inside, combined, IsLeastInside, IsGreatestInside, by_family}

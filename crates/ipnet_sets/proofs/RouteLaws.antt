@@ -11,8 +11,9 @@ use Rattle.ipnet_base.specs.Network.{Network, IsNetwork, host_bits, InBlock, IsS
 use Rattle.ipnet_base.specs.Blocks.{IsCoveredBy, IsAscending}
 use Rattle.ipnet_base.specs.Stack.{IsBeforeOrEqual}
 use Rattle.ipnet_base.specs.Values.{ComparesBy}
-use Rattle.ipnet_base.proofs.BlockLaws.{own, own_in, nested, nested_or_disjoint, block_between}
-use Rattle.ipnet_base.proofs.BlockLaws.{same_from_block}
+use Rattle.ipnet_base.proofs.BlockLaws.{own, own_in, block_between}
+use Rattle.ipnet_base.proofs.NestingLaws.{nested, nested_or_disjoint}
+use Rattle.ipnet_base.proofs.NetworkLaws.{same_from_block}
 use Rattle.ipnet_base.proofs.ListLaws.{pair_at, one_place, all_at, contains_at, pairs_weaker}
 use Rattle.ipnet_base.proofs.OrderLaws.{IsBefore-asymmetric, IsBefore-transitive, IsBeforeOrEqual-transitive}
 use Rattle.ipnet_base.proofs.OrderLaws.{order_total}

@@ -16,7 +16,7 @@ use Rattle.ipnet_base.specs.Network.{Network, IsBefore, IsTruncated, truncation}
 use Rattle.ipnet_base.specs.Blocks.{IsAscending}
 use Rattle.ipnet_base.specs.Values.{ComparesBy}
 use Rattle.ipnet_base.specs.Stack.{IsBeforeOrEqual, IsInOrder}
-use Rattle.ipnet_base.proofs.BlockLaws.{IsTruncated-truncation}
+use Rattle.ipnet_base.proofs.NetworkLaws.{IsTruncated-truncation}
 use Rattle.ipnet_base.proofs.ListLaws.{all_at, at_place}
 use Rattle.ipnet.specs.declared.net.IpNet.{IpNet}
 use Rattle.ipnet.specs.NetworkOf.{ip_network}

@@ -4,12 +4,12 @@ use Rattle.std.proofs.Common.{not}
 use Rattle.std.proofs.Common.{List, [], ◌∷◌, map, Less, Equal, Greater, Ordering, Option, Some}
 use Rattle.std.proofs.Common.{nat_cmp, nat_eq}
 use Rattle.std.proofs.Common.{refl, sym, ap, ap₂, ◌∙◌, arith, inl, inr, le-leb, eq-eqb}
-use Rattle.std.proofs.lemmas.Bool.{cases_lt, cases_order, cases_Bool, eqb-true, lt-leb}
+use Rattle.std.proofs.lemmas.Bool.{cases_lt, cases_order, cases_Bool, eqb-true, lt-leb, and_parts, and_from}
 use Rattle.std.proofs.lemmas.Bool.Decides.{nat_tests}
 use Rattle.std.specs.Ordering.{ordering_then, partial_ordering_then}
 use Rattle.std.specs.Cmp.Lexicographic.{slice_cmp, slice_partial_cmp}
 use Rattle.ipnet_base.specs.Address.{Family, IPv4, IPv6, Address, IsAddress, width, greatest_number}
-use Rattle.ipnet.proofs.EqualLaws.{both_true, lists_equal}
+use Rattle.ipnet.proofs.EqualLaws.{lists_equal}
 use Rattle.ipnet_sets.specs.declared.set.IpSet.{IpSet}
 use Rattle.ipnet_sets.specs.Turns.{is_inside, AreTurns}
 use Rattle.ipnet_sets.specs.Members.{turns_of, is_member, IsMember, HaveSameAddresses}
@@ -112,9 +112,10 @@ pub equal_by_addresses : (a b : IpSet) → (pointwise nat_eq a.ipv4.items b.ipv4
 equal_by_addresses a b =
     let ipv4 = lists_equal nat_eq numbers_equal a.ipv4.items b.ipv4.items in
     let ipv6 = lists_equal nat_eq numbers_equal a.ipv6.items b.ipv6.items in
-    let both = both_true (pointwise nat_eq a.ipv4.items b.ipv4.items) (pointwise nat_eq a.ipv6.items b.ipv6.items) in (
-      λ e. same_addresses a b (ipv4.0 (both.0 e).0) (ipv6.0 (both.0 e).1),
-      λ same. let words = same_words a b same in both.1 (ipv4.1 words.0, ipv6.1 words.1),
+    let first = pointwise nat_eq a.ipv4.items b.ipv4.items in
+    let second = pointwise nat_eq a.ipv6.items b.ipv6.items in (
+      λ e. let both = and_parts first second e in same_addresses a b (ipv4.0 both.0) (ipv6.0 both.1),
+      λ same. let words = same_words a b same in and_from first second (ipv4.1 words.0) (ipv6.1 words.1),
     )
 
 tied : (x y : ℕ) → (nat_cmp x y ≡ Equal) ↔ (x ≡ y)

@@ -9,12 +9,10 @@ use Rattle.ipnet_base.specs.Address.{Family, IPv4, IPv6, Address, greatest_numbe
 use Rattle.ipnet_base.specs.Network.{Network}
 use Rattle.ipnet_base.specs.Blocks.{AreMaximalBlocks, IsInEither, AreSeparated}
 use Rattle.ipnet_base.specs.Ranges.{AddressRange}
-use Rattle.ipnet_base.proofs.ListLaws.{contains_nil, contains_here, contains_cases, any_from_contains}
-use Rattle.ipnet_base.proofs.ListLaws.{pairs_head, pairs_tail, pairs_cons, all_from_members}
-use Rattle.ipnet_base.proofs.ListLaws.{pairs_append}
+use Rattle.ipnet_base.proofs.ListLaws.{contains_nil, contains_here, contains_cases, any_from_contains, pairs_head}
+use Rattle.ipnet_base.proofs.ListLaws.{pairs_tail, pairs_cons, all_from_members, pairs_append}
 use Rattle.ipnet_base.proofs.SeparationLaws.{AreMaximalBlocks-append}
-use Rattle.ipnet_base.proofs.SupernetLaws.{AreMaximalBlocks-same_set}
-use Rattle.ipnet_base.proofs.WalkLaws.{AreMaximalBlocks-nil}
+use Rattle.ipnet_base.proofs.UniqueLaws.{AreMaximalBlocks-same_set, AreMaximalBlocks-nil}
 use Rattle.ipnet_sets.specs.declared.set.IpSet.{IpSet}
 use Rattle.ipnet_sets.specs.Turns.{is_inside, AreTurns}
 use Rattle.ipnet_sets.specs.Members.{turns_of, IsMember}

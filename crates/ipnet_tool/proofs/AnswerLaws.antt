@@ -11,7 +11,7 @@ use Rattle.ipnet.specs.CanonicalTexts.{canonical_text}
 use Rattle.ipnet.specs.NetworkOf.{ipv4_network, ipv6_network}
 use Rattle.ipnet.specs.declared.net.ipv4_net.Ipv4Net.{Ipv4Net}
 use Rattle.ipnet.specs.declared.net.ipv6_net.Ipv6Net.{Ipv6Net}
-use Rattle.ipnet.proofs.FamilyLaws.{aggregate_of_families}
+use Rattle.ipnet.proofs.SeparationLaws.{aggregate_of_families}
 use Rattle.ipnet.proofs.CoverLaws.{cover_append_left, cover_append_right, cover_append_cases, HaveSameCover-append}
 use Rattle.ipnet.proofs.CoverLaws.{HaveSameCover-sym, HaveSameCover-trans}
 use Rattle.ipnet.proofs.AggregateLaws.{aggregate_of_same_cover}

@@ -5,7 +5,7 @@ use Rattle.std.proofs.lemmas.List.Elements.{All-head, All-tail}
 use Rattle.ipnet_base.specs.Address.{Address}
 use Rattle.ipnet_base.specs.Ranges.{AddressRange}
 use Rattle.ipnet_sets.specs.SetRanges.{AreRangesOf}
-use Rattle.ipnet_base.proofs.SupernetLaws.{AreMaximalBlocks-same_set}
+use Rattle.ipnet_base.proofs.UniqueLaws.{AreMaximalBlocks-same_set}
 use Rattle.netset.specs.declared.answer.Form.{Form}
 use Rattle.netset.specs.declared.answer.Form.TheVariants.{Networks, Ranges}
 use Rattle.netset.specs.Answers.{range_text, text_of_ranges, AreRangeLines, IsSetText}

@@ -1,9 +1,9 @@
+-- What was taken stands before what is left of the walk, and each turn takes one network from that.
 use Rattle.std.proofs.Common.{◌≡◌, ◌≤◌, ◌++◌, length, map}
 use Rattle.ipnet.specs.NetworkOf.{ipv4_network}
 use Rattle.ipnet.specs.SubnetsLeft.{ipv4_subnets_left}
 use Rattle.example_pools.proofs.first_networks.Given as goal
 
--- what was taken stands before what is left
 abbrev pub invariant-loop-network : goal.invariant-loop-network
 invariant-loop-network l = (length l.list.items ≤ l.count)
     × (ipv4_subnets_left l.fn.walk ≡ map ipv4_network l.list.items ++ ipv4_subnets_left l.network-iterator)

@@ -1,3 +1,4 @@
+-- The plan is the first of the subnets that the walk gives, and what holds of all of them holds of these (`Fronts`).
 use Rattle.ipnet.specs.Network.{AreDisjoint}
 use Rattle.example_pools.proofs.Fronts.{first_are_subnets, AllPairs-take}
 use Rattle.example_pools.proofs.site_plan.Goals as goal

@@ -10,7 +10,7 @@ ghost use Rattle.ipnet.specs.AddressTexts.{expanded};
 ghost use Rattle.ipnet.specs.NetworkOf.{ip_network};
 ghost use Rattle.ipnet.specs.NetworkTexts.{IsNetworkText};
 ghost use Rattle.ipnet.specs.ReaderSteps.{dot, digit_run, all_decimal, run_of, decimal_of, read_byte, read_octet};
-ghost use Rattle.ipnet.specs.ReaderSteps.{read_dotted, read_length, read_ipv4_network, read_dotted_groups};
+ghost use Rattle.ipnet.specs.ReaderSteps.{read_dotted, read_prefix_len, read_ipv4_network, read_dotted_groups};
 ghost use Rattle.ipnet.specs.ReaderSteps.{read_groups, read_compressed, read_ipv6, read_ipv6_network, is_single_colon};
 
 use crate::net::{IpNet, Ipv4Net, Ipv6Net};
@@ -213,10 +213,10 @@ impl<'a> Reader<'a> {
     }
 
     /// A "/" and a prefix length, which end the text.
-    #[tactic(auto, unfolding(crate::specs::ReaderSteps::read_length))]
+    #[tactic(auto, unfolding(crate::specs::ReaderSteps::read_prefix_len))]
     fn prefix_len(&mut self, most: usize, greatest: u8) -> Option<u8>
         ensures forward { IsForward self.old self.new }
-        ensures value { result ≡ read_length self.old.grammar most greatest (rest_of self.old) }
+        ensures value { result ≡ read_prefix_len self.old.grammar most greatest (rest_of self.old) }
         ensures small { IfSome result (λ n. n ≤ greatest) }
     {
         if !self.byte(b'/') {

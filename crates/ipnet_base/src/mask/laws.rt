@@ -20,7 +20,7 @@ pub fn prefix_len_errors_clone()
 
 /// A result that is `Ok` exactly with the prefix length of a netmask is an error exactly where the number is no
 /// netmask.
-pub fn masks_of_no_length_are_refused(prefix_len: Result<u8, PrefixLenError>)
+pub fn masks_of_no_prefix_len_are_refused(prefix_len: Result<u8, PrefixLenError>)
     ensures { (f : Family) (number : ℕ) → IsOkExactlyAt prefix_len (IsNetmaskOf f number)
         → IsErr prefix_len ↔ ((p : ℕ) → ¬ (IsNetmaskOf f number p)) }
 {}

@@ -10,7 +10,8 @@ use Rattle.ipnet_base.proofs.CoverLaws.{HaveSameCover-trans}
 use Rattle.ipnet_base.proofs.OrderLaws.{in_order_from_sort}
 use Rattle.ipnet_base.proofs.StackLaws.{stack_of_first_whole}
 use Rattle.ipnet.proofs.FrontLaws.{front_kept}
-use Rattle.ipnet.proofs.JoinedLaws.{All-read, aggregate_from_stack}
+use Rattle.ipnet_base.proofs.ListLaws.{All-read}
+use Rattle.ipnet.proofs.JoinedLaws.{aggregate_from_stack}
 use Rattle.ipnet.proofs.aggregate.aggregated.Goals as goal
 
 pub sweep-stacked-requires-clause-truncated : goal.sweep-stacked-requires-clause-truncated

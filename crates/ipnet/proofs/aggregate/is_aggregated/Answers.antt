@@ -3,12 +3,13 @@
 use Rattle.std.proofs.Common.{map, subst, arith}
 use Rattle.std.proofs.lemmas.List.{take_all}
 use Rattle.ipnet_base.specs.Network.{IsNetwork}
-use Rattle.ipnet_base.proofs.ListLaws.{true_gives, false_gives}
+use Rattle.ipnet_base.proofs.ResultLaws.{true_gives, false_gives}
+use Rattle.ipnet_base.proofs.ListLaws.{All-read}
+use Rattle.ipnet.proofs.JoinedLaws.{joined_first, joined_more, joined_at, joined_pair, joined_is_own}
+use Rattle.ipnet.proofs.JoinedLaws.{unjoined_is_not_own}
 use Rattle.ipnet_base.specs.Stack.{AreJoined}
 use Rattle.ipnet.specs.NetworkOf.{ip_network}
 use Rattle.ipnet.specs.NetLaws.{ip_valid}
-use Rattle.ipnet.proofs.JoinedLaws.{All-read, joined_first, joined_more, joined_at, joined_pair, joined_is_own}
-use Rattle.ipnet.proofs.JoinedLaws.{unjoined_is_not_own}
 use Rattle.ipnet.proofs.aggregate.is_aggregated.Goals as goal
 use Rattle.ipnet.proofs.aggregate.is_aggregated.Goals.{then-index-gt0+else-not-lies_before+else-is_other_half}
 use Rattle.ipnet.proofs.aggregate.is_aggregated.Goals.{else-index-gt0, then-not-lies_before-via-then-not-lies_before}

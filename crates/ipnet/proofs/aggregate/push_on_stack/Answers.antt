@@ -3,10 +3,11 @@
 use Rattle.std.proofs.Common.{◌≡◌, ◌-◌, ◌<◌, ◌≤◌, List, Contains, map, take, length, get_or, ◌∙◌, sym, ap, subst, arith}
 use Rattle.std.proofs.lemmas.List.Elements.{All-map}
 use Rattle.ipnet_base.specs.Network.{Network, IsNetwork, IsSubnetOf, AreHalves, IsSupernetOf}
-use Rattle.ipnet_base.proofs.ListLaws.{at_place, true_gives, false_gives}
-use Rattle.ipnet_base.specs.Stack.{IsStackWith}
+use Rattle.ipnet_base.proofs.ListLaws.{at_place}
+use Rattle.ipnet_base.proofs.ResultLaws.{true_gives, false_gives}
 use Rattle.ipnet_base.proofs.StackLaws.{IsJoining, joining_start, joining_step, joining_end, stack_covers}
 use Rattle.ipnet.proofs.FrontLaws.{front_more, front_length, front_last, front_push}
+use Rattle.ipnet_base.specs.Stack.{IsStackWith}
 use Rattle.ipnet.proofs.aggregate.push_on_stack.Goals as goal
 use Rattle.ipnet.proofs.aggregate.push_on_stack.Goals.{else-stacked-gt0-via-then-stacked-gt0+else-covers}
 use Rattle.ipnet.proofs.aggregate.push_on_stack.Goals.{else-stacked-gt0-via-else-stacked-gt0}

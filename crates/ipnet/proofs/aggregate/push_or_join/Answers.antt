@@ -3,9 +3,10 @@ use Rattle.std.proofs.Common.{◌≡◌, ◌-◌, ◌∷◌, ◌++◌, [], List,
 use Rattle.std.proofs.Common.{arith, slice_get, option_copied, option_to_list, Bor}
 use Rattle.std.proofs.lemmas.List.{map_push}
 use Rattle.ipnet_base.specs.Network.{AreHalves}
-use Rattle.ipnet_base.proofs.ListLaws.{true_gives, last_some}
+use Rattle.ipnet_base.proofs.ResultLaws.{true_gives}
+use Rattle.ipnet_base.proofs.ListLaws.{last_some}
+use Rattle.ipnet_base.proofs.AddingLaws.{IsAdding, adding_start, adding_step, adding_end}
 use Rattle.ipnet_base.specs.Stack.{IsListWith}
-use Rattle.ipnet_base.proofs.StackLaws.{IsAdding, adding_start, adding_step, adding_end}
 use Rattle.ipnet.proofs.aggregate.push_or_join.Goals as goal
 
 -- the last element, as `last` gave it

@@ -1,5 +1,5 @@
 use Rattle.std.proofs.Common.{length, map}
-use Rattle.ipnet_base.proofs.StackLaws.{IsAdding}
+use Rattle.ipnet_base.proofs.AddingLaws.{IsAdding}
 use Rattle.ipnet.proofs.aggregate.push_or_join.Given as goal
 
 abbrev pub invariant-loop-last : goal.invariant-loop-last

@@ -3,9 +3,9 @@ use Rattle.std.proofs.Common.{map, ◌∙◌, sym, ap, subst, arith}
 use Rattle.std.proofs.lemmas.List.{length-map, get_or-map}
 use Rattle.ipnet_base.specs.Network.{IsTruncated}
 use Rattle.ipnet_base.specs.Blocks.{HaveSameCover}
-use Rattle.ipnet_base.proofs.BlockLaws.{IsTruncated-truncation}
+use Rattle.ipnet_base.proofs.NetworkLaws.{IsTruncated-truncation}
+use Rattle.ipnet_base.proofs.AddingLaws.{list_of_first_more, list_of_first_whole}
 use Rattle.ipnet_base.specs.Stack.{IsListWith}
-use Rattle.ipnet_base.proofs.StackLaws.{list_of_first_more, list_of_first_whole}
 use Rattle.ipnet.proofs.aggregate.truncated_and_joined.Goals as goal
 
 pub push_or_join-requires-clause-network : goal.push_or_join-requires-clause-network

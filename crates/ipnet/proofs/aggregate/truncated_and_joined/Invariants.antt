@@ -1,5 +1,5 @@
 use Rattle.std.proofs.Common.{map}
-use Rattle.ipnet_base.proofs.StackLaws.{IsListOfFirst}
+use Rattle.ipnet_base.proofs.AddingLaws.{IsListOfFirst}
 use Rattle.ipnet.proofs.aggregate.truncated_and_joined.Given as goal
 
 abbrev pub invariant-loop-network : goal.invariant-loop-network

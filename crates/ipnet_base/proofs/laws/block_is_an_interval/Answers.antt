@@ -1,4 +1,4 @@
-use Rattle.ipnet_base.proofs.NetworkLaws.{least_exists, greatest_exists, block_is_between}
+use Rattle.ipnet_base.proofs.BlockLaws.{least_exists, greatest_exists, block_is_between}
 use Rattle.ipnet_base.proofs.laws.block_is_an_interval.Goals as goal
 
 pub returns : goal.returns

@@ -1,4 +1,4 @@
-use Rattle.ipnet_base.proofs.BlockLaws.{nested_or_disjoint}
+use Rattle.ipnet_base.proofs.NestingLaws.{nested_or_disjoint}
 use Rattle.ipnet_base.proofs.laws.nested_or_disjoint.Goals as goal
 
 pub returns : goal.returns

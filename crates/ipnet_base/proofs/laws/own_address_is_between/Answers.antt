@@ -1,4 +1,4 @@
-use Rattle.ipnet_base.proofs.NetworkLaws.{least_to_own, own_to_greatest}
+use Rattle.ipnet_base.proofs.BlockLaws.{least_to_own, own_to_greatest}
 use Rattle.ipnet_base.proofs.laws.own_address_is_between.Goals as goal
 
 pub returns : goal.returns

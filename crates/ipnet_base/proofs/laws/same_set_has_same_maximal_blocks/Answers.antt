@@ -1,7 +1,7 @@
 -- To be maximal in a set speaks of its members alone; covers and ranges can be decided, and so have a test.
 use Rattle.ipnet_base.specs.Address.{IsAcceptedBy, IsBetween}
 use Rattle.ipnet_base.specs.Blocks.{IsCoveredBy}
-use Rattle.ipnet_base.proofs.SupernetLaws.{AreMaximalBlocks-same_set}
+use Rattle.ipnet_base.proofs.UniqueLaws.{AreMaximalBlocks-same_set}
 use Rattle.ipnet_base.proofs.DecidedLaws.{IsDecided-cover, IsDecided-between, test_of_decided}
 use Rattle.ipnet_base.proofs.laws.same_set_has_same_maximal_blocks.Goals as goal
 

@@ -1,4 +1,4 @@
-use Rattle.ipnet_base.proofs.BlockLaws.{supernet_to_halves, halves_to_supernet, halves_apart}
+use Rattle.ipnet_base.proofs.SupernetLaws.{supernet_to_halves, halves_to_supernet, halves_apart}
 use Rattle.ipnet_base.proofs.laws.supernet_is_its_two_halves.Goals as goal
 
 pub returns : goal.returns

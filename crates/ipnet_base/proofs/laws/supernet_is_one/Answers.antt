@@ -1,5 +1,4 @@
-use Rattle.ipnet_base.proofs.NetworkLaws.{IsSupernetOf-unique, other_half_exists}
-use Rattle.ipnet_base.proofs.SupernetLaws.{supernet, IsSupernetOf-supernet}
+use Rattle.ipnet_base.proofs.SupernetLaws.{IsSupernetOf-unique, other_half_exists, supernet, IsSupernetOf-supernet}
 use Rattle.ipnet_base.proofs.laws.supernet_is_one.Goals as goal
 
 pub returns : goal.returns

@@ -4,7 +4,7 @@ use Rattle.std.proofs.lemmas.Bool.{false≢true}
 use Rattle.ipnet.specs.Network.{IsSubnetOf}
 use Rattle.ipnet.specs.NetworkOf.{ip_network}
 use Rattle.ipnet.specs.declared.net.IpNet.{IpNet}
-use Rattle.ipnet_base.proofs.ListLaws.{true_gives, false_gives}
+use Rattle.ipnet_base.proofs.ResultLaws.{true_gives, false_gives}
 use Rattle.ipnet_c.proofs.CoveredBlocks.{in_one_at, in_none, in_no_more}
 use Rattle.ipnet_c.proofs.covers.lies_in_one.Goals as goal
 

@@ -1,6 +1,6 @@
 -- No network of the list stands after this one, so only the last route can be of it.
 use Rattle.std.proofs.Common.{◌≡◌, ◌-◌, length, take, inl, inr, refl, sym, ap, ◌∙◌, subst}
-use Rattle.ipnet_base.proofs.ListLaws.{true_gives, false_gives}
+use Rattle.ipnet_base.proofs.ResultLaws.{true_gives, false_gives}
 use Rattle.ipnet.specs.NetworkOf.{ip_network}
 use Rattle.ipnet_sets.specs.Routes.{ip_networks}
 use Rattle.ipnet_sets.specs.RouteSteps.{EndsWith}

@@ -2,7 +2,7 @@
 -- stands between it and its link.
 use Rattle.std.proofs.Common.{◌-◌, get_or, Contains, arith}
 use Rattle.std.proofs.lemmas.List.{length-map}
-use Rattle.ipnet_base.proofs.ListLaws.{true_gives, false_gives}
+use Rattle.ipnet_base.proofs.ResultLaws.{true_gives, false_gives}
 use Rattle.ipnet.specs.NetworkOf.{ip_network}
 use Rattle.ipnet_sets.specs.Routes.{ip_networks}
 use Rattle.ipnet_sets.proofs.RouteLaws.{value_at, searched_on, searched_found, searched_none}

@@ -1,7 +1,7 @@
 -- The set is opened at the first number and, where the last is not the family's own, closed just after it.
 use Rattle.std.proofs.Common.{◌≡◌, ◌+◌, ◌++◌, ◌∷◌, [], map, sym, ap, ◌∙◌, subst, arith}
 use Rattle.std.proofs.lemmas.List.{map_push}
-use Rattle.ipnet_base.proofs.ListLaws.{true_gives}
+use Rattle.ipnet_base.proofs.ResultLaws.{true_gives}
 use Rattle.ipnet_sets.specs.Turns.{IsExtended}
 use Rattle.ipnet_sets.proofs.ExtendLaws.{extended_push}
 use Rattle.ipnet_sets.proofs.turns.add_range.Goals as goal

@@ -2,7 +2,7 @@
 use Rattle.std.proofs.Common.{◌≡◌, ◌%◌, ◌<◌, ℕ, get_or, length, map, arith, eq-eqb}
 use Rattle.std.proofs.lemmas.Bool.{eqb-true}
 use Rattle.std.proofs.lemmas.List.{length-map}
-use Rattle.ipnet_base.proofs.ListLaws.{true_gives}
+use Rattle.ipnet_base.proofs.ResultLaws.{true_gives}
 use Rattle.ipnet_sets.proofs.InsideLaws.{number_at}
 use Rattle.ipnet_sets.proofs.SplitLaws.{inside_to_the_end, inside_before_turn, first_inside_is_odd}
 use Rattle.ipnet_sets.proofs.turns.covers.Goals as goal

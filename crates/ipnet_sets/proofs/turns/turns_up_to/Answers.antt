@@ -2,7 +2,7 @@
 use Rattle.std.proofs.Common.{◌+◌, ◌-◌, ◌/◌, ◌≤◌, length, map, sym, arith, inl, inr}
 use Rattle.std.proofs.lemmas.Bool.{cases_lt}
 use Rattle.std.proofs.lemmas.List.{length-map}
-use Rattle.ipnet_base.proofs.ListLaws.{true_gives, false_gives}
+use Rattle.ipnet_base.proofs.ResultLaws.{true_gives, false_gives}
 use Rattle.ipnet_sets.proofs.InsideLaws.{number_at}
 use Rattle.ipnet_sets.proofs.SplitLaws.{split_start, split_up, split_down, split_end}
 use Rattle.ipnet_sets.proofs.turns.turns_up_to.Goals as goal

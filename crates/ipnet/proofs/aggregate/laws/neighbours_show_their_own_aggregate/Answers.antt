@@ -1,10 +1,10 @@
 -- Each value is a network, and of networks `neighbours_iff_own_aggregate` says it.
 use Rattle.std.proofs.Common.{map}
 use Rattle.ipnet_base.specs.Network.{IsNetwork}
-use Rattle.ipnet_base.proofs.AggregateLaws.{neighbours_iff_own_aggregate}
+use Rattle.ipnet_base.proofs.NeighbourLaws.{neighbours_iff_own_aggregate}
+use Rattle.ipnet_base.proofs.ListLaws.{All-read}
 use Rattle.ipnet.specs.NetworkOf.{ipv4_network, ipv6_network, ip_network}
 use Rattle.ipnet.specs.NetLaws.{ipv4_valid, ipv6_valid, ip_valid}
-use Rattle.ipnet.proofs.JoinedLaws.{All-read}
 use Rattle.ipnet.proofs.aggregate.laws.neighbours_show_their_own_aggregate.Goals as goal
 
 pub returns-clause-of_ipv4 : goal.returns-clause-of_ipv4

@@ -2,7 +2,8 @@
 use Rattle.ipnet_base.specs.Network.{IsSubnetOf}
 use Rattle.ipnet.specs.NetworkOf.{ip_network}
 use Rattle.ipnet.specs.declared.net.IpNet.TheVariants.{V4, V6}
-use Rattle.ipnet.proofs.NumberLaws.{families_apart, never}
+use Rattle.ipnet_base.proofs.NestingLaws.{no_subnet_of_other_family}
+use Rattle.ipnet_base.proofs.ResultLaws.{never}
 use Rattle.ipnet.proofs.net.IpNetContainsRefIpNet.contains.Goals as goal
 
 pub returns-in-V4-V4 : goal.returns-in-V4-V4
@@ -16,11 +17,13 @@ returns-in_default c =
     let k = V4 c.in_default.field-0-0 in
     let n = V6 c.in_default.field-0-1 in
     rw (c.in_default.is-0, c.in_default.is-1)
-    (never (IsSubnetOf (ip_network n) (ip_network k)) (families_apart (ip_network n) (ip_network k) (λ same. cc)))
+    (never (IsSubnetOf (ip_network n) (ip_network k))
+    (no_subnet_of_other_family (ip_network n) (ip_network k) (λ same. cc)))
 
 pub returns-in_default-2 : goal.returns-in_default-2
 returns-in_default-2 c =
     let k = V6 c.in_default.field-0-0 in
     let n = V4 c.in_default.field-0-1 in
     rw (c.in_default.is-0, c.in_default.is-1)
-    (never (IsSubnetOf (ip_network n) (ip_network k)) (families_apart (ip_network n) (ip_network k) (λ same. cc)))
+    (never (IsSubnetOf (ip_network n) (ip_network k))
+    (no_subnet_of_other_family (ip_network n) (ip_network k) (λ same. cc)))

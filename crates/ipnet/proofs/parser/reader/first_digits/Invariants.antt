@@ -1,9 +1,9 @@
+-- The counts so far are what the digits so far write, of which there are four at most.
 use Rattle.std.proofs.Common.{◌≡◌, ◌-◌, ◌≤◌, ◌<◌, ◌^◌, length, take}
 use Rattle.std.specs.Str.Parse.{AllDigits, digits_value}
 use Rattle.ipnet.specs.ReaderSteps.{all_decimal}
 use Rattle.ipnet.proofs.parser.reader.first_digits.Given as goal
 
--- what the digits so far write
 abbrev pub invariant-loop-count : goal.invariant-loop-count
 invariant-loop-count l = record {
   fits : l.count ≤ 4;

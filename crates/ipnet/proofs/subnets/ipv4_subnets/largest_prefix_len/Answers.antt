@@ -4,7 +4,7 @@ use Rattle.std.proofs.Common.{refl, arith, w32}
 use Rattle.std.specs.Int.Count.{trailing_of_zero}
 use Rattle.std.proofs.lemmas.Nat.{trailing_le}
 use Rattle.ipnet_base.specs.Address.{IPv4}
-use Rattle.ipnet.proofs.SubnetsLaws.{largest_by_counts}
+use Rattle.ipnet_base.proofs.StepLaws.{largest_by_counts}
 use Rattle.ipnet.proofs.subnets.ipv4_subnets.largest_prefix_len.Goals as goal
 
 pub returns-clause-largest : goal.returns-clause-largest

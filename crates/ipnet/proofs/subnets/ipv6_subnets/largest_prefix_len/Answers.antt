@@ -5,7 +5,7 @@ use Rattle.std.specs.Int.{w128}
 use Rattle.std.specs.Int.Count.{trailing_of_zero}
 use Rattle.std.proofs.lemmas.Nat.{trailing_le}
 use Rattle.ipnet_base.specs.Address.{IPv6}
-use Rattle.ipnet.proofs.SubnetsLaws.{largest_by_counts}
+use Rattle.ipnet_base.proofs.StepLaws.{largest_by_counts}
 use Rattle.ipnet.proofs.subnets.ipv6_subnets.largest_prefix_len.Goals as goal
 
 pub returns-clause-largest : goal.returns-clause-largest

@@ -2,7 +2,7 @@
 use Rattle.std.proofs.Common.{◌≡◌, ◌-◌, true, false, length, Contains, refl, sym, ap, ◌∙◌, subst, subst₂, arith}
 use Rattle.std.proofs.lemmas.List.{length-map}
 use Rattle.ipnet_base.specs.Network.{truncation}
-use Rattle.ipnet_base.proofs.ListLaws.{true_gives, false_gives}
+use Rattle.ipnet_base.proofs.ResultLaws.{true_gives, false_gives}
 use Rattle.ipnet_base.proofs.NetworkLaws.{truncation_from_relation}
 use Rattle.ipnet.specs.NetworkOf.{ip_network}
 use Rattle.ipnet_sets.specs.Routes.{ip_networks}

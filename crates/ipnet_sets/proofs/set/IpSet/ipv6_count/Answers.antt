@@ -1,7 +1,7 @@
 -- The ranges of IPv6 have 2^128 addresses exactly where the set is whole, and fewer fit the word.
 use Rattle.std.proofs.Common.{map, sym, ap, refl, subst}
 use Rattle.ipnet_base.specs.Address.{IPv6}
-use Rattle.ipnet_base.proofs.ListLaws.{true_gives, false_gives}
+use Rattle.ipnet_base.proofs.ResultLaws.{true_gives, false_gives}
 use Rattle.ipnet_sets.specs.Turns.{AreTurns}
 use Rattle.ipnet_sets.specs.Members.{IsMemberOf, IsCountOf}
 use Rattle.ipnet_sets.proofs.CountLaws.{count_of_family, all_of_family, not_whole_fits}

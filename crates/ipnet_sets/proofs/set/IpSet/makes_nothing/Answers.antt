@@ -1,7 +1,7 @@
 -- Nothing is made of two sets exactly where nothing is made of their numbers of either family.
 use Rattle.std.proofs.Common.{map, ap}
 use Rattle.ipnet_base.specs.Address.{IPv4, IPv6}
-use Rattle.ipnet_base.proofs.ListLaws.{false_gives}
+use Rattle.ipnet_base.proofs.ResultLaws.{false_gives}
 use Rattle.ipnet_sets.proofs.MemberLaws.{nothing_in_slices, nothing_in_families, nothing_of_family}
 use Rattle.ipnet_sets.proofs.set.IpSet.makes_nothing.Goals as goal
 

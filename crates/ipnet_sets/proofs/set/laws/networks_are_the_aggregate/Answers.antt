@@ -2,7 +2,7 @@
 use Rattle.std.proofs.Common.{map}
 use Rattle.std.proofs.lemmas.Result.{IfOk-weaker}
 use Rattle.ipnet_base.specs.Blocks.{IsCoveredBy, AreMaximalBlocks, IsAggregateOf}
-use Rattle.ipnet_base.proofs.SupernetLaws.{AreMaximalBlocks-same_set}
+use Rattle.ipnet_base.proofs.UniqueLaws.{AreMaximalBlocks-same_set}
 use Rattle.ipnet.specs.NetworkOf.{ip_network}
 use Rattle.ipnet_sets.specs.Members.{IsMember}
 use Rattle.ipnet_sets.proofs.set.laws.networks_are_the_aggregate.Goals as goal

@@ -12,4 +12,5 @@ returns-then-is_sibling c =
     let n = c.args.self.now in
     IfSome_then c.supernet.result c.supernet.ensures.some
     (λ whole supernet. cover_of_siblings (ipv4_network whole) (ipv4_network n) (ipv4_network c.args.other.now)
-    (ipv4_valid n) supernet (c.is_sibling.ensures.0 c.if-is_sibling.true) (λ inside. false≢true (sym c.if-contains.false ∙ c.contains.ensures.1 inside)))
+    (ipv4_valid n) supernet (c.is_sibling.ensures.0 c.if-is_sibling.true)
+    (λ inside. false≢true (sym c.if-contains.false ∙ c.contains.ensures.1 inside)))

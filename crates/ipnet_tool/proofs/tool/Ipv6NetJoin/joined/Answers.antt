@@ -12,4 +12,5 @@ returns-then-is_sibling c =
     let n = c.args.self.now in
     IfSome_then c.supernet.result c.supernet.ensures.some
     (λ whole supernet. cover_of_siblings (ipv6_network whole) (ipv6_network n) (ipv6_network c.args.other.now)
-    (ipv6_valid n) supernet (c.is_sibling.ensures.0 c.if-is_sibling.true) (λ inside. false≢true (sym c.if-contains.false ∙ c.contains.ensures.1 inside)))
+    (ipv6_valid n) supernet (c.is_sibling.ensures.0 c.if-is_sibling.true)
+    (λ inside. false≢true (sym c.if-contains.false ∙ c.contains.ensures.1 inside)))

@@ -3,9 +3,10 @@ use Rattle.std.proofs.Common.{subst, arith, IsTrue, ◌↔◌}
 use Rattle.ipnet_base.specs.Address.{IPv6, address_at}
 use Rattle.ipnet_base.specs.Network.{InBlock, IsSubnetOf}
 use Rattle.ipnet_base.proofs.BlockLaws.{own, own_in}
+use Rattle.ipnet_base.proofs.NestingLaws.{longer_from_subnet, subnet_from_own}
+use Rattle.ipnet_base.proofs.ResultLaws.{never}
 use Rattle.ipnet.specs.NetworkOf.{ipv6_network}
 use Rattle.ipnet.specs.NetLaws.{ipv6_valid}
-use Rattle.ipnet.proofs.NumberLaws.{longer_from_subnet, subnet_from_own, never}
 use Rattle.ipnet.proofs.net.ipv6_net.Ipv6NetContainsRefIpv6Net.contains.Goals as goal
 
 pub returns-then-leading_bits : goal.returns-then-leading_bits

@@ -1,9 +1,9 @@
+-- What is still to be read, after the groups so far, is what was to be read; each turn adds a group, up to the room.
 use Rattle.std.proofs.Common.{◌≡◌, ◌-◌, ◌≤◌, length}
 use Rattle.ipnet.specs.ReaderSteps.{read_groups, after}
 use Rattle.ipnet.specs.ReaderState.{rest_of, IsForward}
 use Rattle.ipnet.proofs.parser.reader.Reader.groups.Given as goal
 
--- what is still to be read, after the groups so far, is what was to be read
 abbrev pub invariant-next_group : goal.invariant-next_group
 invariant-next_group l = record {
   fits : length l.groups.items ≤ l.room;

@@ -4,7 +4,8 @@ use Rattle.std.proofs.Common.{rules, ◌∙◌, sym, subst, ap, length}
 use Rattle.ipnet_base.specs.Subnets.{IsAdvancedPast}
 use Rattle.ipnet.specs.NetworkOf.{ipv6_network}
 use Rattle.ipnet.specs.SubnetsLeft.{ipv6_subnet_range, ipv6_subnets_left}
-use Rattle.ipnet.proofs.SubnetsLaws.{ipv6_subnets_left-are_blocks, nothing_left, left_advanced, greatest_is_last}
+use Rattle.ipnet.proofs.SubnetsLaws.{ipv6_subnets_left-are_blocks, nothing_left, left_advanced}
+use Rattle.ipnet_base.proofs.BlockLaws.{last_from_greatest}
 use Rattle.ipnet.proofs.subnets.ipv6_subnets.Ipv6SubnetsIterator.next.Goals as goal
 
 pub returns-then-self-clause-steps : goal.returns-then-self-clause-steps
@@ -42,7 +43,8 @@ returns-clause-goes c =
       advanced =
           λ x greatest. subst (λ last. IsAdvancedPast last (ipv6_subnet_range c.args.self.now)
           (ipv6_subnet_range c.advance_past.new.self))
-          (c.last_number.ensures ∙ sym (greatest_is_last (ipv6_network c.largest_subnet_at-network.result) x greatest))
+          (c.last_number.ensures ∙ sym (last_from_greatest (ipv6_network c.largest_subnet_at-network.result) x
+          greatest))
           c.advance_past.ensures;
       over = search rules;
       unchanged = search rules;

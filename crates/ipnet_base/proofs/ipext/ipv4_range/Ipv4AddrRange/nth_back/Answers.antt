@@ -1,9 +1,9 @@
--- The stored ends tell the item and what is left (`RangeLaws`), so the ends alone are shown of the code.
+-- The stored ends tell the item and what is left (`RangeCallLaws`), so the ends alone are shown of the code.
 use Rattle.std.proofs.Common.{Some, None, rules}
 use Rattle.ipnet_base.specs.Address.{ipv4_address}
 use Rattle.ipnet_base.specs.Ranges.{IsNthBack}
 use Rattle.ipnet_base.specs.RangeOf.{ipv4_range}
-use Rattle.ipnet_base.proofs.RangeLaws.{IsNthBack-item, IsNthBack-left}
+use Rattle.ipnet_base.proofs.RangeCallLaws.{IsNthBack-item, IsNthBack-left}
 use Rattle.ipnet_base.proofs.ipext.ipv4_range.Ipv4AddrRange.nth_back.Goals as goal
 
 pub returns-then-past_start : goal.returns-then-past_start

@@ -1,6 +1,6 @@
--- The stored ends tell all that the step does (`RangeLaws`), so the ends alone are shown of the code.
+-- The stored ends tell all that the step does (`RangeCallLaws`), so the ends alone are shown of the code.
 use Rattle.std.proofs.Common.{rules}
-use Rattle.ipnet_base.proofs.RangeLaws.{yields_last, range_step_back}
+use Rattle.ipnet_base.proofs.RangeCallLaws.{yields_last, range_step_back}
 use Rattle.ipnet_base.proofs.ipext.ipv6_range.Ipv6AddrRangeDoubleEndedIterator.next_back.Goals as goal
 
 pub returns-else-self-last-2-clause-goes : goal.returns-else-self-last-2-clause-goes
