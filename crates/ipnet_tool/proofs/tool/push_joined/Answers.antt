@@ -31,8 +31,12 @@ loop-last-preserved g c =
     let popped : items ≡ c.pop.new.self.items ++ t ∷ [] =
     popped_last items c.pop.new.self.items c.pop.result t c.pop.ensures.items
     (c.pop.ensures.value t
-    (omega (arith, slice_get_within items (length items - 1) t top, c.deref.ensures.len,
-    ap length c.deref.ensures.value))
+    (omega (
+      arith,
+      slice_get_within items (length items - 1) t top,
+      c.deref.ensures.len,
+      ap length c.deref.ensures.value,
+    ))
     ∙ ap Some
     (ap (λ n. get_or items (n - 1) t) (sym c.deref.ensures.len ∙ ap length c.deref.ensures.value)
     ∙ get_or_from_slice_get items (length items - 1) t t top)) in
