@@ -40,7 +40,7 @@ IsSupernetOf-supernet n u long = record {
     bits : host_bits (supernet n) ≡ host_bits n + 1
     bits = omega (arith, u.prefix_fits, long)
 
--- a supernet leaves one bit more open
+-- a supernet has one host bit more than the network
 pub supernet_bits : (s n : Network) → IsNetwork n → IsSupernetOf s n → host_bits s ≡ host_bits n + 1
 supernet_bits s n u p = omega (arith, ap width (p.contains (own n) (own_in n)).same_family, p.shorter, u.prefix_fits)
 
@@ -75,10 +75,11 @@ AreSiblings-symmetric n k h = record {
 pub AreSiblings-reflexive : (n : Network) → 0 < n.prefix_len → AreSiblings n n
 AreSiblings-reflexive n long = record { same_family = refl; same_len = refl; has_supernet = long; same_supernet = refl }
 
--- halves have as many open bits
+-- two halves have equally many host bits
 halves_bits : (n k : Network) → AreHalves n k → host_bits k ≡ host_bits n
 halves_bits n k h = omega (arith, ap width h.siblings.same_family, h.siblings.same_len)
 
+-- an address in both halves would have both of their two different prefixes
 pub halves_apart : (n k : Network) → AreHalves n k → AreDisjoint n k
 halves_apart n k h x a b =
     h.differ (sym a.same_prefix ∙ prefix_at k x (host_bits n) (halves_bits n k h) b)

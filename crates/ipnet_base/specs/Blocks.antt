@@ -1,5 +1,6 @@
 -- What a list of networks covers, the maximal blocks of a set of addresses, and the shortest cover of it.
--- A set is given by its membership, as `IsCoveredBy networks` or `IsBetween family start end`.
+-- A set is given by its membership, as `IsCoveredBy networks` or `IsBetween family start end`. Where a definition takes
+-- `min_prefix_len`, networks of a shorter prefix do not count: it is 0 for aggregates, and a walk has one of its own.
 use Rattle.std.specs.Prelude.{◌≡◌, ℕ, ◌<◌, ◌≤◌, ◌↔◌, ◌⊎◌, List, length, map, Contains, All, AllPairs, Any}
 use Rattle.std.specs.Prelude.{IsPermutation}
 use Rattle.std.specs.List.{AllAdjacentBelow}
@@ -22,7 +23,7 @@ pub record IsInside (InSet : Address → Type 0) (min_prefix_len : ℕ) (n : Net
   pub long_enough : min_prefix_len ≤ n.prefix_len
   pub within : (x : Address) → InBlock n x → InSet x
 
--- and none other of these has a block that contains its block
+-- of these, one whose block lies in the block of no other
 pub record IsMaximal (InSet : Address → Type 0) (min_prefix_len : ℕ) (n : Network) : Type 0 where
   pub inside : IsInside InSet min_prefix_len n
   pub largest : (k : Network) → IsInside InSet min_prefix_len k → IsSubnetOf n k → k ≡ n
@@ -47,7 +48,8 @@ pub record IsExactCover (InSet : Address → Type 0) (min_prefix_len : ℕ) (net
   pub long_enough : All (λ n. min_prefix_len ≤ n.prefix_len) networks
   pub covers : (x : Address) → IsCoveredBy networks x ↔ InSet x
 
--- An exact cover with the fewest networks. Each exact cover with as few is this list, once truncated and sorted.
+-- An exact cover with the fewest networks, none of which has a host bit. Each exact cover with as few has, once
+-- truncated, these same networks in some order.
 pub record IsShortestCover (InSet : Address → Type 0) (min_prefix_len : ℕ) (networks : List Network) : Type 0 where
   pub exact : IsExactCover InSet min_prefix_len networks
   pub shortest : (cover : List Network) → IsExactCover InSet min_prefix_len cover → length networks ≤ length cover

@@ -1,5 +1,6 @@
 -- What the private steps of `aggregate` keep: a list without host bits over the same addresses and then, once that
--- list is sorted, a stack of networks in its front, in which nothing is left to join.
+-- list is sorted, a stack of networks in its front, in which nothing is left to join. The private steps of tables of
+-- routes, in `ipnet_sets`, put these in the order that is defined here.
 -- Private contracts alone cite these.
 use Rattle.std.specs.Prelude.{◌≡◌, ℕ, ◌<◌, ◌≤◌, ◌↔◌, ◌⊎◌, List, length, get_or, take, All}
 use Rattle.std.specs.List.{AllAdjacentBelow}
@@ -21,8 +22,8 @@ abbrev pub LiesBefore : Network → Network → Type 0
 LiesBefore n k = (family_index n.family < family_index k.family)
     ⊎ ((n.family ≡ k.family) × ((x : Address) → InBlock n x → x.number < k.number))
 
--- Nothing is left to join: the four conditions on neighbours that `AreAggregatedNeighbours` has, where family and
--- place are one condition.
+-- What holds of the stack: no host bits, in order, no address twice, nothing left to join. It says what
+-- `AreAggregatedNeighbours` says, where family and place are one condition, `LiesBefore`.
 pub record AreJoined (networks : List Network) : Type 0 where
   pub truncated : All IsTruncated networks
   pub apart : AllAdjacentBelow LiesBefore networks (length networks)

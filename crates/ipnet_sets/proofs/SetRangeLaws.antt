@@ -1,4 +1,5 @@
--- The ranges of a set that is kept by its turns, and their networks.
+-- The ranges of a set that is kept by its turns, and their networks. `ts` are the turns of the family `f`; the first two
+-- of them are `s`, where a range starts, and `u`, the number after its end.
 use Rattle.std.proofs.Common.{◌≡◌, ℕ, suc, ◌+◌, ◌-◌, ◌<◌, ◌≤◌, ◌⊎◌, ◌↔◌, true, false, not}
 use Rattle.std.proofs.Common.{List, [], ◌∷◌, ◌++◌, drop, map, Contains, All, AllPairs, Any}
 use Rattle.std.proofs.Common.{refl, sym, ap, ◌∙◌, subst, arith, inl, inr, le-leb, append_assoc}
@@ -153,6 +154,7 @@ range_facts f (s ∷ u ∷ ts) b h up r c =
           (λ k e l. up (suc (suc k)) e (omega (arith, l))) r d
     ]
 
+-- each range is of the family, and has an address
 pub ranges_some : (f : Family) (ts : List ℕ) → AreTurns f ts → (r : AddressRange) → Contains (ranges_of f ts) r
     → (r.family ≡ f) × (r.start ≤ r.end)
 ranges_some f [] h r c = absurd (contains_nil r c)
@@ -167,6 +169,7 @@ ranges_some f (s ∷ u ∷ ts) h r c =
       | inr d ↦ ranges_some f ts (tail_turns f u ts (tail_turns f s (u ∷ ts) h)) r d
     ]
 
+-- Ranges do not touch: the number u after a range's end is in none, as turns ascend and the next range starts later.
 pub ranges_apart : (f : Family) (ts : List ℕ) → AreTurns f ts → AllPairs LiesApart (ranges_of f ts)
 ranges_apart f [] h = λ i j d l m. absurd (omega (arith, m))
 ranges_apart f (s ∷ []) h = λ i j d l m. absurd (omega (arith, l, m))

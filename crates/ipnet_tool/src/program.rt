@@ -76,7 +76,7 @@ impl Failure {
 /// | 2 | `ipnet: takes no argument or the word legacy` | other arguments than none or `legacy`; nothing is read |
 /// | 3 | `ipnet: input cannot be read` | a read fails |
 /// | 3 | `ipnet: input is not UTF-8` | the input is not UTF-8 |
-/// | 3 | `ipnet: out of memory` | memory runs out at any point, also while reading |
+/// | 3 | `ipnet: out of memory` | memory runs out, while reading or later |
 /// | 1 | `line N: invalid IP address syntax` | line N is the first that is neither empty nor a network |
 /// | 3 | `ipnet: output cannot be written` | a write or the flush after it fails; the answer may be out in part |
 /// | 0 | nothing | otherwise |

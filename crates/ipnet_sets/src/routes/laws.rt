@@ -1,4 +1,4 @@
-//! What holds of all tables of routes, the contract of a function that computes nothing.
+//! The law of all tables of routes: a function with nothing to run, whose contract is the law.
 ghost use Rattle.std.specs.Prelude.{◌≡◌};
 ghost use Rattle.ipnet_base.specs.Address.{Address};
 ghost use Rattle.ipnet_sets.specs.Routes.{Route, IsLongestMatch};

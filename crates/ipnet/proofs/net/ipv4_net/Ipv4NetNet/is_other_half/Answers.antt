@@ -1,4 +1,5 @@
--- The leading bits of `a ^ b` are 1 for halves alone, by `halves_test`.
+-- The number that the leading bits of `self.number() ^ other.number()` write is 1 exactly for the two halves of one
+-- supernet: `halves_test`. That the two lengths are equal there, `omega` takes from the test before.
 use Rattle.std.proofs.Common.{◌-◌, ◌/◌, ◌^◌, ◌∙◌, refl, ap₂, arith, bit_xor}
 use Rattle.ipnet.specs.NetworkOf.{ipv4_network}
 use Rattle.ipnet.specs.NetLaws.{ipv4_valid}
