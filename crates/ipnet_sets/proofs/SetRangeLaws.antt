@@ -1,5 +1,5 @@
--- The ranges of a set that is kept by its turns, and their networks. `ts` are the turns of the family `f`; the first two
--- of them are `s`, where a range starts, and `u`, the number after its end.
+-- The ranges of a set that is kept by its turns, and their networks. `ts` are the turns of the family `f`; the first
+-- two of them are `s`, where a range starts, and `u`, the number after its end.
 use Rattle.std.proofs.Common.{◌≡◌, ℕ, suc, ◌+◌, ◌-◌, ◌<◌, ◌≤◌, ◌⊎◌, ◌↔◌, true, false, not}
 use Rattle.std.proofs.Common.{List, [], ◌∷◌, ◌++◌, drop, map, Contains, All, AllPairs, Any}
 use Rattle.std.proofs.Common.{refl, sym, ap, ◌∙◌, subst, arith, inl, inr, le-leb, append_assoc}
