@@ -40,7 +40,7 @@ pub fn ip_net_contains_its_block<'a>(net: IpNet, address: &'a IpAddr, other: &'a
 {}
 
 /// The defaults are 0.0.0.0/0 and `::/0`; of the type of either family it is 0.0.0.0/0.
-pub fn default_nets_hold_all_addresses(ipv4: Ipv4Net, ipv6: Ipv6Net, net: IpNet)
+pub fn default_nets_contain_all_addresses(ipv4: Ipv4Net, ipv6: Ipv6Net, net: IpNet)
     ensures of_ipv4 { ⟦<Ipv4Net as Default>⟧.is_default ipv4 ↔ (ipv4_network ipv4 ≡ ipv4_network_of 0 0) }
     ensures of_ipv6 { ⟦<Ipv6Net as Default>⟧.is_default ipv6 ↔ (ipv6_network ipv6 ≡ ipv6_network_of 0 0) }
     ensures of_either { ⟦<IpNet as Default>⟧.is_default net ↔ (ip_network net ≡ ipv4_network_of 0 0) }
