@@ -6,13 +6,13 @@
 //! refusals. Nothing here panics, and no memory of the library outlives a call.
 //!
 //! ```
-//! use ipnet_proved::{aggregate_text, Error, Network};
+//! use ipnet_proved::{aggregate_text, is_covered_text, Error};
+//! use std::net::Ipv4Addr;
 //!
-//! assert_eq!(aggregate_text("10.0.1.0/24\n10.0.0.0/24\n")?, "10.0.0.0/23\n");
+//! let list = aggregate_text("10.0.1.0/24\n10.0.0.0/24\n")?;
+//! assert_eq!(list, "10.0.0.0/23\n");
+//! assert!(is_covered_text(&list, Ipv4Addr::new(10, 0, 1, 7))?);
 //! assert_eq!(aggregate_text("10.0.0.0/24\n\nx\n"), Err(Error::BadLine(3)));
-//!
-//! let network: Network = "10.0.0.7/24".parse()?;
-//! assert_eq!(network.to_string(), "10.0.0.7/24");
 //! # Ok::<(), Error>(())
 //! ```
 

@@ -1,6 +1,7 @@
-//! The access list of the module's head, and the calls that the README shows.
+//! The access list of the module's head, and the calls that the README and docs/SETS.md show.
 use crate::AccessList;
 use ipnet::{IpAddr, IpNet, Ipv4Addr, Ipv4Net, same_addresses};
+use ipnet_sets::{IpSet, RouteTable};
 use std::test::Fail;
 
 #[test]
@@ -44,5 +45,38 @@ fn networks_and_their_aggregate(rt: HostRuntime) -> Result<(), Fail> {
     let shortest = IpNet::aggregate(rt.alloc(), &networks)?;
     assert_eq!(rt; shortest.len(), 2);
     assert_eq!(rt; same_addresses(rt.alloc(), &shortest, &networks)?, true);
+    Ok(())
+}
+
+#[test]
+fn sets_of_addresses(rt: HostRuntime) -> Result<(), Fail> {
+    let alloc = rt.alloc();
+    let mut allow = Vec::new(alloc);
+    allow.push("10.0.0.0/24".parse::<IpNet>()?)?;
+    let mut deny = Vec::new(alloc);
+    deny.push("10.0.0.128/25".parse::<IpNet>()?)?;
+    let allowed = IpSet::from_networks(alloc, &allow)?;
+    let denied = IpSet::from_networks(alloc, &deny)?;
+    let open = allowed.difference(alloc, &denied)?;
+    assert_eq!(rt; open.contains(&"10.0.0.5".parse::<IpAddr>()?), true);
+    assert_eq!(rt; open.covers(&"10.0.0.64/25".parse::<IpNet>()?), true);
+    assert_eq!(rt; open.ipv4_count(), 128);
+    assert_eq!(rt; open.networks(alloc)?.len(), 1);
+    assert_eq!(rt; open.ranges().next().is_some(), true);
+    Ok(())
+}
+
+#[test]
+fn routes(rt: HostRuntime) -> Result<(), Fail> {
+    let mut routes = Vec::new(rt.alloc());
+    routes.push(("0.0.0.0/0".parse::<IpNet>()?, 1))?;
+    routes.push(("10.0.0.0/8".parse::<IpNet>()?, 2))?;
+    let table = RouteTable::from_routes(rt.alloc(), routes)?;
+    let (network, gateway) = table
+        .longest_match(&"10.1.2.3".parse::<IpAddr>()?)
+        .expect(&rt, "10.1.2.3");
+    assert_eq!(rt; (*network, *gateway), ("10.0.0.0/8".parse::<IpNet>()?, 2));
+    assert_eq!(rt; table.get(&"10.0.0.0/8".parse::<IpNet>()?), Some(&2));
+    assert_eq!(rt; table.len(), 2);
     Ok(())
 }
