@@ -1,0 +1,74 @@
+-- The answer to a request: the text of the set that the operation makes of the entries of the lists.
+use Rattle.std.specs.Prelude.{◌≡◌, ◌≢◌, ℕ, ◌+◌, List, [], ◌∷◌, ◌++◌, length, codes}
+use Rattle.ipnet_base.specs.Address.{Address}
+use Rattle.ipnet_base.specs.Network.{Network}
+use Rattle.ipnet_base.specs.Blocks.{AreMaximalBlocks}
+use Rattle.ipnet_base.specs.Ranges.{AddressRange}
+use Rattle.ipnet.specs.CanonicalTexts.{address_text}
+use Rattle.ipnet.specs.declared.parser.Grammar.{Grammar}
+use Rattle.ipnet_sets.specs.SetRanges.{AreRangesOf}
+use Rattle.ipnet_tool.specs.Answers.{text_of_lines}
+use Rattle.netset_lists.specs.declared.answer.Failure.{Failure}
+use Rattle.netset_lists.specs.declared.answer.Failure.TheVariants as Failures
+use Rattle.netset_lists.specs.declared.answer.Form.{Form}
+use Rattle.netset_lists.specs.declared.answer.Form.TheVariants.{Networks, Ranges}
+use Rattle.netset_lists.specs.declared.answer.Request.{Request}
+use Rattle.netset_lists.specs.declared.refused.RefusedLines.{RefusedLines}
+use Rattle.netset_lists.specs.Lists.{ListEntry, Refusal, IsListRead, IsInEntries}
+use Rattle.netset_lists.specs.Operations.{IsCountFor, IsInResult}
+use Rattle.netset_lists.specs.RefusedLines.{AreRefused}
+
+-- the bytes of lists, the first of which has this place, have these entries and these refused lines
+abbrev pub AreListsRead : Grammar → ℕ → List (List ℕ) → List (List ListEntry) → List Refusal → Type 0
+AreListsRead grammar list [] entries refusals = (entries ≡ []) × (refusals ≡ [])
+AreListsRead grammar list (bytes ∷ lists) entries refusals =
+    (first : List ListEntry) × (others : List (List ListEntry)) × (here : List Refusal) × (later : List Refusal)
+    × (entries ≡ first ∷ others) × (refusals ≡ here ++ later) × IsListRead grammar list bytes first here
+    × AreListsRead grammar (list + 1) lists others later
+
+-- the first and the last address of the range in canonical text, joined by "-"
+abbrev pub range_text : AddressRange → List ℕ
+range_text r = address_text r.family r.start ++ codes "-" ++ address_text r.family r.end
+
+-- the ranges in order, each followed by "\n" (10)
+abbrev pub text_of_ranges : List AddressRange → List ℕ
+text_of_ranges [] = []
+text_of_ranges (r ∷ ranges) = range_text r ++ 10 ∷ [] ++ text_of_ranges ranges
+
+-- the lines are the maximal blocks of the set
+pub record AreNetworkLines (InSet : Address → Type 0) (text : List ℕ) : Type 0 where
+  pub blocks : List Network
+  pub maximal : AreMaximalBlocks InSet 0 blocks
+  pub spelled : text ≡ text_of_lines blocks
+
+-- the lines are the fewest ranges of the set
+pub record AreRangeLines (InSet : Address → Type 0) (text : List ℕ) : Type 0 where
+  pub ranges : List AddressRange
+  pub fewest : AreRangesOf InSet ranges
+  pub spelled : text ≡ text_of_ranges ranges
+
+-- the text of the set in this form
+abbrev pub IsSetText : Form → (Address → Type 0) → List ℕ → Type 0
+IsSetText Networks = AreNetworkLines
+IsSetText Ranges = AreRangeLines
+
+-- No line of the lists is refused, and the answer is the text of what the operation makes of their entries.
+pub record IsAnswer (request : Request) (lists : List (List ℕ)) (answer : List ℕ) : Type 0 where
+  pub count : IsCountFor request.operation (length lists)
+  pub entries : List (List ListEntry)
+  pub read : AreListsRead request.grammar 0 lists entries []
+  pub right : IsSetText request.form (IsInResult IsInEntries request.operation entries) answer
+
+-- some lines of the lists are refused, and these are they
+pub record HasRefused (grammar : Grammar) (lists : List (List ℕ)) (lines : RefusedLines) : Type 0 where
+  pub entries : List (List ListEntry)
+  pub refusals : List Refusal
+  pub read : AreListsRead grammar 0 lists entries refusals
+  pub some : refusals ≢ []
+  pub kept : AreRefused lines refusals
+
+-- why there is no answer: the operation takes another number of lists, a line is refused, or want of memory
+abbrev pub IsFailureOf : Request → List (List ℕ) → Failure → Type 0
+IsFailureOf request lists Failures.Count = ¬ (IsCountFor request.operation (length lists))
+IsFailureOf request lists (Failures.Refused lines) = HasRefused request.grammar lists lines
+IsFailureOf request lists Failures.Memory = Unit {0}

@@ -1,0 +1,85 @@
+//! The lines of lists that are no entries.
+ghost use Rattle.std.specs.Prelude.{◌≡◌, ◌≤◌, [], ◌∷◌, ◌++◌, length, take, OnOk};
+
+use std::alloc::{AllocError, Global};
+
+/// How many refused lines are kept.
+const SHOWN: usize = 10;
+
+/// A line that is no entry.
+///
+/// ```text
+/// of the list "10.0.0.0/8\nx # y\n", the second one named: list 1, line 2, text "x"
+/// ```
+#[derive(Debug, Drop)]
+pub struct RefusedLine {
+    /// The place of its list among those that are read, from 0.
+    pub list: usize,
+    /// Its number, from 1.
+    pub line: usize,
+    /// What it holds, without comment and blanks around it.
+    pub text: Vec<u8>,
+}
+
+/// The refused lines of all lists that are read: the first ten of them, and how many there are.
+#[derive(Debug, Drop)]
+pub struct RefusedLines {
+    /// The first ten.
+    pub shown: Vec<RefusedLine>,
+    /// How many there are, with these.
+    pub count: usize,
+    ghost few: { length shown.items ≤ 10 },
+}
+
+impl RefusedLines {
+    ghost use Rattle.netset_lists.specs.RefusedLines.{AreRefused, shown_refusals, most_shown};
+    ghost use Rattle.netset_lists.specs.Reading.{HasMore};
+
+    /// No line.
+    pub(crate) fn new(alloc: Global) -> RefusedLines
+        ensures { AreRefused result [] }
+    {
+        RefusedLines {
+            shown: Vec::new(alloc),
+            count: 0,
+        }
+    }
+
+    /// Adds a line. The error is want of memory; more lines than a `usize` counts are told so too.
+    pub(crate) fn push(
+        &mut self,
+        alloc: Global,
+        list: usize,
+        line: usize,
+        text: &[u8],
+    ) -> Result<(), AllocError>
+        ensures { OnOk result (HasMore self.old self.new (record { list = list; line = line; text = text.now } ∷ [])) }
+    {
+        let Some(count) = self.count.checked_add(1) else {
+            return Err(AllocError);
+        };
+        self.keep(alloc, list, line, text)?;
+        self.count = count;
+        Ok(())
+    }
+
+    /// Keeps the line, if it is one of the first ten.
+    fn keep(
+        &mut self,
+        alloc: Global,
+        list: usize,
+        line: usize,
+        text: &[u8],
+    ) -> Result<(), AllocError>
+        ensures shown { OnOk result (shown_refusals self.new ≡ take most_shown
+            (shown_refusals self.old ++ record { list = list; line = line; text = text.now } ∷ [])) }
+        ensures count { self.new.count ≡ self.old.count }
+    {
+        if self.shown.len() == SHOWN {
+            return Ok(());
+        }
+        let text = text.to_vec(alloc)?;
+        self.shown.push(RefusedLine { list, line, text })?;
+        Ok(())
+    }
+}
