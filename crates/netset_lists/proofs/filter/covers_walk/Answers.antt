@@ -1,0 +1,17 @@
+use Rattle.std.proofs.Common.{refl}
+use Rattle.ipnet.specs.NetworkOf.{ip_network}
+use Rattle.ipnet.specs.SubnetsLeft.{ip_subnets_left}
+use Rattle.netset_lists.proofs.FilterLaws.{covered_start, covered_more, covered_end, not_covered}
+use Rattle.netset_lists.proofs.filter.covers_walk.Goals as goal
+
+pub loop-network-init : goal.loop-network-init
+loop-network-init c = covered_start c.args.set.now (ip_subnets_left c.args.walk)
+
+pub returns-then-not-covers : goal.returns-then-not-covers
+returns-then-not-covers c = ?
+
+pub loop-network-preserved : goal.loop-network-preserved
+loop-network-preserved c = ?
+
+pub returns : goal.returns
+returns c = ?
