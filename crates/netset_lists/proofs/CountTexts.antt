@@ -1,5 +1,5 @@
 -- Counts of sets, and of the lists that they were read from.
-use Rattle.std.proofs.Common.{◌≡◌, ℕ, ◌+◌, ◌↔◌, List, [], ◌∷◌, map, refl, sym, ap, ◌∙◌, subst, arith}
+use Rattle.std.proofs.Common.{◌≡◌, ℕ, ◌+◌, ◌↔◌, List, [], ◌∷◌, ◌++◌, codes, map, refl, sym, ap, ◌∙◌, subst, arith}
 use Rattle.ipnet_base.specs.Address.{IPv4, IPv6, Address, IsAddress, greatest_number}
 use Rattle.ipnet.specs.declared.parser.Grammar.{Grammar}
 use Rattle.ipnet_sets.specs.declared.set.IpSet.{IpSet}
@@ -63,6 +63,21 @@ comparison_same A B C D text a b h = record {
   same = λ s. h.same (λ x. (λ k. (b x).1 ((s x).0 ((a x).0 k)), λ k. (a x).1 ((s x).1 ((b x).0 k))));
   differ = λ no. alone_same A B C D text a b
       (h.differ (λ s. no (λ x. (λ k. (b x).0 ((s x).0 ((a x).1 k)), λ k. (a x).0 ((s x).1 ((b x).1 k))))));
+}
+
+-- the lines of what each of two sets has beside the other
+pub lines_alone : (first second a b : IpSet) (first_line second_line text : List ℕ)
+    → ((x : Address) → IsMember a x ↔ (IsMember first x × ¬ (IsMember second x)))
+    → ((x : Address) → IsMember b x ↔ (IsMember second x × ¬ (IsMember first x)))
+    → IsCountsLine (IsMember a) first_line → IsCountsLine (IsMember b) second_line
+    → text ≡ codes "first alone: " ++ first_line ++ codes "second alone: " ++ second_line
+    → AreAloneLines (IsMember first) (IsMember second) text
+lines_alone first second a b first_line second_line text in_a in_b line_a line_b spelled = record {
+  first_line = first_line;
+  second_line = second_line;
+  first = counts_same (IsMember a) (λ x. IsMember first x × ¬ (IsMember second x)) first_line in_a line_a;
+  second = counts_same (IsMember b) (λ x. IsMember second x × ¬ (IsMember first x)) second_line in_b line_b;
+  spelled = spelled;
 }
 
 -- ---- of sets, and of lists

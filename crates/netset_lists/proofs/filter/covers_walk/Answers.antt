@@ -8,10 +8,21 @@ pub loop-network-init : goal.loop-network-init
 loop-network-init c = covered_start c.args.set.now (ip_subnets_left c.args.walk)
 
 pub returns-then-not-covers : goal.returns-then-not-covers
-returns-then-not-covers c = ?
+returns-then-not-covers c = (
+  λ e. absurd cc,
+  λ whole.
+      let clash = c.if-not-covers.ensures.1
+      (not_covered c.args.set.now (ip_subnets_left c.args.walk) (ip_subnets_left c.loop-network.network-iterator)
+      (ip_subnets_left c.next.new.self) (ip_network c.in-Some.network) c.in-Some.ensures.steps c.loop-network.invariant
+      whole) in
+      absurd cc,
+)
 
 pub loop-network-preserved : goal.loop-network-preserved
-loop-network-preserved c = ?
+loop-network-preserved c =
+    covered_more c.args.set.now (ip_subnets_left c.args.walk) (ip_subnets_left c.loop-network.network-iterator)
+    (ip_subnets_left c.next.new.self) (ip_network c.in-Some.network) c.in-Some.ensures.steps c.loop-network.invariant
+    (c.if-not-covers.ensures.0 refl)
 
 pub returns : goal.returns
 returns c = ?
