@@ -32,6 +32,7 @@ class Programs(NamedTuple):
     original_calls: str | None
     original_program: str | None
     iprange: str | None
+    netaddr: list | None  # the command of netaddr_sets.py
 
 
 def note(text):
@@ -99,6 +100,15 @@ def launcher():
     return program
 
 
+def netaddr_sets():
+    """The command of netaddr_sets.py, by the first Python that has netaddr: Debian's, which isn't always this one."""
+    for python in filter(os.path.exists, (sys.executable, "/usr/bin/python3")):
+        if subprocess.run([python, "-c", "import netaddr"], capture_output=True).returncode == 0:
+            return [python, os.path.join(BENCH, "netaddr_sets.py")]
+    note("there is no netaddr (apt-get install python3-netaddr): its columns stay empty")
+    return None
+
+
 def programs():
     """Everything that is measured, built where it has to be."""
     os.makedirs(CACHE, exist_ok=True)
@@ -106,7 +116,7 @@ def programs():
     iprange = shutil.which("iprange")
     if not iprange:
         note("there is no iprange (apt-get install iprange): its columns stay empty")
-    return Programs(ours(CALLS_CRATE), ours(PROGRAM_CRATE), *originals(), iprange)
+    return Programs(ours(CALLS_CRATE), ours(PROGRAM_CRATE), *originals(), iprange, netaddr_sets())
 
 
 def run(command, source=os.devnull, sink=subprocess.PIPE, status=0):
@@ -122,8 +132,8 @@ def run(command, source=os.devnull, sink=subprocess.PIPE, status=0):
 
 
 def figure(program, task, source=os.devnull):
-    """(the object that a program of calls prints, its peak) of one task."""
-    took, told = run([program, *task], source)
+    """(the object that a program of calls prints, its peak) of one task. The program is a path, or a command."""
+    took, told = run([*([program] if isinstance(program, str) else program), *task], source)
     return json.loads(told), took.peak
 
 

@@ -93,6 +93,11 @@ PROGRAM = [
     Program("/48 inside forty /32", "sites_ipv6", False, 0.45, 0.32, 35, 25),
 ]
 
+# The operations on sets, and the lists whose two halves they are done on: twice 10^5 networks.
+SET_OPERATIONS = ["union", "intersection", "difference"]
+SET_LISTS = ["random_ipv4", "routing_table"]
+SET_LENGTH = 200_000
+
 # The lengths at which `IpNet::aggregate`, and the program, are measured.
 CALL_LENGTHS = [10_000, 100_000, MILLION]
 PROGRAM_LENGTHS = [10_000, 100_000, MILLION, 10 * MILLION]
@@ -171,19 +176,24 @@ def calls(bench):
         refused(bench)
 
 
-def call_row(bench, call):
-    source = path_of(call.list_name) if call.list_name else os.devnull
+def in_turns(bench, task, original_task, source):
+    """(the least time of ours, that of the original's, all answers) of a task: the two take turns."""
     ours, theirs, answers = [], [], []
-    sides = [(bench.programs.our_calls, call.task, ours),
-             (bench.programs.original_calls, call.original_task or call.task, theirs)]
+    sides = [(bench.programs.our_calls, task, ours), (bench.programs.original_calls, original_task, theirs)]
     for _ in range(bench.rounds):
-        for path, task, times in sides:
+        for path, named, times in sides:
             if path:
-                line, _ = figure(path, task, source)
+                line, _ = figure(path, named, source)
                 times.append(line["min_ns"])
                 answers.append((line["items"], line["check"]))
-    part = ratio(least(ours), least(theirs))
-    row(call.label, format(answers[0][0], ","), milliseconds(least(ours)), milliseconds(least(theirs)), shown(part),
+    return least(ours), least(theirs), answers
+
+
+def call_row(bench, call):
+    source = path_of(call.list_name) if call.list_name else os.devnull
+    ours, theirs, answers = in_turns(bench, call.task, call.original_task or call.task, source)
+    part = ratio(ours, theirs)
+    row(call.label, format(answers[0][0], ","), milliseconds(ours), milliseconds(theirs), shown(part),
         bench.judged(call.label, part, call.bound, call.goal),
         bench.compared(call.label, answers) if theirs else "-")
 
@@ -233,6 +243,61 @@ def beside_list(program, name):
     held, peak_held = figure(program, ["hold"], path_of(name))
     _, peak_aggregated = figure(program, ["aggregate"], path_of(name))
     return held["check"], peak_aggregated - peak_held
+
+
+def sets(bench):
+    wanted = [(name, task) for name in SET_LISTS for task in SET_OPERATIONS if bench.wants(name, task)]
+    if wanted:
+        head("Sets: two lists of 10^5 networks, from networks to networks", "operation, list", "ours ms",
+             "original ms", "of the original's", "bound", "netaddr ms", "hundredths of netaddr's", "bound", "answers")
+    for name, task in wanted:
+        set_row(bench, name, task)
+    asked(bench)
+    beside_sets(bench)
+
+
+def set_row(bench, name, task):
+    """A set operation beside the program over the original's aggregate, and beside netaddr, which is run once."""
+    label, source = "%s, %s" % (task, name), path_of(name, SET_LENGTH)
+    ours, theirs, answers = in_turns(bench, [task], [task], source)
+    python = None
+    if bench.programs.netaddr:
+        line, _ = figure(bench.programs.netaddr, [task], source)
+        python = line["min_ns"]
+        answers.append((line["items"], line["check"]))
+    part, hundredths = ratio(ours, theirs), ratio(100 * ours, python)
+    row(label, milliseconds(ours), milliseconds(theirs), shown(part), bench.judged(label, part, 1),
+        milliseconds(python), shown(hundredths), bench.judged(label + ", netaddr", hundredths, 1),
+        bench.compared(label, answers))
+
+
+def asked(bench):
+    """One question of a set, or of a table, of 10^5 networks."""
+    wanted = [(name, task) for name in SET_LISTS for task in ("set_contains", "longest_match")
+              if bench.wants(name, task)]
+    if wanted:
+        head("A question of 10^5 networks", "call, list", "ours ns", "bound", "original ns", "answers")
+    for name, task in wanted:
+        label = "%s, %s" % (task, name)
+        ours, theirs, answers = in_turns(bench, [task], [task], path_of(name, SET_LENGTH))
+        items = answers[0][0]
+        row(label, "%.0f" % (ours / items), bench.judged(label, ours / items, 500),
+            "-" if theirs is None else "%.0f" % (theirs / items), bench.compared(label, answers))
+
+
+def beside_sets(bench):
+    """What sets, and tables of routes, take beside the lists that they are made from."""
+    tasks = [(task, "hold_halves") for task in SET_OPERATIONS] + [("routes", "hold_routes")]
+    wanted = [(name, task, held) for name in SET_LISTS for task, held in tasks if bench.wants(name, task)]
+    if wanted:
+        head("Memory of sets and routes of 10^6 networks", "task, list", "the input's lists MiB", "taken beside MiB",
+             "in lists", "bound")
+    for name, task, held in wanted:
+        before, peak_before = figure(bench.programs.our_calls, [held], path_of(name))
+        _, peak = figure(bench.programs.our_calls, [task], path_of(name))
+        part = (peak - peak_before) / before["check"]
+        row("%s, %s" % (task, name), mebibytes(before["check"]), mebibytes(peak - peak_before), "%.2f" % part,
+            bench.judged("memory, %s, %s" % (task, name), part, 2))
 
 
 def digest(path, puts_back):
@@ -338,4 +403,4 @@ def unbroken(bench):
                     bench.judged("unbroken line", round(took.peak / MIB, 1), bound))
 
 
-PARTS = {"calls": calls, "growth": growth, "memory": memory, "program": program, "lengths": lengths}
+PARTS = {"calls": calls, "growth": growth, "memory": memory, "sets": sets, "program": program, "lengths": lengths}
