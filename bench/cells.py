@@ -9,9 +9,13 @@ class Bench:
     def __init__(self, programs, rounds, only):
         self.programs, self.rounds, self.only = programs, rounds, only
         self.held, self.missed, self.differing = 0, [], []
+        self.is_any_wanted = False
 
     def wants(self, *names):
-        return any(self.only in name for name in names if name)
+        """Whether the row with these names is one of those that were asked for."""
+        wanted = any(self.only in name for name in names if name)
+        self.is_any_wanted |= wanted
+        return wanted
 
     def judged(self, row, value, bound, goal=None):
         """The cell of a bound: the bound, its goal in brackets, and whether the value as it is shown is within it."""

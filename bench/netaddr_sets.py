@@ -2,7 +2,8 @@
 """Measures the sets of Python's netaddr: bench/netaddr_sets.py TASK < NETWORKS
 
 The tasks, the line that is printed and the number made from the answers are those of ipnet_bench, so that the two can
-be put side by side. A task is done once.
+be put side by side. A task is done once, and its time is that of the processor, on which other work on the machine has
+least effect.
 """
 import json
 import sys
@@ -37,9 +38,9 @@ OPERATIONS = {"union": netaddr.IPSet.union, "intersection": netaddr.IPSet.inters
 
 def main(task):
     networks = [netaddr.IPNetwork(line) for line in sys.stdin.read().split()]
-    start = time.perf_counter_ns()
+    start = time.process_time_ns()
     found = combined(OPERATIONS[task], networks[0::2], networks[1::2])
-    took = time.perf_counter_ns() - start
+    took = time.process_time_ns() - start
     print(json.dumps({"task": task, "items": len(networks), "min_ns": took, "median_ns": took, "check": listed(found)}))
 
 
