@@ -3,6 +3,7 @@
 They read networks, addresses and ranges, a line each, of both families, and none of the rest that netset reads.
 """
 import bisect
+import ipaddress
 import socket
 from typing import NamedTuple
 
@@ -63,6 +64,14 @@ class Spans:
     def has_none(self, e):
         place = bisect.bisect(self.starts, e.last) - 1
         return place < 0 or self.ends[place] < e.first
+
+
+def shortest(lines):
+    """The shortest list of networks of the addresses of IPv4 lines. iprange's differences of two lists are not that."""
+    spans = Spans([entry(line.decode().strip()) for line in lines], socket.AF_INET)
+    for ends in zip(spans.starts, spans.ends):
+        for network in ipaddress.summarize_address_range(*map(ipaddress.IPv4Address, ends)):
+            yield b"%s\n" % str(network).encode()
 
 
 def sizes(listed):

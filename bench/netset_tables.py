@@ -6,17 +6,17 @@ import netset_models as models
 from cells import head, mebibytes, milliseconds, ratio, row, shown
 from lists import Missing, lines_of, path_of
 from programs import note
-from turns import Command, digest, measured, with_length
+from turns import Command, digest, measured, with_lengths
 
 
-def as_range(line):
-    """A line of iprange's ranges, among which a single address stands alone, as a range."""
-    return line if b"-" in line else line.rstrip(b"\n") + b"-" + line
+def as_ranges(lines):
+    """The ranges of iprange, which writes a single address alone, as ranges."""
+    return (line if b"-" in line else line.rstrip(b"\n") + b"-" + line for line in lines)
 
 
-def as_count(line):
+def as_counts(lines):
     """How many entries and how many addresses iprange counted, as netset says it."""
-    return b"IPv4 %d, IPv6 0\n" % int(line.split(b",")[1])
+    return (b"IPv4 %d, IPv6 0\n" % int(line.split(b",")[1]) for line in lines)
 
 
 class Call(NamedTuple):
@@ -25,9 +25,9 @@ class Call(NamedTuple):
     lists: list
     words: str
     iprange: str | None = None
-    as_ours: Callable | None = with_length  # a line of iprange's output as netset writes it. None: it tells less
-    model: Callable | None = None           # the lines of the answer, by the lists' paths
-    status: int = 0                         # netset's
+    as_ours: Callable | None = with_lengths  # iprange's lines as netset writes them. None: it tells less
+    model: Callable | None = None            # the lines of the answer, by the lists' paths
+    status: int = 0                          # netset's
     iprange_status: int = 0
 
 
@@ -37,15 +37,15 @@ FORTY = ["countries_ipv4", "next_countries_ipv4"]
 CALLS = [
     Call("union: all ranges, and forty countries", [ALL, FORTY[0]], "union {0} {1}", "{0} {1}"),
     Call("union: all ranges, as FIRST-LAST", ["spans_ipv4"], "union {0}", "{0}"),
-    Call("union, as ranges: forty countries, and forty", FORTY, "union --ranges {0} {1}", "-j {0} {1}", as_range),
+    Call("union, as ranges: forty countries, and forty", FORTY, "union --ranges {0} {1}", "-j {0} {1}", as_ranges),
     Call("intersection: forty countries, and forty", FORTY, "intersection {0} {1}", "{0} {1} --common"),
     Call("difference: forty countries, and forty", FORTY, "difference {0} {1}", "{0} --except {1}"),
     Call("difference: all ranges, and forty countries", [ALL, FORTY[0]], "difference {0} {1}", "{0} --except {1}"),
     Call("symmetric difference: forty countries, and forty", FORTY, "symmetric-difference {0} {1}", "{0} --diff {1}",
-         iprange_status=1),
+         models.shortest, iprange_status=1),
     # iprange is given all addresses on its standard input
     Call("complement: forty countries", FORTY[:1], "complement {0}", "- --except {0}"),
-    Call("count: forty countries", FORTY[:1], "count {0}", "-C {0}", as_count, models.count),
+    Call("count: forty countries", FORTY[:1], "count {0}", "-C {0}", as_counts, models.count),
     Call("count: both families of forty countries", ["countries_both"], "count {0}", model=models.count),
     Call("compare: forty countries, and forty", FORTY, "compare {0} {1}", "{0} --diff {1} --quiet", None,
          models.compare, 1, 1),

@@ -8,7 +8,7 @@ import set_tables
 from cells import MIB, head, least, mebibytes, milliseconds, ratio, row, shown
 from lists import MILLION, MOST, Missing, lines_of, path_of
 from programs import figure, floor, run
-from turns import Command, in_turns, measured, with_length
+from turns import Command, in_turns, measured, with_lengths
 
 
 class Call(NamedTuple):
@@ -157,7 +157,7 @@ def text_programs(bench, with_iprange):
     commands = {"ours": programs.our_program, "original": programs.original_program}
     commands = {who: Command([path]) for who, path in commands.items() if path}
     if with_iprange and programs.iprange:
-        commands["iprange"] = Command([programs.iprange], as_ours=with_length)
+        commands["iprange"] = Command([programs.iprange], as_ours=with_lengths)
     return commands
 
 

@@ -8,15 +8,15 @@ from cells import least
 from programs import figure, run
 
 
-def unchanged(line):
-    return line
+def unchanged(lines):
+    return lines
 
 
 class Command(NamedTuple):
     """How one of the programs is called."""
     words: list
     status: int = 0                       # which it ends with
-    as_ours: Callable | None = unchanged  # a line of its output as our program writes it. None: it isn't compared
+    as_ours: Callable | None = unchanged  # the lines of its output as our program writes them. None: not compared
 
 
 class Measured(NamedTuple):
@@ -52,7 +52,7 @@ def measured(bench, commands, source=os.devnull, times=1):
             run(command.words, source, answer, command.status)
             if command.as_ours:
                 with open(answer.name, "rb") as lines:
-                    outputs.append(digest(map(command.as_ours, lines)))
+                    outputs.append(digest(command.as_ours(lines)))
         runs = {who: [] for who in commands}
         for _ in range(times * bench.rounds):
             for who, command in commands.items():
@@ -60,9 +60,9 @@ def measured(bench, commands, source=os.devnull, times=1):
     return Measured(runs, outputs)
 
 
-def with_length(line):
-    """A line of iprange's output, which leaves out the length of a single address, with that length."""
-    return line if b"/" in line else line.rstrip(b"\n") + b"/32\n"
+def with_lengths(lines):
+    """The lines of iprange, which leaves out the length of a single address, with that length."""
+    return (line if b"/" in line else line.rstrip(b"\n") + b"/32\n" for line in lines)
 
 
 def in_turns(bench, task, original_task, source):
