@@ -251,7 +251,7 @@ def countries_both():
 
 
 def next_countries_ipv4():
-    """Forty countries again, of which twenty are those of the list above."""
+    """The 21st to the 60th country."""
     return countries(False, 12, COUNTRIES // 2)
 
 

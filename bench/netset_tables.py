@@ -32,27 +32,33 @@ class Call(NamedTuple):
 
 
 ALL = "ranges_ipv4"
-FORTY = ["countries_ipv4", "next_countries_ipv4"]
+FIRST, SECOND = "countries_ipv4", "next_countries_ipv4"
 
 CALLS = [
-    Call("union: all ranges, and forty countries", [ALL, FORTY[0]], "union {0} {1}", "{0} {1}"),
+    Call("union: all ranges, and countries 1 to 40", [ALL, FIRST], "union {0} {1}", "{0} {1}"),
     Call("union: all ranges, as FIRST-LAST", ["spans_ipv4"], "union {0}", "{0}"),
-    Call("union, as ranges: forty countries, and forty", FORTY, "union --ranges {0} {1}", "-j {0} {1}", as_ranges),
-    Call("intersection: forty countries, and forty", FORTY, "intersection {0} {1}", "{0} {1} --common"),
-    Call("difference: forty countries, and forty", FORTY, "difference {0} {1}", "{0} --except {1}"),
-    Call("difference: all ranges, and forty countries", [ALL, FORTY[0]], "difference {0} {1}", "{0} --except {1}"),
-    Call("symmetric difference: forty countries, and forty", FORTY, "symmetric-difference {0} {1}", "{0} --diff {1}",
-         models.shortest, iprange_status=1),
+    Call("union, as ranges: countries 1 to 40, and 21 to 60", [FIRST, SECOND],
+         "union --ranges {0} {1}", "-j {0} {1}", as_ranges),
+    Call("intersection: countries 1 to 40, and 21 to 60", [FIRST, SECOND],
+         "intersection {0} {1}", "{0} {1} --common"),
+    Call("difference: countries 1 to 40, and 21 to 60", [FIRST, SECOND],
+         "difference {0} {1}", "{0} --except {1}"),
+    Call("difference: all ranges, and countries 1 to 40", [ALL, FIRST],
+         "difference {0} {1}", "{0} --except {1}"),
+    Call("symmetric difference: countries 1 to 40, and 21 to 60", [FIRST, SECOND],
+         "symmetric-difference {0} {1}", "{0} --diff {1}", models.shortest, iprange_status=1),
     # iprange is given all addresses on its standard input
-    Call("complement: forty countries", FORTY[:1], "complement {0}", "- --except {0}"),
-    Call("count: forty countries", FORTY[:1], "count {0}", "-C {0}", as_counts, models.count),
-    Call("count: both families of forty countries", ["countries_both"], "count {0}", model=models.count),
-    Call("compare: forty countries, and forty", FORTY, "compare {0} {1}", "{0} --diff {1} --quiet", None,
-         models.compare, 1, 1),
-    Call("filter: forty countries of all ranges", [FORTY[0], ALL], "filter {0} {1}", model=models.inside),
-    Call("filter, those outside", [FORTY[0], ALL], "filter --outside {0} {1}", model=models.outside),
-    Call("route: 10^6 addresses by 10^6 routes", ["routes_ipv4", "addresses_ipv4"], "route {0} {1}",
-         model=models.route),
+    Call("complement: countries 1 to 40", [FIRST], "complement {0}", "- --except {0}"),
+    Call("count: countries 1 to 40", [FIRST], "count {0}", "-C {0}", as_counts, models.count),
+    Call("count: countries 1 to 40, both families", ["countries_both"], "count {0}", model=models.count),
+    Call("compare: countries 1 to 40, and 21 to 60", [FIRST, SECOND],
+         "compare {0} {1}", "{0} --diff {1} --quiet", None, models.compare, 1, 1),
+    Call("filter: of all ranges, those in countries 1 to 40", [FIRST, ALL],
+         "filter {0} {1}", model=models.inside),
+    Call("filter: of all ranges, those outside countries 1 to 40", [FIRST, ALL],
+         "filter --outside {0} {1}", model=models.outside),
+    Call("route: 10^6 addresses by 10^6 routes", ["routes_ipv4", "addresses_ipv4"],
+         "route {0} {1}", model=models.route),
 ]
 
 
