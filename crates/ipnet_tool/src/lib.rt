@@ -2,10 +2,12 @@
 //! and the program over any reader and writers.
 #![tactic(auto)]
 
+mod input;
 pub mod program;
 #[cfg(test)]
 mod tests;
 pub mod tool;
+mod window;
 
 pub use program::run;
 pub use tool::{ToolError, aggregate_text, aggregate_text_legacy};

@@ -8,19 +8,17 @@ ghost use Rattle.ipnet_tool.specs.Runs.{IsChosenBy, IsAnswered, IsCutShort, HasB
 ghost use Rattle.ipnet_tool.specs.Statuses.{status_of};
 ghost use Rattle.ipnet_tool.specs.declared.program.Failure.TheVariants.{Arguments, Unreadable, Memory};
 
-use crate::tool::{ToolError, answer_to};
+use crate::input::read_networks;
+use crate::tool::{aggregated, printed};
 use ipnet::Grammar;
 use std::alloc::Global;
+use std::env;
 use std::env::Env;
 use std::io::{ErrorKind, Read, Write};
 use std::vec::IntoIter;
-use std::{env, str};
 use thiserror::Error;
 
 pub mod laws;
-
-/// How many bytes are asked for in one read.
-const PIECE: usize = 65536;
 
 /// Why a run writes no answer, or not the whole of it. The text is the line that [`report`] writes.
 ///
@@ -106,17 +104,16 @@ pub fn run<R: Read, W: Write, X: Write>(
     let Some(grammar) = chosen(args) else {
         return report(faults, Failure::Arguments);
     };
-    let bytes = match read_all(alloc, input) {
-        Ok(bytes) => bytes,
+    let families = match read_networks(alloc, input, grammar) {
+        Ok(families) => families,
         Err(failure) => return report(faults, failure),
     };
-    let Ok(text) = str::from_utf8(bytes.as_slice()) else {
-        return report(faults, Failure::NotUtf8);
+    let Ok(blocks) = aggregated(alloc, &families) else {
+        return report(faults, Failure::Memory);
     };
-    let answer = match answer_to(alloc, text, grammar) {
-        Ok(answer) => answer,
-        Err(ToolError::Line(number)) => return report(faults, Failure::Line(number)),
-        Err(ToolError::Memory) => return report(faults, Failure::Memory),
+    drop(families);
+    let Ok(answer) = printed(alloc, &blocks) else {
+        return report(faults, Failure::Memory);
     };
     let Ok(()) = write_whole(out, answer.as_bytes()) else {
         return report(faults, Failure::Unwritable);
@@ -177,35 +174,6 @@ pub fn report<X: Write>(faults: &mut X, failure: Failure) -> u8
 {
     let _ = writeln!(faults, "{failure}");
     failure.status()
-}
-
-/// The bytes that the reader gives up to its end. A read that was interrupted is made again.
-//
-// A loop is proved to end, and a reader may be interrupted again and again: so it counts, here and in `write_whole`, up
-// to more calls than any run makes.
-fn read_all<R: Read>(alloc: Global, input: &mut R) -> Result<Vec<u8>, Failure>
-    ensures bytes { IfOk result (λ bytes. Consumes (R.remaining input.old) (R.remaining input.new) bytes.items) }
-    ensures end { OnOk result (IsAtEnd (R.remaining input.new)) }
-    ensures failure { IfErr result (λ failure. (failure ≡ Unreadable) ⊎ (failure ≡ Memory)) }
-{
-    let mut bytes = Vec::new(alloc);
-    let mut piece = [0u8; PIECE];
-    for _ in 0..u64::MAX {
-        match input.read(&mut piece) {
-            Ok(0) => return Ok(bytes),
-            Ok(count) => {
-                let Ok(()) = bytes.extend_from_slice(&piece[..count]) else {
-                    return Err(Failure::Memory);
-                };
-            }
-            Err(error) => {
-                if error.kind() != ErrorKind::Interrupted {
-                    return Err(Failure::Unreadable);
-                }
-            }
-        }
-    }
-    Err(Failure::Unreadable)
 }
 
 /// Writes the bytes and flushes the writer. A write that was interrupted is made again; where a write fails otherwise,
