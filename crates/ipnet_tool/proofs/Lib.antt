@@ -6,3 +6,4 @@ pub mod AnswerLaws
 pub mod WindowLaws
 pub mod TextLengths
 pub mod PieceLaws
+pub mod ReadingLaws

@@ -66,6 +66,21 @@ closed_append front piece first second more =
 
 -- ---- lines after lines
 
+onto_count : (b : ℕ) (lines : List (List ℕ)) → length (onto_first_line b lines) ≤ length lines + 1
+onto_count b [] = omega arith
+onto_count b (line ∷ lines) = omega arith
+
+-- a text has no more lines than bytes
+pub lines_count : (text : List ℕ) → length (lines_of text) ≤ length text
+lines_count [] = omega arith
+lines_count (b ∷ text) =
+    let later = lines_count text in
+    elim (b == 10) as (λ t. length (if t then [] ∷ lines_of text else onto_first_line b (lines_of text))
+    ≤ length (b ∷ text)) [
+      | true ↦ omega (arith, later)
+      | false ↦ omega (arith, later, onto_count b (lines_of text))
+    ]
+
 networks_append : (grammar : Grammar) (lines others : List (List ℕ)) (ns ms : List Network)
     → AreNetworksOf grammar lines ns → AreNetworksOf grammar others ms
     → AreNetworksOf grammar (lines ++ others) (ns ++ ms)
@@ -137,8 +152,13 @@ taken_more grammar front piece old new number count taken is_text closed more is
       written = networks;
       are = are;
       same = same;
-      count = omega (arith, is, taken.count, ap length (taken.closed piece),
-          length-append (lines_of front) (lines_of piece));
+      count = omega (
+        arith,
+        is,
+        taken.count,
+        ap length (taken.closed piece),
+        length-append (lines_of front) (lines_of piece),
+      );
     }
 
 -- the first bad line of the piece is that of the text

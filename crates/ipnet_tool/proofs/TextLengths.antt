@@ -43,8 +43,15 @@ ends_short grammar text (g ∷ k ∷ i ∷ groups) (first, rest, is, group, late
     let short = group.short in
     let more = ends_short grammar rest (k ∷ i ∷ groups) later in
     let one : length (codes ":") ≡ 1 = refl in
-    omega (arith, one, short, more, ap length is, length-append (first ++ codes ":") rest,
-    length-append first (codes ":"))
+    omega (
+      arith,
+      one,
+      short,
+      more,
+      ap length is,
+      length-append (first ++ codes ":") rest,
+      length-append first (codes ":"),
+    )
 
 most_groups : (grammar : Grammar) → most_written_groups grammar ≤ 8
 most_groups Strict = omega arith
@@ -60,8 +67,17 @@ compressed_short grammar text groups h =
     let head = groups_short h.head_text h.head h.head_groups in
     let tail = tail_short grammar h.tail_text h.tail h.tail_groups in
     let two : length (codes "::") ≡ 2 = refl in
-    omega (arith, two, head, tail, h.room, most_groups grammar, ap length h.spelled,
-    length-append (h.head_text ++ codes "::") h.tail_text, length-append h.head_text (codes "::"))
+    omega (
+      arith,
+      two,
+      head,
+      tail,
+      h.room,
+      most_groups grammar,
+      ap length h.spelled,
+      length-append (h.head_text ++ codes "::") h.tail_text,
+      length-append h.head_text (codes "::"),
+    )
 
 ipv6_short : (grammar : Grammar) (text groups : List ℕ) → IsIpv6AddressText grammar text groups → length text ≤ 100
 ipv6_short grammar text groups (inl h) = omega (arith, h.0, groups_short text groups h.1)
@@ -72,11 +88,23 @@ pub network_text_short : (grammar : Grammar) (text : List ℕ) (network : Networ
     → length text ≤ 200
 network_text_short grammar text network (inl h) =
     let one : length (codes "/") ≡ 1 = refl in
-    omega (arith, one, ipv4_short grammar h.address_text h.octets h.writes_address, h.writes_length.short,
-    ap length h.spelled, length-append (h.address_text ++ codes "/") h.length_text,
-    length-append h.address_text (codes "/"))
+    omega (
+      arith,
+      one,
+      ipv4_short grammar h.address_text h.octets h.writes_address,
+      h.writes_length.short,
+      ap length h.spelled,
+      length-append (h.address_text ++ codes "/") h.length_text,
+      length-append h.address_text (codes "/"),
+    )
 network_text_short grammar text network (inr h) =
     let one : length (codes "/") ≡ 1 = refl in
-    omega (arith, one, ipv6_short grammar h.address_text h.groups h.writes_address, h.writes_length.short,
-    ap length h.spelled, length-append (h.address_text ++ codes "/") h.length_text,
-    length-append h.address_text (codes "/"))
+    omega (
+      arith,
+      one,
+      ipv6_short grammar h.address_text h.groups h.writes_address,
+      h.writes_length.short,
+      ap length h.spelled,
+      length-append (h.address_text ++ codes "/") h.length_text,
+      length-append h.address_text (codes "/"),
+    )

@@ -4,7 +4,7 @@
 //! kept for the next read. Lines end at a byte that is no part of another character, so the text is UTF-8 exactly
 //! where what is taken each time is.
 ghost use Rattle.std.specs.Prelude.{◌≡◌, ◌≢◌, ℕ, ◌+◌, ◌<◌, ◌≤◌, ◌⊎◌, List, ◌++◌, length, take, IfOk, IfErr, Err};
-ghost use Rattle.std.specs.Prelude.{slice_index};
+ghost use Rattle.std.specs.Prelude.{slice_index, true, false};
 ghost use Rattle.ipnet.specs.Lines.{lines_of};
 ghost use Rattle.ipnet_tool.specs.Families.{networks_of};
 ghost use Rattle.ipnet_tool.specs.Window.{held};
@@ -47,7 +47,7 @@ pub(crate) fn read_networks<R: Read>(
     for _ in 0..MOST_READS {
         let more = window.fill(input)?;
         let held = window.held();
-        let count = if more { whole_lines(held) } else { held.len() };
+        let count = lines_len(held, more);
         let Ok(text) = str::from_utf8(&held[..count]) else {
             if more {
                 return Err(after_bad_bytes(&mut window, input));
@@ -76,13 +76,17 @@ pub(crate) fn read_networks<R: Read>(
     Err(Failure::Unreadable)
 }
 
-/// The length of the lines at the front of the bytes that have their end.
-fn whole_lines(bytes: &[u8]) -> usize
+/// How many of the bytes are taken at once: the lines at their front that have their end, or all where no more come.
+fn lines_len(bytes: &[u8], more: bool) -> usize
     ensures at_most { result ≤ length bytes.now }
-    ensures closed { (more : List ℕ) → lines_of (take result bytes.now ++ more)
-        ≡ lines_of (take result bytes.now) ++ lines_of more }
-    ensures last { (k : ℕ) → result ≤ k → k < length bytes.now → slice_index bytes.now k ≢ 10 }
+    ensures all { more ≡ false → result ≡ length bytes.now }
+    ensures closed { more ≡ true → (after : List ℕ) → lines_of (take result bytes.now ++ after)
+        ≡ lines_of (take result bytes.now) ++ lines_of after }
+    ensures last { more ≡ true → (k : ℕ) → result ≤ k → k < length bytes.now → slice_index bytes.now k ≢ 10 }
 {
+    if !more {
+        return bytes.len();
+    }
     match memrchr(b'\n', bytes) {
         Some(end) => end + 1,
         None => 0,

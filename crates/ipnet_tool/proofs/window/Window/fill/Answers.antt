@@ -11,8 +11,7 @@ returns-in-Ok-clause-read g c =
     let within : w.end ≤ length w.bytes = omega arith in
     let n = c.in-Ok.count in
     let bound = c.in-Ok.ensures.bound in
-    let rest = g.R.Read.remaining in
-    (
+    let rest = g.R.Read.remaining in (
       take n c.read.new.buf,
       grown w.bytes c.read.new.buf w.start w.end _ n w.ordered within bound.0
           ∙ ap (λ z. z ++ take n c.read.new.buf) c.loop.invariant.same,
