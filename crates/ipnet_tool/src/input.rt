@@ -58,8 +58,10 @@ pub(crate) fn read_networks<R: Read>(
         window.take(count);
         match result {
             Ok(lines) => number = lines,
-            Err(ToolError::Memory) => return Err(Failure::Memory),
-            Err(ToolError::Line(bad)) => {
+            Err(error) => {
+                let ToolError::Line(bad) = error else {
+                    return Err(Failure::Memory);
+                };
                 if more {
                     return Err(after_bad_line(&mut window, input, bad));
                 }

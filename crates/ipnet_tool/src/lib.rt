@@ -3,6 +3,7 @@
 #![tactic(auto)]
 
 mod input;
+pub mod output;
 pub mod program;
 #[cfg(test)]
 mod tests;

@@ -1,14 +1,14 @@
 //! The program, over any reader and writers.
 ghost use Rattle.std.specs.Prelude.{◌≡◌, ◌≤◌, ◌⊎◌, ◌↔◌, ℕ, List, drop, IfOk, IfErr, IfSome, IfNone, OnOk};
 ghost use Rattle.std.specs.Vec.Iter.{into_iter_items};
-ghost use Rattle.std.specs.Io.{StartsWith};
-ghost use Rattle.std.specs.Io.KnownBytes.{Appends, Consumes, IsAtEnd, Keeps};
+ghost use Rattle.std.specs.Io.KnownBytes.{Consumes, IsAtEnd, Keeps};
 ghost use Rattle.ipnet.specs.declared.parser.Grammar.{Grammar};
 ghost use Rattle.ipnet_tool.specs.Runs.{IsChosenBy, IsAnswered, IsCutShort, HasBadLine};
 ghost use Rattle.ipnet_tool.specs.Statuses.{status_of};
 ghost use Rattle.ipnet_tool.specs.declared.program.Failure.TheVariants.{Arguments, Unreadable, Memory};
 
 use crate::input::read_networks;
+use crate::output::write_whole;
 use crate::tool::{aggregated, printed};
 use ipnet::Grammar;
 use std::alloc::Global;
@@ -115,9 +115,9 @@ pub fn run<R: Read, W: Write, X: Write>(
     let Ok(answer) = printed(alloc, &blocks) else {
         return report(faults, Failure::Memory);
     };
-    let Ok(()) = write_whole(out, answer.as_bytes()) else {
+    if write_whole(out, answer.as_bytes()).is_err() || out.flush().is_err() {
         return report(faults, Failure::Unwritable);
-    };
+    }
     0
 }
 
@@ -174,29 +174,4 @@ pub fn report<X: Write>(faults: &mut X, failure: Failure) -> u8
 {
     let _ = writeln!(faults, "{failure}");
     failure.status()
-}
-
-/// Writes the bytes and flushes the writer. A write that was interrupted is made again; where a write fails otherwise,
-/// the bytes written so far are a prefix of the answer.
-fn write_whole<W: Write>(out: &mut W, bytes: &[u8]) -> Result<(), Failure>
-    ensures whole { OnOk result (Appends (W.contents out.old) (W.contents out.new) bytes.now) }
-    ensures front { (front : List ℕ) × StartsWith bytes.now front
-        × Appends (W.contents out.old) (W.contents out.new) front }
-{
-    let mut written = 0;
-    for _ in 0..u64::MAX {
-        if written == bytes.len() {
-            return out.flush().map_err(|_| Failure::Unwritable);
-        }
-        match out.write(&bytes[written..]) {
-            Ok(0) => return Err(Failure::Unwritable),
-            Ok(count) => written += count,
-            Err(error) => {
-                if error.kind() != ErrorKind::Interrupted {
-                    return Err(Failure::Unwritable);
-                }
-            }
-        }
-    }
-    Err(Failure::Unwritable)
 }

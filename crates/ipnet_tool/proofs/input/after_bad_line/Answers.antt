@@ -53,6 +53,8 @@ returns-in-Ok-false-clause-line g c = λ line e.
     (grown ∙ ap (λ z. z ++ given) c.take.ensures) read in
     let none : held c.fill.new.self ≡ [] = sym c.held-else-fill.ensures.value
     ∙ empty_text c.held-else-fill.result.now
-    (no_bytes (length c.held-else-fill.result.now) (c.if-is_empty.ensures)) in
-    (same, judged_whole (held c.args.window.now) (rest c.args.input.now) (rest c.fill.new.input)
-    (held c.fill.new.self) judged none (c.in-Ok-false.ensures.end c.in-Ok-false.field-0-test))
+    (no_bytes (length c.held-else-fill.result.now) (c.if-is_empty.ensures)) in (
+      same,
+      judged_whole (held c.args.window.now) (rest c.args.input.now) (rest c.fill.new.input)
+          (held c.fill.new.self) judged none (c.in-Ok-false.ensures.end c.in-Ok-false.field-0-test),
+    )

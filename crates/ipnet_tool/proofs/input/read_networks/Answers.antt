@@ -44,14 +44,15 @@ returns-then-more-2-clause-bad_line g c = λ number e.
     subst IsClosed (ap (take count) value) (c.lines_len-count.ensures.closed c.if-more-2.true) in
     let told : c.after_bad_line.result ≡ Failures.Line number = cc in
     let (is, left) = c.after_bad_line.ensures.line number told in
-    let refused : c.push_lines-result.result ≡ Err (ToolErrors.Line c.in-Err-Line.bad) = cc in
-    let (later, sum, first) = c.push_lines-result.ensures.bad_line c.in-Err-Line.bad refused in
+    let refused : c.push_lines-result.result ≡ Err (ToolErrors.Line c.in-Line.bad) =
+    c.in-Err.is ∙ ap Err c.in-Line.is in
+    let (later, sum, first) = c.push_lines-result.ensures.bad_line c.in-Line.bad refused in
     bad_then_text grammar start here (rest c.after_bad_line.new.input) now (held c.take.new.self) old number0 later
     number count so_far is_text closed (subst (λ z. IsFirstBadLine grammar (lines_of z) later) piece first)
     c.take.ensures (is ∙ sum) left
 
-pub returns-in-Err-Line-clause-bad_line : goal.returns-in-Err-Line-clause-bad_line
-returns-in-Err-Line-clause-bad_line g c = λ number e.
+pub returns-in-Err-clause-bad_line : goal.returns-in-Err-clause-bad_line
+returns-in-Err-clause-bad_line g c = λ number e.
     let grammar = c.args.grammar in
     let rest = g.R.Read.remaining in
     let start = rest c.args.input.now in
@@ -71,9 +72,10 @@ returns-in-Err-Line-clause-bad_line g c = λ number e.
     ∙ take_all (length c.held-held.result.now) c.held-held.result.now (omega arith) ∙ value in
     let piece : c.in-Ok.text.now ≡ now = cases.0 ∙ cut in
     let is_text : IsUtf8 now = subst IsUtf8 cut cases.1 in
-    let told : c.in-Err-Line.bad ≡ number = cc in
-    let refused : c.push_lines-result.result ≡ Err (ToolErrors.Line c.in-Err-Line.bad) = cc in
-    let (later, sum, first) = c.push_lines-result.ensures.bad_line c.in-Err-Line.bad refused in
+    let told : c.in-Line.bad ≡ number = cc in
+    let refused : c.push_lines-result.result ≡ Err (ToolErrors.Line c.in-Line.bad) =
+    c.in-Err.is ∙ ap Err c.in-Line.is in
+    let (later, sum, first) = c.push_lines-result.ensures.bad_line c.in-Line.bad refused in
     last_bad grammar start here now old number0 later number so_far is_text
     (subst (λ z. IsFirstBadLine grammar (lines_of z) later) piece first) (sym told ∙ sum)
     (c.in_ok-more.ensures.end c.if-more-2.false)
@@ -176,6 +178,13 @@ loop-preserved g c =
       taken = piece_taken grammar start here now after old new number0 lines count so_far is_text closed adds sum
           c.take.ensures;
       room = omega (arith, ap length c.held.ensures.value, c.held.ensures.fits, c.if-held-eq-SIZE.false);
-      bound = omega (arith, sum, lines_count (take count now), length-take {A = ℕ}, ap length value,
-          c.held-held.ensures.fits, c.loop.invariant.bound);
+      bound = omega (
+        arith,
+        sum,
+        lines_count (take count now),
+        length-take {A = ℕ},
+        ap length value,
+        c.held-held.ensures.fits,
+        c.loop.invariant.bound,
+      );
     }
