@@ -7,3 +7,4 @@ pub mod WindowLaws
 pub mod TextLengths
 pub mod PieceLaws
 pub mod ReadingLaws
+pub mod WritingLaws

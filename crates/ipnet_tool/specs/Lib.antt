@@ -5,3 +5,4 @@ pub mod Families
 pub mod Statuses
 pub mod Window
 pub mod Reading
+pub mod Pieces

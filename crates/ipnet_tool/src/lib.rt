@@ -2,6 +2,7 @@
 //! and the program over any reader and writers.
 #![tactic(auto)]
 
+mod answer;
 mod input;
 pub mod output;
 pub mod program;

@@ -7,9 +7,9 @@ ghost use Rattle.ipnet_tool.specs.Runs.{IsChosenBy, IsAnswered, IsCutShort, HasB
 ghost use Rattle.ipnet_tool.specs.Statuses.{status_of};
 ghost use Rattle.ipnet_tool.specs.declared.program.Failure.TheVariants.{Arguments, Unreadable, Memory};
 
+use crate::answer::write_answer;
 use crate::input::read_networks;
-use crate::output::write_whole;
-use crate::tool::{aggregated, printed};
+use crate::tool::aggregated;
 use ipnet::Grammar;
 use std::alloc::Global;
 use std::env;
@@ -112,12 +112,9 @@ pub fn run<R: Read, W: Write, X: Write>(
         return report(faults, Failure::Memory);
     };
     drop(families);
-    let Ok(answer) = printed(alloc, &blocks) else {
-        return report(faults, Failure::Memory);
-    };
-    if write_whole(out, answer.as_bytes()).is_err() || out.flush().is_err() {
+    let Ok(()) = write_answer(out, &blocks) else {
         return report(faults, Failure::Unwritable);
-    }
+    };
     0
 }
 

@@ -70,8 +70,8 @@ pub fn aggregate_text_legacy(alloc: Global, text: &str) -> Result<String, ToolEr
 /// Networks by family, so that each family is sorted without the room and the tests that the other needs.
 #[derive(Drop)]
 pub(crate) struct Families {
-    ipv4: Vec<Ipv4Net>,
-    ipv6: Vec<Ipv6Net>,
+    pub(crate) ipv4: Vec<Ipv4Net>,
+    pub(crate) ipv6: Vec<Ipv6Net>,
 }
 
 /// The answer, in the grammar that is asked for.
@@ -247,7 +247,7 @@ pub(crate) fn aggregated(alloc: Global, families: &Families) -> Result<Families,
 }
 
 /// The canonical texts of the networks, one a line, IPv4 first.
-pub(crate) fn printed(alloc: Global, families: &Families) -> Result<String, AllocError>
+fn printed(alloc: Global, families: &Families) -> Result<String, AllocError>
     ensures empty { networks_of families.now ≡ [] → IsOk result }
     ensures text { IfOk result (λ text. string_bytes text ≡ text_of_lines (networks_of families.now)) }
 {
