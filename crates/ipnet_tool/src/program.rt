@@ -1,11 +1,11 @@
 //! The program, over any reader and writers.
-ghost use Rattle.std.specs.Prelude.{◌≡◌, ◌≤◌, ◌⊎◌, ◌↔◌, ℕ, List, drop, IfOk, IfErr, IfSome, IfNone, OnOk};
+ghost use Rattle.std.specs.Prelude.{◌≡◌, ◌≤◌, ◌⊎◌, ◌↔◌, drop, IfErr, IfSome, IfNone};
 ghost use Rattle.std.specs.Vec.Iter.{into_iter_items};
-ghost use Rattle.std.specs.Io.KnownBytes.{Consumes, IsAtEnd, Keeps};
+ghost use Rattle.std.specs.Io.KnownBytes.{Keeps};
 ghost use Rattle.ipnet.specs.declared.parser.Grammar.{Grammar};
 ghost use Rattle.ipnet_tool.specs.Runs.{IsChosenBy, IsAnswered, IsCutShort, HasBadLine};
 ghost use Rattle.ipnet_tool.specs.Statuses.{status_of};
-ghost use Rattle.ipnet_tool.specs.declared.program.Failure.TheVariants.{Arguments, Unreadable, Memory};
+ghost use Rattle.ipnet_tool.specs.declared.program.Failure.TheVariants.{Arguments, Memory};
 
 use crate::answer::write_answer;
 use crate::input::read_networks;
