@@ -1,7 +1,7 @@
 -- What was read and what is still to be read make the whole text: a line more, empty or a network, moves from the one
 -- to the other (`LineLaws`, `cover_moves_on`); where it is bad it is the first bad one (`EarlyLines`).
-use Rattle.std.proofs.Common.{◌≡◌, ℕ, ◌+◌, ◌<◌, ◌∷◌, [], length, refl, subst, arith, rules, append-nil}
-use Rattle.std.proofs.Common.{inl, inr}
+use Rattle.std.proofs.Common.{◌≡◌, ℕ, ◌+◌, ◌<◌, ◌∷◌, ◌++◌, [], length, refl, subst, arith, rules, append-nil}
+use Rattle.std.proofs.Common.{inl, inr, ap, sym, ◌∙◌}
 use Rattle.ipnet.specs.Lines.{lines_of, IsFirstBadLine}
 use Rattle.ipnet.specs.NetworkOf.{ip_network}
 use Rattle.ipnet.proofs.LineLaws.{empty_line, network_line, bad_line, good_line, no_lines}
@@ -10,36 +10,17 @@ use Rattle.ipnet_tool.specs.Families.{networks_of}
 use Rattle.ipnet_tool.proofs.AnswerLaws.{cover_moves_on}
 use Rattle.ipnet_tool.proofs.EarlyLines.{after_empty, bad_here, not_good, none_bad, not_all_empty, rest_empty}
 use Rattle.ipnet_tool.proofs.LineCuts.{some_bytes, no_bytes, empty_text}
-use Rattle.ipnet_tool.proofs.tool.read_lines.Goals as goal
-
--- counted one by one, or from here on
-append_one : (n m : ℕ) → n + 1 + m ≡ n + (1 + m)
-append_one n m = omega arith
-
-pub returns-in_default-clause-empty : goal.returns-in_default-clause-empty
-returns-in_default-clause-empty c = λ h.
-    absurd (not_all_empty (lines_of c.lines.rest.now) c.first_line.result.0.now (lines_of c.first_line.result.1.now)
-    c.first_line.ensures.lines (some_bytes (length c.first_line.result.0.now) c.if-not-is_empty.ensures)
-    (c.lines.invariant.empty h).0)
-
-pub returns-in_default-push-clause-empty : goal.returns-in_default-push-clause-empty
-returns-in_default-push-clause-empty c = λ h.
-    absurd (not_all_empty (lines_of c.lines.rest.now) c.first_line.result.0.now (lines_of c.first_line.result.1.now)
-    c.first_line.ensures.lines (some_bytes (length c.first_line.result.0.now) c.if-not-is_empty.ensures)
-    (c.lines.invariant.empty h).0)
-
-pub returns-clause-empty : goal.returns-clause-empty
-returns-clause-empty c = λ h. (c.lines.invariant.empty h).1
+use Rattle.ipnet_tool.proofs.tool.Families.push_lines.Goals as goal
 
 pub returns-in_default-clause-bad_line : goal.returns-in_default-clause-bad_line
 returns-in_default-clause-bad_line c = λ number e.
     let cut = c.first_line.ensures.lines in
-    let first : IsFirstBadLine c.args.grammar (lines_of c.args.text.now) (c.lines.number + 1) =
-    c.lines.invariant.bad_line 1
-    (rw cut (bad_line c.args.grammar c.first_line.result.0.now (lines_of c.first_line.result.1.now)
-    (some_bytes (length c.first_line.result.0.now) c.if-not-is_empty.ensures) (c.in_default.ensures.error.0 refl))) in
+    let first : IsFirstBadLine c.args.grammar (lines_of c.lines.rest.now) 1 =
+    rw cut (bad_line c.args.grammar c.first_line.result.0.now (lines_of c.first_line.result.1.now)
+    (some_bytes (length c.first_line.result.0.now) c.if-not-is_empty.ensures) (c.in_default.ensures.error.0 refl)) in
+    let (whole, is, bad) = c.lines.invariant.bad_line 1 first in
     let same : c.lines.number + 1 ≡ number = cc in
-    subst (IsFirstBadLine c.args.grammar (lines_of c.args.text.now)) same first
+    (whole, sym same ∙ is, bad)
 
 pub lines-preserved-in-Ok-push : goal.lines-preserved-in-Ok-push
 lines-preserved-in-Ok-push c =
@@ -51,19 +32,21 @@ lines-preserved-in-Ok-push c =
     let some : 0 < length line = some_bytes (length line) c.if-not-is_empty.ensures in
     record {
       is_text = search rules;
-      count = omega (arith, c.first_line.ensures.shorter);
+      room = omega (arith, c.first_line.ensures.shorter);
+      count = omega (arith, c.lines.invariant.count, ap length cut);
       networks = λ more h.
           let (whole, is, same) = c.lines.invariant.networks (n ∷ more)
           (rw cut (network_line grammar line after n more some ((c.in-Ok.ensures.ok c.in-Ok.network).0 refl) h)) in (
             whole,
             is,
-            cover_moves_on whole (networks_of c.lines.families)
+            cover_moves_on (networks_of c.args.self.now ++ whole) (networks_of c.lines.self)
                 (networks_of c.push.new.self) more n c.in-Ok-push.ensures same,
           );
       empty = λ h. absurd (not_all_empty (lines_of c.lines.rest.now) line after cut some (c.lines.invariant.empty h).0);
-      bad_line = λ later h. rw append_one
-          (c.lines.invariant.bad_line (1 + later)
-          (rw cut (good_line grammar line after later (inr (n, ((c.in-Ok.ensures.ok c.in-Ok.network).0 refl))) h)));
+      bad_line = λ later h.
+          let (whole, is, bad) = c.lines.invariant.bad_line (1 + later)
+          (rw cut (good_line grammar line after later (inr (n, ((c.in-Ok.ensures.ok c.in-Ok.network).0 refl))) h)) in
+          (whole, omega (arith, is), bad);
       at_once = λ number h.
           let (later, is, at) = c.lines.invariant.at_once number h in
           absurd (not_good grammar line after later n some ((c.in-Ok.ensures.ok c.in-Ok.network).0 refl)
@@ -88,14 +71,16 @@ lines-preserved c =
     let none : length line ≡ 0 = no_bytes (length line) c.if-not-is_empty.ensures in
     record {
       is_text = search rules;
-      count = omega (arith, c.first_line.ensures.shorter);
+      room = omega (arith, c.first_line.ensures.shorter);
+      count = omega (arith, c.lines.invariant.count, ap length cut);
       networks = λ more h. c.lines.invariant.networks more (rw cut (empty_line grammar line after more none h));
       empty = λ h.
           let (rest, none_yet) = c.lines.invariant.empty h in
           (rest_empty (lines_of c.lines.rest.now) line after cut rest, none_yet);
-      bad_line = λ later h. rw append_one
-          (c.lines.invariant.bad_line (1 + later)
-          (rw cut (good_line grammar line after later (inl (empty_text line none)) h)));
+      bad_line = λ later h.
+          let (whole, is, bad) = c.lines.invariant.bad_line (1 + later)
+          (rw cut (good_line grammar line after later (inl (empty_text line none)) h)) in
+          (whole, omega (arith, is), bad);
       at_once = λ number h.
           let (later, is, at) = c.lines.invariant.at_once number h in
           let (less, more, still) = after_empty grammar line after later none
@@ -122,5 +107,5 @@ returns-in_default-clause-bad_at_once c = λ number h.
     let (later, is, at) = c.lines.invariant.at_once number h in
     let (bad, one) = bad_here grammar line after later (some_bytes (length line) c.if-not-is_empty.ensures)
     (subst (λ z. StartsWithBadLine grammar z later) c.first_line.ensures.lines at) in
-    let same : c.lines.number + 1 ≡ number = omega (arith, is, one) in
+    let same : c.lines.number + 1 ≡ c.args.before + number = omega (arith, is, one) in
     cc
