@@ -1,6 +1,7 @@
 -- What the contracts of this crate cite.
 pub mod Entries
 pub mod EntryOf
+pub mod Causes
 pub mod Lists
 pub mod Bytes
 pub mod RefusedLines

@@ -2,6 +2,7 @@
 #![tactic(auto)]
 
 pub mod answer;
+pub mod cause;
 pub mod entry;
 mod list;
 pub mod operation;
@@ -10,6 +11,7 @@ mod reader;
 pub mod refused;
 
 pub use answer::{Failure, Form, Request};
+pub use cause::Cause;
 pub use entry::Entry;
 pub use operation::{Families, Operation};
 pub use program::{ReadFailure, read_whole, run};

@@ -1,0 +1,103 @@
+-- Why a text is no entry, where a cause can be named. Addresses and numbers are read with their leading zeros here: a
+-- prefix length of 33 is too long whatever stands before it.
+use Rattle.std.specs.Prelude.{◌≡◌, ◌≢◌, ◌<◌, ◌≤◌, ◌↔◌, ℕ, List, ◌++◌, codes, Option, Some}
+use Rattle.std.specs.Str.Parse.{IsNumeral, digits_value}
+use Rattle.ipnet_base.specs.Address.{Family, IPv4, IPv6, width, Address}
+use Rattle.ipnet_base.specs.Ranges.{AddressRange}
+use Rattle.ipnet.specs.declared.parser.Grammar.{Grammar}
+use Rattle.ipnet.specs.declared.parser.Grammar.TheVariants.{Legacy}
+use Rattle.netset_lists.specs.declared.cause.Cause.{Cause}
+use Rattle.netset_lists.specs.declared.cause.Cause.TheVariants.{LengthAbove32, LengthAbove128, EndsBeforeStart}
+use Rattle.netset_lists.specs.declared.cause.Cause.TheVariants.{TwoFamilies, LegacyAlone}
+use Rattle.netset_lists.specs.Entries.{IsAddressText, IsEntryText, IsNoEntry}
+
+-- the text is two parts joined by the sign
+pub record IsJoinedBy (sign : List ℕ) (Parts : List ℕ → List ℕ → Type 0) (text : List ℕ) : Type 0 where
+  pub front : List ℕ
+  pub back : List ℕ
+  pub spelled : text ≡ front ++ sign ++ back
+  pub parts : Parts front back
+
+-- the text is decimal digits alone, of a number above this one
+pub record WritesAbove (most : ℕ) (text : List ℕ) : Type 0 where
+  pub digits : IsNumeral 10 text
+  pub above : most < digits_value 10 text
+
+-- the texts of an address of the family, and of a number above the width of its addresses
+pub record IsTooLong (family : Family) (address_text length_text : List ℕ) : Type 0 where
+  pub address : Address
+  pub writes : IsAddressText Legacy address_text address
+  pub of_family : address.family ≡ family
+  pub long : WritesAbove (width family) length_text
+
+-- the texts of two addresses that are related so
+pub record AreAddresses (Related : Address → Address → Type 0) (first_text last_text : List ℕ) : Type 0 where
+  pub first : Address
+  pub last : Address
+  pub writes_first : IsAddressText Legacy first_text first
+  pub writes_last : IsAddressText Legacy last_text last
+  pub related : Related first last
+
+-- they are of one family, and the last comes before the first
+abbrev pub AreBackwards : Address → Address → Type 0
+AreBackwards first last = (first.family ≡ last.family) × (last.number < first.number)
+
+-- they are of two families
+abbrev pub AreApart : Address → Address → Type 0
+AreApart first last = first.family ≢ last.family
+
+-- the text is no entry in this grammar, and one in the legacy grammar
+pub record IsOfLegacyAlone (grammar : Grammar) (text : List ℕ) : Type 0 where
+  pub no_entry : IsNoEntry grammar text
+  pub range : AddressRange
+  pub legacy : IsEntryText Legacy text range
+
+-- the cause holds of the text
+abbrev pub IsCauseOf : Grammar → List ℕ → Cause → Type 0
+IsCauseOf grammar text LengthAbove32 = IsJoinedBy (codes "/") (IsTooLong IPv4) text
+IsCauseOf grammar text LengthAbove128 = IsJoinedBy (codes "/") (IsTooLong IPv6) text
+IsCauseOf grammar text EndsBeforeStart = IsJoinedBy (codes "-") (AreAddresses AreBackwards) text
+IsCauseOf grammar text TwoFamilies = IsJoinedBy (codes "-") (AreAddresses AreApart) text
+IsCauseOf grammar text LegacyAlone = IsOfLegacyAlone grammar text
+
+-- each cause is told exactly where it holds of the text
+abbrev pub IsCauseTold : Grammar → List ℕ → Option Cause → Type 0
+IsCauseTold grammar text told = (cause : Cause) → (told ≡ Some cause) ↔ IsCauseOf grammar text cause
+
+-- ---- what the private steps look at; private contracts alone cite these
+
+-- two addresses, and a cause in them
+abbrev pub IsCauseInAddresses : Address → Address → Cause → Type 0
+IsCauseInAddresses first last EndsBeforeStart = AreBackwards first last
+IsCauseInAddresses first last TwoFamilies = AreApart first last
+IsCauseInAddresses first last LengthAbove32 = ⊥
+IsCauseInAddresses first last LengthAbove128 = ⊥
+IsCauseInAddresses first last LegacyAlone = ⊥
+
+-- the family of an address, a text behind it, and a cause in this
+abbrev pub IsCauseInLength : Family → List ℕ → Cause → Type 0
+IsCauseInLength family length_text LengthAbove32 = (family ≡ IPv4) × WritesAbove 32 length_text
+IsCauseInLength family length_text LengthAbove128 = (family ≡ IPv6) × WritesAbove 128 length_text
+IsCauseInLength family length_text EndsBeforeStart = ⊥
+IsCauseInLength family length_text TwoFamilies = ⊥
+IsCauseInLength family length_text LegacyAlone = ⊥
+
+-- the two parts of a text at "-", and a cause in them
+abbrev pub IsCauseInRange : List ℕ → List ℕ → Cause → Type 0
+IsCauseInRange first_text last_text cause = AreAddresses (λ x y. IsCauseInAddresses x y cause) first_text last_text
+
+-- the two parts of a text at "/", and a cause in them
+abbrev pub IsCauseInNetwork : List ℕ → List ℕ → Cause → Type 0
+IsCauseInNetwork address_text length_text LengthAbove32 = IsTooLong IPv4 address_text length_text
+IsCauseInNetwork address_text length_text LengthAbove128 = IsTooLong IPv6 address_text length_text
+IsCauseInNetwork address_text length_text EndsBeforeStart = ⊥
+IsCauseInNetwork address_text length_text TwoFamilies = ⊥
+IsCauseInNetwork address_text length_text LegacyAlone = ⊥
+
+-- a cause in one of both
+abbrev pub IsCauseInParts : List ℕ → Cause → Type 0
+IsCauseInParts text LengthAbove32 = IsJoinedBy (codes "/") (IsTooLong IPv4) text
+IsCauseInParts text LengthAbove128 = IsJoinedBy (codes "/") (IsTooLong IPv6) text
+IsCauseInParts text EndsBeforeStart = IsJoinedBy (codes "-") (AreAddresses AreBackwards) text
+IsCauseInParts text TwoFamilies = IsJoinedBy (codes "-") (AreAddresses AreApart) text
+IsCauseInParts text LegacyAlone = ⊥
