@@ -1,8 +1,8 @@
 -- Why a text is no entry. A text with a cause in its parts is cut at "/" or at "-", at one place alone, and has one
--- address at most on each side of it. So it has one cause at most, and none where the legacy grammar has it as an entry.
-use Rattle.std.proofs.Common.{◌≡◌, ◌≢◌, ℕ, ◌<◌, ◌≤◌, ◌^◌, ◌⊎◌, ◌↔◌, List, [], ◌∷◌, ◌++◌, All, length, true, false}
-use Rattle.std.proofs.Common.{◌&&◌, refl, sym, ap, ◌∙◌, subst, arith, inl, inr, append_assoc, codes, cond}
-use Rattle.std.proofs.Common.{Option, Some, None, IfSome, IfNone, Result, Ok, Err}
+-- address at most on each side of it. So it has one cause at most, and none if it is an entry of the legacy grammar.
+use Rattle.std.proofs.Common.{◌≡◌, ◌≢◌, ℕ, ◌<◌, ◌≤◌, ◌^◌, ◌⊎◌, List, [], ◌∷◌, ◌++◌, All, length, true, false}
+use Rattle.std.proofs.Common.{◌&&◌, refl, sym, ap, ◌∙◌, subst, arith, inl, inr, append_assoc, codes}
+use Rattle.std.proofs.Common.{Option, Some, None, IfSome, IfNone, Result, Err}
 use Rattle.std.proofs.lemmas.Bool.{cases_lt}
 use Rattle.std.proofs.lemmas.List.Elements.{All-append, All-cons, All-weaker}
 use Rattle.std.proofs.lemmas.Str.{IsUtf8-from_ascii}
@@ -25,8 +25,9 @@ use Rattle.netset_lists.specs.declared.cause.Cause.{Cause}
 use Rattle.netset_lists.specs.declared.cause.Cause.TheVariants.{LengthAbove32, LengthAbove128, EndsBeforeStart}
 use Rattle.netset_lists.specs.declared.cause.Cause.TheVariants.{TwoFamilies, LegacyAlone}
 use Rattle.netset_lists.specs.Causes.{IsJoinedBy, WritesAbove, IsTooLong, AreAddresses, AreBackwards, AreApart}
-use Rattle.netset_lists.specs.Causes.{IsOfLegacyAlone, IsCauseOf, IsCauseTold, IsCauseInAddresses, IsCauseInLength}
-use Rattle.netset_lists.specs.Causes.{IsCauseInRange, IsCauseInNetwork, IsCauseInParts}
+use Rattle.netset_lists.specs.Causes.{IsOfLegacyAlone, IsCauseOf, IsCauseTold}
+use Rattle.netset_lists.specs.EntrySteps.{IsCauseInAddresses, IsCauseInLength, IsCauseInRange, IsCauseInNetwork}
+use Rattle.netset_lists.specs.EntrySteps.{IsCauseInParts}
 use Rattle.netset_lists.specs.Entries.{IsAddressText, IsEntryText, IsNoEntry, IsRangeEntry, IsRangeFrom, ReadsAs}
 use Rattle.netset_lists.proofs.AddressBytes.{IsAddressByte, ipv4_bytes, ipv6_bytes, decimal_bytes, one_front, middle}
 use Rattle.netset_lists.proofs.EntryTexts.{reads_some, reads_none, one_address, address_bytes, no_dashes, plain_no_dash}

@@ -15,7 +15,8 @@ use Rattle.ipnet.specs.NetworkTexts.{IsNetworkText, ReadsNetwork}
 use Rattle.ipnet.proofs.WholeTexts.{one_network}
 use Rattle.netset_lists.specs.declared.entry.Entry.{Entry}
 use Rattle.netset_lists.specs.declared.entry.Entry.TheVariants as Entries
-use Rattle.netset_lists.specs.EntryOf.{HasEnds, IsWrittenAs}
+use Rattle.netset_lists.specs.EntryOf.{IsWrittenAs}
+use Rattle.netset_lists.specs.EntrySteps.{HasEnds}
 use Rattle.netset_lists.specs.Entries.{IsAddressText, IsPlainEntry, IsRangeFrom, WriteRange}
 use Rattle.netset_lists.specs.Entries.{IsEntryText, ReadsAs}
 use Rattle.netset_lists.proofs.AddressBytes.{IsAddressByte, ipv4_bytes, ipv6_bytes, decimal_bytes, one_front, one_back}

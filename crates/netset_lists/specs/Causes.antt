@@ -1,6 +1,6 @@
--- Why a text is no entry, where a cause can be named. Addresses and numbers are read with their leading zeros here: a
--- prefix length of 33 is too long whatever stands before it.
-use Rattle.std.specs.Prelude.{◌≡◌, ◌≢◌, ◌<◌, ◌≤◌, ◌↔◌, ℕ, List, ◌++◌, codes, Option, Some}
+-- Why a text is no entry, where a cause can be named. The addresses of a text that has one are those of the legacy
+-- grammar, which takes the texts of both: a prefix length of 33 is too long whatever zeros the address has.
+use Rattle.std.specs.Prelude.{◌≡◌, ◌≢◌, ◌<◌, ◌↔◌, ℕ, List, ◌++◌, codes, Option, Some}
 use Rattle.std.specs.Str.Parse.{IsNumeral, digits_value}
 use Rattle.ipnet_base.specs.Address.{Family, IPv4, IPv6, width, Address}
 use Rattle.ipnet_base.specs.Ranges.{AddressRange}
@@ -63,41 +63,3 @@ IsCauseOf grammar text LegacyAlone = IsOfLegacyAlone grammar text
 -- each cause is told exactly where it holds of the text
 abbrev pub IsCauseTold : Grammar → List ℕ → Option Cause → Type 0
 IsCauseTold grammar text told = (cause : Cause) → (told ≡ Some cause) ↔ IsCauseOf grammar text cause
-
--- ---- what the private steps look at; private contracts alone cite these
-
--- two addresses, and a cause in them
-abbrev pub IsCauseInAddresses : Address → Address → Cause → Type 0
-IsCauseInAddresses first last EndsBeforeStart = AreBackwards first last
-IsCauseInAddresses first last TwoFamilies = AreApart first last
-IsCauseInAddresses first last LengthAbove32 = ⊥
-IsCauseInAddresses first last LengthAbove128 = ⊥
-IsCauseInAddresses first last LegacyAlone = ⊥
-
--- the family of an address, a text behind it, and a cause in this
-abbrev pub IsCauseInLength : Family → List ℕ → Cause → Type 0
-IsCauseInLength family length_text LengthAbove32 = (family ≡ IPv4) × WritesAbove 32 length_text
-IsCauseInLength family length_text LengthAbove128 = (family ≡ IPv6) × WritesAbove 128 length_text
-IsCauseInLength family length_text EndsBeforeStart = ⊥
-IsCauseInLength family length_text TwoFamilies = ⊥
-IsCauseInLength family length_text LegacyAlone = ⊥
-
--- the two parts of a text at "-", and a cause in them
-abbrev pub IsCauseInRange : List ℕ → List ℕ → Cause → Type 0
-IsCauseInRange first_text last_text cause = AreAddresses (λ x y. IsCauseInAddresses x y cause) first_text last_text
-
--- the two parts of a text at "/", and a cause in them
-abbrev pub IsCauseInNetwork : List ℕ → List ℕ → Cause → Type 0
-IsCauseInNetwork address_text length_text LengthAbove32 = IsTooLong IPv4 address_text length_text
-IsCauseInNetwork address_text length_text LengthAbove128 = IsTooLong IPv6 address_text length_text
-IsCauseInNetwork address_text length_text EndsBeforeStart = ⊥
-IsCauseInNetwork address_text length_text TwoFamilies = ⊥
-IsCauseInNetwork address_text length_text LegacyAlone = ⊥
-
--- a cause in one of both
-abbrev pub IsCauseInParts : List ℕ → Cause → Type 0
-IsCauseInParts text LengthAbove32 = IsJoinedBy (codes "/") (IsTooLong IPv4) text
-IsCauseInParts text LengthAbove128 = IsJoinedBy (codes "/") (IsTooLong IPv6) text
-IsCauseInParts text EndsBeforeStart = IsJoinedBy (codes "-") (AreAddresses AreBackwards) text
-IsCauseInParts text TwoFamilies = IsJoinedBy (codes "-") (AreAddresses AreApart) text
-IsCauseInParts text LegacyAlone = ⊥

@@ -3,7 +3,6 @@
 use Rattle.std.specs.Prelude.{ℕ, List}
 use Rattle.std.specs.Net.Addr.{ipv4_bits, ipv6_bits}
 use Rattle.ipnet_base.specs.Address.{IPv4, IPv6, ip_address, ipv4_address, ipv6_address}
-use Rattle.ipnet_base.specs.Address as Addresses
 use Rattle.ipnet_base.specs.Ranges.{AddressRange}
 use Rattle.ipnet.specs.declared.parser.Grammar.{Grammar}
 use Rattle.ipnet.specs.NetworkOf.{ip_network}
@@ -25,10 +24,3 @@ IsWrittenAs grammar text (Network n) = IsNetworkText grammar text (ip_network n)
 IsWrittenAs grammar text (Address a) = IsAddressText grammar text (ip_address a)
 IsWrittenAs grammar text (Ipv4Range first last) = JoinsAddresses grammar text (ipv4_address first) (ipv4_address last)
 IsWrittenAs grammar text (Ipv6Range first last) = JoinsAddresses grammar text (ipv6_address first) (ipv6_address last)
-
--- the value is a range, with such a first address and such a last one; private contracts alone cite this
-abbrev pub HasEnds : (First Last : Addresses.Address → Type 0) → Entry → Type 0
-HasEnds First Last (Network n) = ⊥
-HasEnds First Last (Address a) = ⊥
-HasEnds First Last (Ipv4Range first last) = First (ipv4_address first) × Last (ipv4_address last)
-HasEnds First Last (Ipv6Range first last) = First (ipv6_address first) × Last (ipv6_address last)

@@ -2,6 +2,7 @@
 pub mod Entries
 pub mod EntryOf
 pub mod Causes
+pub mod EntrySteps
 pub mod Lists
 pub mod Bytes
 pub mod RefusedLines

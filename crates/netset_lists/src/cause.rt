@@ -4,8 +4,9 @@ ghost use Rattle.std.specs.Char.{is_ascii_digit};
 ghost use Rattle.std.specs.List.{list_all};
 ghost use Rattle.ipnet_base.specs.Address.{ip_address, width};
 ghost use Rattle.netset_lists.specs.Entries.{ReadsAs};
-ghost use Rattle.netset_lists.specs.Causes.{WritesAbove, IsCauseInAddresses, IsCauseInLength, IsCauseInRange};
-ghost use Rattle.netset_lists.specs.Causes.{IsCauseInNetwork, IsCauseInParts, IsCauseTold};
+ghost use Rattle.netset_lists.specs.Causes.{WritesAbove, IsCauseTold};
+ghost use Rattle.netset_lists.specs.EntrySteps.{IsCauseInAddresses, IsCauseInLength, IsCauseInRange};
+ghost use Rattle.netset_lists.specs.EntrySteps.{IsCauseInNetwork, IsCauseInParts};
 
 use crate::entry::{read_address, read_entry};
 use ipnet::{Grammar, IpAddr};

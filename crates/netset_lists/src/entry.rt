@@ -6,7 +6,8 @@ ghost use Rattle.ipnet.specs.NetworkOf.{ip_network};
 ghost use Rattle.ipnet.specs.NetworkTexts.{IsNetworkText};
 ghost use Rattle.netset_lists.specs.Entries.{IsAddressText, IsPlainEntry, IsRangeFrom, WriteRange, IsEntryText};
 ghost use Rattle.netset_lists.specs.Entries.{ReadsAs};
-ghost use Rattle.netset_lists.specs.EntryOf.{entry_range, IsWrittenAs, HasEnds};
+ghost use Rattle.netset_lists.specs.EntryOf.{entry_range, IsWrittenAs};
+ghost use Rattle.netset_lists.specs.EntrySteps.{HasEnds};
 
 use ipnet::{Grammar, IpAddr, IpNet, Ipv4Addr, Ipv6Addr};
 use std::alloc::AllocError;

@@ -9,6 +9,8 @@ pub mod operation;
 pub mod program;
 mod reader;
 pub mod refused;
+#[cfg(test)]
+mod tests;
 
 pub use answer::{Failure, Form, Request};
 pub use cause::Cause;

@@ -48,7 +48,8 @@ impl RefusedLines {
         }
     }
 
-    /// Adds a line, and why it is no entry. The error is want of memory; more lines than a `usize` counts are told so too.
+    /// Adds a line, and why it is no entry. The error is want of memory; more lines than a `usize` counts are told so
+    /// too.
     pub(crate) fn push(
         &mut self,
         alloc: Global,
@@ -77,8 +78,8 @@ impl RefusedLines {
         text: &[u8],
         cause: Option<Cause>,
     ) -> Result<(), AllocError>
-        ensures shown { OnOk result (shown_refusals self.new ≡ take most_shown
-            (shown_refusals self.old ++ record { list = list; line = line; text = text.now; cause = cause } ∷ [])) }
+        ensures shown { OnOk result (shown_refusals self.new ≡ take most_shown (shown_refusals self.old
+            ++ record { list = list; line = line; text = text.now; cause = cause } ∷ [])) }
         ensures count { self.new.count ≡ self.old.count }
     {
         if self.shown.len() == SHOWN {

@@ -1,5 +1,5 @@
 use Rattle.std.proofs.Common.{◌≡◌, ◌++◌, ◌∷◌, sym, subst, ap₂, ◌∙◌, lit<, All, ◌≢◌}
-use Rattle.netset_lists.specs.Causes.{IsCauseInRange, IsCauseInNetwork, IsCauseInParts}
+use Rattle.netset_lists.specs.EntrySteps.{IsCauseInRange, IsCauseInNetwork, IsCauseInParts}
 use Rattle.netset_lists.specs.Entries.{ReadsAs}
 use Rattle.netset_lists.proofs.AddressBytes.{cut_at, front_lacks, all_lack}
 use Rattle.netset_lists.proofs.EntryTexts.{ok_map}

@@ -1,6 +1,6 @@
 use Rattle.ipnet_base.specs.Address.{ip_address}
 use Rattle.ipnet.specs.declared.parser.Grammar.TheVariants.{Legacy}
-use Rattle.netset_lists.specs.Causes.{IsCauseInRange}
+use Rattle.netset_lists.specs.EntrySteps.{IsCauseInRange}
 use Rattle.netset_lists.specs.Entries.{IsAddressText}
 use Rattle.netset_lists.proofs.EntryTexts.{reads_none, some_of, none_of}
 use Rattle.netset_lists.proofs.CauseTexts.{told_range}

@@ -1,6 +1,7 @@
 use Rattle.std.proofs.Common.{sym, ◌∙◌}
 use Rattle.ipnet.specs.declared.parser.Grammar.TheVariants.{Legacy}
-use Rattle.netset_lists.specs.Causes.{IsCauseInParts, IsCauseTold}
+use Rattle.netset_lists.specs.Causes.{IsCauseTold}
+use Rattle.netset_lists.specs.EntrySteps.{IsCauseInParts}
 use Rattle.netset_lists.specs.EntryOf.{entry_range}
 use Rattle.netset_lists.specs.Entries.{IsEntryText, ReadsAs}
 use Rattle.netset_lists.proofs.EntryTexts.{ok_map, some_of, none_of}

@@ -1,6 +1,7 @@
 use Rattle.std.proofs.Common.{◌≡◌, ◌++◌, ◌∷◌, sym, subst, ap₂, ◌∙◌, lit<, All, ◌≢◌, IfSome}
 use Rattle.netset_lists.specs.Entries.{IsAddressText, IsEntryText, IsPlainEntry, WriteRange, ReadsAs}
-use Rattle.netset_lists.specs.EntryOf.{entry_range, HasEnds, IsWrittenAs}
+use Rattle.netset_lists.specs.EntryOf.{entry_range, IsWrittenAs}
+use Rattle.netset_lists.specs.EntrySteps.{HasEnds}
 use Rattle.netset_lists.proofs.AddressBytes.{cut_at, front_lacks, all_lack}
 use Rattle.netset_lists.proofs.EntryTexts.{ok_map, reads_cut, reads_uncut, written_range}
 use Rattle.netset_lists.proofs.entry.read_entry.Goals as goal
