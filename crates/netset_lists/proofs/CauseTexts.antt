@@ -19,8 +19,9 @@ use Rattle.ipnet_base.specs.Address.{Family, IPv4, IPv6, width, Address}
 use Rattle.ipnet_base.specs.Network.{Network}
 use Rattle.ipnet_base.specs.Ranges.{AddressRange}
 use Rattle.ipnet.specs.declared.parser.Grammar.{Grammar}
-use Rattle.ipnet.specs.declared.parser.Grammar.TheVariants.{Legacy}
+use Rattle.ipnet.specs.declared.parser.Grammar.TheVariants.{Strict, Legacy}
 use Rattle.ipnet.specs.NetworkTexts.{IsNetworkText}
+use Rattle.ipnet.proofs.StrictTexts.{strict_is_legacy}
 use Rattle.netset_lists.specs.declared.cause.Cause.{Cause}
 use Rattle.netset_lists.specs.declared.cause.Cause.TheVariants.{LengthAbove32, LengthAbove128, EndsBeforeStart}
 use Rattle.netset_lists.specs.declared.cause.Cause.TheVariants.{TwoFamilies, LegacyAlone}
@@ -31,7 +32,7 @@ use Rattle.netset_lists.specs.EntrySteps.{IsCauseInParts}
 use Rattle.netset_lists.specs.Entries.{IsAddressText, IsEntryText, IsNoEntry, IsRangeEntry, IsRangeFrom, ReadsAs}
 use Rattle.netset_lists.proofs.AddressBytes.{IsAddressByte, ipv4_bytes, ipv6_bytes, decimal_bytes, one_front, middle}
 use Rattle.netset_lists.proofs.EntryTexts.{reads_some, reads_none, one_address, address_bytes, no_dashes, plain_no_dash}
-use Rattle.netset_lists.proofs.EntryTexts.{cut_no_address}
+use Rattle.netset_lists.proofs.EntryTexts.{cut_no_address, with_32, with_length, without_length}
 use Rattle.netset_lists.proofs.ListLines.{ascii_cut, entry_utf8}
 
 -- ---- digits alone, of a number above another
@@ -318,6 +319,53 @@ module _ (grammar : Grammar) (text : List ℕ) where
       told grammar text (Some LegacyAlone)
       (reads_some (λ cause. cause) (IsCauseOf grammar) text LegacyAlone
       (record { no_entry = none; range = range; legacy = legacy }))
+
+-- ---- a text with a cause is no entry
+
+-- what either grammar takes is taken by the legacy grammar
+legacy_network : (grammar : Grammar) (text : List ℕ) (n : Network) → IsNetworkText grammar text n
+    → IsNetworkText Legacy text n
+legacy_network Strict text n h = strict_is_legacy text n h
+legacy_network Legacy text n h = h
+
+legacy_address : (grammar : Grammar) (text : List ℕ) (x : Address) → IsAddressText grammar text x
+    → IsAddressText Legacy text x
+legacy_address grammar text x h =
+    without_length Legacy text (with_32 x)
+    (legacy_network grammar (text ++ codes "/32") (with_32 x) (with_length grammar text x h))
+
+legacy_entry : (grammar : Grammar) (text : List ℕ) (range : AddressRange) → IsEntryText grammar text range
+    → IsEntryText Legacy text range
+legacy_entry grammar text range (inl (inl h)) =
+    inl (inl record { network = h.network; writes = legacy_network grammar text h.network h.writes; is = h.is })
+legacy_entry grammar text range (inl (inr h)) =
+    inl (inr record { address = h.address; writes = legacy_address grammar text h.address h.writes; is = h.is })
+legacy_entry grammar text range (inr h) =
+    inr record {
+      first_text = h.first_text;
+      last_text = h.last_text;
+      spelled = h.spelled;
+      ends = record {
+        first = h.ends.first;
+        last = h.ends.last;
+        writes_first = legacy_address grammar h.first_text h.ends.first h.ends.writes_first;
+        writes_last = legacy_address grammar h.last_text h.ends.last h.ends.writes_last;
+        addresses = h.ends.addresses;
+      };
+    }
+
+cause_no_entry : (grammar : Grammar) (text : List ℕ) (cause : Cause) → IsCauseOf grammar text cause
+    → IsNoEntry grammar text
+cause_no_entry grammar text cause h range is =
+    elim (by_parts grammar text cause h) [
+      | inl a ↦ parts_no_entry text cause range a (legacy_entry grammar text range is)
+      | inr b ↦ b.1.no_entry range is
+    ]
+
+pub told_no_entry : (grammar : Grammar) (text : List ℕ) (o : Option Cause) → IsCauseTold grammar text o
+    → IfSome o (λ _. IsNoEntry grammar text)
+told_no_entry grammar text None h = tt
+told_no_entry grammar text (Some c) h = cause_no_entry grammar text c ((h c).0 refl)
 
 -- ---- a text with a cause is ASCII, and so UTF-8
 

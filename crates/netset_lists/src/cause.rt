@@ -3,7 +3,7 @@ ghost use Rattle.std.specs.Prelude.{◌≡◌, ◌≤◌, ◌↔◌, IsTrue, IfO
 ghost use Rattle.std.specs.Char.{is_ascii_digit};
 ghost use Rattle.std.specs.List.{list_all};
 ghost use Rattle.ipnet_base.specs.Address.{ip_address, width};
-ghost use Rattle.netset_lists.specs.Entries.{ReadsAs};
+ghost use Rattle.netset_lists.specs.Entries.{IsNoEntry, ReadsAs};
 ghost use Rattle.netset_lists.specs.Causes.{WritesAbove, IsCauseTold};
 ghost use Rattle.netset_lists.specs.EntrySteps.{IsCauseInAddresses, IsCauseInLength, IsCauseInRange};
 ghost use Rattle.netset_lists.specs.EntrySteps.{IsCauseInNetwork, IsCauseInParts};
@@ -169,7 +169,8 @@ pub fn cause_of(
     text: &[u8],
     grammar: Grammar,
 ) -> Result<Option<Cause>, AllocError>
-    ensures { IfOk result (IsCauseTold grammar text.now) }
+    ensures told { IfOk result (IsCauseTold grammar text.now) }
+    ensures no_entry { IfOk result (λ told. IfSome told (λ _. IsNoEntry grammar text.now)) }
 {
     match str::from_utf8(text) {
         Ok(text) => cause_in_text(room, text, grammar),

@@ -44,6 +44,6 @@ lines-preserved-in-Continue-branch-4 c =
           (past_refusal grammar c.args.list c.lines.self.rest.now c.first_line.result.0.now
           c.first_line.result.1.now text c.lines.self.line c.first_line.ensures.lines c.text_of-text.ensures
           (some_bytes (length text) c.if-not-is_empty.ensures) none c.in_ok-cause-in-None.cause
-          c.in_ok-cause-in-None.ensures
+          c.in_ok-cause-in-None.ensures.told
           c.lines.refused c.push.new.self c.in_ok-push-in-None.ensures);
     }
