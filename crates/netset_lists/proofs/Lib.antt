@@ -9,3 +9,5 @@ pub mod OperationLaws
 pub mod SameResults
 pub mod AnswerTexts
 pub mod ListsReading
+pub mod CountTexts
+pub mod FilterLaws

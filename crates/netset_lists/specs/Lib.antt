@@ -8,5 +8,9 @@ pub mod FoundEntry
 pub mod Reading
 pub mod Operations
 pub mod Answers
+pub mod Counts
+pub mod Filters
+pub mod Filtering
+pub mod RouteAnswers
 pub mod ListSets
 pub mod Runs

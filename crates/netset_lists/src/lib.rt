@@ -2,15 +2,20 @@
 #![tactic(auto)]
 
 pub mod answer;
+pub mod counts;
 pub mod entry;
+pub mod filter;
 mod list;
 pub mod operation;
 pub mod program;
 mod reader;
 pub mod refused;
+mod route;
 
 pub use answer::{Failure, Form, Request};
+pub use counts::{compare, count};
 pub use entry::Entry;
+pub use filter::{Side, filter};
 pub use operation::{Families, Operation};
 pub use program::{ReadFailure, read_whole, run};
 pub use refused::{RefusedLine, RefusedLines};
