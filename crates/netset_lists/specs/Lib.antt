@@ -12,5 +12,6 @@ pub mod Counts
 pub mod Filters
 pub mod Filtering
 pub mod RouteAnswers
+pub mod Routing
 pub mod ListSets
 pub mod Runs

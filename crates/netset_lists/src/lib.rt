@@ -8,14 +8,16 @@ pub mod filter;
 mod list;
 pub mod operation;
 pub mod program;
+pub mod query;
 mod reader;
 pub mod refused;
-mod route;
+pub mod route;
 
 pub use answer::{Failure, Form, Request};
 pub use counts::{compare, count};
 pub use entry::Entry;
-pub use filter::{Side, filter};
+pub use filter::Side;
 pub use operation::{Families, Operation};
 pub use program::{ReadFailure, read_whole, run};
+pub use query::Query;
 pub use refused::{RefusedLine, RefusedLines};

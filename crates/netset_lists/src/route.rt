@@ -1,12 +1,65 @@
 //! For each entry of a list the longest network of another list that holds the whole of it.
+ghost use Rattle.std.specs.Prelude.{◌≡◌, ◌↔◌, ◌++◌, ◌∷◌, [], IsTrue, IfOk, IfErr, IfSome, IfNone, OnOk};
+ghost use Rattle.std.specs.Prelude.{codes, string_bytes};
+
 use crate::answer::Failure;
 use crate::entry::Entry;
-use crate::list::read_networks;
 use crate::reader::EntryReader;
 use crate::refused::RefusedLines;
-use ipnet::{Grammar, IpAddr, IpNet};
+use ipnet::{Grammar, IpAddr, IpNet, IpSubnets, Ipv4Subnets, Ipv6Subnets};
 use ipnet_sets::RouteTable;
 use std::alloc::{AllocError, Global};
+
+/// Puts the networks of the walk at the end of the routes.
+fn push_walk(routes: &mut Vec<(IpNet, ())>, walk: IpSubnets) -> Result<(), AllocError> {
+    for network in walk {
+        routes.push((network, ()))?;
+    }
+    Ok(())
+}
+
+/// Puts the fewest networks with the addresses of the entry at the end of the routes.
+fn push_entry(routes: &mut Vec<(IpNet, ())>, entry: Entry) -> Result<(), AllocError> {
+    match entry {
+        Entry::Network(network) => routes.push((network, ()))?,
+        Entry::Address(address) => routes.push((IpNet::from(address), ()))?,
+        Entry::Ipv4Range(first, last) => {
+            push_walk(routes, IpSubnets::V4(Ipv4Subnets::new(first, last, 0)))?;
+        }
+        Entry::Ipv6Range(first, last) => {
+            push_walk(routes, IpSubnets::V6(Ipv6Subnets::new(first, last, 0)))?;
+        }
+    }
+    Ok(())
+}
+
+/// The networks of the list's entries; its refused lines are added to those of the lists before.
+fn read_routes(
+    alloc: Global,
+    grammar: Grammar,
+    list: usize,
+    bytes: &[u8],
+    refused: &mut RefusedLines,
+) -> Result<Vec<(IpNet, ())>, AllocError> {
+    let mut routes = Vec::new(alloc);
+    let mut reader = EntryReader::new(alloc, bytes);
+    'entries: while let Some(found) = reader.next(alloc, grammar, list, refused)? {
+        push_entry(&mut routes, found.entry)?;
+    }
+    Ok(routes)
+}
+
+/// The table of the list's entries.
+fn read_table(
+    alloc: Global,
+    grammar: Grammar,
+    list: usize,
+    bytes: &[u8],
+    refused: &mut RefusedLines,
+) -> Result<RouteTable<()>, AllocError> {
+    let routes = read_routes(alloc, grammar, list, bytes, refused)?;
+    RouteTable::from_routes(alloc, routes)
+}
 
 /// The first and the last address of the entry.
 fn ends(entry: Entry) -> (IpAddr, IpAddr) {
@@ -18,27 +71,36 @@ fn ends(entry: Entry) -> (IpAddr, IpAddr) {
     }
 }
 
-/// The longest network of the table that holds the entry: the longest that holds its first address, or the first of
-/// those around it that is in the table and holds the last address too.
+/// Whether the network holds the address and is one of the table's.
+fn is_holder(table: &RouteTable<()>, network: &IpNet, address: &IpAddr) -> bool {
+    network.contains(address) && table.get(network).is_some()
+}
+
+/// The longest network of the table that holds the first and the last address of the entry: the longest that holds the
+/// first one, or the nearest around it that holds the last one too.
 fn longest_holding(table: &RouteTable<()>, entry: Entry) -> Option<IpNet> {
     let (first, last) = ends(entry);
     let mut network = table.longest_match(&first)?.0;
-    while !network.contains(&last) || table.get(&network).is_none() {
+    'climb: while !is_holder(table, &network, &last) {
         network = network.supernet()?;
     }
     Some(network)
 }
 
-/// The table of the networks.
-fn table_of(alloc: Global, networks: &[IpNet]) -> Result<RouteTable<()>, AllocError> {
-    let mut routes = Vec::new(alloc);
-    for network in networks {
-        routes.push((*network, ()))?;
+/// Appends the line of the entry that is written so.
+fn push_line(text: &mut String, written: &str, network: Option<IpNet>) -> Result<(), AllocError> {
+    text.push_str(written)?;
+    match network {
+        Some(network) => {
+            text.push_str(" ")?;
+            text.push_str(network.to_text().as_str())?;
+        }
+        None => text.push_str(" -")?,
     }
-    RouteTable::from_routes(alloc, routes)
+    text.push_str("\n")
 }
 
-/// The lines of the entries of the list.
+/// The lines of the list's entries, each with the longest network of the table that holds it.
 fn route_lines(
     alloc: Global,
     grammar: Grammar,
@@ -50,13 +112,44 @@ fn route_lines(
     let mut text = String::new(alloc);
     let mut reader = EntryReader::new(alloc, bytes);
     'entries: while let Some(found) = reader.next(alloc, grammar, list, refused)? {
-        text.push_str(found.text)?;
-        text.push_str(" ")?;
-        match longest_holding(table, found.entry) {
-            Some(network) => text.push_str(network.to_text().as_str())?,
-            None => text.push_str("-")?,
-        }
-        text.push_str("\n")?;
+        push_line(&mut text, found.text, longest_holding(table, found.entry))?;
+    }
+    Ok(text)
+}
+
+/// Reads the two lists, and routes the entries of the second by the table of the first.
+fn routed(
+    alloc: Global,
+    grammar: Grammar,
+    first: &[u8],
+    second: &[u8],
+    refused: &mut RefusedLines,
+) -> Result<String, AllocError> {
+    let table = read_table(alloc, grammar, 0, first, refused)?;
+    route_lines(alloc, grammar, 1, second, &table, refused)
+}
+
+/// For each entry of the second list, as it is written, the longest network of the first list that holds all its
+/// addresses, or "-" where none does: in order, one a line.
+///
+/// An address of the first list is a network of full length, and a range as few networks as have its addresses. The
+/// error is `Count` where there are not two lists, `Refused` where lines are no entries, and else want of memory.
+///
+/// ```text
+/// of "10.0.0.0/8\n10.1.0.0/16\n" and "10.1.2.3\n10.1.0.0-10.2.0.0\n11.0.0.1 # x\n":
+/// "10.1.2.3 10.1.0.0/16\n10.1.0.0-10.2.0.0 10.0.0.0/8\n11.0.0.1 -\n"
+/// ```
+pub fn route(alloc: Global, grammar: Grammar, lists: &[Vec<u8>]) -> Result<String, Failure> {
+    let [first, second] = lists else {
+        return Err(Failure::Count);
+    };
+    let mut refused = RefusedLines::new(alloc);
+    let (first, second) = (first.as_slice(), second.as_slice());
+    let Ok(text) = routed(alloc, grammar, first, second, &mut refused) else {
+        return Err(Failure::Memory);
+    };
+    if refused.count != 0 {
+        return Err(Failure::Refused(refused));
     }
     Ok(text)
 }
