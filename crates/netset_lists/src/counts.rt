@@ -1,5 +1,5 @@
 //! How many addresses a list has, and how many are in one of two lists alone.
-ghost use Rattle.std.specs.Prelude.{◌≡◌, ◌++◌, List, ℕ, OnOk, IfOk, IfErr, string_bytes, decimal};
+ghost use Rattle.std.specs.Prelude.{◌≡◌, ◌++◌, List, ℕ, OnOk, IfOk, IfErr, string_bytes, decimal, length, Err};
 ghost use Rattle.ipnet_base.specs.Address.{IPv6};
 ghost use Rattle.ipnet_sets.specs.Members.{IsCountOf, IsMember, IsMemberOf};
 ghost use Rattle.netset_lists.specs.Answers.{IsFailureAt};
@@ -74,6 +74,7 @@ fn comparison_text(alloc: Global, first: &IpSet, second: &IpSet) -> Result<Strin
 pub fn count(alloc: Global, grammar: Grammar, lists: &[Vec<u8>]) -> Result<String, Failure>
     ensures answer { IfOk result (λ text. IsCountAnswer grammar (bytes_of lists.now) (string_bytes text)) }
     ensures failure { IfErr result (IsFailureAt 1 grammar (bytes_of lists.now)) }
+    ensures count { ¬ (length lists.now ≡ 1) → result ≡ Err Failure.Count }
 {
     if lists.len() != 1 {
         return Err(Failure::Count);
@@ -102,6 +103,7 @@ pub fn count(alloc: Global, grammar: Grammar, lists: &[Vec<u8>]) -> Result<Strin
 pub fn compare(alloc: Global, grammar: Grammar, lists: &[Vec<u8>]) -> Result<String, Failure>
     ensures answer { IfOk result (λ text. IsCompareAnswer grammar (bytes_of lists.now) (string_bytes text)) }
     ensures failure { IfErr result (IsFailureAt 2 grammar (bytes_of lists.now)) }
+    ensures count { ¬ (length lists.now ≡ 2) → result ≡ Err Failure.Count }
 {
     if lists.len() != 2 {
         return Err(Failure::Count);

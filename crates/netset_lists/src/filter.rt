@@ -1,5 +1,5 @@
 //! The entries of a list that lie whole in the addresses of another, or whole outside them.
-ghost use Rattle.std.specs.Prelude.{◌≡◌, ◌↔◌, IsTrue, IfOk, IfErr, string_bytes};
+ghost use Rattle.std.specs.Prelude.{◌≡◌, ◌↔◌, IsTrue, IfOk, IfErr, string_bytes, length, Err};
 ghost use Rattle.ipnet_base.specs.Address.{Address, IsAddress};
 ghost use Rattle.ipnet_base.specs.Blocks.{IsCoveredBy};
 ghost use Rattle.ipnet.specs.SubnetsLeft.{ip_subnets_left};
@@ -9,7 +9,9 @@ ghost use Rattle.netset_lists.specs.Answers.{IsFailureAt};
 ghost use Rattle.netset_lists.specs.Bytes.{bytes_of};
 ghost use Rattle.netset_lists.specs.EntryOf.{entry_range};
 ghost use Rattle.netset_lists.specs.Filters.{IsOnSide, IsFilterAnswer};
-ghost use Rattle.netset_lists.specs.Filtering.{WasFiltered, WasPairFiltered};
+ghost use Rattle.netset_lists.specs.Filtering.{AreFiltered};
+ghost use Rattle.netset_lists.specs.Lists.{IsInEntries};
+ghost use Rattle.netset_lists.specs.Pairs.{WasMadeOf, WasPairRead};
 
 use crate::answer::Failure;
 use crate::entry::Entry;
@@ -66,8 +68,8 @@ fn entries_in(
     set: &IpSet,
     refused: &mut RefusedLines,
 ) -> Result<String, AllocError>
-    ensures { IfOk result (λ text.
-        WasFiltered grammar list bytes.now (IsMember set.now) refused.old refused.new (string_bytes text)) }
+    ensures { IfOk result (λ text. WasMadeOf grammar list bytes.now
+        (AreFiltered (IsMember set.now) (string_bytes text)) refused.old refused.new) }
 {
     let mut text = String::new(alloc);
     let mut reader = EntryReader::new(alloc, bytes);
@@ -99,8 +101,8 @@ fn filtered(
     second: &[u8],
     refused: &mut RefusedLines,
 ) -> Result<String, AllocError>
-    ensures { IfOk result (λ text.
-        WasPairFiltered side grammar first.now second.now refused.old refused.new (string_bytes text)) }
+    ensures { IfOk result (λ text. WasPairRead grammar first.now second.now
+        (λ set. AreFiltered (IsOnSide side (IsInEntries set)) (string_bytes text)) refused.old refused.new) }
 {
     let set = read_set(alloc, grammar, 0, first, refused)?;
     let wanted = side_set(alloc, side, set)?;
@@ -124,13 +126,14 @@ pub fn filter(
 ) -> Result<String, Failure>
     ensures answer { IfOk result (λ text. IsFilterAnswer side grammar (bytes_of lists.now) (string_bytes text)) }
     ensures failure { IfErr result (IsFailureAt 2 grammar (bytes_of lists.now)) }
+    ensures count { ¬ (length lists.now ≡ 2) → result ≡ Err Failure.Count }
 {
     let [first, second] = lists else {
         return Err(Failure::Count);
     };
     let mut refused = RefusedLines::new(alloc);
-    let (first, second) = (first.as_slice(), second.as_slice());
-    let Ok(text) = filtered(alloc, grammar, side, first, second, &mut refused) else {
+    let (set, entries) = (first.as_slice(), second.as_slice());
+    let Ok(text) = filtered(alloc, grammar, side, set, entries, &mut refused) else {
         return Err(Failure::Memory);
     };
     if refused.count != 0 {

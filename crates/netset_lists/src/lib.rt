@@ -18,6 +18,6 @@ pub use counts::{compare, count};
 pub use entry::Entry;
 pub use filter::Side;
 pub use operation::{Families, Operation};
-pub use program::{ReadFailure, read_whole, run};
+pub use program::{ReadFailure, read_whole, run, run_query};
 pub use query::Query;
 pub use refused::{RefusedLine, RefusedLines};

@@ -1,4 +1,9 @@
 //! Questions about lists whose answer is no list of addresses.
+ghost use Rattle.std.specs.Prelude.{◌≡◌, IfOk, IfErr, length, string_bytes, Err};
+ghost use Rattle.netset_lists.specs.Answers.{IsFailureAt};
+ghost use Rattle.netset_lists.specs.Bytes.{bytes_of};
+ghost use Rattle.netset_lists.specs.Replies.{count_for, IsReply};
+
 use crate::answer::Failure;
 use crate::counts::{compare, count};
 use crate::filter::{Side, filter};
@@ -33,7 +38,11 @@ pub fn reply(
     query: Query,
     grammar: Grammar,
     lists: &[Vec<u8>],
-) -> Result<String, Failure> {
+) -> Result<String, Failure>
+    ensures answer { IfOk result (λ text. IsReply query grammar (bytes_of lists.now) (string_bytes text)) }
+    ensures failure { IfErr result (IsFailureAt (count_for query) grammar (bytes_of lists.now)) }
+    ensures count { ¬ (length lists.now ≡ count_for query) → result ≡ Err Failure.Count }
+{
     match query {
         Query::Count => count(alloc, grammar, lists),
         Query::Compare => compare(alloc, grammar, lists),
