@@ -1,5 +1,6 @@
 -- Counts of sets, and of the lists that they were read from.
-use Rattle.std.proofs.Common.{◌≡◌, ℕ, ◌+◌, ◌↔◌, List, [], ◌∷◌, ◌++◌, codes, map, refl, sym, ap, ◌∙◌, subst, arith}
+use Rattle.std.proofs.Common.{◌≡◌, ℕ, ◌+◌, ◌<◌, ◌↔◌, List, [], ◌∷◌, ◌++◌, length, codes, map, refl, sym, ap, ◌∙◌, subst, arith}
+use Rattle.std.proofs.lemmas.List.{length-append}
 use Rattle.ipnet_base.specs.Address.{IPv4, IPv6, Address, IsAddress, greatest_number}
 use Rattle.ipnet.specs.declared.parser.Grammar.{Grammar}
 use Rattle.ipnet_sets.specs.declared.set.IpSet.{IpSet}
@@ -11,6 +12,7 @@ use Rattle.netset_lists.specs.declared.answer.Failure.TheVariants as Failures
 use Rattle.netset_lists.specs.Answers.{AreListsRead, IsFailureAt}
 use Rattle.netset_lists.specs.Counts.{IsCountsLine, AreAloneLines, IsComparison, IsCountAnswer, IsCompareAnswer}
 use Rattle.netset_lists.specs.Lists.{ListEntry, IsInEntries}
+use Rattle.netset_lists.specs.Replies.{AreSameLists, AreOtherLists}
 use Rattle.netset_lists.specs.ListSets.{AreGoodSets, HaveMembers, IsReadFailure}
 
 -- a set with all IPv6 addresses has 2^128 of them
@@ -61,6 +63,10 @@ comparison_same : (A B C D : Address → Type 0) (text : List ℕ) → ((x : Add
     → ((x : Address) → B x ↔ D x) → IsComparison A B text → IsComparison C D text
 comparison_same A B C D text a b h = record {
   same = λ s. h.same (λ x. (λ k. (b x).1 ((s x).0 ((a x).0 k)), λ k. (a x).1 ((s x).1 ((b x).0 k))));
+  only = λ none x. (
+    λ k. (b x).0 ((h.only none x).0 ((a x).1 k)),
+    λ k. (a x).0 ((h.only none x).1 ((b x).1 k)),
+  );
   differ = λ no. alone_same A B C D text a b
       (h.differ (λ s. no (λ x. (λ k. (b x).0 ((s x).0 ((a x).1 k)), λ k. (a x).0 ((s x).1 ((b x).1 k))))));
 }
@@ -79,6 +85,38 @@ lines_alone first second a b first_line second_line text in_a in_b line_a line_b
   second = counts_same (IsMember b) (λ x. IsMember second x × ¬ (IsMember first x)) second_line in_b line_b;
   spelled = spelled;
 }
+
+-- the two lines are some text
+pub lines_some : (First Second : Address → Type 0) (text : List ℕ) → AreAloneLines First Second text → text ≡ [] → ⊥
+lines_some First Second text h none =
+    let a = codes "first alone: " in
+    let b = codes "second alone: " in
+    let long : 0 < length a = omega arith in
+    absurd (omega (
+      arith,
+      long,
+      ap length (sym h.spelled ∙ none),
+      length-append (a ++ h.first_line ++ b) h.second_line,
+      length-append (a ++ h.first_line) b,
+      length-append a h.first_line,
+    ))
+
+-- a comparison tells whether the two have the same addresses
+pub lists_same : (grammar : Grammar) (lists : List (List ℕ)) (text : List ℕ) → IsCompareAnswer grammar lists text
+    → text ≡ [] → AreSameLists grammar lists
+lists_same grammar lists text h none =
+    record { first = h.first; second = h.second; read = h.read; same = h.right.only none }
+
+pub lists_differ : (grammar : Grammar) (lists : List (List ℕ)) (text : List ℕ) → IsCompareAnswer grammar lists text
+    → (text ≡ [] → ⊥) → AreOtherLists grammar lists
+lists_differ grammar lists text h some =
+    record { first = h.first; second = h.second; read = h.read; differ = λ same. some (h.right.same same) }
+
+-- four texts, one behind the other
+pub four_joined : (t p q r s a b c d : List ℕ) → t ≡ [] → p ≡ t ++ a → q ≡ p ++ b → r ≡ q ++ c → s ≡ r ++ d
+    → s ≡ a ++ b ++ c ++ d
+four_joined t p q r s a b c d e f g h k =
+    k ∙ ap (λ z. z ++ d) (h ∙ ap (λ z. z ++ c) (g ∙ ap (λ z. z ++ b) (f ∙ ap (λ z. z ++ a) e)))
 
 -- ---- of sets, and of lists
 

@@ -34,9 +34,10 @@ pub record AreAloneLines (First Second : Address → Type 0) (text : List ℕ) :
   pub second : IsCountsLine (λ x. Second x × ¬ (First x)) second_line
   pub spelled : text ≡ codes "first alone: " ++ first_line ++ codes "second alone: " ++ second_line
 
--- nothing where the two sets have the same addresses, and else these two lines
+-- nothing where the two sets have the same addresses, and there alone; and else these two lines
 pub record IsComparison (First Second : Address → Type 0) (text : List ℕ) : Type 0 where
   pub same : HaveSame First Second → text ≡ []
+  pub only : text ≡ [] → HaveSame First Second
   pub differ : ¬ (HaveSame First Second) → AreAloneLines First Second text
 
 -- no line of the one list is refused, and the text says how many addresses its entries have

@@ -9,7 +9,7 @@ ghost use Rattle.netset_lists.specs.Answers.{IsFailureAt};
 ghost use Rattle.netset_lists.specs.Bytes.{bytes_of};
 ghost use Rattle.netset_lists.specs.EntryOf.{entry_range};
 ghost use Rattle.netset_lists.specs.Filters.{IsOnSide, IsFilterAnswer};
-ghost use Rattle.netset_lists.specs.Filtering.{AreFiltered};
+ghost use Rattle.netset_lists.specs.Filtering.{HasAddresses, AreFiltered};
 ghost use Rattle.netset_lists.specs.Lists.{IsInEntries};
 ghost use Rattle.netset_lists.specs.Pairs.{WasMadeOf, WasPairRead};
 
@@ -18,7 +18,7 @@ use crate::entry::Entry;
 use crate::list::read_set;
 use crate::reader::EntryReader;
 use crate::refused::RefusedLines;
-use ipnet::{Grammar, IpSubnets, Ipv4Subnets, Ipv6Subnets};
+use ipnet::{Grammar, IpNet, IpSubnets, Ipv4Subnets, Ipv6Subnets};
 use ipnet_sets::IpSet;
 use std::alloc::{AllocError, Global};
 
@@ -45,11 +45,12 @@ fn covers_walk(set: &IpSet, walk: IpSubnets) -> bool
 
 /// Whether every address of the entry is in the set.
 fn covers_entry(set: &IpSet, entry: Entry) -> bool
-    ensures { IsTrue result ↔ ((x : Address) → IsInRange (entry_range entry) x → IsMember set.now x) }
+    ensures covers { IsTrue result ↔ ((x : Address) → IsInRange (entry_range entry) x → IsMember set.now x) }
+    ensures fits { HasAddresses (entry_range entry) }
 {
     match entry {
         Entry::Network(network) => set.covers(&network),
-        Entry::Address(address) => set.contains(&address),
+        Entry::Address(address) => set.covers(&IpNet::from(address)),
         Entry::Ipv4Range(first, last) => {
             covers_walk(set, IpSubnets::V4(Ipv4Subnets::new(first, last, 0)))
         }

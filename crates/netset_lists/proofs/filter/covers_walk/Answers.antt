@@ -5,7 +5,9 @@ use Rattle.netset_lists.proofs.FilterLaws.{covered_start, covered_more, covered_
 use Rattle.netset_lists.proofs.filter.covers_walk.Goals as goal
 
 pub loop-network-init : goal.loop-network-init
-loop-network-init c = covered_start c.args.set.now (ip_subnets_left c.args.walk)
+loop-network-init c =
+    rw c.into_iter-network-iterator.ensures.into_iter_gives
+    (covered_start c.args.set.now (ip_subnets_left c.args.walk))
 
 pub returns-then-not-covers : goal.returns-then-not-covers
 returns-then-not-covers c = (
@@ -25,4 +27,8 @@ loop-network-preserved c =
     (c.if-not-covers.ensures.0 refl)
 
 pub returns : goal.returns
-returns c = ?
+returns c = (
+  λ e. covered_end c.args.set.now (ip_subnets_left c.args.walk) (ip_subnets_left c.loop-network.network-iterator)
+      c.in-None.ensures.steps.0 c.loop-network.invariant,
+  λ all. refl,
+)
