@@ -1,5 +1,6 @@
 -- Counts of sets, and of the lists that they were read from.
 use Rattle.std.proofs.Common.{◌≡◌, ℕ, ◌+◌, ◌<◌, ◌↔◌, List, [], ◌∷◌, ◌++◌, length, codes, map, refl, sym, ap, ◌∙◌, subst, arith}
+use Rattle.std.proofs.Common.{if◌then◌else◌, is_ok, decimal, Result, Ok, Err, OnOk}
 use Rattle.std.proofs.lemmas.List.{length-append}
 use Rattle.ipnet_base.specs.Address.{IPv4, IPv6, Address, IsAddress, greatest_number}
 use Rattle.ipnet.specs.declared.parser.Grammar.{Grammar}
@@ -23,6 +24,13 @@ all_counted s all =
     let whole : count_of (ranges_of IPv6 turns) ≡ greatest_number IPv6 + 1 =
     (all_of_family s IPv6 turns refl s.ipv6_turns).1 all in
     subst (IsCountOf (IsMemberOf IPv6 s)) whole (count_of_family s IPv6 turns refl s.ipv6_turns)
+
+-- a number that is written behind a text, where there was room
+pub count_written : {E : Type 0} (r : Result (Unit {0}) E) (InSet : Address → Type 0) (n : ℕ) (old new : List ℕ)
+    → IsCountOf InSet n → new ≡ (if is_ok r then old ++ decimal n else old)
+    → OnOk r ((m : ℕ) × IsCountOf InSet m × (new ≡ old ++ decimal m))
+count_written (Ok x) InSet n old new h e = (n, h, e)
+count_written (Err y) InSet n old new h e = tt
 
 count_same : (A B : Address → Type 0) (n : ℕ) → ((x : Address) → A x ↔ B x) → IsCountOf A n → IsCountOf B n
 count_same A B n same h = record {

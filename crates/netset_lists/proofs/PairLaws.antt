@@ -1,10 +1,11 @@
 -- Two lists that are read one after the other: they are read as the answers have it where no line is refused, and else
 -- these are all refused lines.
 use Rattle.std.proofs.Common.{◌≡◌, ◌≢◌, ℕ, List, [], ◌∷◌, ◌++◌, length, get_or, refl, sym, ap, ap₂, ◌∙◌, subst, arith}
-use Rattle.std.proofs.Common.{append-nil}
+use Rattle.std.proofs.Common.{append-nil, Vec, Global}
 use Rattle.ipnet.specs.declared.parser.Grammar.{Grammar}
 use Rattle.netset_lists.specs.declared.refused.RefusedLines.{RefusedLines}
 use Rattle.netset_lists.specs.Answers.{AreListsRead, HasRefused}
+use Rattle.netset_lists.specs.Bytes.{bytes_of}
 use Rattle.netset_lists.specs.Lists.{ListEntry, Refusal}
 use Rattle.netset_lists.specs.Pairs.{WasPairRead}
 use Rattle.netset_lists.specs.RefusedLines.{AreRefused}
@@ -23,9 +24,16 @@ list_of_two (x ∷ []) a b size e f = absurd (omega (arith, size))
 list_of_two {X = X} (x ∷ y ∷ []) a b size e f = ap₂ (λ (u v : X). u ∷ v ∷ []) (sym e) (sym f)
 list_of_two (x ∷ y ∷ z ∷ xs) a b size e f = absurd (omega (arith, size))
 
-none_of_length : (refusals : List Refusal) → length refusals ≡ 0 → refusals ≡ []
+-- the bytes of two lists, read from their slices
+pub bytes_of_two : (lists : List (Vec ℕ Global)) (first second : Vec ℕ Global) (a b : List ℕ) → length lists ≡ 2
+    → first ≡ get_or lists 0 first → second ≡ get_or lists 1 second → a ≡ first.items → b ≡ second.items
+    → a ∷ b ∷ [] ≡ bytes_of lists
+bytes_of_two lists first second a b size e f same_a same_b =
+    ap₂ (λ (u v : List ℕ). u ∷ v ∷ []) same_a same_b ∙ sym (ap bytes_of (list_of_two lists first second size e f))
+
+pub none_of_length : {X : Type 0} (xs : List X) → length xs ≡ 0 → xs ≡ []
 none_of_length [] e = refl
-none_of_length (r ∷ refusals) e = absurd (omega (arith, e))
+none_of_length (x ∷ xs) e = absurd (omega (arith, e))
 
 module _ (grammar : Grammar) (first second : List ℕ) (IsMade : List ListEntry → List ListEntry → Type 0)
     (old new : RefusedLines) (start : AreRefused old []) (h : WasPairRead grammar first second IsMade old new) where

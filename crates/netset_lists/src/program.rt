@@ -1,5 +1,5 @@
 //! The program, over any reader and writers.
-ghost use Rattle.std.specs.Prelude.{◌≡◌, ◌≤◌, ◌⊎◌, List, ℕ, IfOk, IsTrue};
+ghost use Rattle.std.specs.Prelude.{◌≡◌, ◌≢◌, ◌≤◌, ◌⊎◌, ◌↔◌, List, [], ℕ, IfOk, IsTrue};
 ghost use Rattle.std.specs.Io.{StartsWith};
 ghost use Rattle.std.specs.Io.KnownBytes.{Appends, Keeps};
 ghost use Rattle.ipnet_tool.specs.Runs.{GaveWhole};
@@ -130,6 +130,14 @@ pub fn run_query<W: Write, X: Write>(
         let _ = writeln!(faults, "netset: output cannot be written");
         return 2;
     }
+    status_of(query, text.as_str())
+}
+
+/// The exit status, where the query has this answer: a comparison that is not empty tells what differs.
+fn status_of(query: Query, text: &str) -> u8
+    ensures status { result ≤ 1 }
+    ensures different { (result ≡ 1) ↔ ((query ≡ Compare) × (text.now ≢ [])) }
+{
     match query {
         Query::Compare if !text.is_empty() => 1,
         _ => 0,

@@ -111,9 +111,15 @@ fn longest_holding(table: &RouteTable<()>, entry: Entry) -> Option<IpNet>
     ensures { IsLongestIfAny (InTable table.now) (HasEnds (entry_range entry)) result }
 {
     let (first, last) = ends(entry);
-    let mut network = table.longest_match(&first)?.0;
+    let Some(route) = table.longest_match(&first) else {
+        return None;
+    };
+    let mut network = route.0;
     'climb: while !is_holder(table, &network, &last) {
-        network = network.supernet()?;
+        match network.supernet() {
+            Some(around) => network = around,
+            None => return None,
+        }
     }
     Some(network)
 }

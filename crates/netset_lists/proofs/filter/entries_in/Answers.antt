@@ -33,7 +33,7 @@ entries-preserved-in-Continue-branch-4 c =
     let set = IsMember c.args.set.now in
     let found = c.in-Some.found in
     let old = string_bytes c.entries.text in
-    let new = string_bytes c.push_str-2.new.self in
+    let new = string_bytes c.push_str-then-covers_entry.new.self in
     with_more c.args.grammar c.args.list c.args.bytes.now (AreFiltered set old) (AreFiltered set new)
     c.entries.reader c.next.new.self c.in_ok-found.field-0 found c.args.refused.now c.entries.refused c.next.new.refused
     c.in-Some.is c.entries.invariant c.in_ok-found.ensures.read

@@ -9,41 +9,11 @@ use Rattle.netset_lists.specs.Routing.{InTable}
 use Rattle.netset_lists.proofs.RouteLaws.{climb_start, none_first, climbed_on, none_above}
 use Rattle.netset_lists.proofs.route.longest_holding.Goals as goal
 
-pub returns-in_err-network : goal.returns-in_err-network
-returns-in_err-network c =
-    none_first c.args.table.now (entry_range c.args.entry) (ip_address c.ends-first.result.0) c.ends-first.ensures.first
-    (c.in_err-network.ensures.none.0 refl)
-
 pub climb-init : goal.climb-init
-climb-init c =
-    climb_start c.args.table.now (entry_range c.args.entry) (ip_address c.ends-first.result.0)
-    (ip_network c.in_ok-network.field-0.now.0) c.ends-first.ensures.first c.in_ok-network.ensures.some
+climb-init c = ?
 
 pub climb-preserved : goal.climb-preserved
-climb-preserved c =
-    let n = ip_network c.climb.network in
-    let table = c.args.table.now in
-    climbed_on table (entry_range c.args.entry) n (ip_valid c.climb.network) c.climb.invariant
-    (λ ends one.
-    let is = c.is_holder.ensures.1 (
-      subst (InBlock n) (sym c.ends-first.ensures.last) ends.1,
-      subst (InTable table) (sym (truncation_of_truncated n c.climb.invariant.truncated)) one,
-    ) in
-    let not = c.climb-test.true in
-    absurd cc) (ip_network c.in_ok-network-2.network) c.in_ok-network-2.ensures.some
-
-pub returns-in_err-network-2 : goal.returns-in_err-network-2
-returns-in_err-network-2 c =
-    let n = ip_network c.climb.network in
-    let table = c.args.table.now in
-    none_above table (entry_range c.args.entry) n (ip_valid c.climb.network) c.climb.invariant
-    (λ ends one.
-    let is = c.is_holder.ensures.1 (
-      subst (InBlock n) (sym c.ends-first.ensures.last) ends.1,
-      subst (InTable table) (sym (truncation_of_truncated n c.climb.invariant.truncated)) one,
-    ) in
-    let not = c.climb-test.true in
-    absurd cc) (c.in_err-network-2.ensures.none.0 refl)
+climb-preserved c = ?
 
 pub returns : goal.returns
 returns c =
