@@ -1,6 +1,8 @@
 -- Counts of sets, and of the lists that they were read from.
-use Rattle.std.proofs.Common.{◌≡◌, ℕ, ◌+◌, ◌<◌, ◌↔◌, List, [], ◌∷◌, ◌++◌, length, codes, map, refl, sym, ap, ◌∙◌, subst, arith}
+use Rattle.std.proofs.Common.{◌≡◌, ℕ, ◌+◌, ◌<◌, ◌↔◌, List, [], ◌∷◌, ◌++◌, length, codes, map, refl, sym, ap, ◌∙◌, subst}
+use Rattle.std.proofs.Common.{arith}
 use Rattle.std.proofs.Common.{if◌then◌else◌, is_ok, decimal, Result, Ok, Err, OnOk}
+use Rattle.std.specs.Fmt.{digits}
 use Rattle.std.proofs.lemmas.List.{length-append}
 use Rattle.ipnet_base.specs.Address.{IPv4, IPv6, Address, IsAddress, greatest_number}
 use Rattle.ipnet.specs.declared.parser.Grammar.{Grammar}
@@ -8,13 +10,11 @@ use Rattle.ipnet_sets.specs.declared.set.IpSet.{IpSet}
 use Rattle.ipnet_sets.specs.Members.{IsCountOf, IsMember, IsMemberOf}
 use Rattle.ipnet_sets.specs.TurnRanges.{ranges_of, count_of}
 use Rattle.ipnet_sets.proofs.CountLaws.{count_of_family, all_of_family}
-use Rattle.netset_lists.specs.declared.answer.Failure.{Failure}
-use Rattle.netset_lists.specs.declared.answer.Failure.TheVariants as Failures
-use Rattle.netset_lists.specs.Answers.{AreListsRead, IsFailureAt}
+use Rattle.netset_lists.specs.Answers.{AreListsRead}
 use Rattle.netset_lists.specs.Counts.{IsCountsLine, AreAloneLines, IsComparison, IsCountAnswer, IsCompareAnswer}
 use Rattle.netset_lists.specs.Lists.{ListEntry, IsInEntries}
 use Rattle.netset_lists.specs.Replies.{AreSameLists, AreOtherLists}
-use Rattle.netset_lists.specs.ListSets.{AreGoodSets, HaveMembers, IsReadFailure}
+use Rattle.netset_lists.specs.ListSets.{AreGoodSets, HaveMembers}
 
 -- a set with all IPv6 addresses has 2^128 of them
 pub all_counted : (s : IpSet) → ((x : Address) → IsAddress x → x.family ≡ IPv6 → IsMember s x)
@@ -25,12 +25,18 @@ all_counted s all =
     (all_of_family s IPv6 turns refl s.ipv6_turns).1 all in
     subst (IsCountOf (IsMemberOf IPv6 s)) whole (count_of_family s IPv6 turns refl s.ipv6_turns)
 
+-- 2 ^ 128 in decimal
+pub all_ipv6 : codes "340282366920938463463374607431768211456" ≡ decimal 340282366920938463463374607431768211456
+unfolding digits
+all_ipv6 = refl
+
 -- a number that is written behind a text, where there was room
 pub count_written : {E : Type 0} (r : Result (Unit {0}) E) (InSet : Address → Type 0) (n : ℕ) (old new : List ℕ)
-    → IsCountOf InSet n → new ≡ (if is_ok r then old ++ decimal n else old)
+    (spelled : List ℕ) → IsCountOf InSet n → spelled ≡ decimal n
+    → new ≡ (if is_ok r then old ++ spelled else old)
     → OnOk r ((m : ℕ) × IsCountOf InSet m × (new ≡ old ++ decimal m))
-count_written (Ok x) InSet n old new h e = (n, h, e)
-count_written (Err y) InSet n old new h e = tt
+count_written (Ok x) InSet n old new spelled h same e = (n, h, e ∙ ap (λ t. old ++ t) same)
+count_written (Err y) InSet n old new spelled h same e = tt
 
 count_same : (A B : Address → Type 0) (n : ℕ) → ((x : Address) → A x ↔ B x) → IsCountOf A n → IsCountOf B n
 count_same A B n same h = record {
@@ -41,7 +47,7 @@ count_same A B n same h = record {
 }
 
 -- sets with the same addresses have the same counts
-pub counts_same : (A B : Address → Type 0) (line : List ℕ) → ((x : Address) → A x ↔ B x) → IsCountsLine A line
+counts_same : (A B : Address → Type 0) (line : List ℕ) → ((x : Address) → A x ↔ B x) → IsCountsLine A line
     → IsCountsLine B line
 counts_same A B line same h = record {
   ipv4 = h.ipv4;
@@ -109,6 +115,11 @@ lines_some First Second text h none =
       length-append a h.first_line,
     ))
 
+-- a text for which the status is not 1 is empty
+pub none_or_some : (text : List ℕ) (status : ℕ) → status ≡ 0 → ((text ≡ [] → ⊥) → status ≡ 1) → text ≡ []
+none_or_some [] status zero some = refl
+none_or_some (b ∷ text) status zero some = absurd (omega (arith, zero, some (λ e. absurd (omega (arith, ap length e)))))
+
 -- a comparison tells whether the two have the same addresses
 pub lists_same : (grammar : Grammar) (lists : List (List ℕ)) (text : List ℕ) → IsCompareAnswer grammar lists text
     → text ≡ [] → AreSameLists grammar lists
@@ -166,9 +177,3 @@ pub compare_of_sets : (grammar : Grammar) (lists : List (List ℕ)) (sets : List
 compare_of_sets grammar lists sets first second text good e right =
     compare_read grammar lists first second text good.entries good.read
     (subst (λ z. HaveMembers z good.entries) e good.members) right
-
-pub failed_at : (n : ℕ) (grammar : Grammar) (lists : List (List ℕ)) (failure : Failure)
-    → IsReadFailure grammar lists failure → IsFailureAt n grammar lists failure
-failed_at n grammar lists Failures.Count h = absurd h
-failed_at n grammar lists (Failures.Refused lines) h = h
-failed_at n grammar lists Failures.Memory h = tt

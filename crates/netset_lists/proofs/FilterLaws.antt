@@ -60,7 +60,7 @@ module _ (set : IpSet) (all : List Network) where
 all_push : {X : Type 0} (P : X → Type 0) (xs : List X) (x : X) → All P xs → P x → All P (xs ++ x ∷ [])
 all_push P xs x all last = All-append P xs (x ∷ []) all (All-cons P x [] last (All-nil P))
 
-pub kept_push : (Keep : ListEntry → Type 0) (entries kept : List ListEntry) (e : ListEntry) → AreKept Keep entries kept
+kept_push : (Keep : ListEntry → Type 0) (entries kept : List ListEntry) (e : ListEntry) → AreKept Keep entries kept
     → Keep e → AreKept Keep (entries ++ e ∷ []) (kept ++ e ∷ [])
 kept_push Keep [] kept e h keep = inl ([], keep, ap (λ k. k ++ e ∷ []) h, refl)
 kept_push Keep (first ∷ entries) kept e (inl (more, here, is, h)) keep =
@@ -68,7 +68,7 @@ kept_push Keep (first ∷ entries) kept e (inl (more, here, is, h)) keep =
 kept_push Keep (first ∷ entries) kept e (inr (not_here, h)) keep =
     inr (not_here, kept_push Keep entries kept e h keep)
 
-pub kept_past : (Keep : ListEntry → Type 0) (entries kept : List ListEntry) (e : ListEntry) → AreKept Keep entries kept
+kept_past : (Keep : ListEntry → Type 0) (entries kept : List ListEntry) (e : ListEntry) → AreKept Keep entries kept
     → ¬ (Keep e) → AreKept Keep (entries ++ e ∷ []) kept
 kept_past Keep [] kept e h not_kept = inr (not_kept, h)
 kept_past Keep (first ∷ entries) kept e (inl (more, here, is, h)) not_kept =
@@ -77,7 +77,7 @@ kept_past Keep (first ∷ entries) kept e (inr (not_here, h)) not_kept =
     inr (not_here, kept_past Keep entries kept e h not_kept)
 
 -- the same entries are kept by what says the same of each that this holds of
-pub kept_same : (Keep Other Good : ListEntry → Type 0) (entries kept : List ListEntry)
+kept_same : (Keep Other Good : ListEntry → Type 0) (entries kept : List ListEntry)
     → ((e : ListEntry) → Good e → Keep e ↔ Other e) → All Good entries → AreKept Keep entries kept
     → AreKept Other entries kept
 kept_same Keep Other Good [] kept same good h = h
@@ -94,7 +94,7 @@ kept_same Keep Other Good (e ∷ entries) kept same good (inr (not_here, h)) =
       kept_same Keep Other Good entries kept same (All-tail Good e entries good) h,
     )
 
-pub text_push : (entries : List ListEntry) (e : ListEntry)
+text_push : (entries : List ListEntry) (e : ListEntry)
     → text_of_entries (entries ++ e ∷ []) ≡ text_of_entries entries ++ e.text ++ 10 ∷ []
 text_push [] e = simp append_assoc
 text_push (first ∷ entries) e =

@@ -31,7 +31,7 @@ pub bytes_of_two : (lists : List (Vec ℕ Global)) (first second : Vec ℕ Globa
 bytes_of_two lists first second a b size e f same_a same_b =
     ap₂ (λ (u v : List ℕ). u ∷ v ∷ []) same_a same_b ∙ sym (ap bytes_of (list_of_two lists first second size e f))
 
-pub none_of_length : {X : Type 0} (xs : List X) → length xs ≡ 0 → xs ≡ []
+none_of_length : {X : Type 0} (xs : List X) → length xs ≡ 0 → xs ≡ []
 none_of_length [] e = refl
 none_of_length (x ∷ xs) e = absurd (omega (arith, e))
 

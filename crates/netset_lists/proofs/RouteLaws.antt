@@ -1,24 +1,24 @@
--- The search for the longest network that holds an entry, and the lines of entries. Of a range with an address a network
--- holds all where it has the two ends, so the search asks for these alone: it begins at the longest network with the
+-- The search for the longest network that holds an entry, and the lines of entries. A network holds all of a range with
+-- an address where it has the two ends, so the search asks for these alone: it begins at the longest network with the
 -- first one, and climbs from supernet to supernet, past which no network of the table with both ends can be longer.
-use Rattle.std.proofs.Common.{◌≡◌, ◌≢◌, ℕ, ◌<◌, ◌≤◌, ◌+◌, ◌⊎◌, ◌↔◌, List, [], ◌∷◌, ◌++◌, All, Contains, Option, Some, None}
-use Rattle.std.proofs.Common.{codes, refl, sym, ap, ◌∙◌, subst, arith, inl, inr, append_assoc, append-nil}
-use Rattle.std.proofs.lemmas.Bool.{cases_order}
+use Rattle.std.proofs.Common.{◌≡◌, ◌≢◌, ℕ, ◌<◌, ◌≤◌, ◌+◌, ◌⊎◌, ◌↔◌, List, [], ◌∷◌, ◌++◌, All, Contains, Option, Some}
+use Rattle.std.proofs.Common.{None}
+use Rattle.std.proofs.Common.{Bool, IsTrue, false, codes, refl, sym, ap, ◌∙◌, subst, arith, inl, inr, append_assoc}
+use Rattle.std.proofs.Common.{append-nil}
+use Rattle.std.proofs.lemmas.Bool.{cases_order, true≢false}
 use Rattle.std.proofs.lemmas.List.Elements.{All-nil, All-cons, All-head, All-tail}
 use Rattle.ipnet_base.specs.Address.{Family, Address, address_at, width}
 use Rattle.ipnet_base.specs.Network.{Network, IsNetwork, InBlock, IsTruncated, IsSupernetOf, host_bits}
-use Rattle.ipnet_base.specs.Network.{IsLeastOf, IsGreatestOf, first_of, last_of}
-use Rattle.ipnet_base.specs.Blocks.{IsCoveredBy}
+use Rattle.ipnet_base.specs.Network.{IsLeastOf, IsGreatestOf, first_of, last_of, truncation}
 use Rattle.ipnet_base.specs.Ranges.{AddressRange}
 use Rattle.ipnet_base.proofs.BlockLaws.{between_from_block, block_from_between, first_from_least, last_from_greatest}
-use Rattle.ipnet_base.proofs.ListLaws.{any_from_contains}
 use Rattle.ipnet_base.proofs.NestingLaws.{nested}
-use Rattle.ipnet_base.proofs.NetworkLaws.{same_from_block}
+use Rattle.ipnet_base.proofs.NetworkLaws.{same_from_block, truncation_of_truncated}
 use Rattle.ipnet.specs.CanonicalTexts.{canonical_text}
 use Rattle.ipnet.specs.NetworkOf.{ip_network}
 use Rattle.ipnet.specs.declared.net.IpNet.{IpNet}
 use Rattle.ipnet.specs.declared.parser.Grammar.{Grammar}
-use Rattle.ipnet_sets.specs.Routes.{networks_of, IsLongestMatch}
+use Rattle.ipnet_sets.specs.Routes.{IsLongestMatch}
 use Rattle.ipnet_sets.specs.RoutesOf.{routes_of}
 use Rattle.ipnet_sets.specs.SetRanges.{IsInRange}
 use Rattle.ipnet_sets.specs.declared.routes.RouteTable.{RouteTable}
@@ -52,13 +52,16 @@ climb_start table range x n is h = record {
       h.longest (k, tt) ((plain_route (routes_of table) k).1 one) (subst (InBlock k) (sym is) ends.0);
 }
 
--- where no network has the first end, none has both
-pub none_first : (table : RouteTable (Unit {0})) (range : AddressRange) (x : Address)
-    → x ≡ address_at range.family range.start → ¬ (IsCoveredBy (networks_of (routes_of table)) x)
-    → HaveNone (InTable table) (HasEnds range)
-none_first table range x is none k one ends =
-    none (any_from_contains (λ n. InBlock n x) (networks_of (routes_of table)) k one
-    (subst (InBlock k) (sym is) ends.0))
+-- a network that the test of a holder refuses has not both ends, or is none of the table's
+pub not_holder : (table : RouteTable (Unit {0})) (range : AddressRange) (n : Network) (x : Address) (r : Bool)
+    → IsTruncated n → x ≡ address_at range.family range.end
+    → (IsTrue r ↔ (InBlock n x × InTable table (truncation n))) → r ≡ false → HasEnds range n → InTable table n → ⊥
+not_holder table range n x r truncated is tested refused ends one =
+    let holds = tested.1 (
+      subst (InBlock n) (sym is) ends.1,
+      subst (InTable table) (sym (truncation_of_truncated n truncated)) one,
+    ) in
+    true≢false (sym holds ∙ refused)
 
 module _ (table : RouteTable (Unit {0})) (range : AddressRange) (n : Network) (valid : IsNetwork n)
     (climbed : IsClimbedTo (InTable table) range n) (unfit : HasEnds range n → InTable table n → ⊥) where
@@ -210,7 +213,8 @@ pub pair_routed : (grammar : Grammar) (first second : List ℕ) (IsOne : Network
     (old between new : RefusedLines) (text : List ℕ)
     → WasMadeOf grammar 0 first (AreTableNetworks IsOne) old between
     → WasMadeOf grammar 1 second (λ entries. AreRouteLines IsOne HoldsEnds entries text) between new
-    → WasPairRead grammar first second (λ table entries. AreRouteLines (IsTableNetwork table) Holds entries text) old new
+    → WasPairRead grammar first second (λ table entries. AreRouteLines (IsTableNetwork table) Holds entries text) old
+    new
 pair_routed grammar first second IsOne old between new text h k = record {
   of_first = h.entries;
   of_second = k.entries;
@@ -223,7 +227,8 @@ pair_routed grammar first second IsOne old between new text h k = record {
 
 pub route_answer : (grammar : Grammar) (first second : List ℕ) (old new : RefusedLines) (text : List ℕ)
     → AreRefused old []
-    → WasPairRead grammar first second (λ table entries. AreRouteLines (IsTableNetwork table) Holds entries text) old new
+    → WasPairRead grammar first second (λ table entries. AreRouteLines (IsTableNetwork table) Holds entries text) old
+    new
     → new.count ≡ 0 → IsRouteAnswer grammar (first ∷ second ∷ []) text
 route_answer grammar first second old new text start h none = record {
   table = h.of_first;

@@ -1,7 +1,9 @@
 -- The networks of a table: those that are pushed for an entry are the fewest of its range once their host bits are
 -- taken away, and a table of routes with no values has just the networks that were given, without host bits.
-use Rattle.std.proofs.Common.{◌≡◌, ◌≢◌, ℕ, zero, suc, ◌<◌, ◌≤◌, ◌⊎◌, ◌↔◌, List, [], ◌∷◌, ◌++◌, length, map, get_or, Contains}
-use Rattle.std.proofs.Common.{All, Any, Option, Some, None, IsNone, IsSome, IfSome, refl, sym, ap, ◌∙◌, subst, arith, inl, inr}
+use Rattle.std.proofs.Common.{◌≡◌, ◌≢◌, ℕ, zero, suc, ◌<◌, ◌≤◌, ◌⊎◌, ◌↔◌, List, [], ◌∷◌, ◌++◌, length, map, get_or}
+use Rattle.std.proofs.Common.{Contains}
+use Rattle.std.proofs.Common.{All, Any, Option, Some, None, IsNone, IsSome, IfSome, refl, sym, ap, ◌∙◌, subst, arith}
+use Rattle.std.proofs.Common.{inl, inr}
 use Rattle.std.proofs.lemmas.Bool.{cases_order}
 use Rattle.std.proofs.lemmas.List.{map-append}
 use Rattle.std.proofs.lemmas.List.Elements.{Contains-append_left, Contains-append_right, Contains-append_cases}
@@ -174,7 +176,8 @@ plain_route ((k, tt) ∷ routes) n =
     )
 
 -- the network at a place of the routes
-network_in : (routes : List Plain) (j : ℕ) (d : Plain) → j < length routes → Contains (networks_of routes) (get_or routes j d).0
+network_in : (routes : List Plain) (j : ℕ) (d : Plain) → j < length routes
+    → Contains (networks_of routes) (get_or routes j d).0
 network_in [] j d l = absurd (omega (arith, l))
 network_in (r ∷ routes) zero d l = contains_here r.0 (networks_of routes)
 network_in (r ∷ routes) (suc j) d l =
@@ -222,7 +225,7 @@ given_networks [] = refl
 given_networks (r ∷ given) = ap (λ z. truncation (ip_network r.0) ∷ z) (given_networks given)
 
 -- the table has the networks that were given, without their host bits
-pub table_networks : (given : List (IpNet × Unit {0})) (routes : List Plain) → IsTableOf (ip_routes given) routes
+table_networks : (given : List (IpNet × Unit {0})) (routes : List Plain) → IsTableOf (ip_routes given) routes
     → (n : Network) → Contains (networks_of routes) n ↔ IsTruncatedOne (ip_networks given) n
 table_networks given routes h n =
     let cut : List Plain = without_host_bits (ip_routes given) in (
@@ -244,8 +247,10 @@ table_of_entries given routes entries h same n =
 pub table_good : (table : RouteTable (Unit {0})) (n : Network) → InTable table n → IsNetwork n × IsTruncated n
 table_good table n one =
     let list = table.routes.items in
-    let at = subst (λ z. Contains z n) (same_networks list) one in
-    (all_at IsNetwork (ip_networks list) (all_valid list) n at, all_at IsTruncated (ip_networks list) table.table.truncated n at)
+    let at = subst (λ z. Contains z n) (same_networks list) one in (
+      all_at IsNetwork (ip_networks list) (all_valid list) n at,
+      all_at IsTruncated (ip_networks list) table.table.truncated n at,
+    )
 
 -- a search that gives the value of a network tells whether the table has it
 pub got_or_not : {A : Type 0} (o : Option A) (value : A → Unit {0}) (routes : List Plain) (t : Network)

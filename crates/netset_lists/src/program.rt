@@ -93,7 +93,7 @@ pub fn run<W: Write, X: Write>(
 /// | Status | On `faults` | When |
 /// |---|---|---|
 /// | 2 | what [`run`] tells there | where `run` has it: the query takes another number of lists, and so on |
-/// | 1 | nothing | the query is `Compare`, and the two lists do not have the same addresses; `out` has how many differ |
+/// | 1 | nothing | the query is `Compare`, and the lists do not have the same addresses; `out` has what differs |
 /// | 0 | nothing | otherwise |
 ///
 /// ```text

@@ -10,7 +10,8 @@ ghost use Rattle.netset_lists.specs.Bytes.{bytes_of};
 ghost use Rattle.netset_lists.specs.EntryOf.{entry_range};
 ghost use Rattle.netset_lists.specs.Pairs.{WasMadeOf, WasPairRead};
 ghost use Rattle.netset_lists.specs.RouteAnswers.{IsTableNetwork, Holds, AreRouteLines, IsRouteAnswer};
-ghost use Rattle.netset_lists.specs.Routing.{IsTruncatedOne, AddsMaximal, AreTableNetworks, InTable, HasEnds, HoldsEnds};
+ghost use Rattle.netset_lists.specs.Routing.{IsTruncatedOne, AddsMaximal, AreTableNetworks, InTable, HasEnds};
+ghost use Rattle.netset_lists.specs.Routing.{HoldsEnds};
 ghost use Rattle.netset_lists.specs.Routing.{IsLongestIfAny, route_line};
 
 use crate::answer::Failure;

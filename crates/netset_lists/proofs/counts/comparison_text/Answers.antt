@@ -4,7 +4,8 @@ use Rattle.ipnet_base.specs.Address.{Address}
 use Rattle.ipnet_sets.specs.Members.{IsMember}
 use Rattle.netset_lists.proofs.CountTexts.{lines_alone, lines_some, four_joined}
 use Rattle.netset_lists.proofs.counts.comparison_text.Goals as goal
-use Rattle.netset_lists.proofs.counts.comparison_text.Goals.{else-is_subset-via-then-is_subset+else-is_subset-2, else-is_subset-via-else-is_subset}
+use Rattle.netset_lists.proofs.counts.comparison_text.Goals.{else-is_subset-via-then-is_subset+else-is_subset-2}
+use Rattle.netset_lists.proofs.counts.comparison_text.Goals.{else-is_subset-via-else-is_subset}
 
 pub returns : goal.returns
 returns c =

@@ -16,7 +16,8 @@ returns-then-refused-ne0-clause-failure c =
     subst (λ z. HasRefused c.args.grammar z c.filtered.new.refused)
     (bytes_of_two c.args.lists.now first second a b (omega (arith, c.in-len2.len_at_least, c.in-len2.len_below))
     c.first-item.is c.second-item.is c.as_slice-set.ensures.value c.as_slice-entries.ensures.value)
-    (pair_bad c.args.grammar a b (λ entries. AreFiltered (IsOnSide c.args.side (IsInEntries entries)) (string_bytes c.in-Ok.text))
+    (pair_bad c.args.grammar a b (λ entries. AreFiltered (IsOnSide c.args.side (IsInEntries entries))
+    (string_bytes c.in-Ok.text))
     c.new-refused.result c.filtered.new.refused c.new-refused.ensures c.in-Ok.ensures c.if-refused-ne0.true)
 
 pub returns-clause-answer : goal.returns-clause-answer

@@ -14,7 +14,8 @@ returns-then-refused-ne0-clause-failure c =
     subst (λ z. HasRefused c.args.grammar z c.routed.new.refused)
     (bytes_of_two c.args.lists.now first second a b (omega (arith, c.in-len2.len_at_least, c.in-len2.len_below))
     c.first-item.is c.second-item.is c.as_slice-table.ensures.value c.as_slice-entries.ensures.value)
-    (pair_bad c.args.grammar a b (λ table entries. AreRouteLines (IsTableNetwork table) Holds entries (string_bytes c.in-Ok.text))
+    (pair_bad c.args.grammar a b (λ table entries. AreRouteLines (IsTableNetwork table) Holds entries
+    (string_bytes c.in-Ok.text))
     c.new-refused.result c.routed.new.refused c.new-refused.ensures c.in-Ok.ensures c.if-refused-ne0.true)
 
 pub returns-clause-answer : goal.returns-clause-answer
