@@ -106,8 +106,8 @@ fn whole_decimal(digits: &[u8], grammar: Grammar) -> Option<u8>
     }
 }
 
-/// Whether a "." follows the first one to three bytes, all of them decimal digits: so does each IPv4 network begin,
-/// and no IPv6 network.
+/// Whether a "." follows the decimal digits at the front, at most three: so does each IPv4 network begin, and no IPv6
+/// network.
 fn begins_dotted(text: &[u8]) -> bool
     ensures dotted { OnTrue result (slice_index (decimal_run text.now).1 0 ≡ dot) }
     ensures other { OnFalse result (slice_index (decimal_run text.now).1 0 ≢ dot) }
