@@ -272,7 +272,8 @@ last_sound grammar ds text groups rest dotted e =
     option_and_then_some _ (decimal_of grammar ds) _ e λ first octet e₁.
     option_and_then_some _ (read_dotted grammar first text) _ e₁ λ address read e₂.
     let (groups_are, dotted_is, rest_is) = three_parts (segments_of address.0) groups true dotted address.1 rest e₂ in
-    let (front, split, is) = read_dotted_sound grammar ds first text address.0 address.1 (decimal_of_sound grammar ds first octet) read in
+    let is_first = decimal_of_sound grammar ds first octet in
+    let (front, split, is) = read_dotted_sound grammar ds first text address.0 address.1 is_first read in
     at_last grammar ds text groups rest dotted address.0 address.1 front groups_are dotted_is rest_is split is
 
 -- what was found is after a group that goes before it
@@ -408,7 +409,8 @@ read_compressed_sound grammar head_text head text groups rest short e =
             value = sym groups_are;
           }
       | inr some ↦
-          option_and_then_some _ (read_groups grammar (most_written_groups grammar - length head) ds left) _ (rw some at e₂) λ tail read e₃.
+          option_and_then_some _ (read_groups grammar (most_written_groups grammar - length head) ds left) _
+          (rw some at e₂) λ tail read e₃.
           let (groups_are, rest_is) = some_pair_parts (expanded head tail.0) groups tail.2 rest e₃ in
           let found =
           groups_sound grammar (most_written_groups grammar - length head) ds left tail.0 tail.1 tail.2 run.all

@@ -1,6 +1,7 @@
 -- One turn of the loop that reads groups: what is read in all, by what it meets.
-use Rattle.std.proofs.Common.{◌≡◌, ◌≢◌, ℕ, zero, suc, ◌+◌, ◌-◌, ◌<◌, ◌==◌, true, false, List, [], ◌∷◌, ◌++◌, length, drop, get_or}
-use Rattle.std.proofs.Common.{Some, None, refl, sym, ◌∙◌, arith, append_assoc, eq-eqb, ne_eqb, eqb-true, lt-ltb, le-ltb}
+use Rattle.std.proofs.Common.{◌≡◌, ◌≢◌, ℕ, zero, suc, ◌+◌, ◌-◌, ◌<◌, ◌==◌, true, false, List, [], ◌∷◌, ◌++◌, length}
+use Rattle.std.proofs.Common.{drop, get_or, Some, None, refl, sym, ◌∙◌, arith, append_assoc, eq-eqb, ne_eqb, eqb-true}
+use Rattle.std.proofs.Common.{lt-ltb, le-ltb}
 use Rattle.std.specs.Str.Parse.{digits_value}
 use Rattle.ipnet.specs.declared.parser.Grammar.{Grammar}
 use Rattle.ipnet.specs.ReaderSteps.{Groups, after, group_of, hex_run, is_single_colon, read_dotted_groups, read_groups}
@@ -9,6 +10,7 @@ after-after : (front more : List ℕ) (found : Groups) → after front (after mo
 after-after front more None = refl
 after-after front more (Some p) = rw append_assoc
 
+-- what isn't 0 is more
 some_of : (n : ℕ) → (n == 0) ≡ false → 0 < n
 some_of zero e = cc
 some_of (suc n) e = omega arith
