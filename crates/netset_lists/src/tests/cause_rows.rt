@@ -75,7 +75,7 @@ fn check(
 #[test]
 fn causes(rt: HostRuntime) -> Result<(), Fail> {
     let alloc = rt.alloc();
-    let mut count = 0;
+    assert_eq!(&rt; CAUSES.trim().lines().count(), 41, "causes: rows");
     for row in CAUSES.trim().lines() {
         let mut cells = row.split('|');
         let label = cells.next().expect(&rt, row).trim();
@@ -84,9 +84,7 @@ fn causes(rt: HostRuntime) -> Result<(), Fail> {
         let legacy = cells.next().unwrap_or(strict).trim();
         check(&rt, alloc, label, text, Grammar::Strict, strict)?;
         check(&rt, alloc, label, text, Grammar::Legacy, legacy)?;
-        count += 1;
     }
-    assert_eq!(&rt; count, 41, "causes: rows");
     Ok(())
 }
 
