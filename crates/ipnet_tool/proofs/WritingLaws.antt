@@ -2,26 +2,13 @@
 use Rattle.std.proofs.Common.{◌≡◌, ℕ, List, [], ◌∷◌, ◌++◌, length, take, drop, map, refl, sym, ap, ◌∙◌, subst, Option}
 use Rattle.std.proofs.Common.{append_assoc, append-nil, take-append-drop}
 use Rattle.std.specs.Io.{StartsWith}
-use Rattle.std.specs.Io.KnownBytes.{Appends, Keeps}
-use Rattle.std.proofs.KnownBytes.{Appends-nil, Appends-trans, Appends-kept, starts_with_rest}
+use Rattle.std.specs.Io.KnownBytes.{Appends}
+use Rattle.std.proofs.KnownBytes.{Appends-trans, starts_with_rest}
 use Rattle.std.proofs.lemmas.List.{map-append, take_at}
 use Rattle.ipnet.specs.Network.{Network}
 use Rattle.ipnet_tool.specs.Answers.{text_of_lines}
 use Rattle.ipnet_tool.specs.Pieces.{IsInPieces}
 use Rattle.ipnet_tool.proofs.AnswerLaws.{text_of_lines-append}
-
--- nothing is written yet
-pub pieces_none : (held : Option (List ℕ)) (piece text : List ℕ) → piece ≡ text → IsInPieces held held piece text
-pieces_none held piece text is = record { done = []; written = Appends-nil held; is = is }
-
--- all of the piece is written
-pub pieces_written : (held held_after : Option (List ℕ)) (piece text : List ℕ) → piece ≡ []
-    → Appends held held_after text → IsInPieces held held_after piece text
-pieces_written held held_after piece text empty written = record {
-  done = text;
-  written = written;
-  is = ap (λ z. text ++ z) empty ∙ append-nil text;
-}
 
 -- one line more
 pub pieces_more : (a b c : Option (List ℕ)) (piece new line text whole : List ℕ) → IsInPieces a b piece text

@@ -60,11 +60,11 @@ impl Window {
         self.end = end - start;
     }
 
-    /// Reads once, behind what the window holds, and answers whether the reader gave anything: where it gave nothing it
-    /// is at its end. A read that was interrupted is made again.
+    /// Reads once, behind what the window holds, and answers whether the reader gave anything: where it gave nothing,
+    /// it is at its end. A read that was interrupted is made again.
     //
-    // A loop is proved to end, and a reader may be interrupted again and again: so it counts, here and in `write_whole`,
-    // up to more calls than any run makes.
+    // A loop is proved to end, and a reader may be interrupted again and again: so it counts, up to more calls than any
+    // run makes.
     pub(crate) fn fill<R: Read>(&mut self, input: &mut R) -> Result<bool, Failure>
         requires { length (held self.old) < 65536 }
         ensures read { OnOk result ((more : List ℕ) × (held self.new ≡ held self.old ++ more)

@@ -1,6 +1,7 @@
 -- In each turn the longest front of what is held that is UTF-8 is judged, and more is read behind the rest
 -- (`judged_more`). Where nothing is left at the end, all was judged.
-use Rattle.std.proofs.Common.{◌≡◌, ℕ, ◌++◌, List, length, take, take_all, sym, ap, ◌∙◌, subst, arith, refl, IsUtf8, [], ◌≤◌}
+use Rattle.std.proofs.Common.{◌≡◌, ℕ, ◌≤◌, ◌++◌, List, [], length, take, take_all, sym, ap, ◌∙◌, subst, arith, refl}
+use Rattle.std.proofs.Common.{IsUtf8}
 use Rattle.std.specs.Str.{valid_up_to}
 use Rattle.ipnet_tool.specs.Window.{held}
 use Rattle.ipnet_tool.proofs.LineCuts.{no_bytes, empty_text}
