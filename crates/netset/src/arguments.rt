@@ -6,13 +6,32 @@ use std::alloc::{AllocError, Global};
 use std::env;
 use std::io::ErrorKind;
 
+/// The name of standard input.
+pub const STANDARD_INPUT: &str = "-";
+
 /// What the arguments ask for.
 #[derive(Drop)]
 pub struct Call<'a> {
     /// What is made of the lists.
     pub request: Request,
-    /// The names of the lists, in order.
+    /// The names of the lists, in order. One of them at most is that of standard input.
     pub names: Vec<&'a str>,
+    /// Whether it is told how far reading has come, wherever standard error goes.
+    pub tells_progress: bool,
+}
+
+/// Why the arguments make no call, though each of them is one of the command's.
+#[derive(Clone, Copy, Debug, PartialEq, Eq, Drop, thiserror::Error)]
+pub enum ArgumentFailure {
+    /// An argument is not UTF-8.
+    #[error("an argument is not UTF-8")]
+    NotUtf8,
+    /// Two lists are standard input, which can be read once.
+    #[error("standard input is named twice")]
+    InputTwice,
+    /// A growth was refused.
+    #[error("out of memory")]
+    Memory,
 }
 
 /// How many lists a command takes.
@@ -24,14 +43,14 @@ enum Lists {
     TwoAndMore,
 }
 
-/// The words of the command line, the program's own name first; or why they could not be had.
-pub fn words(rt: &HostRuntime) -> Result<Vec<String>, &'static str> {
+/// The words of the command line, the program's own name first.
+pub fn words(rt: &HostRuntime) -> Result<Vec<String>, ArgumentFailure> {
     match env::args(rt) {
         Ok(args) => args
             .collect::<Vec<String>>(rt.alloc())
-            .map_err(|_| "out of memory"),
-        Err(error) if error.kind() == ErrorKind::OutOfMemory => Err("out of memory"),
-        Err(_) => Err("an argument is not UTF-8"),
+            .map_err(|_| ArgumentFailure::Memory),
+        Err(error) if error.kind() == ErrorKind::OutOfMemory => Err(ArgumentFailure::Memory),
+        Err(_) => Err(ArgumentFailure::NotUtf8),
     }
 }
 
@@ -67,6 +86,16 @@ fn with_lists<'a>(
     }
 }
 
+/// A command with the flags that all have.
+fn command_of<'a>(alloc: Global, name: &'a str, about: &'a str) -> Result<Command<'a>, AllocError> {
+    let legacy = "Read leading zeros, as decimal";
+    let progress = "Tell on standard error how many bytes were read, list by list";
+    Command::new(alloc, name)
+        .about(about)
+        .arg(flag(alloc, "legacy", legacy))?
+        .arg(flag(alloc, "progress", progress))
+}
+
 /// The command of an operation.
 fn operation_command<'a>(
     alloc: Global,
@@ -74,21 +103,19 @@ fn operation_command<'a>(
     about: &'a str,
     lists: Lists,
 ) -> Result<Command<'a>, AllocError> {
-    let ranges = flag(alloc, "ranges", "Write ranges, as 10.0.0.0-10.0.0.5");
-    let legacy = flag(alloc, "legacy", "Read leading zeros, as decimal");
-    let command = Command::new(alloc, name)
-        .about(about)
-        .arg(ranges)?
-        .arg(legacy)?;
+    let ranges = "Write the fewest ranges, as 10.0.0.0-10.0.0.5, in place of networks";
+    let command = command_of(alloc, name, about)?.arg(flag(alloc, "ranges", ranges))?;
     with_lists(alloc, command, lists)
 }
 
 /// The command `complement`.
 fn complement_command<'a>(alloc: Global) -> Result<Command<'a>, AllocError> {
     let about = "The addresses that are not in the list, of the families of which it has some";
+    let ipv4 = "The complement in IPv4, whatever families the list has";
+    let ipv6 = "The complement in IPv6, whatever families the list has";
     operation_command(alloc, "complement", about, Lists::One)?
-        .arg(flag(alloc, "ipv4", "Of the IPv4 addresses"))?
-        .arg(flag(alloc, "ipv6", "Of the IPv6 addresses"))
+        .arg(flag(alloc, "ipv4", ipv4))?
+        .arg(flag(alloc, "ipv6", ipv6))
 }
 
 /// The command line of the program.
@@ -140,14 +167,25 @@ fn operation(name: &str, matches: &ArgMatches) -> Operation {
     }
 }
 
-/// What the command line asks for.
-pub fn call_of<'a>(alloc: Global, matches: &ArgMatches<'a>) -> Result<Call<'a>, AllocError> {
-    let (name, matches) = matches.subcommand().unwrap_or(("", matches));
+/// The names of the lists, in order.
+fn names_of<'a>(alloc: Global, matches: &ArgMatches<'a>) -> Result<Vec<&'a str>, AllocError> {
     let mut names = Vec::new(alloc);
     for id in ["first", "others"] {
         for name in matches.get_strs(id).unwrap_or(&[]) {
             names.push(*name)?;
         }
+    }
+    Ok(names)
+}
+
+/// What the command line asks for.
+pub fn call_of<'a>(alloc: Global, matches: &ArgMatches<'a>) -> Result<Call<'a>, ArgumentFailure> {
+    let (name, matches) = matches.subcommand().unwrap_or(("", matches));
+    let Ok(names) = names_of(alloc, matches) else {
+        return Err(ArgumentFailure::Memory);
+    };
+    if names.iter().filter(|name| **name == STANDARD_INPUT).count() > 1 {
+        return Err(ArgumentFailure::InputTwice);
     }
     let grammar = if matches.get_flag("legacy") {
         Grammar::Legacy
@@ -164,5 +202,10 @@ pub fn call_of<'a>(alloc: Global, matches: &ArgMatches<'a>) -> Result<Call<'a>, 
         grammar,
         form,
     };
-    Ok(Call { request, names })
+    let tells_progress = matches.get_flag("progress");
+    Ok(Call {
+        request,
+        names,
+        tells_progress,
+    })
 }

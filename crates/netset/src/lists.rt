@@ -1,4 +1,5 @@
 //! The lists, read from files and from standard input.
+use crate::arguments::STANDARD_INPUT;
 use netset_lists::{ReadFailure, read_whole};
 use std::fs::File;
 use std::io::{ErrorKind, IsTerminal, Write};
@@ -6,9 +7,9 @@ use std::io::{ErrorKind, IsTerminal, Write};
 /// From how many bytes on it is told on a terminal how far reading has come.
 const MUCH: usize = 16_777_216;
 
-/// The bytes of the list of this name: of standard input where it is `-`, and else of a file.
+/// The bytes of the list of this name: of standard input where it is "-", and else of a file.
 fn read_list(rt: &HostRuntime, name: &str) -> Result<Vec<u8>, ReadFailure> {
-    if name == "-" {
+    if name == STANDARD_INPUT {
         return read_whole(rt.alloc(), &mut rt.stdin());
     }
     match File::open(rt, name) {
@@ -20,18 +21,21 @@ fn read_list(rt: &HostRuntime, name: &str) -> Result<Vec<u8>, ReadFailure> {
 
 /// The bytes of the lists of these names, or the first that could not be had, and why.
 ///
-/// Where these are many and standard error is a terminal, it is told there how far reading has come.
+/// Where `tells_progress`, and where the bytes are many and standard error is a terminal, it is told there after each
+/// list how many it has. Where that cannot be written, the lists are read all the same.
 pub fn read_lists<'a>(
     rt: &HostRuntime,
     names: &[&'a str],
+    tells_progress: bool,
 ) -> Result<Vec<Vec<u8>>, (&'a str, ReadFailure)> {
     let mut lists = Vec::new(rt.alloc());
     let mut total: usize = 0;
     for name in names {
         let bytes = read_list(rt, name).map_err(|failure| (*name, failure))?;
-        total = total.saturating_add(bytes.len());
-        if total >= MUCH && rt.stderr().is_terminal() {
-            let _ = writeln!(rt.stderr(), "netset: {total} bytes read");
+        let count = bytes.len();
+        total = total.saturating_add(count);
+        if tells_progress || (total >= MUCH && rt.stderr().is_terminal()) {
+            let _ = writeln!(rt.stderr(), "netset: {name}: {count} bytes read");
         }
         if lists.push(bytes).is_err() {
             return Err((name, ReadFailure::Memory));

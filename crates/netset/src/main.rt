@@ -4,7 +4,7 @@
 mod arguments;
 mod lists;
 
-use crate::arguments::{call_of, matches_of, words};
+use crate::arguments::{ArgumentFailure, call_of, matches_of, words};
 use crate::lists::read_lists;
 use clap::ArgMatches;
 use netset_lists::run;
@@ -19,7 +19,7 @@ fn main(rt: HostRuntime) -> ExitCode {
 fn status(rt: &HostRuntime) -> u8 {
     let words = match words(rt) {
         Ok(words) => words,
-        Err(error) => return tell(rt, error),
+        Err(failure) => return refused(rt, failure),
     };
     match matches_of(rt.alloc(), words.as_slice()) {
         Ok(matches) => called(rt, &matches),
@@ -29,24 +29,28 @@ fn status(rt: &HostRuntime) -> u8 {
 
 /// Prints help, the version or what is wrong with the arguments, and answers the status.
 fn shown(rt: &HostRuntime, error: &clap::Error) -> u8 {
-    if error.print(rt).is_err() && !error.use_stderr() {
-        return tell(rt, "output cannot be written");
+    let is_wrong = error.use_stderr();
+    if error.print(rt).is_err() && !is_wrong {
+        let _ = writeln!(rt.stderr(), "netset: output cannot be written");
+        return 2;
     }
-    if error.use_stderr() { 2 } else { 0 }
+    if is_wrong { 2 } else { 0 }
 }
 
-/// Tells why there is no answer, and answers the status. Where that write fails, the status is the same.
-fn tell(rt: &HostRuntime, text: &str) -> u8 {
-    let _ = writeln!(rt.stderr(), "netset: {text}");
+/// Tells why the arguments make no call, and answers the status. Where that write fails, the status is the same.
+fn refused(rt: &HostRuntime, failure: ArgumentFailure) -> u8 {
+    let _ = writeln!(rt.stderr(), "netset: {failure}");
     2
 }
 
 /// Reads the lists and runs what the arguments ask of them.
 fn called(rt: &HostRuntime, matches: &ArgMatches) -> u8 {
-    let Ok(call) = call_of(rt.alloc(), matches) else {
-        return tell(rt, "out of memory");
+    let call = match call_of(rt.alloc(), matches) {
+        Ok(call) => call,
+        Err(failure) => return refused(rt, failure),
     };
-    let lists = match read_lists(rt, call.names.as_slice()) {
+    let names = call.names.as_slice();
+    let lists = match read_lists(rt, names, call.tells_progress) {
         Ok(lists) => lists,
         Err((name, failure)) => {
             let _ = writeln!(rt.stderr(), "netset: {name}: {failure}");
@@ -56,7 +60,7 @@ fn called(rt: &HostRuntime, matches: &ArgMatches) -> u8 {
     run(
         rt.alloc(),
         call.request,
-        call.names.as_slice(),
+        names,
         lists.as_slice(),
         &mut rt.stdout(),
         &mut rt.stderr(),
