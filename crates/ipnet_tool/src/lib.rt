@@ -2,6 +2,7 @@
 //! and the program over any reader and writers.
 #![tactic(auto)]
 
+pub mod output;
 pub mod program;
 #[cfg(test)]
 mod tests;

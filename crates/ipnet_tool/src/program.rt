@@ -1,13 +1,13 @@
 //! The program, over any reader and writers.
 ghost use Rattle.std.specs.Prelude.{◌≡◌, ◌≤◌, ◌⊎◌, ◌↔◌, ℕ, List, drop, IfOk, IfErr, IfSome, IfNone, OnOk};
 ghost use Rattle.std.specs.Vec.Iter.{into_iter_items};
-ghost use Rattle.std.specs.Io.{StartsWith};
-ghost use Rattle.std.specs.Io.KnownBytes.{Appends, Consumes, IsAtEnd, Keeps};
+ghost use Rattle.std.specs.Io.KnownBytes.{Consumes, IsAtEnd, Keeps};
 ghost use Rattle.ipnet.specs.declared.parser.Grammar.{Grammar};
 ghost use Rattle.ipnet_tool.specs.Runs.{IsChosenBy, IsAnswered, IsCutShort, HasBadLine};
 ghost use Rattle.ipnet_tool.specs.Statuses.{status_of};
 ghost use Rattle.ipnet_tool.specs.declared.program.Failure.TheVariants.{Arguments, Unreadable, Memory};
 
+use crate::output::write_whole;
 use crate::tool::{ToolError, answer_to};
 use ipnet::Grammar;
 use std::alloc::Global;
@@ -118,9 +118,9 @@ pub fn run<R: Read, W: Write, X: Write>(
         Err(ToolError::Line(number)) => return report(faults, Failure::Line(number)),
         Err(ToolError::Memory) => return report(faults, Failure::Memory),
     };
-    let Ok(()) = write_whole(out, answer.as_bytes()) else {
+    if write_whole(out, answer.as_bytes()).is_err() || out.flush().is_err() {
         return report(faults, Failure::Unwritable);
-    };
+    }
     0
 }
 
@@ -181,8 +181,8 @@ pub fn report<X: Write>(faults: &mut X, failure: Failure) -> u8
 
 /// The bytes that the reader gives up to its end. A read that was interrupted is made again.
 //
-// A loop is proved to end, and a reader may be interrupted again and again: so it counts, here and in `write_whole`, up
-// to more calls than any run makes.
+// A loop is proved to end, and a reader may be interrupted again and again: so it counts, up to more calls than any run
+// makes.
 fn read_all<R: Read>(alloc: Global, input: &mut R) -> Result<Vec<u8>, Failure>
     ensures bytes { IfOk result (λ bytes. Consumes (R.remaining input.old) (R.remaining input.new) bytes.items) }
     ensures end { OnOk result (IsAtEnd (R.remaining input.new)) }
@@ -206,29 +206,4 @@ fn read_all<R: Read>(alloc: Global, input: &mut R) -> Result<Vec<u8>, Failure>
         }
     }
     Err(Failure::Unreadable)
-}
-
-/// Writes the bytes and flushes the writer. A write that was interrupted is made again; where a write fails otherwise,
-/// the bytes written so far are a prefix of the answer.
-fn write_whole<W: Write>(out: &mut W, bytes: &[u8]) -> Result<(), Failure>
-    ensures whole { OnOk result (Appends (W.contents out.old) (W.contents out.new) bytes.now) }
-    ensures front { (front : List ℕ) × StartsWith bytes.now front
-        × Appends (W.contents out.old) (W.contents out.new) front }
-{
-    let mut written = 0;
-    for _ in 0..u64::MAX {
-        if written == bytes.len() {
-            return out.flush().map_err(|_| Failure::Unwritable);
-        }
-        match out.write(&bytes[written..]) {
-            Ok(0) => return Err(Failure::Unwritable),
-            Ok(count) => written += count,
-            Err(error) => {
-                if error.kind() != ErrorKind::Interrupted {
-                    return Err(Failure::Unwritable);
-                }
-            }
-        }
-    }
-    Err(Failure::Unwritable)
 }

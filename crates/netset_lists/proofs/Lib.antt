@@ -9,3 +9,9 @@ pub mod OperationLaws
 pub mod SameResults
 pub mod AnswerTexts
 pub mod ListsReading
+pub mod CountTexts
+pub mod FoldedReading
+pub mod PairLaws
+pub mod FilterLaws
+pub mod TableLaws
+pub mod RouteLaws

@@ -37,7 +37,7 @@ adds_network old new n =
     ))
 
 -- the block of an address with all its bits is the address
-whole_block : (f : Family) (number : ℕ)
+pub whole_block : (f : Family) (number : ℕ)
     → block_range (record { family = f; number = number; prefix_len = width f }) ≡ range_of f number number
 whole_block IPv4 number = let first : number / 1 * 1 ≡ number = omega arith in rw (first, add-zero number) refl
 whole_block IPv6 number = let first : number / 1 * 1 ≡ number = omega arith in rw (first, add-zero number) refl

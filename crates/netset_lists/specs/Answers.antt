@@ -72,3 +72,9 @@ abbrev pub IsFailureOf : Request → List (List ℕ) → Failure → Type 0
 IsFailureOf request lists Failures.Count = ¬ (IsCountFor request.operation (length lists))
 IsFailureOf request lists (Failures.Refused lines) = HasRefused request.grammar lists lines
 IsFailureOf request lists Failures.Memory = Unit {0}
+
+-- the same where so many lists are wanted
+abbrev pub IsFailureAt : ℕ → Grammar → List (List ℕ) → Failure → Type 0
+IsFailureAt n grammar lists Failures.Count = ¬ (length lists ≡ n)
+IsFailureAt n grammar lists (Failures.Refused lines) = HasRefused grammar lists lines
+IsFailureAt n grammar lists Failures.Memory = Unit {0}

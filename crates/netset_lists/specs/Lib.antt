@@ -8,5 +8,12 @@ pub mod FoundEntry
 pub mod Reading
 pub mod Operations
 pub mod Answers
+pub mod Counts
+pub mod Filters
+pub mod Pairs
+pub mod Filtering
+pub mod RouteAnswers
+pub mod Routing
 pub mod ListSets
+pub mod Replies
 pub mod Runs

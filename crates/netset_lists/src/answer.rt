@@ -148,7 +148,11 @@ fn read_lists(alloc: Global, grammar: Grammar, lists: &[Vec<u8>]) -> Result<List
 }
 
 /// The sets of the lists, if no line of them is refused.
-fn sets_of(alloc: Global, grammar: Grammar, lists: &[Vec<u8>]) -> Result<Vec<IpSet>, Failure>
+pub(crate) fn sets_of(
+    alloc: Global,
+    grammar: Grammar,
+    lists: &[Vec<u8>],
+) -> Result<Vec<IpSet>, Failure>
     ensures sets { IfOk result (λ sets. AreGoodSets grammar (bytes_of lists.now) sets.items) }
     ensures failure { IfErr result (IsReadFailure grammar (bytes_of lists.now)) }
 {

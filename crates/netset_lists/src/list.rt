@@ -44,7 +44,7 @@ fn push_entry(networks: &mut Vec<IpNet>, entry: Entry) -> Result<(), AllocError>
 }
 
 /// Networks with the addresses of the list's entries; its refused lines are added to those of the lists before.
-fn read_networks(
+pub(crate) fn read_networks(
     alloc: Global,
     grammar: Grammar,
     list: usize,

@@ -1,13 +1,18 @@
 //! The program, over any reader and writers.
-ghost use Rattle.std.specs.Prelude.{◌≡◌, ◌⊎◌, List, ℕ, IfOk};
-ghost use Rattle.std.specs.Io.KnownBytes.{Keeps};
+ghost use Rattle.std.specs.Prelude.{◌≡◌, ◌≢◌, ◌≤◌, ◌⊎◌, ◌↔◌, List, [], ℕ, IfOk, IsTrue};
+ghost use Rattle.std.specs.Io.{StartsWith};
+ghost use Rattle.std.specs.Io.KnownBytes.{Appends, Keeps};
 ghost use Rattle.ipnet_tool.specs.Runs.{GaveWhole};
-ghost use Rattle.netset_lists.specs.Answers.{IsAnswer};
 ghost use Rattle.netset_lists.specs.Bytes.{bytes_of};
-ghost use Rattle.netset_lists.specs.Runs.{IsAnswered};
+ghost use Rattle.netset_lists.specs.Replies.{IsReplied, IsReplyCutShort, AreSameLists, AreOtherLists};
+ghost use Rattle.netset_lists.specs.Runs.{IsAnswered, IsCutShort};
+ghost use Rattle.netset_lists.specs.declared.query.Query.TheVariants.{Compare};
 
 use crate::answer::{Failure, Request, answer};
+use crate::query::{Query, reply};
 use crate::refused::{RefusedLine, RefusedLines};
+use ipnet::Grammar;
+use ipnet_tool::output::write_whole;
 use std::alloc::Global;
 use std::io;
 use std::io::{ErrorKind, Read, Write};
@@ -48,6 +53,12 @@ pub fn read_whole<R: Read>(alloc: Global, input: &mut R) -> Result<Vec<u8>, Read
 /// | 2 | `netset: out of memory` | want of memory |
 /// | 2 | `netset: output cannot be written` | a write fails, or the flush after it; the answer may be out in part |
 /// | 0 | nothing | otherwise |
+///
+/// ```text
+/// Union of "10.0.0.0/9\n10.128.0.0/9\n", named a:  status 0, and out gets "10.0.0.0/8\n"
+/// Union of "10.0.0.0/33\n", named a:               status 2, and faults gets
+///     "a:1: not a network, an address or a range: 10.0.0.0/33\n"
+/// ```
 pub fn run<W: Write, X: Write>(
     alloc: Global,
     request: Request,
@@ -59,8 +70,8 @@ pub fn run<W: Write, X: Write>(
     ensures status { (result ≡ 0) ⊎ (result ≡ 2) }
     ensures answered { result ≡ 0
         → IsAnswered request (bytes_of lists.now) (W.contents out.old) (W.contents out.new) }
-    ensures unanswered { ((text : List ℕ) → ¬ (IsAnswer request (bytes_of lists.now) text))
-        → Keeps (W.contents out.old) (W.contents out.new) }
+    ensures cut_short { result ≡ 2 → Keeps (W.contents out.old) (W.contents out.new)
+        ⊎ IsCutShort request (bytes_of lists.now) (W.contents out.old) (W.contents out.new) }
     ensures faultless { result ≡ 0 → Keeps (X.contents faults.old) (X.contents faults.new) }
 {
     let text = match answer(alloc, request, lists) {
@@ -70,11 +81,76 @@ pub fn run<W: Write, X: Write>(
             return 2;
         }
     };
-    if out.write_all(text.as_bytes()).is_err() || out.flush().is_err() {
+    if !written(out, text.as_bytes()) {
         let _ = writeln!(faults, "netset: output cannot be written");
         return 2;
     }
     0
+}
+
+/// Writes the answer to the query over the bytes of lists to `out`, and answers the exit status.
+///
+/// | Status | On `faults` | When |
+/// |---|---|---|
+/// | 2 | what [`run`] tells there | where `run` has it: the query takes another number of lists, and so on |
+/// | 1 | nothing | the query is `Compare`, and the lists do not have the same addresses; `out` has what differs |
+/// | 0 | nothing | otherwise |
+///
+/// ```text
+/// Compare of "10.0.0.0/31\n" and "10.0.0.0\n":    status 1, and out gets
+///     "first alone: IPv4 1, IPv6 0\nsecond alone: IPv4 0, IPv6 0\n"
+/// Compare of "10.0.0.0/31\n" and "10.0.0.0-10.0.0.1\n":    status 0, and out gets nothing
+/// ```
+pub fn run_query<W: Write, X: Write>(
+    alloc: Global,
+    query: Query,
+    grammar: Grammar,
+    names: &[&str],
+    lists: &[Vec<u8>],
+    out: &mut W,
+    faults: &mut X,
+) -> u8
+    ensures status { result ≤ 2 }
+    ensures answered { result ≤ 1
+        → IsReplied query grammar (bytes_of lists.now) (W.contents out.old) (W.contents out.new) }
+    ensures different { result ≡ 1 → (query ≡ Compare) × AreOtherLists grammar (bytes_of lists.now) }
+    ensures same { result ≡ 0 → query ≡ Compare → AreSameLists grammar (bytes_of lists.now) }
+    ensures cut_short { result ≡ 2 → Keeps (W.contents out.old) (W.contents out.new)
+        ⊎ IsReplyCutShort query grammar (bytes_of lists.now) (W.contents out.old) (W.contents out.new) }
+    ensures faultless { result ≤ 1 → Keeps (X.contents faults.old) (X.contents faults.new) }
+{
+    let text = match reply(alloc, query, grammar, lists) {
+        Ok(text) => text,
+        Err(failure) => {
+            let _ = report(faults, names, &failure);
+            return 2;
+        }
+    };
+    if !written(out, text.as_bytes()) {
+        let _ = writeln!(faults, "netset: output cannot be written");
+        return 2;
+    }
+    status_of(query, text.as_str())
+}
+
+/// The exit status, where the query has this answer: a comparison that is not empty tells what differs.
+fn status_of(query: Query, text: &str) -> u8
+    ensures status { result ≤ 1 }
+    ensures different { (result ≡ 1) ↔ ((query ≡ Compare) × (text.now ≢ [])) }
+{
+    match query {
+        Query::Compare if !text.is_empty() => 1,
+        _ => 0,
+    }
+}
+
+/// Writes the bytes and flushes the writer, and tells whether both went well.
+fn written<W: Write>(out: &mut W, bytes: &[u8]) -> bool
+    ensures whole { IsTrue result → Appends (W.contents out.old) (W.contents out.new) bytes.now }
+    ensures front { (front : List ℕ) × StartsWith bytes.now front
+        × Appends (W.contents out.old) (W.contents out.new) front }
+{
+    write_whole(out, bytes).is_ok() && out.flush().is_ok()
 }
 
 /// Tells the failure.

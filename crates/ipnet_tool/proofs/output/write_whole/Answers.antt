@@ -4,8 +4,8 @@ use Rattle.std.proofs.Common.{◌≡◌, ◌≤◌, ◌-◌, length, take, drop,
 use Rattle.std.proofs.KnownBytes.{Appends-trans, Appends-kept}
 use Rattle.std.proofs.Math.Seq.{take-add}
 use Rattle.std.specs.Io.KnownBytes.{Appends}
-use Rattle.ipnet_tool.proofs.program.write_whole.Goals as goal
-use Rattle.ipnet_tool.proofs.program.write_whole.Goals.{in-Ok, in-Err+else-ne}
+use Rattle.ipnet_tool.proofs.output.write_whole.Goals as goal
+use Rattle.ipnet_tool.proofs.output.write_whole.Goals.{in-Ok, in-Err+else-ne}
 
 pub loop-preserved : goal.loop-preserved
 loop-preserved g c =

@@ -1,6 +1,6 @@
 use Rattle.std.proofs.Common.{◌≤◌, length, take}
 use Rattle.std.specs.Io.KnownBytes.{Appends}
-use Rattle.ipnet_tool.proofs.program.write_whole.Given as goal
+use Rattle.ipnet_tool.proofs.output.write_whole.Given as goal
 
 -- what went out so far is a front of the bytes
 abbrev pub invariant-loop : goal.invariant-loop

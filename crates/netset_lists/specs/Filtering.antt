@@ -1,0 +1,18 @@
+-- What the steps of filtering keep. Private contracts alone cite these.
+use Rattle.std.specs.Prelude.{◌≡◌, ℕ, List, All}
+use Rattle.ipnet_base.specs.Address.{Address, IsAddress}
+use Rattle.ipnet_base.specs.Ranges.{AddressRange}
+use Rattle.ipnet_sets.specs.SetRanges.{IsInRange}
+use Rattle.netset_lists.specs.Filters.{LiesIn, AreKept, text_of_entries}
+use Rattle.netset_lists.specs.Lists.{ListEntry}
+
+-- what lies in the range is an address of its family
+abbrev pub HasAddresses : AddressRange → Type 0
+HasAddresses range = (x : Address) → IsInRange range x → IsAddress x
+
+-- the text is those of the entries that lie in the set
+pub record AreFiltered (InSet : Address → Type 0) (text : List ℕ) (entries : List ListEntry) : Type 0 where
+  pub kept : List ListEntry
+  pub are_kept : AreKept (LiesIn InSet) entries kept
+  pub spelled : text ≡ text_of_entries kept
+  pub fit : All (λ e. HasAddresses e.range) entries
