@@ -1,4 +1,6 @@
 //! The lists, read from files and from standard input.
+ghost use Rattle.std.specs.Prelude.{◌≡◌, length, IfOk};
+
 use crate::arguments::STANDARD_INPUT;
 use netset_lists::{ReadFailure, read_whole};
 use std::fs::File;
@@ -27,7 +29,9 @@ pub fn read_lists<'a>(
     rt: &HostRuntime,
     names: &[&'a str],
     tells_progress: bool,
-) -> Result<Vec<Vec<u8>>, (&'a str, ReadFailure)> {
+) -> Result<Vec<Vec<u8>>, (&'a str, ReadFailure)>
+    ensures one_for_each { IfOk result (λ lists. length lists.items ≡ length names.now) }
+{
     let mut lists = Vec::new(rt.alloc());
     let mut total: usize = 0;
     for name in names {

@@ -1,13 +1,13 @@
-//! Combines lists of networks, addresses and ranges, as people keep them.
+//! Combines and compares lists of networks, addresses and ranges, as people keep them.
 #![tactic(auto)]
 
 mod arguments;
 mod lists;
 
-use crate::arguments::{ArgumentFailure, call_of, matches_of, words};
+use crate::arguments::{ArgumentFailure, Call, Work, call_of, matches_of, words};
 use crate::lists::read_lists;
 use clap::ArgMatches;
-use netset_lists::run;
+use netset_lists::{run, run_query};
 use std::io::Write;
 use std::process::ExitCode;
 
@@ -45,24 +45,38 @@ fn refused(rt: &HostRuntime, failure: ArgumentFailure) -> u8 {
 
 /// Reads the lists and runs what the arguments ask of them.
 fn called(rt: &HostRuntime, matches: &ArgMatches) -> u8 {
-    let call = match call_of(rt.alloc(), matches) {
+    let Call {
+        work,
+        names,
+        tells_progress,
+    } = match call_of(rt.alloc(), matches) {
         Ok(call) => call,
         Err(failure) => return refused(rt, failure),
     };
-    let names = call.names.as_slice();
-    let lists = match read_lists(rt, names, call.tells_progress) {
+    let lists = match read_lists(rt, names.as_slice(), tells_progress) {
         Ok(lists) => lists,
         Err((name, failure)) => {
             let _ = writeln!(rt.stderr(), "netset: {name}: {failure}");
             return 2;
         }
     };
-    run(
-        rt.alloc(),
-        call.request,
-        names,
-        lists.as_slice(),
-        &mut rt.stdout(),
-        &mut rt.stderr(),
-    )
+    match work {
+        Work::Combine(request) => run(
+            rt.alloc(),
+            request,
+            names.as_slice(),
+            lists.as_slice(),
+            &mut rt.stdout(),
+            &mut rt.stderr(),
+        ),
+        Work::Ask(query, grammar) => run_query(
+            rt.alloc(),
+            query,
+            grammar,
+            names.as_slice(),
+            lists.as_slice(),
+            &mut rt.stdout(),
+            &mut rt.stderr(),
+        ),
+    }
 }

@@ -15,6 +15,10 @@ mod model;
 #[cfg(test)]
 mod operation_rows;
 #[cfg(test)]
+mod query_model;
+#[cfg(test)]
+mod query_rows;
+#[cfg(test)]
 mod run_rows;
 #[cfg(test)]
 mod table;

@@ -2,10 +2,12 @@
 //! more. Every run gives the right answer or says that memory ran out: the first run the latter, the last the former.
 use crate::devices::{ArrayWriter, ByteReader, NEVER};
 use crate::operation_rows::operation;
+use crate::query_rows::query;
 use crate::table::lists;
 use ipnet::Grammar;
 use netset_lists::answer::{Failure, Form, Request, answer};
 use netset_lists::program::{ReadFailure, read_whole, run};
+use netset_lists::{Query, run_query};
 use out_of_memory::{RUNS, grow_stack, outcomes};
 use std::alloc::Global;
 use std::io::ErrorKind;
@@ -134,6 +136,52 @@ fn runs(rt: HostRuntime) -> Result<(), Fail> {
         let call = || run_outcome(alloc, request, lists.as_slice(), wanted, told);
         if let Some(found) = outcomes(alloc, call)? {
             check(&rt, label, &found);
+        }
+    }
+    Ok(())
+}
+
+/// What comes of a query over two lists: whether it gave the wanted standard output, and told nothing.
+fn query_outcome(alloc: Global, query: Query, lists: &[Vec<u8>], wanted: &[u8]) -> Outcome {
+    let names = ["a", "b"].as_slice();
+    let strict = Grammar::Strict;
+    let mut out = ArrayWriter::whole();
+    let mut faults = ArrayWriter::whole();
+    let status = run_query(alloc, query, strict, names, lists, &mut out, &mut faults);
+    let right = if query == Query::Compare { 1 } else { 0 };
+    match (out.held(), faults.held()) {
+        (held, b"") if status == right && held == wanted => Outcome::Answered,
+        (b"", b"netset: out of memory\n") if status == 2 => Outcome::Refused,
+        _ => Outcome::Wrong,
+    }
+}
+
+#[test]
+fn queries(rt: HostRuntime) -> Result<(), Fail> {
+    grow_stack(rt.alloc())?;
+    let alloc = rt.alloc();
+    // the query, its lists, standard output
+    let rows: [(&str, &str, &[u8]); 5] = [
+        ("count", "10.0.0.0/31, ::1", b"IPv4 2, IPv6 1\n"),
+        (
+            "compare",
+            "10.0.0.0/31 + ::1",
+            b"first alone: IPv4 2, IPv6 0\nsecond alone: IPv4 0, IPv6 1\n",
+        ),
+        ("filter", "10.0.0.0/8 + ::1, 10.0.0.1", b"10.0.0.1\n"),
+        ("filter --outside", "10.0.0.0/8 + ::1, 10.0.0.1", b"::1\n"),
+        (
+            "route",
+            "10.0.0.0/8 + ::1, 10.0.0.1",
+            b"::1 -\n10.0.0.1 10.0.0.0/8\n",
+        ),
+    ];
+    for (name, given, wanted) in rows {
+        let lists = lists(alloc, given)?;
+        let query = query(&rt, name);
+        let call = || query_outcome(alloc, query, lists.as_slice(), wanted);
+        if let Some(found) = outcomes(alloc, call)? {
+            check(&rt, name, &found);
         }
     }
     Ok(())

@@ -7,7 +7,7 @@ use std::process::Abort;
 use std::test::Fail;
 
 /// Four neighbouring addresses, and what joins them to lists: each alone, and with the one that follows.
-const UNIVERSES: [[&str; 4]; 4] = [
+pub const UNIVERSES: [[&str; 4]; 4] = [
     ["0.0.0.0", "0.0.0.1", "0.0.0.2", "0.0.0.3"],
     [
         "255.255.255.252",
@@ -25,12 +25,12 @@ const UNIVERSES: [[&str; 4]; 4] = [
 ];
 
 /// Whether the set of bits has the address of this place.
-fn has(bits: u8, place: usize) -> bool {
+pub fn has(bits: u8, place: usize) -> bool {
     place < 4 && (bits >> place) & 1 == 1
 }
 
 /// A list of the addresses, from the last to the first, each alone or as a range of one.
-fn list(alloc: Global, universe: [&str; 4], bits: u8) -> Result<Vec<u8>, AllocError> {
+pub fn list(alloc: Global, universe: [&str; 4], bits: u8) -> Result<Vec<u8>, AllocError> {
     let mut list = String::new(alloc);
     for place in (0..4).rev() {
         if has(bits, place) {
