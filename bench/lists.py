@@ -160,6 +160,13 @@ def sites_ipv6():
             yield ipv6(site << 80, 48)
 
 
+def addresses_ipv4():
+    """Any addresses, without a length."""
+    numbers = Numbers(13)
+    while True:
+        yield ipv4(numbers.bits() >> 32, 32)[:-3]
+
+
 # Real lists.
 
 def ranges(path, address):
@@ -190,6 +197,13 @@ def ranges_ipv6():
     return (ipv6(*network) for networks, _ in ranges_of_ipv6() for network in networks)
 
 
+def spans_ipv4():
+    """Every IPv4 range as its first and its last address, FIRST-LAST, in the table's order."""
+    for networks, _ in ranges_of_ipv4():
+        (first, _), (last, prefix_len) = networks[0], networks[-1]
+        yield "%s-%s" % (ipv4(first, 32)[:-3], ipv4(last | (1 << 32 - prefix_len) - 1, 32)[:-3])
+
+
 def ranges_both():
     """Both, in any order."""
     lines = list(ranges_ipv4()) + list(ranges_ipv6())
@@ -215,11 +229,11 @@ def untidy(networks, width, numbers):
             yield address | (numbers.bits() & hosts if numbers.percent(30) else 0), prefix_len
 
 
-def countries(with_ipv6, seed):
-    """The forty countries that have most IPv4 ranges, untidy and in any order."""
+def countries(with_ipv6, seed, more=0):
+    """The forty countries that have most IPv4 ranges, but for so many that have more, untidy and in any order."""
     numbers = Numbers(seed)
     networks, counts = by_country(ranges_of_ipv4())
-    chosen = sorted(counts, key=lambda country: (-counts[country], country))[:COUNTRIES]
+    chosen = sorted(counts, key=lambda country: (-counts[country], country))[more:more + COUNTRIES]
     lines = [ipv4(*network) for country in chosen for network in untidy(networks[country], 32, numbers)]
     if with_ipv6:
         networks, _ = by_country(ranges_of_ipv6())
@@ -236,12 +250,18 @@ def countries_both():
     return countries(True, 11)
 
 
+def next_countries_ipv4():
+    """The 21st to the 60th country."""
+    return countries(False, 12, COUNTRIES // 2)
+
+
 GENERATED = {make.__name__: make for make in (
     random_ipv4, random_ipv6, random_both, routing_table, consecutive_hosts, aggregated_ipv4, aggregated_ipv6,
-    routes_ipv4, descending_hosts, sites_ipv6)}
+    routes_ipv4, descending_hosts, sites_ipv6, addresses_ipv4)}
 # The lists that are at most so long.
 MOST = {"sites_ipv6": MILLION, "consecutive_hosts": 10 * MILLION, "descending_hosts": 10 * MILLION}
-REAL = {make.__name__: make for make in (ranges_ipv4, ranges_ipv6, ranges_both, countries_ipv4, countries_both)}
+REAL = {make.__name__: make for make in (
+    ranges_ipv4, ranges_ipv6, ranges_both, spans_ipv4, countries_ipv4, countries_both, next_countries_ipv4)}
 
 
 def path_of(name, count=MILLION):
@@ -258,6 +278,11 @@ def path_of(name, count=MILLION):
             out.writelines(line + "\n" for line in lines)
         os.rename(path + ".part", path)
     return path
+
+
+def lines_of(path):
+    with open(path, "rb") as text:
+        return sum(1 for _ in text)
 
 
 def main(names):

@@ -1,4 +1,5 @@
 """The programs that are measured: found, built where they are missing or old, and run under the launcher."""
+import functools
 import glob
 import json
 import os
@@ -13,9 +14,10 @@ from lists import CACHE
 BENCH = os.path.dirname(os.path.abspath(__file__))
 TOP = os.path.dirname(BENCH)
 
-# The crate of the program that times the calls, and that of the program that the script `ipnet` runs.
+# The crates of the program that times the calls, of the program that the script `ipnet` runs, and of `netset`.
 CALLS_CRATE = "ipnet_bench"
 PROGRAM_CRATE = "ipnet_program"
+NETSET_CRATE = "netset"
 
 
 class Took(NamedTuple):
@@ -25,26 +27,24 @@ class Took(NamedTuple):
     peak: int       # the most bytes that were resident
 
 
-class Programs(NamedTuple):
-    """The paths of the programs. None: it isn't to be had, and its columns stay empty."""
-    our_calls: str
-    our_program: str
-    original_calls: str | None
-    original_program: str | None
-    iprange: str | None
-
-
 def note(text):
     print("bench/run: " + text, file=sys.stderr, flush=True)
 
 
-def libraries(crate):
-    """The crate and the crates of this repository below it, by crates.txt."""
+def crates():
+    """What each crate of this repository uses, by crates.txt, in which words such as `staticlib` follow some names."""
     uses = {}
     with open(os.path.join(TOP, "crates.txt"), encoding="utf-8") as lines:
         for line in lines:
-            name, _, below = line.partition("#")[0].partition(":")
-            uses[name.strip()] = below.split()
+            name, colon, below = line.partition("#")[0].partition(":")
+            if colon:
+                uses[name.split()[0]] = below.split()
+    return uses
+
+
+def libraries(crate):
+    """The crate and the crates of this repository below it."""
+    uses = crates()
     found = [crate]
     for name in found:
         found += [below for below in uses[name] if below in uses and below not in found]
@@ -56,8 +56,8 @@ def is_older(built, sources):
     return not os.path.exists(built) or any(os.path.getmtime(path) > os.path.getmtime(built) for path in sources)
 
 
-def ours(crate):
-    """The program of a crate of this repository."""
+def ours(crate, *words):
+    """The program of a crate of this repository. With these words it ends with status 0 where it has no input."""
     program = os.path.join(TOP, "crates", crate, "out", crate)
     sources = [path for name in libraries(crate)
                for path in glob.glob(os.path.join(TOP, "crates", name, "src/**/*.rt"), recursive=True)]
@@ -66,7 +66,8 @@ def ours(crate):
             sys.exit("bench/run: building %s needs the Rattle kit (command rt)" % crate)
         note("proving and building %s; this takes some minutes" % crate)
         folder = os.path.join(TOP, "crates", crate)
-        if subprocess.run(["rt", "run"], cwd=folder, stdin=subprocess.DEVNULL, stdout=subprocess.DEVNULL).returncode:
+        command = ["rt", "run", "--", *words]
+        if subprocess.run(command, cwd=folder, stdin=subprocess.DEVNULL, stdout=subprocess.DEVNULL).returncode:
             sys.exit("bench/run: rt run failed in " + folder)
         os.utime(program)  # also where rt had nothing to build, or the next run would build again
     return program
@@ -95,18 +96,66 @@ def originals():
 def launcher():
     source, program = os.path.join(BENCH, "launch.c"), os.path.join(CACHE, "launch")
     if is_older(program, [source]):
-        subprocess.run([os.environ.get("CC", "cc"), "-O2", "-Wall", "-o", program, source], check=True)
-    return program
+        compiler = os.environ.get("CC") or "cc"
+        if not shutil.which(compiler):
+            sys.exit("bench/run: launch.c needs a C compiler (apt-get install gcc libc6-dev)")
+        if subprocess.run([compiler, "-O2", "-Wall", "-o", program, source]).returncode:
+            sys.exit("bench/run: launch.c can't be compiled")
 
 
-def programs():
-    """Everything that is measured, built where it has to be."""
-    os.makedirs(CACHE, exist_ok=True)
-    launcher()
-    iprange = shutil.which("iprange")
-    if not iprange:
-        note("there is no iprange (apt-get install iprange): its columns stay empty")
-    return Programs(ours(CALLS_CRATE), ours(PROGRAM_CRATE), *originals(), iprange)
+def netaddr_sets():
+    """The command of netaddr_sets.py, by the first Python that has netaddr: Debian's, which isn't always this one."""
+    for python in filter(os.path.exists, (sys.executable, "/usr/bin/python3")):
+        if subprocess.run([python, "-c", "import netaddr"], capture_output=True).returncode == 0:
+            return [python, os.path.join(BENCH, "netaddr_sets.py")]
+    note("there is no netaddr (apt-get install python3-netaddr): its columns stay empty")
+    return None
+
+
+class Programs:
+    """The paths of the programs, each built or looked for when it is first asked for. None: it isn't to be had, and
+    its columns stay empty."""
+
+    def __init__(self):
+        os.makedirs(CACHE, exist_ok=True)
+        launcher()
+
+    @functools.cached_property
+    def our_calls(self):
+        return ours(CALLS_CRATE)
+
+    @functools.cached_property
+    def our_program(self):
+        return ours(PROGRAM_CRATE)
+
+    @functools.cached_property
+    def our_netset(self):
+        """None: this repository doesn't have the crate."""
+        return ours(NETSET_CRATE, "--version") if NETSET_CRATE in crates() else None
+
+    @functools.cached_property
+    def originals(self):
+        return originals()
+
+    @property
+    def original_calls(self):
+        return self.originals[0]
+
+    @property
+    def original_program(self):
+        return self.originals[1]
+
+    @functools.cached_property
+    def iprange(self):
+        found = shutil.which("iprange")
+        if not found:
+            note("there is no iprange (apt-get install iprange): its columns stay empty")
+        return found
+
+    @functools.cached_property
+    def netaddr(self):
+        """The command of netaddr_sets.py."""
+        return netaddr_sets()
 
 
 def run(command, source=os.devnull, sink=subprocess.PIPE, status=0):
@@ -122,8 +171,8 @@ def run(command, source=os.devnull, sink=subprocess.PIPE, status=0):
 
 
 def figure(program, task, source=os.devnull):
-    """(the object that a program of calls prints, its peak) of one task."""
-    took, told = run([program, *task], source)
+    """(the object that a program of calls prints, its peak) of one task. The program is a path, or a command."""
+    took, told = run([*([program] if isinstance(program, str) else program), *task], source)
     return json.loads(told), took.peak
 
 

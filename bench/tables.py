@@ -1,13 +1,14 @@
 """The tables of the bench. README.md says what a figure is."""
-import hashlib
 import os
 import tempfile
 from typing import NamedTuple
 
-from lists import MILLION, MOST, Missing, path_of
+import netset_tables
+import set_tables
+from cells import MIB, head, least, mebibytes, milliseconds, ratio, row, shown
+from lists import MILLION, MOST, Missing, lines_of, path_of
 from programs import figure, floor, run
-
-MIB = 1 << 20
+from turns import Command, in_turns, measured, with_lengths
 
 
 class Call(NamedTuple):
@@ -29,20 +30,6 @@ class Program(NamedTuple):
     time_goal: float | None = None
     peak: float | None = None
     peak_goal: float | None = None
-
-
-class Measured(NamedTuple):
-    """The runs of each program on a list, and the digests of their outputs."""
-    runs: dict
-    outputs: list
-
-    def least(self, who, field):
-        """The least time of a program: wall or processor. None: it was not run."""
-        return least([getattr(took, field) for took in self.runs.get(who, [])])
-
-    def peak(self, who):
-        """The greatest peak of a program. None: it was not run."""
-        return max((took.peak for took in self.runs.get(who, [])), default=None)
 
 
 IPV4_RANGE = ["10.0.0.0", "10.255.255.255"]
@@ -98,69 +85,6 @@ CALL_LENGTHS = [10_000, 100_000, MILLION]
 PROGRAM_LENGTHS = [10_000, 100_000, MILLION, 10 * MILLION]
 
 
-class Bench:
-    """The programs, how often each is run, and what was found: bounds held and missed, answers that differ."""
-
-    def __init__(self, programs, rounds, only):
-        self.programs, self.rounds, self.only = programs, rounds, only
-        self.held, self.missed, self.differing = 0, [], []
-
-    def wants(self, *names):
-        return any(self.only in name for name in names if name)
-
-    def judged(self, row, value, bound, goal=None):
-        """The cell of a bound: the bound, its goal in brackets, and whether the value as it is shown is within it."""
-        if bound is None:
-            return "-"
-        cell = "%g (%g)" % (bound, goal) if goal else "%g" % bound
-        if value is None:
-            return cell
-        if round(value, 2) <= bound:
-            self.held += 1
-            return cell + " held"
-        self.missed.append(row)
-        return cell + " **missed**"
-
-    def compared(self, row, answers):
-        """The cell that says whether all programs gave one answer."""
-        if len(answers) < 2:
-            return "-"
-        if len(set(answers)) == 1:
-            return "same"
-        self.differing.append(row)
-        return "**DIFFER**"
-
-
-def row(*cells):
-    print("| " + " | ".join(cells) + " |", flush=True)
-
-
-def head(title, *cells):
-    print("\n### %s\n" % title)
-    row(*cells)
-    row(*["---"] + ["---:"] * (len(cells) - 1))
-
-
-def milliseconds(nanoseconds):
-    return "-" if nanoseconds is None else "%.2f" % (nanoseconds / 1e6)
-
-
-def mebibytes(size):
-    return "-" if size is None else "%.1f" % (size / MIB)
-
-
-def ratio(one, other):
-    return None if one is None or other is None else one / other
-
-
-def shown(number):
-    return "-" if number is None else "%.2f" % number
-
-
-def least(times):
-    return min(times) if times else None
-
-
 def calls(bench):
     wanted = [call for call in CALLS if bench.wants(call.label, call.list_name)]
     if wanted:
@@ -173,17 +97,9 @@ def calls(bench):
 
 def call_row(bench, call):
     source = path_of(call.list_name) if call.list_name else os.devnull
-    ours, theirs, answers = [], [], []
-    sides = [(bench.programs.our_calls, call.task, ours),
-             (bench.programs.original_calls, call.original_task or call.task, theirs)]
-    for _ in range(bench.rounds):
-        for path, task, times in sides:
-            if path:
-                line, _ = figure(path, task, source)
-                times.append(line["min_ns"])
-                answers.append((line["items"], line["check"]))
-    part = ratio(least(ours), least(theirs))
-    row(call.label, format(answers[0][0], ","), milliseconds(least(ours)), milliseconds(least(theirs)), shown(part),
+    ours, theirs, answers = in_turns(bench, call.task, call.original_task or call.task, source)
+    part = ratio(ours, theirs)
+    row(call.label, format(answers[0][0], ","), milliseconds(ours), milliseconds(theirs), shown(part),
         bench.judged(call.label, part, call.bound, call.goal),
         bench.compared(call.label, answers) if theirs else "-")
 
@@ -235,34 +151,14 @@ def beside_list(program, name):
     return held["check"], peak_aggregated - peak_held
 
 
-def digest(path, puts_back):
-    """The digest of an output. iprange leaves out the length of a single address, which is put back here."""
-    found = hashlib.sha256()
-    with open(path, "rb") as lines:
-        for line in lines:
-            bare = puts_back and b"/" not in line
-            found.update(line.rstrip(b"\n") + b"/32\n" if bare else line)
-    return found.hexdigest()
-
-
-def measured(bench, source, with_iprange, times=1):
-    """The programs on a list. They take turns, so many times in each round; the first run of each is not measured,
-    and its output is kept."""
-    commands = {"ours": bench.programs.our_program, "original": bench.programs.original_program,
-                "iprange": bench.programs.iprange if with_iprange else None}
-    commands = {who: [path] for who, path in commands.items() if path}
-    outputs = []
-    with tempfile.NamedTemporaryFile() as answer, open(os.devnull, "wb") as nowhere:
-        for who, command in commands.items():
-            answer.truncate(0)
-            answer.seek(0)
-            run(command, source, answer)
-            outputs.append(digest(answer.name, who == "iprange"))
-        runs = {who: [] for who in commands}
-        for _ in range(times * bench.rounds):
-            for who, command in commands.items():
-                runs[who].append(run(command, source, nowhere)[0])
-    return Measured(runs, outputs)
+def text_programs(bench, with_iprange):
+    """The commands of the programs that aggregate a text."""
+    programs = bench.programs
+    commands = {"ours": programs.our_program, "original": programs.original_program}
+    commands = {who: Command([path]) for who, path in commands.items() if path}
+    if with_iprange and programs.iprange:
+        commands["iprange"] = Command([programs.iprange], as_ours=with_lengths)
+    return commands
 
 
 def program(bench):
@@ -281,7 +177,7 @@ def program(bench):
 
 
 def program_row(bench, listed, source):
-    found = measured(bench, source, listed.iprange)
+    found = measured(bench, text_programs(bench, listed.iprange), source)
     wall, processor, peak = found.least("ours", "wall"), found.least("ours", "processor"), found.peak("ours")
     part = ratio(processor, found.least("original", "processor"))
     row(listed.label, format(lines_of(source), ","), milliseconds(wall), milliseconds(processor),
@@ -293,11 +189,6 @@ def program_row(bench, listed, source):
         bench.compared(listed.label, found.outputs))
 
 
-def lines_of(path):
-    with open(path, "rb") as text:
-        return sum(1 for _ in text)
-
-
 def lengths(bench):
     wanted = [name for name in ("routes_ipv4", "sites_ipv6") if bench.wants(name)]
     if wanted:
@@ -305,7 +196,8 @@ def lengths(bench):
              "bound", "of the original's", "peak MiB", "bytes a line", "the original's MiB", "output")
     start = least([run([bench.programs.our_program])[0].processor for _ in range(bench.rounds)])
     for name in wanted:
-        found = {length: measured(bench, path_of(name, length), False, max(1, MILLION // length // 5))
+        found = {length: measured(bench, text_programs(bench, False), path_of(name, length),
+                                  max(1, MILLION // length // 5))
                  for length in PROGRAM_LENGTHS if length <= MOST.get(name, length)}
         a_line = {length: (found[length].least("ours", "processor") - start) / length for length in found}
         for length in found:
@@ -338,4 +230,5 @@ def unbroken(bench):
                     bench.judged("unbroken line", round(took.peak / MIB, 1), bound))
 
 
-PARTS = {"calls": calls, "growth": growth, "memory": memory, "program": program, "lengths": lengths}
+PARTS = {"calls": calls, "growth": growth, "memory": memory, "sets": set_tables.sets, "program": program,
+         "lengths": lengths, "netset": netset_tables.netset}

@@ -17,36 +17,40 @@ use Rattle.ipnet.specs.ReaderSteps.{digit_run, decimal_of, group_of, is_plain}
 -- ---- the run
 
 -- at most `room` digits, and then none where there is room, are the run
-digit_run_stop : (room : ℕ) (ds rest : List ℕ) → AllDigits 16 ds → length ds ≤ room
-    → (length ds < room → NoDigit 16 rest) → digit_run room (ds ++ rest) ≡ (ds, rest)
+digit_run_stop : (radix room : ℕ) (ds rest : List ℕ) → AllDigits radix ds → length ds ≤ room
+    → (length ds < room → NoDigit radix rest) → digit_run radix room (ds ++ rest) ≡ (ds, rest)
 unfolding digit_run
-digit_run_stop zero [] rest all fits stop = refl
-digit_run_stop zero (d ∷ ds) rest all fits stop = absurd (omega arith)
-digit_run_stop (suc room) [] [] all fits stop = refl
-digit_run_stop (suc room) [] (c ∷ rest) all fits stop = rw (le-ltb (digit_value c) 16 (stop (omega arith)))
-digit_run_stop (suc room) (d ∷ ds) rest all fits stop =
-    rw (lt-ltb (digit_value d) 16 all.0, digit_run_stop room ds rest all.1 (omega arith) (λ less. stop (omega arith)))
+digit_run_stop radix zero [] rest all fits stop = refl
+digit_run_stop radix zero (d ∷ ds) rest all fits stop = absurd (omega arith)
+digit_run_stop radix (suc room) [] [] all fits stop = refl
+digit_run_stop radix (suc room) [] (c ∷ rest) all fits stop = rw (le-ltb (digit_value c) radix (stop (omega arith)))
+digit_run_stop radix (suc room) (d ∷ ds) rest all fits stop =
+    rw (
+      lt-ltb (digit_value d) radix all.0,
+      digit_run_stop radix room ds rest all.1 (omega arith) (λ less. stop (omega arith)),
+    )
 
-pub digit_run-append : (room : ℕ) (ds rest : List ℕ) → AllDigits 16 ds → length ds ≤ room → NoDigit 16 rest
-    → digit_run room (ds ++ rest) ≡ (ds, rest)
-digit_run-append room ds rest all fits stop = digit_run_stop room ds rest all fits (λ _. stop)
+pub digit_run-append : (radix room : ℕ) (ds rest : List ℕ) → AllDigits radix ds → length ds ≤ room → NoDigit radix rest
+    → digit_run radix room (ds ++ rest) ≡ (ds, rest)
+digit_run-append radix room ds rest all fits stop = digit_run_stop radix room ds rest all fits (λ _. stop)
 
 -- what the run is
-pub record IsRun (room : ℕ) (text ds rest : List ℕ) : Type 0 where
+pub record IsRun (radix room : ℕ) (text ds rest : List ℕ) : Type 0 where
   pub spelled : text ≡ ds ++ rest
-  pub all : AllDigits 16 ds
+  pub all : AllDigits radix ds
   pub fits : length ds ≤ room
 
-pub digit_run_sound : (room : ℕ) (text : List ℕ) → IsRun room text (digit_run room text).0 (digit_run room text).1
+pub digit_run_sound : (radix room : ℕ) (text : List ℕ)
+    → IsRun radix room text (digit_run radix room text).0 (digit_run radix room text).1
 unfolding digit_run
-digit_run_sound zero text = record { spelled = refl; all = tt; fits = omega arith }
-digit_run_sound (suc room) [] = record { spelled = refl; all = tt; fits = omega arith }
-digit_run_sound (suc room) (c ∷ text) =
-    let more = digit_run_sound room text in
-    elim (cases_lt (digit_value c) 16) [
-      | inl digit ↦ rw (lt-ltb (digit_value c) 16 digit)
+digit_run_sound radix zero text = record { spelled = refl; all = tt; fits = omega arith }
+digit_run_sound radix (suc room) [] = record { spelled = refl; all = tt; fits = omega arith }
+digit_run_sound radix (suc room) (c ∷ text) =
+    let more = digit_run_sound radix room text in
+    elim (cases_lt (digit_value c) radix) [
+      | inl digit ↦ rw (lt-ltb (digit_value c) radix digit)
           (record { spelled = ap (λ t. c ∷ t) more.spelled; all = (digit, more.all); fits = omega (arith, more.fits) })
-      | inr other ↦ rw (le-ltb (digit_value c) 16 other) (record { spelled = refl; all = tt; fits = omega arith })
+      | inr other ↦ rw (le-ltb (digit_value c) radix other) (record { spelled = refl; all = tt; fits = omega arith })
     ]
 
 -- ---- what it writes
@@ -55,7 +59,7 @@ pub AllDigits_hex : (ds : List ℕ) → AllDigits 10 ds → AllDigits 16 ds
 AllDigits_hex [] h = tt
 AllDigits_hex (d ∷ ds) h = let v = digit_value d in (omega (arith, h.0), AllDigits_hex ds h.1)
 
-all_decimal : (ds : List ℕ) → AllDigits 10 ds → list_all (λ c. is_digit c 10) ds ≡ true
+pub all_decimal : (ds : List ℕ) → AllDigits 10 ds → list_all (λ c. is_digit c 10) ds ≡ true
 all_decimal [] h = refl
 all_decimal (d ∷ ds) h = and_from _ _ (lt-ltb (digit_value d) 10 h.0) (all_decimal ds h.1)
 
@@ -135,11 +139,11 @@ room_for_one i n less below =
 pub one_below : (i n d : ℕ) → n < 16 ^ i → d < 16 → n * 16 + d < 16 ^ (i + 1)
 one_below i n d below digit = rw (add-one, pow-suc) (omega arith)
 
--- the run is the first i bytes, where i are read or the next is no digit
-pub digit_run_at : (i : ℕ) (text : List ℕ) → i ≤ 4 → i ≤ length text → AllDigits 16 (take i text)
-    → (i < 4 → 16 ≤ digit_value (get_or text i 0)) → digit_run 4 text ≡ (take i text, drop i text)
-digit_run_at i text few within all stop =
+-- the run is the first i bytes, where as many as there is room for are read or the next is no digit
+pub digit_run_at : (radix room i : ℕ) (text : List ℕ) → i ≤ room → i ≤ length text → AllDigits radix (take i text)
+    → (i < room → radix ≤ digit_value (get_or text i 0)) → digit_run radix room text ≡ (take i text, drop i text)
+digit_run_at radix room i text few within all stop =
     let len = length-take-le i text within in
-    let next : length (take i text) < 4 → NoDigit 16 (drop i text) =
+    let next : length (take i text) < room → NoDigit radix (drop i text) =
     λ less. rw (get_or-drop i text 0 0, add-zero) (stop (omega arith)) in
-    rw (take-append-drop i text) at (digit_run_stop 4 (take i text) (drop i text) all (omega arith) next)
+    rw (take-append-drop i text) at (digit_run_stop radix room (take i text) (drop i text) all (omega arith) next)

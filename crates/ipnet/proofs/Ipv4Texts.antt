@@ -13,40 +13,53 @@ use Rattle.std.specs.Int.{w32, from_be_bytes}
 use Rattle.ipnet_base.specs.Network.{Network}
 use Rattle.ipnet.specs.NetworkOf.{ipv4_network_of}
 use Rattle.ipnet.specs.NetworkTexts.{IsIpv4NetworkText}
-use Rattle.ipnet.specs.ReaderSteps.{read_byte, digit_run, decimal_of, read_octet, read_dotted, read_prefix_len}
-use Rattle.ipnet.specs.ReaderSteps.{read_ipv4_network}
+use Rattle.ipnet.specs.ReaderSteps.{read_byte, decimal_run, hex_run, decimal_of, octet_at, read_octet, read_dotted}
+use Rattle.ipnet.specs.ReaderSteps.{read_prefix_len, read_ipv4_network}
 use Rattle.ipnet.proofs.DigitTexts.{AllDigits_hex, digit_run-append, digit_run_sound, decimal_of_complete}
 use Rattle.ipnet.proofs.DigitTexts.{decimal_of_sound}
 
--- the run at the front of a decimal text that a byte other than a digit follows
-decimal_run : (grammar : Grammar) (most greatest : ℕ) (ds : List ℕ) (n : ℕ) (rest : List ℕ) → most ≤ 4
-    → IsDecimal grammar most greatest ds n → NoDigit 16 rest → digit_run 4 (ds ++ rest) ≡ (ds, rest)
-decimal_run grammar most greatest ds n rest few h stop =
-    digit_run-append 4 ds rest (AllDigits_hex ds h.digits.1) (omega (arith, h.short)) stop
-
+-- the runs at the front of an octet that a byte other than a digit follows
 pub octet_run : (grammar : Grammar) (ds : List ℕ) (n : ℕ) (rest : List ℕ) → IsOctet grammar ds n → NoDigit 16 rest
-    → digit_run 4 (ds ++ rest) ≡ (ds, rest)
-octet_run grammar ds n rest h stop = decimal_run grammar 3 255 ds n rest (lit≤ tt) h stop
+    → decimal_run (ds ++ rest) ≡ (ds, rest)
+octet_run grammar ds n rest h stop =
+    let decimal_stop : NoDigit 10 rest = omega (arith, stop) in
+    digit_run-append 10 3 ds rest h.digits.1 h.short decimal_stop
+
+pub octet_hex_run : (grammar : Grammar) (ds : List ℕ) (n : ℕ) (rest : List ℕ) → IsOctet grammar ds n → NoDigit 16 rest
+    → hex_run (ds ++ rest) ≡ (ds, rest)
+octet_hex_run grammar ds n rest h stop =
+    digit_run-append 16 4 ds rest (AllDigits_hex ds h.digits.1) (omega (arith, h.short)) stop
+
+octet_at_complete : (grammar : Grammar) (ds : List ℕ) (n : ℕ) (rest : List ℕ) → IsOctet grammar ds n → NoDigit 16 rest
+    → octet_at grammar (ds ++ rest) ≡ Some (n, rest)
+unfolding octet_at
+octet_at_complete grammar ds n rest h stop =
+    rw (octet_run grammar ds n rest h stop, decimal_of_complete grammar ds n h)
 
 read_octet_complete : (grammar : Grammar) (ds : List ℕ) (n : ℕ) (rest : List ℕ) → IsOctet grammar ds n → NoDigit 16 rest
     → read_octet grammar (46 ∷ (ds ++ rest)) ≡ Some (n, rest)
 unfolding read_octet
-read_octet_complete grammar ds n rest h stop =
-    rw (octet_run grammar ds n rest h stop, decimal_of_complete grammar ds n h)
+read_octet_complete grammar ds n rest h stop = octet_at_complete grammar ds n rest h stop
+
+octet_at_sound : (grammar : Grammar) (text : List ℕ) (n : ℕ) (rest : List ℕ) → octet_at grammar text ≡ Some (n, rest)
+    → (ds : List ℕ) × (text ≡ ds ++ rest) × IsOctet grammar ds n
+unfolding octet_at
+octet_at_sound grammar text n rest e =
+    option_and_then_some _ (decimal_of grammar (decimal_run text).0) _ e λ o octet e₁.
+    let (value_is, rest_is) = some_pair_parts o n (decimal_run text).1 rest e₁ in
+    let run = digit_run_sound 10 3 text in (
+      (decimal_run text).0,
+      run.spelled ∙ ap (λ t. (decimal_run text).0 ++ t) rest_is,
+      rw value_is at (decimal_of_sound grammar _ o octet),
+    )
 
 read_octet_sound : (grammar : Grammar) (text : List ℕ) (n : ℕ) (rest : List ℕ)
     → read_octet grammar text ≡ Some (n, rest) → (ds : List ℕ) × (text ≡ 46 ∷ (ds ++ rest)) × IsOctet grammar ds n
 unfolding read_octet
 read_octet_sound grammar text n rest e =
     option_and_then_some _ (read_byte 46 text) _ e λ digits dot e₁.
-    option_and_then_some _ (decimal_of grammar (digit_run 4 digits).0) _ e₁ λ o octet e₂.
-    let (value_is, rest_is) = some_pair_parts o n (digit_run 4 digits).1 rest e₂ in
-    let run = digit_run_sound 4 digits in (
-      (digit_run 4 digits).0,
-      read_byte_sound 46 text digits dot ∙ ap (λ t. 46 ∷ t)
-          (run.spelled ∙ ap (λ t. (digit_run 4 digits).0 ++ t) rest_is),
-      rw value_is at (decimal_of_sound grammar _ o octet),
-    )
+    let (ds, split, octet) = octet_at_sound grammar digits n rest e₁ in
+    (ds, read_byte_sound 46 text digits dot ∙ ap (λ t. 46 ∷ t) split, octet)
 
 -- a dotted address by its parts
 pub record Dots (grammar : Grammar) (text octets : List ℕ) : Type 0 where
@@ -112,7 +125,7 @@ three_more : (x y z w t₂ t₃ t₄ rest : List ℕ) → x ≡ 46 ∷ (t₂ ++ 
 three_more x y z w t₂ t₃ t₄ rest s₂ s₃ s₄ same = s₂ ∙ rw (s₃, s₄, same) (simp append_assoc)
 
 pub read_dotted_sound : (grammar : Grammar) (ds : List ℕ) (a : ℕ) (text octets rest : List ℕ)
-    → decimal_of grammar ds ≡ Some a → read_dotted grammar a text ≡ Some (octets, rest)
+    → IsOctet grammar ds a → read_dotted grammar a text ≡ Some (octets, rest)
     → (front : List ℕ) × (text ≡ front ++ rest) × IsIpv4AddressText grammar (ds ++ front) octets
 unfolding read_dotted
 read_dotted_sound grammar ds a text octets rest first e =
@@ -130,7 +143,7 @@ read_dotted_sound grammar ds a text octets rest first e =
         ds,
         t₂ ++ (46 ∷ (t₃ ++ (46 ∷ t₄))),
         simp append_assoc,
-        decimal_of_sound grammar ds a first,
+        first,
         (t₂, t₃ ++ (46 ∷ t₄), simp append_assoc, is_b, (t₃, t₄, simp append_assoc, is_c, is_d)),
       ),
       refl,
@@ -153,7 +166,6 @@ pub read_prefix_len_complete : (grammar : Grammar) (most greatest : ℕ) (text :
     → IsDecimal grammar most greatest text n → read_prefix_len grammar most greatest (47 ∷ text) ≡ Some n
 unfolding read_prefix_len
 read_prefix_len_complete grammar most greatest text n few low h =
-    let run = rw append-nil at (decimal_run grammar most greatest text n [] (omega arith) h (lit≤ tt)) in
     let octet : IsOctet grammar text n = record {
       digits = h.digits;
       value = h.value;
@@ -161,7 +173,8 @@ read_prefix_len_complete grammar most greatest text n few low h =
       small = omega (arith, h.small);
       plain = h.plain;
     } in
-    rw (run, decimal_of_complete grammar text n octet, le-leb n greatest h.small, le-leb (length text) most h.short)
+    let read = rw append-nil at (octet_at_complete grammar text n [] octet (lit≤ tt)) in
+    rw (read, le-leb n greatest h.small, le-leb (length text) most h.short)
 
 pub read_prefix_len_sound : (grammar : Grammar) (most greatest : ℕ) (text : List ℕ) (n : ℕ)
     → read_prefix_len grammar most greatest text ≡ Some n
@@ -169,28 +182,27 @@ pub read_prefix_len_sound : (grammar : Grammar) (most greatest : ℕ) (text : Li
 unfolding read_prefix_len
 read_prefix_len_sound grammar most greatest text n e =
     option_and_then_some _ (read_byte 47 text) _ e λ digits slash e₁.
-    option_and_then_some _ (decimal_of grammar (digit_run 4 digits).0) _ e₁ λ o octet e₂.
+    option_and_then_some _ (octet_at grammar digits) _ e₁ λ o read e₂.
     let (tests, value) = cond_some _ _ _ e₂ in
     let (front, none_left) = and_parts _ _ tests in
     let (small, short) = and_parts _ _ front in
-    let is = decimal_of_sound grammar (digit_run 4 digits).0 o octet in
-    let run = digit_run_sound 4 digits in
-    let whole : digits ≡ (digit_run 4 digits).0 = run.spelled ∙ no_rest _ _ none_left in
-    let decimal : IsDecimal grammar most greatest (digit_run 4 digits).0 n = record {
+    let (ds, split, octet) = octet_at_sound grammar digits o.0 o.1 read in
+    let whole : digits ≡ ds = split ∙ no_rest ds o.1 none_left in
+    let is : IsOctet grammar digits o.0 = subst (λ t. IsOctet grammar t o.0) (sym whole) octet in
+    let decimal : IsDecimal grammar most greatest digits n = record {
       digits = is.digits;
       value = is.value ∙ value;
       short = leb-true _ most short;
-      small = subst (λ m. m ≤ greatest) value (leb-true o greatest small);
+      small = subst (λ m. m ≤ greatest) value (leb-true o.0 greatest small);
       plain = is.plain;
     } in
-    (digits, read_byte_sound 47 text digits slash, subst (λ t. IsDecimal grammar most greatest t n) (sym whole) decimal)
+    (digits, read_byte_sound 47 text digits slash, decimal)
 
 -- ---- the network
 
 pub read_ipv4_network_complete : (grammar : Grammar) (text : List ℕ) (network : Network)
     (h : IsIpv4NetworkText grammar text network)
-    → read_ipv4_network grammar (decimal_of grammar (digit_run 4 text).0) (digit_run 4 text).1
-    ≡ Some (h.octets, network.prefix_len)
+    → read_ipv4_network grammar text ≡ Some (h.octets, network.prefix_len)
 unfolding read_ipv4_network
 read_ipv4_network_complete grammar text network h =
     let dots = Dots-from grammar h.address_text h.octets h.writes_address in
@@ -200,31 +212,30 @@ read_ipv4_network_complete grammar text network h =
     ∙ Dots-rest grammar h.address_text h.octets after dots in
     rw (
       shown,
-      octet_run grammar dots.t₁ dots.a _ dots.is_a (lit≤ tt),
-      decimal_of_complete grammar dots.t₁ dots.a dots.is_a,
+      octet_at_complete grammar dots.t₁ dots.a _ dots.is_a (lit≤ tt),
       read_dotted_complete grammar h.address_text h.octets after dots (lit≤ tt),
       read_prefix_len_complete grammar 2 32 h.length_text network.prefix_len (lit≤ tt) (lit≤ tt) h.writes_length,
     )
 
 pub read_ipv4_network_sound : (grammar : Grammar) (text octets : List ℕ) (n : ℕ)
-    → read_ipv4_network grammar (decimal_of grammar (digit_run 4 text).0) (digit_run 4 text).1 ≡ Some (octets, n)
+    → read_ipv4_network grammar text ≡ Some (octets, n)
     → IsIpv4NetworkText grammar text (ipv4_network_of (from_be_bytes w32 octets) n)
 unfolding read_ipv4_network
 read_ipv4_network_sound grammar text octets n e =
-    option_and_then_some _ (decimal_of grammar (digit_run 4 text).0) _ e λ first octet e₁.
-    option_and_then_some _ (read_dotted grammar first (digit_run 4 text).1) _ e₁ λ address read e₂.
+    option_and_then_some _ (octet_at grammar text) _ e λ first octet e₁.
+    option_and_then_some _ (read_dotted grammar first.0 first.1) _ e₁ λ address read e₂.
     option_and_then_some _ (read_prefix_len grammar 2 32 address.1) _ e₂ λ m length_read e₃.
     let (octets_are, n_is) = some_pair_parts address.0 octets m n e₃ in
-    let run = digit_run_sound 4 text in
+    let (ds, spelled, is_first) = octet_at_sound grammar text first.0 first.1 octet in
     let (front, split, dotted) =
-    read_dotted_sound grammar (digit_run 4 text).0 first (digit_run 4 text).1 address.0 address.1 octet read in
+    read_dotted_sound grammar ds first.0 first.1 address.0 address.1 is_first read in
     let (digits, slash, decimal) = read_prefix_len_sound grammar 2 32 address.1 m length_read in
     record {
-      address_text = (digit_run 4 text).0 ++ front;
+      address_text = ds ++ front;
       length_text = digits;
       octets = octets;
-      spelled = both_parts text _ _ front address.1 digits run.spelled split slash;
-      writes_address = subst (λ o. IsIpv4AddressText grammar ((digit_run 4 text).0 ++ front) o) octets_are dotted;
+      spelled = both_parts text _ _ front address.1 digits spelled split slash;
+      writes_address = subst (λ o. IsIpv4AddressText grammar (ds ++ front) o) octets_are dotted;
       writes_length = subst (λ m. IsDecimal grammar 2 32 digits m) n_is decimal;
       family = refl;
       number = refl;

@@ -15,11 +15,11 @@ use Rattle.ipnet.specs.declared.parser.Grammar.TheVariants.{Strict, Legacy}
 use Rattle.ipnet.specs.Numerals.{IsGroup}
 use Rattle.ipnet.specs.AddressTexts.{IsIpv4AddressText, IsGroups, EndsInIpv4, IsIpv6AddressText, most_written_groups}
 use Rattle.ipnet.specs.AddressTexts.{expanded}
-use Rattle.ipnet.specs.ReaderSteps.{Read, Groups, after, run_of, digit_run, decimal_of, group_of, is_single_colon}
+use Rattle.ipnet.specs.ReaderSteps.{Groups, after, digit_run, hex_run, decimal_of, group_of, is_single_colon}
 use Rattle.ipnet.specs.ReaderSteps.{read_dotted_groups, read_dotted, read_groups, read_byte, read_compressed, read_ipv6}
-use Rattle.ipnet.proofs.DigitTexts.{digit_run-append, digit_run_sound, decimal_of_complete, group_of_complete}
-use Rattle.ipnet.proofs.DigitTexts.{group_of_sound, AllDigits_hex}
-use Rattle.ipnet.proofs.Ipv4Texts.{Dots, Dots-from, Dots-rest, octet_run, read_dotted_complete, read_dotted_sound}
+use Rattle.ipnet.proofs.DigitTexts.{digit_run-append, digit_run_sound, decimal_of_complete, decimal_of_sound}
+use Rattle.ipnet.proofs.DigitTexts.{group_of_complete, group_of_sound, AllDigits_hex}
+use Rattle.ipnet.proofs.Ipv4Texts.{Dots, Dots-from, Dots-rest, octet_hex_run, read_dotted_complete, read_dotted_sound}
 
 -- no group or dotted address goes on into the text, and no group follows a ":"
 pub record Stops (text : List ℕ) : Type 0 where
@@ -35,7 +35,7 @@ colons_stop text = record { no_digit = lit≤ tt; no_dot = omega arith; no_colon
 
 -- the groups at the front of a text
 abbrev pub groups_at : Grammar → ℕ → List ℕ → Groups
-groups_at grammar room text = read_groups grammar room (run_of grammar (digit_run 4 text).0) (digit_run 4 text).1
+groups_at grammar room text = read_groups grammar room (hex_run text).0 (hex_run text).1
 
 -- the text begins with a digit
 abbrev pub Begins : List ℕ → Type 0
@@ -56,7 +56,7 @@ last_group : (grammar : Grammar) (room : ℕ) (ds rest : List ℕ) (g : ℕ) →
 unfolding read_groups
 last_group grammar room ds rest g h stop =
     rw (
-      digit_run-append 4 ds rest h.digits.1 h.short stop.no_digit,
+      digit_run-append 16 4 ds rest h.digits.1 h.short stop.no_digit,
       ne_eqb _ 46 stop.no_dot,
       group_of_complete ds g h,
       stop.no_colon,
@@ -67,7 +67,7 @@ one_group : (grammar : Grammar) (room : ℕ) (ds text : List ℕ) (g : ℕ) → 
 unfolding read_groups
 one_group grammar room ds text g h begins =
     rw (
-      digit_run-append 4 ds (58 ∷ text) h.digits.1 h.short (lit≤ tt),
+      digit_run-append 16 4 ds (58 ∷ text) h.digits.1 h.short (lit≤ tt),
       group_of_complete ds g h,
       single text begins,
     )
@@ -110,7 +110,7 @@ last_dotted grammar room text rest octets h stop some =
     let dots = Dots-from grammar text octets h in
     rw (
       Dots-rest grammar text octets rest dots,
-      octet_run grammar dots.t₁ dots.a _ dots.is_a (lit≤ tt),
+      octet_hex_run grammar dots.t₁ dots.a _ dots.is_a (lit≤ tt),
       lt-ltb 0 room some,
       decimal_of_complete grammar dots.t₁ dots.a dots.is_a,
       read_dotted_complete grammar text octets rest dots stop.no_digit,
@@ -135,7 +135,7 @@ mixed_complete grammar (suc room) text rest (g ∷ i ∷ j ∷ groups) h stop fi
 
 -- ---- a whole address, after which "/" stands
 
-run_some : (text : List ℕ) → Begins text → (length (digit_run 4 text).0 == 0) ≡ false
+run_some : (text : List ℕ) → Begins text → (length (hex_run text).0 == 0) ≡ false
 unfolding digit_run
 run_some [] begins = absurd (omega arith)
 run_some (c ∷ text) begins = rw (lt-ltb (digit_value c) 16 begins) (ne_eqb _ 0 (omega arith))
@@ -163,30 +163,26 @@ read_compressed_complete grammar head tail tail_text more room (inr h) =
     tail_pieces grammar head tail_text more tail (mixed_begins grammar tail_text _ tail h) true
     (mixed_complete grammar _ tail_text _ tail h (slash_stops more) (omega arith))
 
--- the address at the front of a text
-abbrev pub ipv6_at : Grammar → List ℕ → Read (List ℕ)
-ipv6_at grammar text = read_ipv6 grammar (run_of grammar (digit_run 4 text).0) (digit_run 4 text).1
-
 whole_pieces : (grammar : Grammar) (text rest groups : List ℕ) → Begins text → (dotted : Bool)
     → groups_at grammar 8 text ≡ Some (groups, dotted, rest) → length groups ≡ 8
-    → ipv6_at grammar text ≡ Some (groups, rest)
+    → read_ipv6 grammar text ≡ Some (groups, rest)
 unfolding read_ipv6
 whole_pieces grammar text rest groups begins dotted read eight = rw (run_some text begins, read, eight)
 
 head_pieces : (grammar : Grammar) (text rest head : List ℕ) → Begins text
     → groups_at grammar 8 text ≡ Some (head, false, rest) → length head ≤ 7
-    → ipv6_at grammar text ≡ read_compressed grammar head rest
+    → read_ipv6 grammar text ≡ read_compressed grammar head rest
 unfolding read_ipv6
 head_pieces grammar text rest head begins read short =
     rw (run_some text begins, read, ne_eqb (length head) 8 (omega arith))
 
-no_head : (grammar : Grammar) (text : List ℕ) → ipv6_at grammar (58 ∷ text) ≡ read_compressed grammar [] (58 ∷ text)
+no_head : (grammar : Grammar) (text : List ℕ) → read_ipv6 grammar (58 ∷ text) ≡ read_compressed grammar [] (58 ∷ text)
 unfolding read_ipv6 digit_run
 no_head grammar text = refl
 
 elided_complete : (grammar : Grammar) (more head_text tail_text head tail : List ℕ) → IsGroups head_text head
     → IsTail grammar tail_text tail → length head ≤ 7 → length head + length tail ≤ most_written_groups grammar
-    → ipv6_at grammar (head_text ++ (58 ∷ 58 ∷ (tail_text ++ (47 ∷ more)))) ≡ Some (expanded head tail, 47 ∷ more)
+    → read_ipv6 grammar (head_text ++ (58 ∷ 58 ∷ (tail_text ++ (47 ∷ more)))) ≡ Some (expanded head tail, 47 ∷ more)
 elided_complete grammar more head_text tail_text [] tail h k short room =
     rw (h, no_head grammar) (read_compressed_complete grammar [] tail tail_text more room k)
 elided_complete grammar more head_text tail_text (g ∷ head) tail h k short room =
@@ -196,7 +192,7 @@ elided_complete grammar more head_text tail_text (g ∷ head) tail h k short roo
     ∙ read_compressed_complete grammar (g ∷ head) tail tail_text more room k
 
 pub read_ipv6_complete : (grammar : Grammar) (text groups more : List ℕ) → IsIpv6AddressText grammar text groups
-    → ipv6_at grammar (text ++ (47 ∷ more)) ≡ Some (groups, 47 ∷ more)
+    → read_ipv6 grammar (text ++ (47 ∷ more)) ≡ Some (groups, 47 ∷ more)
 unfolding IsTail
 read_ipv6_complete grammar text [] more (inl h) = absurd (omega (arith, h.0))
 read_ipv6_complete grammar text (g ∷ groups) more (inl h) =
@@ -269,27 +265,28 @@ at_last grammar ds text groups rest true octets left front groups_are dotted_is 
     }
 
 last_sound : (grammar : Grammar) (ds text groups rest : List ℕ) (dotted : Bool)
-    → read_dotted_groups grammar (decimal_of grammar ds) text ≡ Some (groups, dotted, rest)
+    → read_dotted_groups grammar ds text ≡ Some (groups, dotted, rest)
     → Found grammar 2 ds text groups dotted rest
 unfolding read_dotted_groups Written
 last_sound grammar ds text groups rest dotted e =
     option_and_then_some _ (decimal_of grammar ds) _ e λ first octet e₁.
     option_and_then_some _ (read_dotted grammar first text) _ e₁ λ address read e₂.
     let (groups_are, dotted_is, rest_is) = three_parts (segments_of address.0) groups true dotted address.1 rest e₂ in
-    let (front, split, is) = read_dotted_sound grammar ds first text address.0 address.1 octet read in
+    let is_first = decimal_of_sound grammar ds first octet in
+    let (front, split, is) = read_dotted_sound grammar ds first text address.0 address.1 is_first read in
     at_last grammar ds text groups rest dotted address.0 address.1 front groups_are dotted_is rest_is split is
 
 -- what was found is after a group that goes before it
 at_group : (grammar : Grammar) (room : ℕ) (ds text groups : List ℕ) (dotted : Bool) (rest : List ℕ) (g : ℕ)
     → IsGroup ds g → is_single_colon text ≡ true
     → ((groups' : List ℕ) → groups_at grammar room (drop 1 text) ≡ Some (groups', dotted, rest)
-    → Found grammar room (digit_run 4 (drop 1 text)).0 (digit_run 4 (drop 1 text)).1 groups' dotted rest)
+    → Found grammar room (hex_run (drop 1 text)).0 (hex_run (drop 1 text)).1 groups' dotted rest)
     → (found : List ℕ × Bool × List ℕ) → groups_at grammar room (drop 1 text) ≡ Some found → g ∷ found.0 ≡ groups
     → found.1 ≡ dotted → found.2 ≡ rest → Found grammar (suc room) ds text groups dotted rest
 at_group grammar room ds text groups dotted rest g is colon later found read groups_are dotted_is rest_is =
     let more = later found.0 (read ∙ rw (dotted_is, rest_is)) in
-    let run = digit_run_sound 4 (drop 1 text) in
-    let ds' = (digit_run 4 (drop 1 text)).0 in
+    let run = digit_run_sound 16 4 (drop 1 text) in
+    let ds' = (hex_run (drop 1 text)).0 in
     let split : text ≡ (58 ∷ (ds' ++ more.front)) ++ rest =
     colon_first text colon ∙ ap (λ t. 58 ∷ t) (run.spelled ∙ ap (λ t. ds' ++ t) more.split ∙ simp append_assoc) in
     record {
@@ -331,7 +328,7 @@ guarded true o y e = (refl, e)
 guarded false o y e = absurd (none-some y e)
 
 groups_sound : (grammar : Grammar) (room : ℕ) (ds text groups : List ℕ) (dotted : Bool) (rest : List ℕ)
-    → AllDigits 16 ds → length ds ≤ 4 → read_groups grammar room (run_of grammar ds) text ≡ Some (groups, dotted, rest)
+    → AllDigits 16 ds → length ds ≤ 4 → read_groups grammar room ds text ≡ Some (groups, dotted, rest)
     → Found grammar room ds text groups dotted rest
 unfolding read_groups
 groups_sound grammar zero ds text groups dotted rest all short e = absurd (none-some _ e)
@@ -339,7 +336,7 @@ groups_sound grammar (suc room) ds text groups dotted rest all short e =
     elim (cases_eq (get_or text 0 0) 46) [
       | inl dot ↦
           let (room_left, last) =
-          guarded (nat_lt 0 room) (read_dotted_groups grammar (decimal_of grammar ds) text) _
+          guarded (nat_lt 0 room) (read_dotted_groups grammar ds text) _
           (rw (eq-eqb _ 46 dot) at e) in
           let wide : 2 ≤ suc room = omega (arith, ltb-true 0 room room_left) in
           wider grammar 2 (suc room) ds text groups dotted rest wide
@@ -350,7 +347,7 @@ groups_sound grammar (suc room) ds text groups dotted rest all short e =
           elim (cases_Bool (is_single_colon text)) [
             | inl colon ↦
                 map_some _ (groups_at grammar room (drop 1 text)) _ (rw colon at e₁) λ found read same.
-                let run = digit_run_sound 4 (drop 1 text) in
+                let run = digit_run_sound 16 4 (drop 1 text) in
                 at_group grammar room ds text groups dotted rest g is colon
                 (λ groups' again. groups_sound grammar room _ _ groups' dotted rest run.all run.fits again) found read
                 (ap (λ p. p.0) same) (ap (λ p. p.1) same) (ap (λ p. p.2) same)
@@ -395,9 +392,9 @@ unfolding read_compressed
 read_compressed_sound grammar head_text head text groups rest short e =
     option_and_then_some _ (read_byte 58 text) _ e λ one first e₁.
     option_and_then_some _ (read_byte 58 one) _ e₁ λ two second e₂.
-    let run = digit_run_sound 4 two in
-    let ds = (digit_run 4 two).0 in
-    let left = (digit_run 4 two).1 in
+    let run = digit_run_sound 16 4 two in
+    let ds = (hex_run two).0 in
+    let left = (hex_run two).1 in
     let colons = two_colons text one two first second in
     elim (cases_Bool (length ds == 0)) [
       | inl none ↦
@@ -412,8 +409,8 @@ read_compressed_sound grammar head_text head text groups rest short e =
             value = sym groups_are;
           }
       | inr some ↦
-          option_and_then_some _ (read_groups grammar (most_written_groups grammar - length head) (run_of grammar ds)
-          left) _ (rw some at e₂) λ tail read e₃.
+          option_and_then_some _ (read_groups grammar (most_written_groups grammar - length head) ds left) _
+          (rw some at e₂) λ tail read e₃.
           let (groups_are, rest_is) = some_pair_parts (expanded head tail.0) groups tail.2 rest e₃ in
           let found =
           groups_sound grammar (most_written_groups grammar - length head) ds left tail.0 tail.1 tail.2 run.all
@@ -463,20 +460,20 @@ unfolding Written
 plain_written grammar false text groups e h = h
 plain_written grammar true text groups e h = cc
 
-pub read_ipv6_sound : (grammar : Grammar) (text groups rest : List ℕ) → ipv6_at grammar text ≡ Some (groups, rest)
+pub read_ipv6_sound : (grammar : Grammar) (text groups rest : List ℕ) → read_ipv6 grammar text ≡ Some (groups, rest)
     → (front : List ℕ) × (text ≡ front ++ rest) × IsIpv6AddressText grammar front groups
 unfolding read_ipv6
 read_ipv6_sound grammar text groups rest e =
-    let run = digit_run_sound 4 text in
-    let ds = (digit_run 4 text).0 in
-    let left = (digit_run 4 text).1 in
+    let run = digit_run_sound 16 4 text in
+    let ds = (hex_run text).0 in
+    let left = (hex_run text).1 in
     elim (cases_Bool (length ds == 0)) [
       | inl none ↦
           let found = read_compressed_sound grammar [] [] left groups rest (omega arith) (rw none at e) in
           let (front, split, is) = to_elided grammar [] [] left groups rest refl (omega arith) found in
           (front, run.spelled ∙ ap (λ t. t ++ left) (empty_run ds none) ∙ split, is)
       | inr some ↦
-          option_and_then_some _ (read_groups grammar 8 (run_of grammar ds) left) _ (rw some at e) λ head read e₁.
+          option_and_then_some _ (read_groups grammar 8 ds left) _ (rw some at e) λ head read e₁.
           let found = groups_sound grammar 8 ds left head.0 head.1 head.2 run.all run.fits read in
           let split : text ≡ (ds ++ found.front) ++ head.2 =
           run.spelled ∙ ap (λ t. ds ++ t) found.split ∙ sym (append_assoc ds found.front head.2) in

@@ -1,13 +1,14 @@
 -- The readers of whole networks are the grammar, and a text writes one network at most.
-use Rattle.std.proofs.Common.{◌≡◌, ◌≢◌, ℕ, List, [], ◌∷◌, ◌++◌, length, get_or, Option, Some, None, Result, Ok, Err}
+use Rattle.std.proofs.Common.{◌≡◌, ◌≢◌, ℕ, ◌≤◌, List, [], ◌∷◌, ◌++◌, length, get_or, Some, None, Result, Ok, Err}
 use Rattle.std.proofs.Common.{MatchResult, refl, sym, ap, ◌∙◌, subst, arith, inl, inr, append_assoc, lit≤}
 use Rattle.std.proofs.lemmas.Option.{none-some, option_and_then_some, some_pair_parts}
 use Rattle.std.specs.Int.{w32, w128, from_be_bytes}
+use Rattle.std.specs.Str.Parse.{AllDigits}
+use Rattle.std.proofs.NetLemmas.Numbers.{NoDigit}
 use Rattle.std.specs.Net.Addr.{octets_of}
 use Rattle.ipnet_base.specs.Address.{IPv4, IPv6}
 use Rattle.ipnet_base.specs.Network.{Network}
 use Rattle.ipnet_base.proofs.NetworkLaws.{same_network}
-use Rattle.ipnet.specs.declared.parser.reader.Run.{Run}
 use Rattle.ipnet.specs.declared.net.IpNet.{IpNet}
 use Rattle.ipnet.specs.declared.net.ipv4_net.Ipv4Net.{Ipv4Net}
 use Rattle.ipnet.specs.declared.net.ipv6_net.Ipv6Net.{Ipv6Net}
@@ -17,22 +18,15 @@ use Rattle.ipnet.specs.declared.parser.Grammar.{Grammar}
 use Rattle.ipnet.specs.Numerals.{IsDecimal, IsGroup}
 use Rattle.ipnet.specs.AddressTexts.{IsGroups, EndsInIpv4, IsIpv6AddressText}
 use Rattle.ipnet.specs.NetworkTexts.{IsIpv4NetworkText, IsIpv6NetworkText, IsNetworkText, WritesNone, ReadsNetwork}
-use Rattle.ipnet.specs.ReaderSteps.{run_of, digit_run, decimal_of, read_prefix_len, read_ipv4_network}
+use Rattle.ipnet.specs.ReaderSteps.{digit_run, decimal_run, hex_run, read_prefix_len, read_ipv4_network, read_ipv6}
 use Rattle.ipnet.specs.ReaderSteps.{read_ipv6_network}
-use Rattle.ipnet.proofs.DigitTexts.{digit_run-append}
+use Rattle.ipnet.proofs.DigitTexts.{AllDigits_hex, digit_run-append, digit_run_sound}
 use Rattle.ipnet.proofs.Ipv4Texts.{Dots-from, Dots-rest, octet_run, read_prefix_len_complete, read_prefix_len_sound}
 use Rattle.ipnet.proofs.Ipv4Texts.{read_ipv4_network_complete}
-use Rattle.ipnet.proofs.Ipv6Texts.{ipv6_at, read_ipv6_complete, read_ipv6_sound}
-
--- the IPv4 and the IPv6 network that the text is read as
-abbrev ipv4_network_at : Grammar → List ℕ → Option (List ℕ × ℕ)
-ipv4_network_at grammar text = read_ipv4_network grammar (decimal_of grammar (digit_run 4 text).0) (digit_run 4 text).1
-
-abbrev ipv6_network_at : Grammar → List ℕ → Option (List ℕ × ℕ)
-ipv6_network_at grammar text = read_ipv6_network grammar (run_of grammar (digit_run 4 text).0) (digit_run 4 text).1
+use Rattle.ipnet.proofs.Ipv6Texts.{read_ipv6_complete, read_ipv6_sound}
 
 read_ipv6_network_complete : (grammar : Grammar) (text : List ℕ) (network : Network)
-    (h : IsIpv6NetworkText grammar text network) → ipv6_network_at grammar text ≡ Some (h.groups, network.prefix_len)
+    (h : IsIpv6NetworkText grammar text network) → read_ipv6_network grammar text ≡ Some (h.groups, network.prefix_len)
 unfolding read_ipv6_network
 read_ipv6_network_complete grammar text network h =
     let shown = h.spelled ∙ append_assoc h.address_text (47 ∷ []) h.length_text in
@@ -43,11 +37,11 @@ read_ipv6_network_complete grammar text network h =
     )
 
 pub read_ipv6_network_sound : (grammar : Grammar) (text groups : List ℕ) (n : ℕ)
-    → ipv6_network_at grammar text ≡ Some (groups, n)
+    → read_ipv6_network grammar text ≡ Some (groups, n)
     → IsIpv6NetworkText grammar text (ipv6_network_of (from_be_bytes w128 (octets_of groups)) n)
 unfolding read_ipv6_network
 read_ipv6_network_sound grammar text groups n e =
-    option_and_then_some _ (ipv6_at grammar text) _ e λ address read e₁.
+    option_and_then_some _ (read_ipv6 grammar text) _ e λ address read e₁.
     option_and_then_some _ (read_prefix_len grammar 3 128 address.1) _ e₁ λ m length_read e₂.
     let (groups_are, n_is) = some_pair_parts address.0 groups m n e₂ in
     let (front, split, is) = read_ipv6_sound grammar text address.0 address.1 read in
@@ -82,10 +76,10 @@ ipv6_unique grammar text m n h k =
     same_network m n (h.family ∙ sym k.family)
     (h.number ∙ ap (λ gs. from_be_bytes w128 (octets_of gs)) groups ∙ sym k.number) len
 
--- ---- which family: the byte after the first run
+-- ---- which family: the byte after the first digits
 
 dot_after : (grammar : Grammar) (text : List ℕ) (network : Network) → IsIpv4NetworkText grammar text network
-    → get_or (digit_run 4 text).1 0 0 ≡ 46
+    → get_or (decimal_run text).1 0 0 ≡ 46
 dot_after grammar text network h =
     let dots = Dots-from grammar h.address_text h.octets h.writes_address in
     let after = 47 ∷ h.length_text in
@@ -95,43 +89,51 @@ dot_after grammar text network h =
     rw (shown, octet_run grammar dots.t₁ dots.a _ dots.is_a (lit≤ tt))
 
 after_group : (first more text : List ℕ) (g : ℕ) → IsGroup first g → text ≡ first ++ (58 ∷ more)
-    → get_or (digit_run 4 text).1 0 0 ≡ 58
-after_group first more text g h e = rw (e, digit_run-append 4 first (58 ∷ more) h.digits.1 h.short (lit≤ tt))
+    → get_or (hex_run text).1 0 0 ≡ 58
+after_group first more text g h e = rw (e, digit_run-append 16 4 first (58 ∷ more) h.digits.1 h.short (lit≤ tt))
 
 colon_after : (grammar : Grammar) (text more groups : List ℕ) → IsIpv6AddressText grammar text groups
-    → get_or (digit_run 4 (text ++ more)).1 0 0 ≡ 58
+    → get_or (hex_run (text ++ more)).1 0 0 ≡ 58
 colon_after grammar text more groups (inl h) = by_groups groups h.0 h.1
   where
     by_groups : (groups : List ℕ) → length groups ≡ 8 → IsGroups text groups
-        → get_or (digit_run 4 (text ++ more)).1 0 0 ≡ 58
+        → get_or (hex_run (text ++ more)).1 0 0 ≡ 58
     by_groups [] eight h = absurd (omega arith)
     by_groups (g ∷ []) eight h = absurd (omega arith)
     by_groups (g ∷ i ∷ groups) eight h = after_group h.0 (h.1 ++ more) _ g h.3 (rw h.2 (simp append_assoc))
 colon_after grammar text more groups (inr (inl h)) = by_mixed groups h.0 h.1
   where
     by_mixed : (groups : List ℕ) → length groups ≡ 8 → EndsInIpv4 grammar text groups
-        → get_or (digit_run 4 (text ++ more)).1 0 0 ≡ 58
+        → get_or (hex_run (text ++ more)).1 0 0 ≡ 58
     by_mixed [] eight h = absurd h
     by_mixed (g ∷ []) eight h = absurd h
     by_mixed (g ∷ i ∷ []) eight h = absurd (omega arith)
     by_mixed (g ∷ i ∷ j ∷ groups) eight h = after_group h.0 (h.1 ++ more) _ g h.3 (rw h.2 (simp append_assoc))
 colon_after grammar text more groups (inr (inr h)) = by_head h.head h.head_groups
   where
-    by_head : (head : List ℕ) → IsGroups h.head_text head → get_or (digit_run 4 (text ++ more)).1 0 0 ≡ 58
+    by_head : (head : List ℕ) → IsGroups h.head_text head → get_or (hex_run (text ++ more)).1 0 0 ≡ 58
     by_head [] k = unfold digit_run in rw (h.spelled, k)
     by_head (g ∷ []) k = after_group h.head_text (58 ∷ (h.tail_text ++ more)) _ g k (rw h.spelled (simp append_assoc))
     by_head (g ∷ i ∷ head) k =
         after_group k.0 (k.1 ++ (58 ∷ 58 ∷ (h.tail_text ++ more))) _ g k.3 (rw (h.spelled, k.2) (simp append_assoc))
 
-not_ipv6 : (grammar : Grammar) (text : List ℕ) (network : Network) → get_or (digit_run 4 text).1 0 0 ≡ 46
+-- a "." after decimal digits stands after the same digits read as hexadecimal ones
+dot_at : (text ds rest : List ℕ) → text ≡ ds ++ rest → AllDigits 10 ds → length ds ≤ 3 → get_or rest 0 0 ≡ 46
+    → get_or (hex_run text).1 0 0 ≡ 46
+dot_at text ds rest split all few dot =
+    let stop : NoDigit 16 rest = rw dot (lit≤ tt) in
+    rw (split, digit_run-append 16 4 ds rest (AllDigits_hex ds all) (omega (arith, few)) stop) dot
+
+not_ipv6 : (grammar : Grammar) (text : List ℕ) (network : Network) → get_or (decimal_run text).1 0 0 ≡ 46
     → IsIpv6NetworkText grammar text network → ⊥
 not_ipv6 grammar text network dot h =
+    let run = digit_run_sound 10 3 text in
     let shown = h.spelled ∙ append_assoc h.address_text (47 ∷ []) h.length_text in
-    let colon : get_or (digit_run 4 text).1 0 0 ≡ 58 =
+    let colon : get_or (hex_run text).1 0 0 ≡ 58 =
     rw shown (colon_after grammar h.address_text (47 ∷ h.length_text) h.groups h.writes_address) in
-    omega (arith, sym dot ∙ colon)
+    omega (arith, sym (dot_at text _ _ run.spelled run.all run.fits dot) ∙ colon)
 
-not_ipv4 : (grammar : Grammar) (text : List ℕ) (network : Network) → get_or (digit_run 4 text).1 0 0 ≢ 46
+not_ipv4 : (grammar : Grammar) (text : List ℕ) (network : Network) → get_or (decimal_run text).1 0 0 ≢ 46
     → IsIpv4NetworkText grammar text network → ⊥
 not_ipv4 grammar text network other h = other (dot_after grammar text network h)
 
@@ -207,24 +209,14 @@ reads_ipv6 grammar text = reads ipv6_network ipv6_one_to_one (IsIpv6NetworkText 
 
 -- ---- what the reader of a whole text met
 
-pub ipv4_read : (grammar grammar' : Grammar) (text rest : List ℕ) (run : Run) (o : Option (List ℕ × ℕ))
-    → grammar' ≡ grammar → run ≡ run_of grammar (digit_run 4 text).0 → rest ≡ (digit_run 4 text).1
-    → o ≡ read_ipv4_network grammar' run.decimal rest → o ≡ ipv4_network_at grammar text
-ipv4_read grammar grammar' text rest run o grammar_is run_is rest_is read = read ∙ rw (grammar_is, run_is, rest_is)
-
-pub ipv6_read : (grammar grammar' : Grammar) (text rest : List ℕ) (run : Run) (o : Option (List ℕ × ℕ))
-    → grammar' ≡ grammar → run ≡ run_of grammar (digit_run 4 text).0 → rest ≡ (digit_run 4 text).1
-    → o ≡ read_ipv6_network grammar' run rest → o ≡ ipv6_network_at grammar text
-ipv6_read grammar grammar' text rest run o grammar_is run_is rest_is read = read ∙ rw (grammar_is, run_is, rest_is)
-
--- a text whose first run "." follows writes a network only as an IPv4 one, and any other text only as an IPv6 one
-pub ipv4_none : (grammar : Grammar) (text : List ℕ) → get_or (digit_run 4 text).1 0 0 ≡ 46
-    → None ≡ ipv4_network_at grammar text → (network : Network) → ¬ (IsNetworkText grammar text network)
+-- a text whose first decimal digits "." follows writes a network only as an IPv4 one, any other only as an IPv6 one
+pub ipv4_none : (grammar : Grammar) (text : List ℕ) → get_or (decimal_run text).1 0 0 ≡ 46
+    → None ≡ read_ipv4_network grammar text → (network : Network) → ¬ (IsNetworkText grammar text network)
 ipv4_none grammar text dot none network (inl h) = none-some _ (none ∙ read_ipv4_network_complete grammar text network h)
 ipv4_none grammar text dot none network (inr h) = not_ipv6 grammar text network dot h
 
-pub ipv6_none : (grammar : Grammar) (text : List ℕ) → get_or (digit_run 4 text).1 0 0 ≢ 46
-    → None ≡ ipv6_network_at grammar text → (network : Network) → ¬ (IsNetworkText grammar text network)
+pub ipv6_none : (grammar : Grammar) (text : List ℕ) → get_or (decimal_run text).1 0 0 ≢ 46
+    → None ≡ read_ipv6_network grammar text → (network : Network) → ¬ (IsNetworkText grammar text network)
 ipv6_none grammar text other none network (inl h) = not_ipv4 grammar text network other h
 ipv6_none grammar text other none network (inr h) =
     none-some _ (none ∙ read_ipv6_network_complete grammar text network h)

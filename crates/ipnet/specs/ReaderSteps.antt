@@ -7,7 +7,6 @@ use Rattle.std.specs.List.{list_all}
 use Rattle.std.specs.Char.{is_digit}
 use Rattle.std.specs.Str.Parse.{digits_value}
 use Rattle.std.specs.Net.Addr.{segments_of}
-use Rattle.ipnet.specs.declared.parser.reader.Run.{Run}
 use Rattle.ipnet.specs.declared.parser.Grammar.{Grammar}
 use Rattle.ipnet.specs.declared.parser.Grammar.TheVariants.{Strict, Legacy}
 use Rattle.ipnet.specs.AddressTexts.{most_written_groups, expanded}
@@ -37,13 +36,21 @@ abbrev pub read_byte : ℕ → List ℕ → Option (List ℕ)
 read_byte byte [] = None
 read_byte byte (first ∷ rest) = if first == byte then Some rest else None
 
--- the hexadecimal digits at the front, at most so many, and the text after them
-unfoldable pub digit_run : ℕ → List ℕ → List ℕ × List ℕ
-digit_run zero text = ([], text)
-digit_run (suc room) [] = ([], [])
-digit_run (suc room) (c ∷ text) =
-    let more = digit_run room text in
-    if is_digit c 16 then (c ∷ more.0, more.1) else ([], c ∷ text)
+-- the digits of this radix at the front, at most so many, and the text after them
+unfoldable pub digit_run : ℕ → ℕ → List ℕ → List ℕ × List ℕ
+digit_run radix zero text = ([], text)
+digit_run radix (suc room) [] = ([], [])
+digit_run radix (suc room) (c ∷ text) =
+    let more = digit_run radix room text in
+    if is_digit c radix then (c ∷ more.0, more.1) else ([], c ∷ text)
+
+-- No octet and no prefix length has more than three digits, and no group more than four. One more is left where it
+-- stands, and is none of the bytes that may follow.
+abbrev pub decimal_run : List ℕ → List ℕ × List ℕ
+decimal_run text = digit_run 10 3 text
+
+abbrev pub hex_run : List ℕ → List ℕ × List ℕ
+hex_run text = digit_run 16 4 text
 
 -- no digit but decimal ones
 abbrev pub all_decimal : List ℕ → Bool
@@ -66,15 +73,17 @@ decimal_of grammar digits =
 unfoldable pub group_of : List ℕ → Option ℕ
 group_of digits = if nat_lt 0 (length digits) then Some (digits_value 16 digits) else None
 
-abbrev pub run_of : Grammar → List ℕ → Run
-run_of grammar digits = record { count = length digits; decimal = decimal_of grammar digits; group = group_of digits }
+-- an octet at the front, or a prefix length
+unfoldable pub octet_at : Grammar → List ℕ → Read ℕ
+octet_at grammar text = do
+  octet ← decimal_of grammar (decimal_run text).0
+  Some (octet, (decimal_run text).1)
 
 -- a "." and an octet
 unfoldable pub read_octet : Grammar → List ℕ → Read ℕ
 read_octet grammar text = do
   digits ← read_byte dot text
-  octet ← decimal_of grammar (digit_run 4 digits).0
-  Some (octet, (digit_run 4 digits).1)
+  octet_at grammar digits
 
 -- the dotted address whose first octet has been read
 unfoldable pub read_dotted : Grammar → ℕ → List ℕ → Read (List ℕ)
@@ -88,15 +97,14 @@ read_dotted grammar a text = do
 unfoldable pub read_prefix_len : Grammar → ℕ → ℕ → List ℕ → Option ℕ
 read_prefix_len grammar most greatest text = do
   digits ← read_byte slash text
-  let run = digit_run 4 digits
-  n ← decimal_of grammar run.0
-  if nat_le n greatest && nat_le (length run.0) most && (length run.1 == 0) then Some n else None
+  n ← octet_at grammar digits
+  if nat_le n.0 greatest && nat_le (length digits) most && (length n.1 == 0) then Some n.0 else None
 
--- an IPv4 network whose first octet has been read, if its first run was one
-unfoldable pub read_ipv4_network : Grammar → Option ℕ → List ℕ → Option (List ℕ × ℕ)
-read_ipv4_network grammar octet text = do
-  first ← octet
-  address ← read_dotted grammar first text
+-- an IPv4 network
+unfoldable pub read_ipv4_network : Grammar → List ℕ → Option (List ℕ × ℕ)
+read_ipv4_network grammar text = do
+  first ← octet_at grammar text
+  address ← read_dotted grammar first.0 first.1
   prefix_len ← read_prefix_len grammar 2 32 address.1
   Some (address.0, prefix_len)
 
@@ -112,23 +120,23 @@ after front found = option_map (λ p. (front ++ p.0, p.1, p.2)) found
 abbrev pub is_single_colon : List ℕ → Bool
 is_single_colon text = (slice_index text 0 == colon) && not (slice_index text 1 == colon)
 
--- a dotted address for two groups, whose first octet has been read, if the run before was one
-unfoldable pub read_dotted_groups : Grammar → Option ℕ → List ℕ → Groups
-read_dotted_groups grammar octet text = do
-  first ← octet
+-- a dotted address for two groups, whose first run of digits has been read
+unfoldable pub read_dotted_groups : Grammar → List ℕ → List ℕ → Groups
+read_dotted_groups grammar digits text = do
+  first ← decimal_of grammar digits
   address ← read_dotted grammar first text
   Some (segments_of address.0, true, address.1)
 
--- at most so many groups joined by ":", whose first run has been read, and may be a dotted address
-unfoldable pub read_groups : Grammar → ℕ → Run → List ℕ → Groups
-read_groups grammar zero first text = None
-read_groups grammar (suc room) first text =
+-- at most so many groups joined by ":", whose first run of digits has been read, and may begin a dotted address
+unfoldable pub read_groups : Grammar → ℕ → List ℕ → List ℕ → Groups
+read_groups grammar zero digits text = None
+read_groups grammar (suc room) digits text =
     if slice_index text 0 == dot
-    then (if nat_lt 0 room then read_dotted_groups grammar first.decimal text else None)
-    else (first.group >>= λ g.
+    then (if nat_lt 0 room then read_dotted_groups grammar digits text else None)
+    else (group_of digits >>= λ g.
     if is_single_colon text
-    then (let next = digit_run 4 (drop 1 text) in
-    after (g ∷ []) (read_groups grammar room (run_of grammar next.0) next.1))
+    then (let next = hex_run (drop 1 text) in
+    after (g ∷ []) (read_groups grammar room next.0 next.1))
     else Some (g ∷ [], false, text))
 
 -- the address whose groups before "::" have been read: "::" and the groups after it
@@ -136,22 +144,23 @@ unfoldable pub read_compressed : Grammar → List ℕ → List ℕ → Read (Lis
 read_compressed grammar head text = do
   one ← read_byte colon text
   two ← read_byte colon one
-  let run = digit_run 4 two
+  let run = hex_run two
   if length run.0 == 0 then Some (expanded head [], run.1) else (do
-    tail ← read_groups grammar (most_written_groups grammar - length head) (run_of grammar run.0) run.1
+    tail ← read_groups grammar (most_written_groups grammar - length head) run.0 run.1
     Some (expanded head tail.0, tail.2))
 
--- an IPv6 address whose first run has been read
-unfoldable pub read_ipv6 : Grammar → Run → List ℕ → Read (List ℕ)
-read_ipv6 grammar first text =
-    if first.count == 0 then read_compressed grammar [] text else (do
-      head ← read_groups grammar 8 first text
+-- an IPv6 address
+unfoldable pub read_ipv6 : Grammar → List ℕ → Read (List ℕ)
+read_ipv6 grammar text =
+    let run = hex_run text in
+    if length run.0 == 0 then read_compressed grammar [] run.1 else (do
+      head ← read_groups grammar 8 run.0 run.1
       if length head.0 == 8 then Some (head.0, head.2)
           else (if head.1 then None else read_compressed grammar head.0 head.2))
 
--- an IPv6 network whose first run has been read
-unfoldable pub read_ipv6_network : Grammar → Run → List ℕ → Option (List ℕ × ℕ)
-read_ipv6_network grammar first text = do
-  address ← read_ipv6 grammar first text
+-- an IPv6 network
+unfoldable pub read_ipv6_network : Grammar → List ℕ → Option (List ℕ × ℕ)
+read_ipv6_network grammar text = do
+  address ← read_ipv6 grammar text
   prefix_len ← read_prefix_len grammar 3 128 address.1
   Some (address.0, prefix_len)

@@ -2,6 +2,7 @@
 
 use crate::error::BenchError;
 use ipnet::{IpAddr, IpNet, Ipv4Net, Ipv6Net};
+use ipnet_sets::RouteTable;
 use std::alloc::{AllocError, Global};
 use std::io::{BufRead, BufReader};
 
@@ -103,6 +104,22 @@ pub fn last_addresses(alloc: Global, networks: &[IpNet]) -> Result<Vec<IpAddr>, 
         addresses.push(network.broadcast())?;
     }
     Ok(addresses)
+}
+
+/// A route to each network, with its place as its value.
+pub fn routes(alloc: Global, networks: &[IpNet]) -> Result<Vec<(IpNet, u64)>, AllocError> {
+    let mut routes = Vec::with_capacity(alloc, networks.len())?;
+    let mut place: u64 = 0;
+    for network in networks {
+        routes.push((*network, place))?;
+        place = place.wrapping_add(1);
+    }
+    Ok(routes)
+}
+
+/// The table of these routes.
+pub fn route_table(alloc: Global, networks: &[IpNet]) -> Result<RouteTable<u64>, AllocError> {
+    RouteTable::from_routes(alloc, routes(alloc, networks)?)
 }
 
 /// Ten texts that repeat a piece this many times: more than one, so that no call stands for another.

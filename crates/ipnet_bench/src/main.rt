@@ -77,15 +77,41 @@ fn without_input(
     Ok(true)
 }
 
-/// A set operation on every second network and the others.
-fn combine(
+/// The tasks over sets, and over tables of routes. Of sets, every second network is the first and the others are the
+/// second; an address is asked of each network, of a set or table that has every second.
+fn over_sets(
     rt: &(impl Print + Clock),
     alloc: Global,
     task: &str,
-    operation: SetOperation,
-    networks: &Vec<IpNet>,
+    networks: Vec<IpNet>,
 ) -> Result<(), BenchError> {
+    if task == "routes" {
+        return measure::report(rt, alloc, task, work::Routes { alloc, networks });
+    }
+    if task == "hold_routes" {
+        let routes = input::routes(alloc, networks.as_slice())?;
+        return measure::report(rt, alloc, task, work::HoldRoutes { networks, routes });
+    }
     let (first, second) = input::halves(alloc, networks.as_slice())?;
+    let operation = match task {
+        "union" => SetOperation::Union,
+        "intersection" => SetOperation::Intersection,
+        "difference" => SetOperation::Difference,
+        "hold_halves" => {
+            return measure::report(rt, alloc, task, work::HoldHalves { first, second });
+        }
+        "set_contains" => {
+            let addresses = input::last_addresses(alloc, networks.as_slice())?;
+            let set = IpSet::from_networks(alloc, &first)?;
+            return measure::report(rt, alloc, task, work::SetContains { set, addresses });
+        }
+        "longest_match" => {
+            let addresses = input::last_addresses(alloc, networks.as_slice())?;
+            let table = input::route_table(alloc, first.as_slice())?;
+            return measure::report(rt, alloc, task, work::LongestMatch { table, addresses });
+        }
+        _ => return Err(BenchError::Task),
+    };
     let work = work::Combine {
         alloc,
         operation,
@@ -130,15 +156,6 @@ fn over_networks(
                 },
             )
         }
-        "union" => combine(rt, alloc, task, SetOperation::Union, &networks),
-        "intersection" => combine(rt, alloc, task, SetOperation::Intersection, &networks),
-        "difference" => combine(rt, alloc, task, SetOperation::Difference, &networks),
-        "set_contains" => {
-            let addresses = input::last_addresses(alloc, networks.as_slice())?;
-            let (half, _) = input::halves(alloc, networks.as_slice())?;
-            let set = IpSet::from_networks(alloc, &half)?;
-            measure::report(rt, alloc, task, work::SetContains { set, addresses })
-        }
         "print" => {
             let text = String::new(alloc);
             measure::report(rt, alloc, task, work::Print { networks, text })
@@ -147,7 +164,7 @@ fn over_networks(
             let text = String::new(alloc);
             measure::report(rt, alloc, task, work::ToText { networks, text })
         }
-        _ => Err(BenchError::Task),
+        _ => over_sets(rt, alloc, task, networks),
     }
 }
 

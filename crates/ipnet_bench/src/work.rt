@@ -1,9 +1,10 @@
 //! The works whose time is taken, each over public calls of this repository.
 
+use crate::input;
 use crate::measure::Work;
 use ipnet::{IpNet, Ipv4Net, Ipv4Subnets, Ipv6Net, Ipv6Subnets};
 use ipnet_base::{IpAddr, Ipv4Addr, Ipv4AddrRange, Ipv6Addr, Ipv6AddrRange};
-use ipnet_sets::IpSet;
+use ipnet_sets::{IpSet, RouteTable};
 use std::alloc::{AllocError, Global};
 use std::fmt::Write;
 
@@ -332,6 +333,23 @@ pub enum SetOperation {
     Difference,
 }
 
+/// Nothing but to hold two lists, to tell their memory from that of what is made of them. Its number is their bytes.
+#[derive(Drop)]
+pub struct HoldHalves {
+    pub first: Vec<IpNet>,
+    pub second: Vec<IpNet>,
+}
+
+impl Work for HoldHalves {
+    fn items(&self) -> usize {
+        self.first.len().saturating_add(self.second.len())
+    }
+
+    fn run(&mut self) -> Result<u64, AllocError> {
+        Ok((self.items() as u64).saturating_mul(size_of::<IpNet>() as u64))
+    }
+}
+
 /// A set operation on two lists, from networks to networks.
 #[derive(Drop)]
 pub struct Combine {
@@ -382,6 +400,73 @@ impl Work for SetContains {
             if self.set.contains(address) {
                 check = check.wrapping_add(1);
             }
+        }
+        Ok(check)
+    }
+}
+
+/// The table of the routes to the networks, each with its place as its value.
+#[derive(Drop)]
+pub struct Routes {
+    pub alloc: Global,
+    pub networks: Vec<IpNet>,
+}
+
+impl Work for Routes {
+    fn items(&self) -> usize {
+        self.networks.len()
+    }
+
+    fn run(&mut self) -> Result<u64, AllocError> {
+        let table = input::route_table(self.alloc, self.networks.as_slice())?;
+        let mut check = table.len() as u64;
+        for (network, place) in table.routes() {
+            check = mixed(check, folded(network.addr()));
+            check = mixed(check, u64::from(network.prefix_len()));
+            check = mixed(check, *place);
+        }
+        Ok(check)
+    }
+}
+
+/// Nothing but to hold the list and that of its routes, to tell their memory from that of a table. Its number is the
+/// bytes of the routes.
+#[derive(Drop)]
+pub struct HoldRoutes {
+    pub networks: Vec<IpNet>,
+    pub routes: Vec<(IpNet, u64)>,
+}
+
+impl Work for HoldRoutes {
+    fn items(&self) -> usize {
+        self.networks.len()
+    }
+
+    fn run(&mut self) -> Result<u64, AllocError> {
+        Ok((self.routes.len() as u64).saturating_mul(size_of::<(IpNet, u64)>() as u64))
+    }
+}
+
+/// The longest match of each address.
+#[derive(Drop)]
+pub struct LongestMatch {
+    pub table: RouteTable<u64>,
+    pub addresses: Vec<IpAddr>,
+}
+
+impl Work for LongestMatch {
+    fn items(&self) -> usize {
+        self.addresses.len()
+    }
+
+    fn run(&mut self) -> Result<u64, AllocError> {
+        let mut check: u64 = 0;
+        for address in &self.addresses {
+            let number = match self.table.longest_match(address) {
+                Some((_, place)) => place.wrapping_add(1),
+                None => 0,
+            };
+            check = mixed(check, number);
         }
         Ok(check)
     }

@@ -3,3 +3,6 @@ pub mod Answers
 pub mod Runs
 pub mod Families
 pub mod Statuses
+pub mod Window
+pub mod Reading
+pub mod Pieces

@@ -2,11 +2,14 @@
 //! and the program over any reader and writers.
 #![tactic(auto)]
 
+mod answer;
+mod input;
 pub mod output;
 pub mod program;
 #[cfg(test)]
 mod tests;
 pub mod tool;
+mod window;
 
 pub use program::run;
 pub use tool::{ToolError, aggregate_text, aggregate_text_legacy};

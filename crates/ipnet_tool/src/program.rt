@@ -1,26 +1,24 @@
 //! The program, over any reader and writers.
-ghost use Rattle.std.specs.Prelude.{◌≡◌, ◌≤◌, ◌⊎◌, ◌↔◌, ℕ, List, drop, IfOk, IfErr, IfSome, IfNone, OnOk};
+ghost use Rattle.std.specs.Prelude.{◌≡◌, ◌≤◌, ◌⊎◌, ◌↔◌, drop, IfErr, IfSome, IfNone};
 ghost use Rattle.std.specs.Vec.Iter.{into_iter_items};
-ghost use Rattle.std.specs.Io.KnownBytes.{Consumes, IsAtEnd, Keeps};
+ghost use Rattle.std.specs.Io.KnownBytes.{Keeps};
 ghost use Rattle.ipnet.specs.declared.parser.Grammar.{Grammar};
 ghost use Rattle.ipnet_tool.specs.Runs.{IsChosenBy, IsAnswered, IsCutShort, HasBadLine};
 ghost use Rattle.ipnet_tool.specs.Statuses.{status_of};
-ghost use Rattle.ipnet_tool.specs.declared.program.Failure.TheVariants.{Arguments, Unreadable, Memory};
+ghost use Rattle.ipnet_tool.specs.declared.program.Failure.TheVariants.{Arguments, Memory};
 
-use crate::output::write_whole;
-use crate::tool::{ToolError, answer_to};
+use crate::answer::write_answer;
+use crate::input::read_networks;
+use crate::tool::aggregated;
 use ipnet::Grammar;
 use std::alloc::Global;
+use std::env;
 use std::env::Env;
 use std::io::{ErrorKind, Read, Write};
 use std::vec::IntoIter;
-use std::{env, str};
 use thiserror::Error;
 
 pub mod laws;
-
-/// How many bytes are asked for in one read.
-const PIECE: usize = 65536;
 
 /// Why a run writes no answer, or not the whole of it. The text is the line that [`report`] writes.
 ///
@@ -106,21 +104,17 @@ pub fn run<R: Read, W: Write, X: Write>(
     let Some(grammar) = chosen(args) else {
         return report(faults, Failure::Arguments);
     };
-    let bytes = match read_all(alloc, input) {
-        Ok(bytes) => bytes,
+    let families = match read_networks(alloc, input, grammar) {
+        Ok(families) => families,
         Err(failure) => return report(faults, failure),
     };
-    let Ok(text) = str::from_utf8(bytes.as_slice()) else {
-        return report(faults, Failure::NotUtf8);
+    let Ok(blocks) = aggregated(alloc, &families) else {
+        return report(faults, Failure::Memory);
     };
-    let answer = match answer_to(alloc, text, grammar) {
-        Ok(answer) => answer,
-        Err(ToolError::Line(number)) => return report(faults, Failure::Line(number)),
-        Err(ToolError::Memory) => return report(faults, Failure::Memory),
-    };
-    if write_whole(out, answer.as_bytes()).is_err() || out.flush().is_err() {
+    drop(families);
+    let Ok(()) = write_answer(out, &blocks) else {
         return report(faults, Failure::Unwritable);
-    }
+    };
     0
 }
 
@@ -177,33 +171,4 @@ pub fn report<X: Write>(faults: &mut X, failure: Failure) -> u8
 {
     let _ = writeln!(faults, "{failure}");
     failure.status()
-}
-
-/// The bytes that the reader gives up to its end. A read that was interrupted is made again.
-//
-// A loop is proved to end, and a reader may be interrupted again and again: so it counts, up to more calls than any run
-// makes.
-fn read_all<R: Read>(alloc: Global, input: &mut R) -> Result<Vec<u8>, Failure>
-    ensures bytes { IfOk result (λ bytes. Consumes (R.remaining input.old) (R.remaining input.new) bytes.items) }
-    ensures end { OnOk result (IsAtEnd (R.remaining input.new)) }
-    ensures failure { IfErr result (λ failure. (failure ≡ Unreadable) ⊎ (failure ≡ Memory)) }
-{
-    let mut bytes = Vec::new(alloc);
-    let mut piece = [0u8; PIECE];
-    for _ in 0..u64::MAX {
-        match input.read(&mut piece) {
-            Ok(0) => return Ok(bytes),
-            Ok(count) => {
-                let Ok(()) = bytes.extend_from_slice(&piece[..count]) else {
-                    return Err(Failure::Memory);
-                };
-            }
-            Err(error) => {
-                if error.kind() != ErrorKind::Interrupted {
-                    return Err(Failure::Unreadable);
-                }
-            }
-        }
-    }
-    Err(Failure::Unreadable)
 }

@@ -2,6 +2,7 @@
 mod argument_rows;
 mod devices;
 mod memory_rows;
+mod piece_rows;
 mod program_rows;
 mod table;
 mod text_rows;

@@ -1,7 +1,8 @@
 //! The text tool: a list of networks, one a line, into the shortest list of the same addresses.
-ghost use Rattle.std.specs.Prelude.{◌≡◌, ℕ, ◌<◌, [], ◌∷◌, List, ◌++◌, map, length, All};
+ghost use Rattle.std.specs.Prelude.{◌≡◌, ℕ, ◌<◌, ◌≤◌, ◌+◌, [], ◌∷◌, List, ◌++◌, map, length, All};
 ghost use Rattle.std.specs.Prelude.{Err, IsOk, IfOk, IsOkAnd, OnOk, IfSome};
 ghost use Rattle.std.specs.Prelude.{string_bytes};
+ghost use Rattle.std.below.core.specs.declared.int.usize.TheConstants.{MAX};
 ghost use Rattle.ipnet.specs.Network.{Network};
 ghost use Rattle.ipnet.specs.Blocks.{HaveSameCover, IsAggregateOf};
 ghost use Rattle.ipnet.specs.CanonicalTexts.{canonical_text};
@@ -68,16 +69,17 @@ pub fn aggregate_text_legacy(alloc: Global, text: &str) -> Result<String, ToolEr
 
 /// Networks by family, so that each family is sorted without the room and the tests that the other needs.
 #[derive(Drop)]
-struct Families {
-    ipv4: Vec<Ipv4Net>,
-    ipv6: Vec<Ipv6Net>,
+pub(crate) struct Families {
+    pub(crate) ipv4: Vec<Ipv4Net>,
+    pub(crate) ipv6: Vec<Ipv6Net>,
 }
 
 /// The answer, in the grammar that is asked for.
-pub(crate) fn answer_to(alloc: Global, text: &str, grammar: Grammar) -> Result<String, ToolError>
+fn answer_to(alloc: Global, text: &str, grammar: Grammar) -> Result<String, ToolError>
     ensures { IsTextAnswer grammar text.now result }
 {
-    let families = read_lines(alloc, text, grammar)?;
+    let mut families = Families::new(alloc);
+    families.push_lines(0, text, grammar)?;
     let Ok(blocks) = aggregated(alloc, &families) else {
         return Err(ToolError::Memory);
     };
@@ -175,6 +177,16 @@ fn push_joined<N: Join>(list: &mut Vec<N>, network: N) -> Result<(), AllocError>
 impl Families {
     ghost use Rattle.ipnet_tool.specs.Families.{networks_of};
 
+    /// No networks.
+    pub(crate) fn new(alloc: Global) -> Families
+        ensures { networks_of result ≡ [] }
+    {
+        Families {
+            ipv4: Vec::new(alloc),
+            ipv6: Vec::new(alloc),
+        }
+    }
+
     /// Puts one network more to those of its family.
     fn push(&mut self, network: IpNet) -> Result<(), AllocError>
         ensures { OnOk result (HaveSameCover (networks_of self.new) (networks_of self.old ++ ip_network network ∷ [])) }
@@ -184,44 +196,48 @@ impl Families {
             IpNet::V6(network) => push_joined(&mut self.ipv6, network),
         }
     }
-}
 
-/// The networks that the lines write, up to the end or to the first bad line.
-fn read_lines(alloc: Global, text: &str, grammar: Grammar) -> Result<Families, ToolError>
-    ensures networks { IfOk result (λ families. (networks : List Network)
-        × AreNetworksOf grammar (lines_of text.now) networks
-        × HaveSameCover networks (networks_of families)) }
-    ensures empty { All (λ line. line ≡ []) (lines_of text.now)
-        → IsOkAnd result (λ families. networks_of families ≡ []) }
-    ensures bad_line { (number : ℕ) → result ≡ Err (ToolError.Line number)
-        → IsFirstBadLine grammar (lines_of text.now) number }
-    ensures bad_at_once { (number : ℕ) → StartsWithBadLine grammar (lines_of text.now) number
-        → result ≡ Err (ToolError.Line number) }
-{
-    let mut families = Families {
-        ipv4: Vec::new(alloc),
-        ipv6: Vec::new(alloc),
-    };
-    let mut rest = text;
-    let mut number = 0;
-    'lines: while !rest.is_empty() {
-        let (line, after) = first_line(rest);
-        rest = after;
-        number += 1;
-        if !line.is_empty() {
-            let Ok(network) = read_line(line, grammar) else {
-                return Err(ToolError::Line(number));
-            };
-            let Ok(()) = families.push(network) else {
-                return Err(ToolError::Memory);
-            };
+    /// Puts the networks that the lines of the text write to the others, up to the end or to the first bad line, and
+    /// answers how many lines there are, with so many before this text.
+    pub(crate) fn push_lines(
+        &mut self,
+        before: usize,
+        text: &str,
+        grammar: Grammar,
+    ) -> Result<usize, ToolError>
+        requires { before + length text.now ≤ MAX }
+        ensures networks { OnOk result ((networks : List Network)
+            × AreNetworksOf grammar (lines_of text.now) networks
+            × HaveSameCover (networks_of self.old ++ networks) (networks_of self.new)) }
+        ensures count { IfOk result (λ lines. lines ≡ before + length (lines_of text.now)) }
+        ensures empty { All (λ line. line ≡ []) (lines_of text.now)
+            → IsOk result × (networks_of self.new ≡ networks_of self.old) }
+        ensures bad_line { (number : ℕ) → result ≡ Err (ToolError.Line number)
+            → (later : ℕ) × (number ≡ before + later) × IsFirstBadLine grammar (lines_of text.now) later }
+        ensures bad_at_once { (later : ℕ) → StartsWithBadLine grammar (lines_of text.now) later
+            → result ≡ Err (ToolError.Line (before + later)) }
+    {
+        let mut rest = text;
+        let mut number = before;
+        'lines: while !rest.is_empty() {
+            let (line, after) = first_line(rest);
+            rest = after;
+            number += 1;
+            if !line.is_empty() {
+                let Ok(network) = read_line(line, grammar) else {
+                    return Err(ToolError::Line(number));
+                };
+                let Ok(()) = self.push(network) else {
+                    return Err(ToolError::Memory);
+                };
+            }
         }
+        Ok(number)
     }
-    Ok(families)
 }
 
 /// The aggregate of each family: together they are the aggregate of all.
-fn aggregated(alloc: Global, families: &Families) -> Result<Families, AllocError>
+pub(crate) fn aggregated(alloc: Global, families: &Families) -> Result<Families, AllocError>
     ensures empty { networks_of families.now ≡ [] → IsOkAnd result (λ blocks. networks_of blocks ≡ []) }
     ensures aggregate { IfOk result (λ blocks. IsAggregateOf (networks_of blocks) (networks_of families.now)) }
 {

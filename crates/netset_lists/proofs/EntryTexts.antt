@@ -13,6 +13,10 @@ use Rattle.ipnet.specs.Numerals.{IsDecimal}
 use Rattle.ipnet.specs.NetworkParts.{own_address}
 use Rattle.ipnet.specs.NetworkTexts.{IsNetworkText, ReadsNetwork}
 use Rattle.ipnet.proofs.WholeTexts.{one_network}
+use Rattle.netset_lists.specs.declared.entry.Entry.{Entry}
+use Rattle.netset_lists.specs.declared.entry.Entry.TheVariants as Entries
+use Rattle.netset_lists.specs.EntryOf.{IsWrittenAs}
+use Rattle.netset_lists.specs.EntrySteps.{HasEnds}
 use Rattle.netset_lists.specs.Entries.{IsAddressText, IsPlainEntry, IsRangeFrom, WriteRange}
 use Rattle.netset_lists.specs.Entries.{IsEntryText, ReadsAs}
 use Rattle.netset_lists.proofs.AddressBytes.{IsAddressByte, ipv4_bytes, ipv6_bytes, decimal_bytes, one_front, one_back}
@@ -125,7 +129,7 @@ without_length grammar text n (inr h) =
     }
 
 -- a text writes one address at most
-one_address : (grammar : Grammar) (text : List ℕ) (x y : Address) → IsAddressText grammar text x
+pub one_address : (grammar : Grammar) (text : List ℕ) (x y : Address) → IsAddressText grammar text x
     → IsAddressText grammar text y → x ≡ y
 one_address grammar text x y h k =
     ap own_address (one_network grammar (text ++ codes "/32") (with_32 x) (with_32 y) (with_length grammar text x h)
@@ -165,10 +169,10 @@ network_cut grammar text n (inr h) = record {
 -- ---- what a text with "-" or "/", or with none, is not
 
 -- each byte is none of "-"
-no_dashes : (text : List ℕ) → All IsAddressByte text → All (λ b. b ≢ 45) text
+pub no_dashes : (text : List ℕ) → All IsAddressByte text → All (λ b. b ≢ 45) text
 no_dashes text h = All-weaker IsAddressByte (λ b. b ≢ 45) (λ b is. is.no_dash) text h
 
-plain_no_dash : (grammar : Grammar) (text : List ℕ) (range : AddressRange) → IsPlainEntry grammar text range
+pub plain_no_dash : (grammar : Grammar) (text : List ℕ) (range : AddressRange) → IsPlainEntry grammar text range
     → All (λ b. b ≢ 45) text
 plain_no_dash grammar text range (inl h) =
     let cut = network_cut grammar text h.network h.writes in
@@ -252,3 +256,27 @@ reads_ends range_of_value grammar first_text last_text first last f l None some 
     let one = one_address grammar first_text first k.first f k.writes_first in
     let two = one_address grammar last_text last k.last l k.writes_last in
     none.0 refl range (rw (one, two) k.addresses))
+
+-- ---- the kind of an entry
+
+-- the texts of the ends of a range, joined by "-"
+pub written_range : (grammar : Grammar) (text first last : List ℕ) → text ≡ first ++ 45 ∷ last → (o : Option Entry)
+    → IfSome o (HasEnds (IsAddressText grammar first) (IsAddressText grammar last))
+    → IfSome o (IsWrittenAs grammar text)
+written_range grammar text first last e None h = tt
+written_range grammar text first last e (Some (Entries.Network n)) h = absurd h
+written_range grammar text first last e (Some (Entries.Address a)) h = absurd h
+written_range grammar text first last e (Some (Entries.Ipv4Range x y)) h = record {
+  first_text = first;
+  last_text = last;
+  spelled = e ∙ sym (append_assoc first (45 ∷ []) last);
+  writes_first = h.0;
+  writes_last = h.1;
+}
+written_range grammar text first last e (Some (Entries.Ipv6Range x y)) h = record {
+  first_text = first;
+  last_text = last;
+  spelled = e ∙ sym (append_assoc first (45 ∷ []) last);
+  writes_first = h.0;
+  writes_last = h.1;
+}

@@ -4,6 +4,7 @@ pub mod EntryTexts
 pub mod RefusalLaws
 pub mod RangeCovers
 pub mod ListLines
+pub mod CauseTexts
 pub mod ListReading
 pub mod OperationLaws
 pub mod SameResults

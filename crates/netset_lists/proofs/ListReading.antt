@@ -10,9 +10,11 @@ use Rattle.ipnet_base.specs.Ranges.{AddressRange}
 use Rattle.ipnet.specs.declared.parser.Grammar.{Grammar}
 use Rattle.ipnet.specs.Lines.{lines_of}
 use Rattle.ipnet_sets.specs.SetRanges.{IsInRange}
+use Rattle.netset_lists.specs.declared.cause.Cause.{Cause}
 use Rattle.netset_lists.specs.declared.reader.EntryReader.{EntryReader}
 use Rattle.netset_lists.specs.declared.reader.FoundEntry.{FoundEntry}
 use Rattle.netset_lists.specs.declared.refused.RefusedLines.{RefusedLines}
+use Rattle.netset_lists.specs.Causes.{IsCauseTold}
 use Rattle.netset_lists.specs.Entries.{IsEntryText, IsNoEntry}
 use Rattle.netset_lists.specs.FoundEntry.{found_range, found_entry}
 use Rattle.netset_lists.specs.Lists.{after_mark, held_text, ListEntry, Refusal, AreRead, IsListRead, IsInEntries}
@@ -34,8 +36,8 @@ abbrev entry_at : List ℕ → AddressRange → ListEntry
 entry_at text range = record { text = text; range = range }
 
 -- the line refused
-abbrev refusal_at : ℕ → ℕ → List ℕ → Refusal
-refusal_at list line text = record { list = list; line = line; text = text }
+abbrev refusal_at : ℕ → ℕ → List ℕ → Option Cause → Refusal
+refusal_at list line text cause = record { list = list; line = line; text = text; cause = cause }
 
 entry_line : (grammar : Grammar) (list line : ℕ) (text : List ℕ) (texts : List (List ℕ)) (range : AddressRange)
     (more : List ListEntry) (refusals : List Refusal) → 0 < length text → IsEntryText grammar text range
@@ -46,12 +48,12 @@ entry_line grammar list line (b ∷ text) texts range more refusals some is h =
     inl (more, record { range = range; next = refl; writes = is }, h)
 
 refused_line : (grammar : Grammar) (list line : ℕ) (text : List ℕ) (texts : List (List ℕ)) (entries : List ListEntry)
-    (more : List Refusal) → 0 < length text → IsNoEntry grammar text
-    → AreRead grammar list (line + 1) texts entries more
-    → AreRead grammar list line (text ∷ texts) entries (refusal_at list line text ∷ more)
-refused_line grammar list line [] texts entries more some none h = absurd (omega arith)
-refused_line grammar list line (b ∷ text) texts entries more some none h =
-    inr (more, record { next = refl; no_entry = none }, h)
+    (more : List Refusal) → 0 < length text → IsNoEntry grammar text → (cause : Option Cause)
+    → IsCauseTold grammar text cause → AreRead grammar list (line + 1) texts entries more
+    → AreRead grammar list line (text ∷ texts) entries (refusal_at list line text cause ∷ more)
+refused_line grammar list line [] texts entries more some none cause told h = absurd (omega arith)
+refused_line grammar list line (b ∷ text) texts entries more some none cause told h =
+    inr (more, record { cause = cause; next = refl; no_entry = none; told = told }, h)
 
 -- ---- steps of reading, one after the other
 
@@ -117,15 +119,16 @@ module _ (grammar : Grammar) (list : ℕ) where
         subst (λ t. IsReadTo grammar list rest line after (line + 1) (entry_at t (found_range f) ∷ []) lines lines)
         (sym same) (past_entry some (found_range f) is lines few)
 
-    pub past_refusal : 0 < length text → IsNoEntry grammar text → (old new : RefusedLines)
-        → HasMore old new (refusal_at list (line + 1) text ∷ [])
+    pub past_refusal : 0 < length text → IsNoEntry grammar text → (cause : Option Cause)
+        → IsCauseTold grammar text cause → (old new : RefusedLines)
+        → HasMore old new (refusal_at list (line + 1) text cause ∷ [])
         → IsReadTo grammar list rest line after (line + 1) [] old new
-    past_refusal some none old new one = record {
-      refusals = refusal_at list (line + 1) text ∷ [];
+    past_refusal some none cause told old new one = record {
+      refusals = refusal_at list (line + 1) text cause ∷ [];
       added = one;
       reads = λ more later h.
-          texts_left (λ ts. AreRead grammar list (line + 1) ts more (refusal_at list (line + 1) text ∷ later))
-          (refused_line grammar list (line + 1) text _ more later some none h);
+          texts_left (λ ts. AreRead grammar list (line + 1) ts more (refusal_at list (line + 1) text cause ∷ later))
+          (refused_line grammar list (line + 1) text _ more later some none cause told h);
     }
 
   pub to_end : (bytes rest : List ℕ) (line : ℕ) (entries : List ListEntry) (old new : RefusedLines) → rest ≡ []

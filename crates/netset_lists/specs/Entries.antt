@@ -63,6 +63,14 @@ pub record WriteRange (grammar : Grammar) (first_text last_text : List ℕ) (ran
   pub writes_last : IsAddressText grammar last_text last
   pub addresses : IsRangeFrom first last range
 
+-- the texts of these two addresses, joined by "-", with no blank between them
+pub record JoinsAddresses (grammar : Grammar) (text : List ℕ) (first last : Address) : Type 0 where
+  pub first_text : List ℕ
+  pub last_text : List ℕ
+  pub spelled : text ≡ first_text ++ codes "-" ++ last_text
+  pub writes_first : IsAddressText grammar first_text first
+  pub writes_last : IsAddressText grammar last_text last
+
 -- a first address, "-" and a last one, with no blank between them
 pub record IsRangeEntry (grammar : Grammar) (text : List ℕ) (range : AddressRange) : Type 0 where
   pub first_text : List ℕ

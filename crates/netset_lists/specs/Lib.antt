@@ -1,6 +1,8 @@
 -- What the contracts of this crate cite.
 pub mod Entries
 pub mod EntryOf
+pub mod Causes
+pub mod EntrySteps
 pub mod Lists
 pub mod Bytes
 pub mod RefusedLines

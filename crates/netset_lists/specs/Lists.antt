@@ -1,6 +1,6 @@
 -- Lists as people keep them: what their lines hold, the entries among these, and the lines that are refused.
 use Rattle.std.specs.Prelude.{◌≡◌, ◌⊎◌, ℕ, ◌+◌, ◌-◌, Bool, ◌||◌, ◌==◌, if◌then◌else◌, nat_eq, List, [], ◌∷◌, length}
-use Rattle.std.specs.Prelude.{take, drop, map, Any}
+use Rattle.std.specs.Prelude.{take, drop, map, Any, Option}
 use Rattle.std.specs.Char.{is_ascii_whitespace}
 use Rattle.std.specs.List.{before_first, prefix_len, suffix_len, starts_with}
 use Rattle.ipnet_base.specs.Address.{Address}
@@ -8,6 +8,8 @@ use Rattle.ipnet_base.specs.Ranges.{AddressRange}
 use Rattle.ipnet.specs.declared.parser.Grammar.{Grammar}
 use Rattle.ipnet.specs.Lines.{lines_of}
 use Rattle.ipnet_sets.specs.SetRanges.{IsInRange}
+use Rattle.netset_lists.specs.declared.cause.Cause.{Cause}
+use Rattle.netset_lists.specs.Causes.{IsCauseTold}
 use Rattle.netset_lists.specs.Entries.{IsEntryText, IsNoEntry}
 
 -- the byte order mark in UTF-8 (RFC 3629, section 6)
@@ -41,11 +43,13 @@ pub record ListEntry : Type 0 where
   pub text : List ℕ
   pub range : AddressRange
 
--- a line that is refused: the place of its list among all, from 0, its number, from 1, and what it holds
+-- a line that is refused: the place of its list among all, from 0, its number, from 1, what it holds, and why this is
+-- no entry, where a cause can be named
 pub record Refusal : Type 0 where
   pub list : ℕ
   pub line : ℕ
   pub text : List ℕ
+  pub cause : Option Cause
 
 -- the entry is the next of these, before the others, and this text writes it
 pub record IsNextEntry (grammar : Grammar) (text : List ℕ) (entries more : List ListEntry) : Type 0 where
@@ -53,11 +57,13 @@ pub record IsNextEntry (grammar : Grammar) (text : List ℕ) (entries more : Lis
   pub next : entries ≡ record { text = text; range = range } ∷ more
   pub writes : IsEntryText grammar text range
 
--- the line is the next that is refused, and its text is no entry
+-- the line is the next that is refused, and its text is no entry, for this cause
 pub record IsNextRefusal (grammar : Grammar) (list line : ℕ) (text : List ℕ) (refusals more : List Refusal) : Type
     0 where
-  pub next : refusals ≡ record { list = list; line = line; text = text } ∷ more
+  pub cause : Option Cause
+  pub next : refusals ≡ record { list = list; line = line; text = text; cause = cause } ∷ more
   pub no_entry : IsNoEntry grammar text
+  pub told : IsCauseTold grammar text cause
 
 -- Lines from this number on that hold these texts have these entries, in order, and these of them are refused. A line
 -- that holds nothing is passed over.

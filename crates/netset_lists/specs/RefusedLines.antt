@@ -9,7 +9,7 @@ abbrev pub most_shown : ℕ
 most_shown = 10
 
 abbrev pub refusal_of : RefusedLine → Refusal
-refusal_of r = record { list = r.list; line = r.line; text = r.text.items }
+refusal_of r = record { list = r.list; line = r.line; text = r.text.items; cause = r.cause }
 
 abbrev pub shown_refusals : RefusedLines → List Refusal
 shown_refusals r = map refusal_of r.shown.items

@@ -1,12 +1,13 @@
 //! The entries of a list: networks, addresses, and ranges from a first to a last address.
-ghost use Rattle.std.specs.Prelude.{IfOk, IfSome, IsNone, ◌↔◌};
+ghost use Rattle.std.specs.Prelude.{IfOk, IfSome, IsNone, ◌↔◌, ◌≡◌};
 ghost use Rattle.ipnet_base.specs.Address.{ip_address};
 ghost use Rattle.ipnet_base.specs.Ranges.{AddressRange};
 ghost use Rattle.ipnet.specs.NetworkOf.{ip_network};
 ghost use Rattle.ipnet.specs.NetworkTexts.{IsNetworkText};
 ghost use Rattle.netset_lists.specs.Entries.{IsAddressText, IsPlainEntry, IsRangeFrom, WriteRange, IsEntryText};
 ghost use Rattle.netset_lists.specs.Entries.{ReadsAs};
-ghost use Rattle.netset_lists.specs.EntryOf.{entry_range};
+ghost use Rattle.netset_lists.specs.EntryOf.{entry_range, IsWrittenAs};
+ghost use Rattle.netset_lists.specs.EntrySteps.{HasEnds};
 
 use ipnet::{Grammar, IpAddr, IpNet, Ipv4Addr, Ipv6Addr};
 use std::alloc::AllocError;
@@ -40,7 +41,7 @@ fn read_network(text: &str, grammar: Grammar) -> Option<IpNet>
 
 /// The address that the text writes. With "/32" after it, the text of an address of either family is that of a
 /// network; this is written into `room`, whatever it held before.
-fn read_address(
+pub(crate) fn read_address(
     room: &mut String,
     text: &str,
     grammar: Grammar,
@@ -62,6 +63,7 @@ fn range_entry(first: IpAddr, last: IpAddr) -> Option<Entry>
     ensures some { IfSome result (λ e. IsRangeFrom (ip_address first) (ip_address last) (entry_range e)) }
     ensures none { IsNone result ↔ ((range : AddressRange)
         → ¬ (IsRangeFrom (ip_address first) (ip_address last) range)) }
+    ensures ends { IfSome result (HasEnds (λ x. x ≡ ip_address first) (λ x. x ≡ ip_address last)) }
 {
     match (first, last) {
         (IpAddr::V4(first), IpAddr::V4(last)) if first.to_bits() <= last.to_bits() => {
@@ -81,7 +83,9 @@ fn read_range(
     last: &str,
     grammar: Grammar,
 ) -> Result<Option<Entry>, AllocError>
-    ensures { IfOk result (ReadsAs entry_range (WriteRange grammar first.now) last.now) }
+    ensures reads { IfOk result (ReadsAs entry_range (WriteRange grammar first.now) last.now) }
+    ensures kind { IfOk result (λ found.
+        IfSome found (HasEnds (IsAddressText grammar first.now) (IsAddressText grammar last.now))) }
 {
     let Some(first) = read_address(room, first, grammar)? else {
         return Ok(None);
@@ -94,7 +98,8 @@ fn read_range(
 
 /// The entry that the text of a network or an address is.
 fn read_plain(room: &mut String, text: &str, grammar: Grammar) -> Result<Option<Entry>, AllocError>
-    ensures { IfOk result (ReadsAs entry_range (IsPlainEntry grammar) text.now) }
+    ensures reads { IfOk result (ReadsAs entry_range (IsPlainEntry grammar) text.now) }
+    ensures kind { IfOk result (λ found. IfSome found (IsWrittenAs grammar text.now)) }
 {
     match text.split_once('/') {
         Some(_) => match read_network(text, grammar) {
@@ -111,7 +116,8 @@ fn read_plain(room: &mut String, text: &str, grammar: Grammar) -> Result<Option<
 /// The entry that the whole text is in this grammar, or `None` if it is none.
 ///
 /// An entry is a network, whose host bits do not matter, an address, or a first and a last address of one family
-/// joined by "-", where the last does not come before the first. The legacy grammar takes leading zeros in decimal
+/// joined by "-", where the last does not come before the first; which of these the text is, the value tells by its
+/// variant, and a range of one address is a range. The legacy grammar takes leading zeros in decimal
 /// numbers, and a "::" that stands for no group. `room` is where addresses are read: what it holds does not matter,
 /// and one `String` can serve many calls. The error is want of memory.
 ///
@@ -128,7 +134,8 @@ pub fn read_entry(
     text: &str,
     grammar: Grammar,
 ) -> Result<Option<Entry>, AllocError>
-    ensures { IfOk result (ReadsAs entry_range (IsEntryText grammar) text.now) }
+    ensures reads { IfOk result (ReadsAs entry_range (IsEntryText grammar) text.now) }
+    ensures kind { IfOk result (λ found. IfSome found (IsWrittenAs grammar text.now)) }
 {
     match text.split_once('-') {
         Some((first, last)) => read_range(room, first, last, grammar),

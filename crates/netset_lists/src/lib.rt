@@ -2,6 +2,7 @@
 #![tactic(auto)]
 
 pub mod answer;
+pub mod cause;
 pub mod counts;
 pub mod entry;
 pub mod filter;
@@ -12,8 +13,11 @@ pub mod query;
 mod reader;
 pub mod refused;
 pub mod route;
+#[cfg(test)]
+mod tests;
 
 pub use answer::{Failure, Form, Request};
+pub use cause::Cause;
 pub use counts::{compare, count};
 pub use entry::Entry;
 pub use filter::Side;

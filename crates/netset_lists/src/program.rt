@@ -179,8 +179,12 @@ fn report_line<X: Write>(faults: &mut X, names: &[&str], line: &RefusedLine) -> 
     let name = names.get(line.list).copied().unwrap_or("list");
     let number = line.line;
     let text = line.text.escape_ascii();
-    writeln!(
+    write!(
         faults,
         "{name}:{number}: not a network, an address or a range: {text}"
-    )
+    )?;
+    match line.cause {
+        Some(cause) => writeln!(faults, " ({cause})"),
+        None => writeln!(faults),
+    }
 }

@@ -3,9 +3,11 @@ ghost use Rattle.std.specs.Prelude.{◌≡◌, ◌<◌, ◌≤◌, ◌∷◌, �
 ghost use Rattle.std.below.core.specs.declared.int.usize.TheConstants.{MAX};
 ghost use Rattle.ipnet.specs.Lines.{lines_of};
 ghost use Rattle.netset_lists.specs.Entries.{IsEntryText, ReadsAs};
+ghost use Rattle.netset_lists.specs.EntryOf.{IsWrittenAs};
 ghost use Rattle.netset_lists.specs.Lists.{after_mark, held_text};
 ghost use Rattle.netset_lists.specs.FoundEntry.{found_range, found_entries};
 
+use crate::cause::cause_of;
 use crate::entry::{Entry, read_entry};
 use crate::refused::RefusedLines;
 use ipnet::Grammar;
@@ -64,6 +66,7 @@ fn read_text<'a>(
     grammar: Grammar,
 ) -> Result<Option<FoundEntry<'a>>, AllocError>
     ensures reads { IfOk result (ReadsAs found_range (IsEntryText grammar) text.now) }
+    ensures kind { IfOk result (λ found. IfSome found (λ f. IsWrittenAs grammar text.now f.entry)) }
     ensures spelled { IfOk result (λ found. IfSome found (λ f. f.text.now ≡ text.now)) }
 {
     let text = match str::from_utf8(text) {
@@ -111,6 +114,7 @@ impl<'a> EntryReader<'a> {
     ) -> Result<Option<FoundEntry<'a>>, AllocError>
         ensures read { IfOk result (λ found.
             IsReadFrom grammar list self.old self.new (found_entries found) refused.old refused.new) }
+        ensures kind { IfOk result (λ found. IfSome found (λ f. IsWrittenAs grammar f.text.now f.entry)) }
         ensures shorter { IfOk result (λ found.
             IfSome found (λ _. length self.new.rest.now < length self.old.rest.now)) }
         ensures end { IfOk result (λ found. IfNone found (self.new.rest.now ≡ [])) }
@@ -123,7 +127,10 @@ impl<'a> EntryReader<'a> {
             if !text.is_empty() {
                 match read_text(&mut self.room, text, grammar)? {
                     Some(found) => return Ok(Some(found)),
-                    None => refused.push(alloc, list, self.line, text)?,
+                    None => {
+                        let cause = cause_of(&mut self.room, text, grammar)?;
+                        refused.push(alloc, list, self.line, text, cause)?;
+                    }
                 }
             }
         }

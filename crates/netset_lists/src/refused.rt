@@ -1,6 +1,7 @@
 //! The lines of lists that are no entries.
 ghost use Rattle.std.specs.Prelude.{◌≡◌, ◌≤◌, [], ◌∷◌, ◌++◌, length, take, OnOk};
 
+use crate::cause::Cause;
 use std::alloc::{AllocError, Global};
 
 /// How many refused lines are kept.
@@ -9,7 +10,7 @@ const SHOWN: usize = 10;
 /// A line that is no entry.
 ///
 /// ```text
-/// of the list "10.0.0.0/8\nx # y\n", the second one named: list 1, line 2, text "x"
+/// of the list "10.0.0.0/8\nx # y\n", the second one named: list 1, line 2, text "x", no cause
 /// ```
 #[derive(Debug, Drop)]
 pub struct RefusedLine {
@@ -19,6 +20,8 @@ pub struct RefusedLine {
     pub line: usize,
     /// What it holds, without comment and blanks around it.
     pub text: Vec<u8>,
+    /// Why this is no entry, where a cause can be named.
+    pub cause: Option<Cause>,
 }
 
 /// The refused lines of all lists that are read: the first ten of them, and how many there are.
@@ -45,20 +48,23 @@ impl RefusedLines {
         }
     }
 
-    /// Adds a line. The error is want of memory; more lines than a `usize` counts are told so too.
+    /// Adds a line, and why it is no entry. The error is want of memory; more lines than a `usize` counts are told so
+    /// too.
     pub(crate) fn push(
         &mut self,
         alloc: Global,
         list: usize,
         line: usize,
         text: &[u8],
+        cause: Option<Cause>,
     ) -> Result<(), AllocError>
-        ensures { OnOk result (HasMore self.old self.new (record { list = list; line = line; text = text.now } ∷ [])) }
+        ensures { OnOk result (HasMore self.old self.new
+            (record { list = list; line = line; text = text.now; cause = cause } ∷ [])) }
     {
         let Some(count) = self.count.checked_add(1) else {
             return Err(AllocError);
         };
-        self.keep(alloc, list, line, text)?;
+        self.keep(alloc, list, line, text, cause)?;
         self.count = count;
         Ok(())
     }
@@ -70,16 +76,22 @@ impl RefusedLines {
         list: usize,
         line: usize,
         text: &[u8],
+        cause: Option<Cause>,
     ) -> Result<(), AllocError>
-        ensures shown { OnOk result (shown_refusals self.new ≡ take most_shown
-            (shown_refusals self.old ++ record { list = list; line = line; text = text.now } ∷ [])) }
+        ensures shown { OnOk result (shown_refusals self.new ≡ take most_shown (shown_refusals self.old
+            ++ record { list = list; line = line; text = text.now; cause = cause } ∷ [])) }
         ensures count { self.new.count ≡ self.old.count }
     {
         if self.shown.len() == SHOWN {
             return Ok(());
         }
         let text = text.to_vec(alloc)?;
-        self.shown.push(RefusedLine { list, line, text })?;
+        self.shown.push(RefusedLine {
+            list,
+            line,
+            text,
+            cause,
+        })?;
         Ok(())
     }
 }

@@ -3,6 +3,7 @@
 //! The tasks, their arguments, the line that is printed and the number made from the answers are those of this
 //! repository's `ipnet_bench`, so that the two can be put side by side.
 
+use std::collections::{BTreeMap, HashMap};
 use std::error::Error;
 use std::fmt::Write;
 use std::hint::black_box;
@@ -13,7 +14,7 @@ use std::process::ExitCode;
 use std::str::FromStr;
 use std::time::Instant;
 
-use ipnet::{IpNet, Ipv4AddrRange, Ipv4Net, Ipv4Subnets, Ipv6AddrRange, Ipv6Net, Ipv6Subnets};
+use ipnet::{IpAdd, IpNet, IpSub, IpSubnets, Ipv4AddrRange, Ipv4Net, Ipv4Subnets, Ipv6AddrRange, Ipv6Net, Ipv6Subnets};
 
 type Outcome = Result<(), Box<dyn Error>>;
 
@@ -122,9 +123,7 @@ fn contained(outer: &[IpNet], inner: &[IpNet]) -> u64 {
 }
 
 fn aggregated(networks: &Vec<IpNet>) -> u64 {
-    IpNet::aggregate(networks).iter().fold(0, |check, network| {
-        mixed(mixed(check, folded(network.addr())), u64::from(network.prefix_len()))
-    })
+    listed(&IpNet::aggregate(networks), 0)
 }
 
 fn printed(networks: &[IpNet], text: &mut String) -> u64 {
@@ -183,6 +182,156 @@ fn ipv6_networks(networks: &[IpNet]) -> Vec<Ipv6Net> {
     networks.iter().filter_map(|network| if let IpNet::V6(network) = network { Some(*network) } else { None }).collect()
 }
 
+/// A number made from a list of networks.
+fn listed(networks: &[IpNet], start: u64) -> u64 {
+    networks.iter().fold(start, |check, network| {
+        mixed(mixed(check, folded(network.addr())), u64::from(network.prefix_len()))
+    })
+}
+
+/// Every second network, the first among them, and the others.
+fn halves(networks: &[IpNet]) -> (Vec<IpNet>, Vec<IpNet>) {
+    let every_second = |from: usize| networks.iter().skip(from).step_by(2).copied().collect();
+    (every_second(0), every_second(1))
+}
+
+// The crate has no sets. These are the plainest programs over its aggregate that are fast: two aggregates are gone
+// through side by side, since of two of their networks one lies in the other or they are apart. Each gives the
+// maximal blocks with no second aggregate.
+
+fn union(first: &[IpNet], second: &[IpNet]) -> Vec<IpNet> {
+    IpNet::aggregate(&[first, second].concat())
+}
+
+fn intersection(first: &Vec<IpNet>, second: &Vec<IpNet>) -> Vec<IpNet> {
+    let (first, second) = (IpNet::aggregate(first), IpNet::aggregate(second));
+    let (mut found, mut one, mut other) = (Vec::new(), 0, 0);
+    while one < first.len() && other < second.len() {
+        if first[one].contains(&second[other]) {
+            found.push(second[other]);
+            other += 1;
+        } else if second[other].contains(&first[one]) {
+            found.push(first[one]);
+            one += 1;
+        } else if first[one] < second[other] {
+            one += 1;
+        } else {
+            other += 1;
+        }
+    }
+    found
+}
+
+/// The networks between two addresses of one family.
+fn between(start: IpAddr, end: IpAddr) -> IpSubnets {
+    match (start, end) {
+        (IpAddr::V4(start), IpAddr::V4(end)) => IpSubnets::V4(Ipv4Subnets::new(start, end, 0)),
+        (IpAddr::V6(start), IpAddr::V6(end)) => IpSubnets::V6(Ipv6Subnets::new(start, end, 0)),
+        _ => unreachable!("two addresses of one network"),
+    }
+}
+
+fn before(addr: IpAddr) -> IpAddr {
+    match addr {
+        IpAddr::V4(addr) => addr.saturating_sub(1_u32).into(),
+        IpAddr::V6(addr) => addr.saturating_sub(1_u128).into(),
+    }
+}
+
+fn after(addr: IpAddr) -> IpAddr {
+    match addr {
+        IpAddr::V4(addr) => addr.saturating_add(1_u32).into(),
+        IpAddr::V6(addr) => addr.saturating_add(1_u128).into(),
+    }
+}
+
+/// What is left of the network without those that lie in it, which ascend.
+fn without(network: IpNet, inner: &[IpNet], found: &mut Vec<IpNet>) {
+    let mut start = network.network();
+    for gone in inner {
+        if start < gone.network() {
+            found.extend(between(start, before(gone.network())));
+        }
+        if gone.broadcast() == network.broadcast() {
+            return;
+        }
+        start = after(gone.broadcast());
+    }
+    found.extend(between(start, network.broadcast()));
+}
+
+fn difference(first: &Vec<IpNet>, second: &Vec<IpNet>) -> Vec<IpNet> {
+    let (first, second) = (IpNet::aggregate(first), IpNet::aggregate(second));
+    let (mut found, mut at) = (Vec::new(), 0);
+    for network in first {
+        while at < second.len() && second[at].broadcast() < network.network() {
+            at += 1;
+        }
+        if at < second.len() && second[at].contains(&network) {
+            continue;
+        }
+        let inner = at;
+        while at < second.len() && network.contains(&second[at]) {
+            at += 1;
+        }
+        if inner == at {
+            found.push(network);
+        } else {
+            without(network, &second[inner..at], &mut found);
+        }
+    }
+    found
+}
+
+/// Whether one of the networks, an aggregate, has the address.
+fn is_member(networks: &[IpNet], address: &IpAddr) -> bool {
+    let place = networks.partition_point(|network| network.network() <= *address);
+    place > 0 && networks[place - 1].contains(address)
+}
+
+/// The place of the last of the longest networks that hold the address, counted from 1, or 0: asked of a map, one
+/// prefix length after the other.
+fn longest_match(places: &HashMap<IpNet, u64>, address: IpAddr) -> u64 {
+    let host = IpNet::from(address);
+    (0..=host.prefix_len())
+        .rev()
+        .filter_map(|prefix_len| IpNet::new(address, prefix_len).ok())
+        .find_map(|network| places.get(&network.trunc()).map(|place| place + 1))
+        .unwrap_or(0)
+}
+
+/// The routes to the networks, each with its place, in order and of equal networks the last.
+fn routes(networks: &[IpNet]) -> u64 {
+    let places = networks.iter().zip(0..).map(|(network, place)| (network.trunc(), place));
+    let table = places.collect::<BTreeMap<IpNet, u64>>();
+    table.iter().fold(table.len() as u64, |check, (network, place)| {
+        mixed(mixed(mixed(check, folded(network.addr())), u64::from(network.prefix_len())), *place)
+    })
+}
+
+/// The tasks over two halves of the networks, or over a half and an address of each network.
+fn over_halves(task: &str, networks: &[IpNet]) -> Outcome {
+    let (first, second) = halves(networks);
+    let combined = |found: Vec<IpNet>| listed(&found, found.len() as u64);
+    let addresses = networks.iter().map(IpNet::broadcast).collect::<Vec<IpAddr>>();
+    match task {
+        "union" => report(task, networks.len(), || combined(union(&first, &second))),
+        "intersection" => report(task, networks.len(), || combined(intersection(&first, &second))),
+        "difference" => report(task, networks.len(), || combined(difference(&first, &second))),
+        "set_contains" => {
+            let set = IpNet::aggregate(&first);
+            report(task, networks.len(), || addresses.iter().filter(|address| is_member(&set, address)).count() as u64)
+        }
+        "longest_match" => {
+            let places = first.iter().zip(0..).map(|(network, place)| (network.trunc(), place)).collect();
+            report(task, networks.len(), || {
+                addresses.iter().fold(0, |check, address| mixed(check, longest_match(&places, *address)))
+            })
+        }
+        _ => Err("no such task".into()),
+    }
+}
+
 /// The tasks over the lines that are read, the empty ones left out.
 fn over_lines(task: &str) -> Outcome {
     let lines = io::stdin().lock().lines().filter(|line| line.as_ref().map_or(true, |line| !line.is_empty()));
@@ -212,7 +361,8 @@ fn over_lines(task: &str) -> Outcome {
             let mut text = String::new();
             report(task, count, || printed(&networks, &mut text))
         }
-        _ => Err("no such task".into()),
+        "routes" => report(task, count, || routes(&networks)),
+        _ => over_halves(task, &networks),
     }
 }
 

@@ -1,15 +1,15 @@
-//! Reading a text in one forward pass.
+//! Reading a text in one forward pass. Before it starts, the first four bytes at most tell the family.
 ghost use Rattle.std.specs.Prelude.{◌≡◌, ◌≢◌, min, [], ◌∷◌, ◌+◌, ◌<◌, ◌≤◌, length, take, drop, slice_index, IfSome};
 ghost use Rattle.std.specs.Prelude.{IfNone, option_map, MatchOption, true};
 ghost use Rattle.std.specs.Bool.{OnTrue, OnFalse};
 ghost use Rattle.std.specs.Char.{digit_value};
-ghost use Rattle.std.specs.Str.Parse.{digits_value};
+ghost use Rattle.std.specs.Str.Parse.{AllDigits, digits_value};
 ghost use Rattle.std.specs.Net.Addr.{ipv4_octets, ipv6_segments};
 ghost use Rattle.ipnet_base.specs.Network.{Network};
 ghost use Rattle.ipnet.specs.AddressTexts.{expanded};
 ghost use Rattle.ipnet.specs.NetworkOf.{ip_network};
 ghost use Rattle.ipnet.specs.NetworkTexts.{IsNetworkText};
-ghost use Rattle.ipnet.specs.ReaderSteps.{dot, digit_run, all_decimal, run_of, decimal_of, read_byte, read_octet};
+ghost use Rattle.ipnet.specs.ReaderSteps.{dot, decimal_run, hex_run, decimal_of, read_byte, octet_at, read_octet};
 ghost use Rattle.ipnet.specs.ReaderSteps.{read_dotted, read_prefix_len, read_ipv4_network, read_dotted_groups};
 ghost use Rattle.ipnet.specs.ReaderSteps.{read_groups, read_compressed, read_ipv6, read_ipv6_network, is_single_colon};
 
@@ -18,22 +18,109 @@ use crate::parser::Grammar;
 use arrayvec::ArrayVec;
 use std::net::{Ipv4Addr, Ipv6Addr};
 
-/// Up to four hexadecimal digits: how many, the decimal number that they write, if they write one of at most 255, and
-/// the group, if there are any.
+/// Up to three decimal digits: how many, and the number that they write.
 #[derive(Clone, Copy)]
-struct Run {
+struct Decimals {
     count: usize,
-    decimal: Option<u8>,
-    group: Option<u16>,
+    number: u16,
 }
 
-/// The same, before it is asked what they write.
+/// The decimal digit at this place, and a number from 10 on where none stands there.
+fn decimal_digit(text: &[u8], index: usize) -> u8
+    ensures digit { result < 10 → result ≡ digit_value (slice_index text.now index) }
+    ensures within { result < 10 → index < length text.now }
+    ensures other { 10 ≤ result → 10 ≤ digit_value (slice_index text.now index) }
+{
+    match text.get(index) {
+        Some(byte) => byte.wrapping_sub(b'0'),
+        None => 10,
+    }
+}
+
+/// The decimal digits at the front, at most three. All three places are looked at, and the number of digits makes a
+/// choice among values and no branch: how many there are is what a processor can't foretell.
+fn first_decimals(rest: &[u8]) -> Decimals
+    ensures run { decimal_run rest.now ≡ (take result.count rest.now, drop result.count rest.now) }
+    ensures within { result.count ≤ length rest.now }
+    ensures few { result.count ≤ 3 }
+    ensures digits { AllDigits 10 (take result.count rest.now) }
+    ensures number { result.number ≡ digits_value 10 (take result.count rest.now) }
+{
+    let first = decimal_digit(rest, 0);
+    let second = decimal_digit(rest, 1);
+    let third = decimal_digit(rest, 2);
+    let one = u16::from(first);
+    let two = one * 10 + u16::from(second);
+    let three = two * 10 + u16::from(third);
+    if first >= 10 {
+        Decimals {
+            count: 0,
+            number: 0,
+        }
+    } else if second >= 10 {
+        Decimals {
+            count: 1,
+            number: one,
+        }
+    } else if third >= 10 {
+        Decimals {
+            count: 2,
+            number: two,
+        }
+    } else {
+        Decimals {
+            count: 3,
+            number: three,
+        }
+    }
+}
+
+/// The number of at most 255 that these decimal digits write, if they write one: an octet, or a prefix length.
+#[tactic(auto, using(std::proofs::lemmas::Bool::Decides::nat_tests), unfolding(crate::specs::ReaderSteps::decimal_of))]
+fn decimal(rest: &[u8], digits: Decimals, grammar: Grammar) -> Option<u8>
+    requires within { digits.count ≤ length rest.now }
+    requires few { digits.count ≤ 3 }
+    requires digits { AllDigits 10 (take digits.count rest.now) }
+    requires number { digits.number ≡ digits_value 10 (take digits.count rest.now) }
+    ensures { result ≡ decimal_of grammar (take digits.count rest.now) }
+{
+    if digits.count == 0 || digits.number > 255 {
+        return None;
+    }
+    // There is a first digit: the test above comes first.
+    if grammar == Grammar::Strict && digits.count > 1 && rest[0] == b'0' {
+        return None;
+    }
+    Some(digits.number as u8)
+}
+
+/// The number of at most 255 that all of these bytes write in decimal, if they write one.
+fn whole_decimal(digits: &[u8], grammar: Grammar) -> Option<u8>
+    ensures { result ≡ decimal_of grammar digits.now }
+{
+    let front = first_decimals(digits);
+    if front.count == digits.len() {
+        decimal(digits, front, grammar)
+    } else {
+        None
+    }
+}
+
+/// Whether a "." follows the decimal digits at the front, at most three: so does each IPv4 network begin, and no IPv6
+/// network.
+fn begins_dotted(text: &[u8]) -> bool
+    ensures dotted { OnTrue result (slice_index (decimal_run text.now).1 0 ≡ dot) }
+    ensures other { OnFalse result (slice_index (decimal_run text.now).1 0 ≢ dot) }
+{
+    matches!(&text[first_decimals(text).count..], [b'.', ..])
+}
+
+/// A run of hexadecimal digits, at most four, and the number that they write.
 #[derive(Clone, Copy)]
-struct Digits {
-    count: usize,
-    in_hex: u16,
-    in_decimal: u16,
-    is_decimal: bool,
+struct Run<'a> {
+    digits: &'a [u8],
+    number: u16,
+    ghost is_number: { number ≡ digits_value 16 digits.now },
 }
 
 // What each byte writes as a hexadecimal digit, and 16 where it writes none. By a table, since a branch on the kind of
@@ -74,55 +161,24 @@ fn hex_digit(text: &[u8], index: usize) -> Option<u16>
     }
 }
 
-/// The digits at the front, at most four.
-fn first_digits(rest: &[u8]) -> Digits
-    ensures run { digit_run 4 rest.now ≡ (take result.count rest.now, drop result.count rest.now) }
-    ensures within { result.count ≤ length rest.now }
-    ensures in_hex { result.in_hex ≡ digits_value 16 (take result.count rest.now) }
-    ensures in_decimal { result.in_decimal ≡ digits_value 10 (take result.count rest.now) }
-    ensures is_decimal { result.is_decimal ≡ all_decimal (take result.count rest.now) }
+/// The hexadecimal digits at the front, at most four.
+fn first_run(rest: &[u8]) -> Run<'_>
+    ensures run { hex_run rest.now ≡ (result.digits.now, drop (length result.digits.now) rest.now) }
+    ensures within { length result.digits.now ≤ length rest.now }
 {
     let mut count = 0;
-    let mut in_hex = 0u16;
-    let mut in_decimal = 0u16;
-    let mut is_decimal = true;
-    // No number of either grammar has more than four digits. A fifth is left where it stands, and is none of the bytes
-    // that may follow a number.
+    let mut number = 0u16;
     while count < 4 {
         let Some(digit) = hex_digit(rest, count) else {
             break;
         };
-        in_hex = in_hex * 16 + digit;
-        in_decimal = in_decimal * 10 + digit;
-        // By `&`, which has no branch.
-        is_decimal = is_decimal & (digit < 10);
+        number = number * 16 + digit;
         count += 1;
     }
-    Digits {
-        count,
-        in_hex,
-        in_decimal,
-        is_decimal,
+    Run {
+        digits: &rest[..count],
+        number,
     }
-}
-
-/// The number of at most 255 that the digits write in decimal, if they write one: an octet, or a prefix length.
-#[tactic(auto, using(std::proofs::lemmas::Bool::Decides::nat_tests), unfolding(crate::specs::ReaderSteps::decimal_of))]
-fn decimal(rest: &[u8], digits: Digits, grammar: Grammar) -> Option<u8>
-    requires within { digits.count ≤ length rest.now }
-    requires in_decimal { digits.in_decimal ≡ digits_value 10 (take digits.count rest.now) }
-    requires is_decimal { digits.is_decimal ≡ all_decimal (take digits.count rest.now) }
-    ensures { result ≡ decimal_of grammar (take digits.count rest.now) }
-{
-    let count = digits.count;
-    if count == 0 || count > 3 || !digits.is_decimal || digits.in_decimal > 255 {
-        return None;
-    }
-    // There is a first digit: the test above comes first.
-    if grammar == Grammar::Strict && count > 1 && rest[0] == b'0' {
-        return None;
-    }
-    Some(digits.in_decimal as u8)
 }
 
 /// Groups, and whether a dotted address stands for the last two.
@@ -168,23 +224,28 @@ impl<'a> Reader<'a> {
         }
     }
 
-    /// The digits at the front, at most four.
-    #[tactic(auto, unfolding(crate::specs::ReaderSteps::group_of))]
-    fn run(&mut self) -> Run
+    /// An octet, or a prefix length.
+    #[tactic(auto, unfolding(crate::specs::ReaderSteps::octet_at))]
+    fn octet(&mut self) -> Option<u8>
         ensures forward { IsForward self.old self.new }
-        ensures run { result ≡ run_of self.old.grammar (digit_run 4 (rest_of self.old)).0 }
-        ensures rest { rest_of self.new ≡ (digit_run 4 (rest_of self.old)).1 }
+        ensures value { read_to result self.new ≡ octet_at self.old.grammar (rest_of self.old) }
     {
         let rest = &self.text[self.position..];
-        let digits = first_digits(rest);
-        let count = digits.count;
-        let decimal = decimal(rest, digits, self.grammar);
-        self.position += count;
-        Run {
-            count,
-            decimal,
-            group: if count > 0 { Some(digits.in_hex) } else { None },
-        }
+        let digits = first_decimals(rest);
+        let octet = decimal(rest, digits, self.grammar)?;
+        self.position += digits.count;
+        Some(octet)
+    }
+
+    /// The hexadecimal digits that are next, at most four.
+    fn run(&mut self) -> Run<'a>
+        ensures forward { IsForward self.old self.new }
+        ensures digits { result.digits.now ≡ (hex_run (rest_of self.old)).0 }
+        ensures rest { rest_of self.new ≡ (hex_run (rest_of self.old)).1 }
+    {
+        let run = first_run(&self.text[self.position..]);
+        self.position += run.digits.len();
+        run
     }
 
     /// A "." and an octet.
@@ -196,7 +257,7 @@ impl<'a> Reader<'a> {
         if !self.byte(b'.') {
             return None;
         }
-        self.run().decimal
+        self.octet()
     }
 
     /// The dotted address whose first octet has been read.
@@ -222,24 +283,26 @@ impl<'a> Reader<'a> {
         if !self.byte(b'/') {
             return None;
         }
-        let run = self.run();
-        let n = run.decimal?;
-        if n <= greatest && run.count <= most && self.position == self.text.len() {
+        // Leading zeros count as digits.
+        let digits = self.text.len() - self.position;
+        let n = self.octet()?;
+        if n <= greatest && digits <= most && self.position == self.text.len() {
             Some(n)
         } else {
             None
         }
     }
 
-    /// The address and the prefix length of the IPv4 network whose first octet has been read, if the first run was one.
+    /// The address and the prefix length of an IPv4 network.
     #[tactic(auto, unfolding(crate::specs::ReaderSteps::read_ipv4_network))]
-    fn ipv4_network(&mut self, first: Option<u8>) -> Option<(Ipv4Addr, u8)>
+    fn ipv4_network(&mut self) -> Option<(Ipv4Addr, u8)>
         ensures forward { IsForward self.old self.new }
         ensures value { option_map (λ n. (ipv4_octets n.0, n.1)) result
-            ≡ read_ipv4_network self.old.grammar first (rest_of self.old) }
+            ≡ read_ipv4_network self.old.grammar (rest_of self.old) }
         ensures small { IfSome result (λ n. n.1 ≤ 32) }
     {
-        let addr = self.dotted(first?)?;
+        let first = self.octet()?;
+        let addr = self.dotted(first)?;
         let prefix_len = self.prefix_len(2, 32)?;
         Some((addr, prefix_len))
     }
@@ -269,14 +332,15 @@ impl<'a> Reader<'a> {
         }
     }
 
-    /// The two groups of the dotted address whose first octet has been read, if the run before was one.
+    /// The two groups of the dotted address whose first run of digits has been read.
     #[tactic(auto, unfolding(crate::specs::ReaderSteps::read_dotted_groups))]
-    fn dotted_groups(&mut self, first: Option<u8>) -> Option<(u16, u16)>
+    fn dotted_groups(&mut self, digits: &[u8]) -> Option<(u16, u16)>
         ensures forward { IsForward self.old self.new }
         ensures value { option_map (λ g. (g.0 ∷ g.1 ∷ [], true, rest_of self.new)) result
-            ≡ read_dotted_groups self.old.grammar first (rest_of self.old) }
+            ≡ read_dotted_groups self.old.grammar digits.now (rest_of self.old) }
     {
-        let [a, b, c, d] = self.dotted(first?)?.octets();
+        let first = whole_decimal(digits, self.grammar)?;
+        let [a, b, c, d] = self.dotted(first)?.octets();
         Some((
             u16::from(a) * 256 + u16::from(b),
             u16::from(c) * 256 + u16::from(d),
@@ -284,23 +348,24 @@ impl<'a> Reader<'a> {
     }
 
     /// Reads at most `room` groups joined by ":"; the first run of digits is already read.
-    fn groups(&mut self, first: Run, room: usize) -> Option<Groups>
+    fn groups(&mut self, first: Run<'a>, room: usize) -> Option<Groups>
         requires { room ≤ 8 }
         ensures forward { IsForward self.old self.new }
         ensures value { option_map (λ g. (g.groups.items, g.is_dotted, rest_of self.new)) result
-            ≡ read_groups self.old.grammar room first (rest_of self.old) }
+            ≡ read_groups self.old.grammar room first.entry.digits.now (rest_of self.old) }
         ensures fits { IfSome result (λ g. length g.groups.items ≤ room) }
     {
         let mut groups = ArrayVec::new();
         let mut run = first;
         'next_group: while groups.len() < room {
-            // What stands before a "." is an octet, also where its digits write a group: so this is asked first.
+            // What stands before a "." is an octet, also where its digits write a group: so this is asked first. Which
+            // number the same digits write in decimal is asked here alone, since most texts have no such octet.
             if self.is_at_dot() {
                 // A dotted address stands for two groups.
                 if groups.len() + 1 == room {
                     return None;
                 }
-                let Some((high, low)) = self.dotted_groups(run.decimal) else {
+                let Some((high, low)) = self.dotted_groups(run.digits) else {
                     return None;
                 };
                 groups.push(high);
@@ -310,10 +375,10 @@ impl<'a> Reader<'a> {
                     is_dotted: true,
                 });
             }
-            let Some(group) = run.group else {
+            if run.digits.is_empty() {
                 return None;
-            };
-            groups.push(group);
+            }
+            groups.push(run.number);
             if !self.separator() {
                 return Some(Groups {
                     groups,
@@ -341,7 +406,7 @@ impl<'a> Reader<'a> {
         }
         let run = self.run();
         // The "::" ends the address.
-        if run.count == 0 {
+        if run.digits.is_empty() {
             return Some(expand(head, &[]));
         }
         // A strict "::" stands for one group at least, a legacy one may stand for none.
@@ -353,14 +418,15 @@ impl<'a> Reader<'a> {
         Some(expand(head, tail.groups.as_slice()))
     }
 
-    /// The IPv6 address whose first run has been read.
+    /// An IPv6 address.
     #[tactic(auto, unfolding(crate::specs::ReaderSteps::read_ipv6))]
-    fn ipv6(&mut self, first: Run) -> Option<Ipv6Addr>
+    fn ipv6(&mut self) -> Option<Ipv6Addr>
         ensures forward { IsForward self.old self.new }
         ensures value { option_map (λ a. (ipv6_segments a, rest_of self.new)) result
-            ≡ read_ipv6 self.old.grammar first (rest_of self.old) }
+            ≡ read_ipv6 self.old.grammar (rest_of self.old) }
     {
-        if first.count == 0 {
+        let first = self.run();
+        if first.digits.is_empty() {
             return self.compressed(&[]);
         }
         let head = self.groups(first, 8)?;
@@ -374,22 +440,21 @@ impl<'a> Reader<'a> {
         }
     }
 
-    /// The address and the prefix length of the IPv6 network whose first run has been read.
+    /// The address and the prefix length of an IPv6 network.
     #[tactic(auto, unfolding(crate::specs::ReaderSteps::read_ipv6_network))]
-    fn ipv6_network(&mut self, first: Run) -> Option<(Ipv6Addr, u8)>
+    fn ipv6_network(&mut self) -> Option<(Ipv6Addr, u8)>
         ensures forward { IsForward self.old self.new }
         ensures value { option_map (λ n. (ipv6_segments n.0, n.1)) result
-            ≡ read_ipv6_network self.old.grammar first (rest_of self.old) }
+            ≡ read_ipv6_network self.old.grammar (rest_of self.old) }
         ensures small { IfSome result (λ n. n.1 ≤ 128) }
     {
-        let addr = self.ipv6(first)?;
+        let addr = self.ipv6()?;
         let prefix_len = self.prefix_len(3, 128)?;
         Some((addr, prefix_len))
     }
 }
 
-/// The network that the whole text writes, if it writes one. The byte after the first run of digits tells the
-/// family.
+/// The network that the whole text writes, if it writes one.
 pub(super) fn read_network(text: &[u8], grammar: Grammar) -> Option<IpNet>
     ensures { MatchOption result ((network : Network) → ¬ (IsNetworkText grammar text.now network))
         (λ n. IsNetworkText grammar text.now (ip_network n)) }
@@ -399,14 +464,13 @@ pub(super) fn read_network(text: &[u8], grammar: Grammar) -> Option<IpNet>
         position: 0,
         grammar,
     };
-    let first = reader.run();
-    if reader.is_at_dot() {
-        let Some((addr, prefix_len)) = reader.ipv4_network(first.decimal) else {
+    if begins_dotted(text) {
+        let Some((addr, prefix_len)) = reader.ipv4_network() else {
             return None;
         };
         Some(IpNet::V4(Ipv4Net::new_assert(addr, prefix_len)))
     } else {
-        let Some((addr, prefix_len)) = reader.ipv6_network(first) else {
+        let Some((addr, prefix_len)) = reader.ipv6_network() else {
             return None;
         };
         Some(IpNet::V6(Ipv6Net::new_assert(addr, prefix_len)))

@@ -99,6 +99,9 @@ fn text_tool_on_a_long_line(rt: HostRuntime) -> Result<(), Fail> {
     Ok(())
 }
 
+/// A line that is longer than the window into which input is read.
+const LONG_LINE: [u8; 70_000] = [b'x'; 70_000];
+
 /// Runs the program on the bytes: whether it gave the wanted status, standard output and standard error.
 fn program_outcome(
     alloc: Global,
@@ -135,17 +138,17 @@ fn program(rt: HostRuntime) -> Result<(), Fail> {
         ),
         (
             "memory: program, a bad line",
-            b"x\n",
+            b"::/0\nx\n",
             1,
             b"",
-            b"line 1: invalid IP address syntax\n",
+            b"line 2: invalid IP address syntax\n",
         ),
         (
-            "memory: program, not UTF-8",
-            b"x\n\xff",
-            3,
+            "memory: program, empty lines",
+            b"::/0\n\n\n",
+            0,
+            b"::/0\n",
             b"",
-            b"ipnet: input is not UTF-8\n",
         ),
     ];
     for (label, bytes, status, wanted, report) in rows {
@@ -194,6 +197,32 @@ fn no_request(rt: HostRuntime) -> Result<(), Fail> {
         "memory: tool, a bad line after an empty one",
         || { aggregate_text(alloc, "\n10.0.0.0/24\r\n") == Err(ToolError::Line(2)) },
     )?;
+    Ok(())
+}
+
+#[test]
+fn no_request_of_the_program(rt: HostRuntime) -> Result<(), Fail> {
+    grow_stack(rt.alloc())?;
+    let alloc = rt.alloc();
+    let line_1 = b"line 1: invalid IP address syntax\n";
+    let not_utf8 = b"ipnet: input is not UTF-8\n";
+    // label, input, status, standard error
+    let rows: [(&str, &[u8], u8, &[u8]); 5] = [
+        ("memory: program on nothing", b"", 0, b""),
+        ("memory: program on empty lines", b"\n\n", 0, b""),
+        (
+            "memory: program, the first line bad",
+            b"x\n::/0\n",
+            1,
+            line_1,
+        ),
+        ("memory: program, not UTF-8", b"x\n\xff", 3, not_utf8),
+        ("memory: program, a line without end", &LONG_LINE, 1, line_1),
+    ];
+    for (label, bytes, status, report) in rows {
+        let call = || program_outcome(alloc, bytes, status, b"", report) == Outcome::Answered;
+        check_no_request(&rt, alloc, label, call)?;
+    }
     Ok(())
 }
 

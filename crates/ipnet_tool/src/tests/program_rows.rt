@@ -373,6 +373,35 @@ fn large_pieces(rt: HostRuntime) -> Result<(), Fail> {
     assert!(rt; out.held() == text.as_bytes(), "{label}: standard output");
     assert_eq!(rt; faults.held().len(), 0, "{label}: standard error");
     assert!(rt; input.largest() >= 65536, "{label}: read");
-    assert!(rt; out.largest() >= 65536, "{label}: written");
+    assert!(rt; out.largest() <= 8192, "{label}: written");
+    Ok(())
+}
+
+#[test]
+fn pieces_that_cannot_be_written(rt: HostRuntime) -> Result<(), Fail> {
+    let alloc = rt.alloc();
+    let text = every_second_address(alloc)?;
+    for fails_at in 1..10 {
+        let label = "program: a piece that cannot be written";
+        let mut input = ByteReader::whole(text.as_bytes());
+        let mut out = ArrayWriter::new(WHOLE, fails_at);
+        let mut faults = ArrayWriter::whole();
+        let status = run(alloc, &[], &mut input, &mut out, &mut faults);
+        assert_eq!(rt; status, 3, "{label}: status");
+        let written = out.held();
+        assert!(rt;
+            text.as_bytes().starts_with(written),
+            "{label}: standard output"
+        );
+        assert!(rt;
+            (fails_at - 1) * 8100 <= written.len(),
+            "{label}: what is written before"
+        );
+        assert_eq!(rt;
+            str::from_utf8(faults.held())?,
+            "ipnet: output cannot be written\n",
+            "{label}: standard error"
+        );
+    }
     Ok(())
 }

@@ -8,14 +8,14 @@ use Rattle.netset_lists.proofs.AddressBytes.{cut_at, all_lack}
 use Rattle.netset_lists.proofs.EntryTexts.{reads_some, reads_none, some_of, none_of, cut_no_address, uncut_no_network}
 use Rattle.netset_lists.proofs.entry.read_plain.Goals as goal
 
-pub returns-in-Some-read_network : goal.returns-in-Some-read_network
-returns-in-Some-read_network c =
+pub returns-in-Some-read_network-clause-reads : goal.returns-in-Some-read_network-clause-reads
+returns-in-Some-read_network-clause-reads c =
     let n = c.in-Some-read_network.network in
     reads_some entry_range (IsPlainEntry c.args.grammar) c.args.text.now (Network n)
     (inl record { network = ip_network n; writes = c.in-Some-read_network.ensures.some; is = refl })
 
-pub returns-in-None-read_network : goal.returns-in-None-read_network
-returns-in-None-read_network c =
+pub returns-in-None-read_network-clause-reads : goal.returns-in-None-read_network-clause-reads
+returns-in-None-read_network-clause-reads c =
     let text = c.args.text.now in
     let cut = c.in-Some.ensures.byte (lit< tt) (λ w o h. h) in
     reads_none entry_range (IsPlainEntry c.args.grammar) text (λ range is. elim is [
@@ -23,16 +23,16 @@ returns-in-None-read_network c =
       | inr h ↦ cut_no_address c.args.grammar text _ _ h.address (cut_at 47 text cut.2) h.writes
     ])
 
-pub returns-in-Some-2 : goal.returns-in-Some-2
-returns-in-Some-2 c =
+pub returns-in-Some-2-clause-reads : goal.returns-in-Some-2-clause-reads
+returns-in-Some-2-clause-reads c =
     let a = c.in-Some-2.address in
     let writes = some_of ip_address (IsAddressText c.args.grammar) c.args.text.now c.in_ok-address-in-None.field-0 a
     c.in_ok-address-in-None.ensures c.in-Some-2.is in
     reads_some entry_range (IsPlainEntry c.args.grammar) c.args.text.now (Address a)
     (inr record { address = ip_address a; writes = writes; is = refl })
 
-pub returns-in-None-2 : goal.returns-in-None-2
-returns-in-None-2 c =
+pub returns-in-None-2-clause-reads : goal.returns-in-None-2-clause-reads
+returns-in-None-2-clause-reads c =
     let text = c.args.text.now in
     let lacks = all_lack 47 text (c.in-None.ensures.byte (lit< tt) (λ w o h. h)) in
     let none = none_of ip_address (IsAddressText c.args.grammar) text c.in_ok-address-in-None.field-0

@@ -15,7 +15,8 @@ pub returns-in-None-clause-reads : goal.returns-in-None-clause-reads
 returns-in-None-clause-reads c =
     let grammar = c.args.grammar in
     let same : c.in-Ok.text.now ≡ c.args.text.now = search rules in
-    let none = none_of entry_range (IsEntryText grammar) c.in-Ok.text.now c.in_ok-entry.field-0 c.in_ok-entry.ensures
+    let none = none_of entry_range (IsEntryText grammar) c.in-Ok.text.now c.in_ok-entry.field-0
+    c.in_ok-entry.ensures.reads
     (λ v e. let clash = sym e ∙ c.in-None.is in absurd cc) in
     reads_none found_range (IsEntryText grammar) c.args.text.now
     (λ range h. none range (subst (λ z. IsEntryText grammar z range) (sym same) h))

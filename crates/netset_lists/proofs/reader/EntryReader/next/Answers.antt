@@ -29,8 +29,8 @@ returns-in-Some-clause-read c =
     (if_some c.in_ok-found.field-0 (λ f. f.text.now ≡ text) found c.in_ok-found.ensures.spelled c.in-Some.is)
     is c.lines.refused c.lines.refused.few)
 
-pub lines-preserved-in-Continue-branch-3 : goal.lines-preserved-in-Continue-branch-3
-lines-preserved-in-Continue-branch-3 c =
+pub lines-preserved-in-Continue-branch-4 : goal.lines-preserved-in-Continue-branch-4
+lines-preserved-in-Continue-branch-4 c =
     let grammar = c.args.grammar in
     let text = c.text_of-text.result.now in
     let none = none_of found_range (IsEntryText grammar) text c.in_ok-found.field-0 c.in_ok-found.ensures.reads
@@ -43,6 +43,7 @@ lines-preserved-in-Continue-branch-3 c =
           c.push.new.self c.lines.invariant.read
           (past_refusal grammar c.args.list c.lines.self.rest.now c.first_line.result.0.now
           c.first_line.result.1.now text c.lines.self.line c.first_line.ensures.lines c.text_of-text.ensures
-          (some_bytes (length text) c.if-not-is_empty.ensures) none c.lines.refused c.push.new.self
-          c.in_ok-push-in-None.ensures);
+          (some_bytes (length text) c.if-not-is_empty.ensures) none c.in_ok-cause-in-None.cause
+          c.in_ok-cause-in-None.ensures.told
+          c.lines.refused c.push.new.self c.in_ok-push-in-None.ensures);
     }

@@ -30,17 +30,17 @@ returns-then-is_at_dot-clause-value c =
       append_assoc,
     ))
 
-pub returns-in_default-group-clause-value : goal.returns-in_default-group-clause-value
-returns-in_default-group-clause-value c =
+pub returns-then-is_empty-clause-value : goal.returns-then-is_empty-clause-value
+returns-then-is_empty-clause-value c =
     sym (no_group _ _ _ _ _ _ _ (omega arith) c.next_group.invariant.same c.if-is_at_dot.ensures.other
-    c.in_default-group.is)
+    (sym c.is_empty.ensures ∙ c.if-is_empty.true))
 
 pub returns-then-not-separator-clause-value : goal.returns-then-not-separator-clause-value
 returns-then-not-separator-clause-value c =
     let other : get_or (rest_of c.next_group.self) 0 0 ≢ 46 = c.if-is_at_dot.ensures.other in
     let whole =
-    last_group _ _ _ _ _ _ _ (omega arith) c.next_group.invariant.same c.in-Some-group.group other c.in-Some-group.is
-    (sym c.if-not-separator.ensures.single) in
+    last_group _ _ _ _ _ _ _ (omega arith) c.next_group.invariant.same _ other
+    (sym c.is_empty.ensures ∙ c.if-is_empty.false) c.next_group.run.is_number (sym c.if-not-separator.ensures.single) in
     sym (whole ∙ rw (← c.push-in-next_group.ensures.items, ← c.if-not-separator.ensures.not_taken))
 
 pub next_group-preserved : goal.next_group-preserved
@@ -62,11 +62,10 @@ next_group-preserved c =
             ∙ c.next_group.invariant.forward.grammar;
       };
       same =
-          goes_on _ _ _ _ _ _ _ (omega arith) c.next_group.invariant.same c.in-Some-group.group _ _ _ _ _ _ other
-          c.in-Some-group.is c.if-not-separator.ensures.single
+          goes_on _ _ _ _ _ _ _ (omega arith) c.next_group.invariant.same _ _ _ _ _ _ other
+          (sym c.is_empty.ensures ∙ c.if-is_empty.false) c.next_group.run.is_number c.if-not-separator.ensures.single
           c.push-in-next_group.ensures.len c.push-in-next_group.ensures.items c.if-not-separator.ensures.taken
-          (c.separator.ensures.forward.grammar ∙ c.next_group.invariant.forward.grammar) c.run-run.ensures.run
-          c.run-run.ensures.rest;
+          c.run-run.ensures.digits c.run-run.ensures.rest;
     }
 
 pub returns-clause-value : goal.returns-clause-value

@@ -8,8 +8,9 @@ abbrev pub invariant-next_group : goal.invariant-next_group
 invariant-next_group l = record {
   fits : length l.groups.items ≤ l.room;
   forward : IsForward l.fn.self l.self;
-  same : read_groups l.fn.self.grammar l.room l.fn.first (rest_of l.fn.self)
-      ≡ after l.groups.items (read_groups l.fn.self.grammar (l.room - length l.groups.items) l.run (rest_of l.self));
+  same : read_groups l.fn.self.grammar l.room l.fn.first.digits.now (rest_of l.fn.self)
+      ≡ after l.groups.items
+      (read_groups l.fn.self.grammar (l.room - length l.groups.items) l.run.digits.now (rest_of l.self));
 }
 
 abbrev pub decreases-next_group : goal.decreases-next_group

@@ -1,0 +1,95 @@
+"""The table of the program netset. README.md says what a figure is."""
+import tempfile
+from typing import Callable, NamedTuple
+
+import netset_models as models
+from cells import head, mebibytes, milliseconds, ratio, row, shown
+from lists import Missing, lines_of, path_of
+from programs import note
+from turns import Command, digest, measured, with_lengths
+
+
+def as_ranges(lines):
+    """The ranges of iprange, which writes a single address alone, as ranges."""
+    return (line if b"-" in line else line.rstrip(b"\n") + b"-" + line for line in lines)
+
+
+def as_counts(lines):
+    """How many entries and how many addresses iprange counted, as netset says it."""
+    return (b"IPv4 %d, IPv6 0\n" % int(line.split(b",")[1]) for line in lines)
+
+
+class Call(NamedTuple):
+    """A row: a call of netset on lists, whose paths stand for {0} and {1} in the words, and iprange's for the same."""
+    label: str
+    lists: list
+    words: str
+    iprange: str | None = None
+    as_ours: Callable | None = with_lengths  # iprange's lines as netset writes them. None: it tells less
+    model: Callable | None = None            # the lines of the answer, by the lists' paths
+    status: int = 0                          # netset's
+    iprange_status: int = 0
+
+
+ALL = "ranges_ipv4"
+FIRST, SECOND = "countries_ipv4", "next_countries_ipv4"
+
+CALLS = [
+    Call("union: all ranges, and countries 1 to 40", [ALL, FIRST], "union {0} {1}", "{0} {1}"),
+    Call("union: all ranges, as FIRST-LAST", ["spans_ipv4"], "union {0}", "{0}"),
+    Call("union, as ranges: countries 1 to 40, and 21 to 60", [FIRST, SECOND],
+         "union --ranges {0} {1}", "-j {0} {1}", as_ranges),
+    Call("intersection: countries 1 to 40, and 21 to 60", [FIRST, SECOND],
+         "intersection {0} {1}", "{0} {1} --common"),
+    Call("difference: countries 1 to 40, and 21 to 60", [FIRST, SECOND],
+         "difference {0} {1}", "{0} --except {1}"),
+    Call("difference: all ranges, and countries 1 to 40", [ALL, FIRST],
+         "difference {0} {1}", "{0} --except {1}"),
+    Call("symmetric difference: countries 1 to 40, and 21 to 60", [FIRST, SECOND],
+         "symmetric-difference {0} {1}", "{0} --diff {1}", models.shortest, iprange_status=1),
+    # iprange is given all addresses on its standard input
+    Call("complement: countries 1 to 40", [FIRST], "complement {0}", "- --except {0}"),
+    Call("count: countries 1 to 40", [FIRST], "count {0}", "-C {0}", as_counts, models.count),
+    Call("count: countries 1 to 40, both families", ["countries_both"], "count {0}", model=models.count),
+    Call("compare: countries 1 to 40, and 21 to 60", [FIRST, SECOND],
+         "compare {0} {1}", "{0} --diff {1} --quiet", None, models.compare, 1, 1),
+    Call("filter: of all ranges, those in countries 1 to 40", [FIRST, ALL],
+         "filter {0} {1}", model=models.inside),
+    Call("filter: of all ranges, those outside countries 1 to 40", [FIRST, ALL],
+         "filter --outside {0} {1}", model=models.outside),
+    Call("route: 10^6 addresses by 10^6 routes", ["routes_ipv4", "addresses_ipv4"],
+         "route {0} {1}", model=models.route),
+]
+
+
+def netset(bench):
+    wanted = [call for call in CALLS if bench.wants(call.label, *call.lists)]
+    if not wanted:
+        return
+    if not bench.programs.our_netset:
+        note("there is no crate netset: its table is left out")
+        return
+    head("netset", "call: lists", "lines", "processor ms", "iprange's ms", "of iprange's", "bound", "peak MiB",
+         "iprange's", "answers")
+    for call in wanted:
+        try:
+            netset_row(bench, call, [path_of(name) for name in call.lists])
+        except Missing as missing:
+            row(call.label, "left out: %s" % missing)
+
+
+def netset_row(bench, call, paths):
+    commands = {"ours": Command([bench.programs.our_netset, *call.words.format(*paths).split()], call.status)}
+    if call.iprange and bench.programs.iprange:
+        words = [bench.programs.iprange, *call.iprange.format(*paths).split()]
+        commands["iprange"] = Command(words, call.iprange_status, call.as_ours)
+    with tempfile.NamedTemporaryFile() as everything:
+        everything.write(b"0.0.0.0/0\n")
+        everything.flush()
+        found = measured(bench, commands, everything.name)
+    answers = found.outputs + ([digest(call.model(*paths))] if call.model else [])
+    ours, theirs = found.least("ours", "processor"), found.least("iprange", "processor")
+    part = ratio(ours, theirs)
+    row(call.label, format(sum(map(lines_of, paths)), ","), milliseconds(ours), milliseconds(theirs), shown(part),
+        bench.judged("netset, " + call.label, part, 1 if call.iprange else None), mebibytes(found.peak("ours")),
+        mebibytes(found.peak("iprange")), bench.compared("netset, " + call.label, answers))

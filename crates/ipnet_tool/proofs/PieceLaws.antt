@@ -1,0 +1,204 @@
+-- A text that is read in pieces: lines of one piece after those of another, where the first ends with a line's end.
+use Rattle.std.proofs.Common.{◌≡◌, ◌≢◌, ℕ, ◌+◌, ◌<◌, ◌≤◌, ◌==◌, true, false, List, [], ◌∷◌, ◌++◌, length, get_or, take}
+use Rattle.std.proofs.Common.{if◌then◌else◌, All, refl, sym, ap, ◌∙◌, subst, arith, append_assoc, IsUtf8, ne_eqb, suc}
+use Rattle.std.proofs.Common.{length-append}
+use Rattle.std.proofs.lemmas.List.{take_more}
+use Rattle.std.proofs.lemmas.List.Elements.{All-append}
+use Rattle.std.proofs.lemmas.Str.{IsUtf8-append, IsUtf8-nil}
+use Rattle.ipnet.specs.Network.{Network}
+use Rattle.ipnet.specs.Blocks.{HaveSameCover}
+use Rattle.ipnet.specs.declared.parser.Grammar.{Grammar}
+use Rattle.ipnet.specs.Lines.{lines_of, onto_first_line, AreNetworksOf, IsFirstBadLine, IsGoodLine}
+use Rattle.ipnet.proofs.LineLaws.{all_good, bad_line}
+use Rattle.ipnet.proofs.CoverLaws.{HaveSameCover-append, HaveSameCover-trans}
+use Rattle.ipnet_tool.specs.Reading.{IsTaken}
+use Rattle.ipnet_tool.proofs.TextLengths.{network_text_short}
+
+-- ---- a piece that ends with a line's end
+
+-- the lines of what follows come after those of the text
+abbrev pub IsClosed : List ℕ → Type 0
+IsClosed text = (more : List ℕ) → lines_of (text ++ more) ≡ lines_of text ++ lines_of more
+
+onto_some : (b : ℕ) (lines : List (List ℕ)) → 0 < length (onto_first_line b lines)
+onto_some b [] = omega arith
+onto_some b (line ∷ lines) = omega arith
+
+onto_append : (b : ℕ) (lines more : List (List ℕ)) → 0 < length lines
+    → onto_first_line b (lines ++ more) ≡ onto_first_line b lines ++ more
+onto_append b [] more some = absurd (omega arith)
+onto_append b (line ∷ lines) more some = refl
+
+some_line : (b : ℕ) (text : List ℕ) → 0 < length (lines_of (b ∷ text))
+some_line b text = elim (b == 10)
+    as (λ t. 0 < length (if t then [] ∷ lines_of text else onto_first_line b (lines_of text)))
+    [ true ↦ omega arith | false ↦ onto_some b (lines_of text) ]
+
+ended_some : (text : List ℕ) → 0 < length (lines_of (text ++ 10 ∷ []))
+ended_some [] = some_line 10 []
+ended_some (b ∷ text) = some_line b (text ++ 10 ∷ [])
+
+ended_closed : (text : List ℕ) → IsClosed (text ++ 10 ∷ [])
+ended_closed [] more = refl
+ended_closed (b ∷ text) more =
+    let ended = text ++ 10 ∷ [] in
+    let later = ended_closed text more in
+    elim (b == 10) as (λ t. (if t then [] ∷ lines_of (ended ++ more) else onto_first_line b (lines_of (ended ++ more)))
+    ≡ (if t then [] ∷ lines_of ended else onto_first_line b (lines_of ended)) ++ lines_of more) [
+      | true ↦ ap (λ z. [] ∷ z) later
+      | false ↦ ap (onto_first_line b) later ∙ onto_append b (lines_of ended) (lines_of more) (ended_some text)
+    ]
+
+-- the bytes up to one that ends a line
+pub front_closed : (bytes : List ℕ) (end : ℕ) → end < length bytes → get_or bytes end 0 ≡ 10
+    → IsClosed (take (end + 1) bytes)
+front_closed bytes end within is more =
+    let ended : take (end + 1) bytes ≡ take end bytes ++ 10 ∷ [] =
+    take_more bytes end 0 within ∙ ap (λ b. take end bytes ++ b ∷ []) is in
+    subst (λ z. lines_of (z ++ more) ≡ lines_of z ++ lines_of more) (sym ended) (ended_closed (take end bytes) more)
+
+pub closed_append : (front piece : List ℕ) → IsClosed front → IsClosed piece → IsClosed (front ++ piece)
+closed_append front piece first second more =
+    ap lines_of (append_assoc front piece more) ∙ first (piece ++ more)
+    ∙ ap (λ z. lines_of front ++ z) (second more)
+    ∙ sym (append_assoc (lines_of front) (lines_of piece) (lines_of more))
+    ∙ ap (λ z. z ++ lines_of more) (sym (first piece))
+
+-- ---- lines after lines
+
+onto_count : (b : ℕ) (lines : List (List ℕ)) → length (onto_first_line b lines) ≤ length lines + 1
+onto_count b [] = omega arith
+onto_count b (line ∷ lines) = omega arith
+
+-- a text has no more lines than bytes
+pub lines_count : (text : List ℕ) → length (lines_of text) ≤ length text
+lines_count [] = omega arith
+lines_count (b ∷ text) =
+    let later = lines_count text in
+    elim (b == 10) as (λ t. length (if t then [] ∷ lines_of text else onto_first_line b (lines_of text))
+    ≤ length (b ∷ text)) [
+      | true ↦ omega (arith, later)
+      | false ↦ omega (arith, later, onto_count b (lines_of text))
+    ]
+
+networks_append : (grammar : Grammar) (lines others : List (List ℕ)) (ns ms : List Network)
+    → AreNetworksOf grammar lines ns → AreNetworksOf grammar others ms
+    → AreNetworksOf grammar (lines ++ others) (ns ++ ms)
+networks_append grammar [] others ns ms h k = subst (λ z. AreNetworksOf grammar others (z ++ ms)) (sym h) k
+networks_append grammar ([] ∷ lines) others ns ms h k = networks_append grammar lines others ns ms h k
+networks_append grammar ((b ∷ line) ∷ lines) others [] ms h k = absurd h
+networks_append grammar ((b ∷ line) ∷ lines) others (n ∷ ns) ms h k =
+    (h.0, networks_append grammar lines others ns ms h.1 k)
+
+bad_after : (grammar : Grammar) (lines others : List (List ℕ)) (ns : List Network) (later : ℕ)
+    → AreNetworksOf grammar lines ns → IsFirstBadLine grammar others later
+    → IsFirstBadLine grammar (lines ++ others) (length lines + later)
+bad_after grammar lines others ns later h k = record {
+  before = lines ++ k.before;
+  line = k.line;
+  after = k.after;
+  cut = ap (λ z. lines ++ z) k.cut ∙ sym (append_assoc lines k.before (k.line ∷ k.after));
+  number_is = omega (arith, k.number_is, length-append lines k.before);
+  good = All-append (IsGoodLine grammar) lines k.before (all_good grammar lines ns h) k.good;
+  bad = k.bad;
+}
+
+bad_before : (grammar : Grammar) (lines others : List (List ℕ)) (number : ℕ) → IsFirstBadLine grammar lines number
+    → IsFirstBadLine grammar (lines ++ others) number
+bad_before grammar lines others number h = record {
+  before = h.before;
+  line = h.line;
+  after = h.after ++ others;
+  cut = ap (λ z. z ++ others) h.cut ∙ append_assoc h.before (h.line ∷ h.after) others;
+  number_is = h.number_is;
+  good = h.good;
+  bad = h.bad;
+}
+
+-- ---- what was taken, and a piece more
+
+pub taken_none : (grammar : Grammar) (networks : List Network) → networks ≡ [] → IsTaken grammar [] networks 0
+taken_none grammar networks none = record {
+  is_text = IsUtf8-nil;
+  closed = λ more. refl;
+  written = [];
+  are = refl;
+  same = subst (HaveSameCover []) (sym none) (λ x. (λ c. c, λ c. c));
+  count = refl;
+}
+
+pub networks_more : (grammar : Grammar) (front piece : List ℕ) (old new : List Network) (number : ℕ)
+    → IsTaken grammar front old number
+    → (networks : List Network) × AreNetworksOf grammar (lines_of piece) networks × HaveSameCover (old ++ networks) new
+    → (networks : List Network) × AreNetworksOf grammar (lines_of (front ++ piece)) networks
+    × HaveSameCover networks new
+networks_more grammar front piece old new number taken (networks, are, same) = (
+  taken.written ++ networks,
+  subst (λ z. AreNetworksOf grammar z (taken.written ++ networks)) (sym (taken.closed piece))
+      (networks_append grammar (lines_of front) (lines_of piece) taken.written networks taken.are are),
+  HaveSameCover-trans (taken.written ++ networks) (old ++ networks) new
+      (HaveSameCover-append taken.written networks old networks taken.same (λ x. (λ c. c, λ c. c))) same,
+)
+
+pub taken_more : (grammar : Grammar) (front piece : List ℕ) (old new : List Network) (number count : ℕ)
+    → IsTaken grammar front old number → IsUtf8 piece → IsClosed piece
+    → (networks : List Network) × AreNetworksOf grammar (lines_of piece) networks × HaveSameCover (old ++ networks) new
+    → count ≡ number + length (lines_of piece) → IsTaken grammar (front ++ piece) new count
+taken_more grammar front piece old new number count taken is_text closed more is =
+    let (networks, are, same) = networks_more grammar front piece old new number taken more in
+    record {
+      is_text = IsUtf8-append front piece taken.is_text is_text;
+      closed = closed_append front piece taken.closed closed;
+      written = networks;
+      are = are;
+      same = same;
+      count = omega (
+        arith,
+        is,
+        taken.count,
+        ap length (taken.closed piece),
+        length-append (lines_of front) (lines_of piece),
+      );
+    }
+
+-- the first bad line of the piece is that of the text
+pub bad_in_piece : (grammar : Grammar) (front piece : List ℕ) (old : List Network) (number later : ℕ)
+    → IsTaken grammar front old number → IsFirstBadLine grammar (lines_of piece) later
+    → IsFirstBadLine grammar (lines_of (front ++ piece)) (number + later)
+bad_in_piece grammar front piece old number later taken bad =
+    subst (IsFirstBadLine grammar (lines_of (front ++ piece))) (ap (λ n. n + later) (sym taken.count))
+    (subst (λ z. IsFirstBadLine grammar z (length (lines_of front) + later)) (sym (taken.closed piece))
+    (bad_after grammar (lines_of front) (lines_of piece) taken.written later taken.are bad))
+
+-- and of the text with what follows it
+pub bad_before_more : (grammar : Grammar) (text more : List ℕ) (number : ℕ) → IsClosed text
+    → IsFirstBadLine grammar (lines_of text) number → IsFirstBadLine grammar (lines_of (text ++ more)) number
+bad_before_more grammar text more number closed bad =
+    subst (λ z. IsFirstBadLine grammar z number) (sym (closed more))
+    (bad_before grammar (lines_of text) (lines_of more) number bad)
+
+-- ---- a line that is longer than any network's text
+
+onto_is : (b : ℕ) (lines : List (List ℕ))
+    → (line : List ℕ) × (after : List (List ℕ)) × (onto_first_line b lines ≡ (b ∷ line) ∷ after)
+onto_is b [] = ([], [], refl)
+onto_is b (line ∷ lines) = (line, lines, refl)
+
+-- the first line has all bytes that stand before its end
+first_long : (held rest : List ℕ) → 0 < length held → ((k : ℕ) → k < length held → get_or held k 0 ≢ 10)
+    → (line : List ℕ) × (after : List (List ℕ)) × (lines_of (held ++ rest) ≡ line ∷ after)
+    × (length held ≤ length line)
+first_long [] rest some none = absurd (omega arith)
+first_long (b ∷ []) rest some none =
+    let (line, after, is) = onto_is b (lines_of rest) in
+    (b ∷ line, after, rw (ne_eqb b 10 (none 0 (omega arith))) is, omega arith)
+first_long (b ∷ c ∷ held) rest some none =
+    let (line, after, is, long) = first_long (c ∷ held) rest (omega arith) (λ k less. none (suc k) (omega arith)) in
+    (b ∷ line, after, rw (ne_eqb b 10 (none 0 (omega arith))) (ap (onto_first_line b) is), omega arith)
+
+pub long_is_bad : (grammar : Grammar) (held rest : List ℕ) → 200 < length held
+    → ((k : ℕ) → k < length held → get_or held k 0 ≢ 10) → IsFirstBadLine grammar (lines_of (held ++ rest)) 1
+long_is_bad grammar held rest long none =
+    let (line, after, is, longer) = first_long held rest (omega arith) none in
+    subst (λ z. IsFirstBadLine grammar z 1) (sym is) (bad_line grammar line after (omega arith)
+    (λ n written. omega (arith, longer, long, network_text_short grammar line n written)))

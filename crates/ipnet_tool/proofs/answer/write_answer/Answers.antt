@@ -1,0 +1,149 @@
+-- Each loop keeps that what was written and what the piece holds is the text of the networks so far (`one_line_more`);
+-- the second begins where the first has printed all of IPv4. A front of the piece makes a front of the whole text.
+use Rattle.std.proofs.Common.{◌≡◌, List, ℕ, [], ◌∷◌, ◌++◌, length, map, take, drop, take_all, refl, sym, ap, ◌∙◌, subst}
+use Rattle.std.proofs.Common.{append-nil, append_assoc, OnOk, Result, Ok, Err, ◌+◌, ◌≤◌}
+use Rattle.std.specs.Io.{StartsWith}
+use Rattle.std.specs.Io.KnownBytes.{Appends}
+use Rattle.std.proofs.KnownBytes.{Appends-kept}
+use Rattle.ipnet.specs.CanonicalTexts.{canonical_text}
+use Rattle.ipnet.specs.NetworkOf.{ipv4_network, ipv6_network}
+use Rattle.ipnet_tool.specs.Answers.{text_of_lines}
+use Rattle.ipnet_tool.specs.Families.{networks_of}
+use Rattle.ipnet_tool.specs.Pieces.{IsInPieces}
+use Rattle.ipnet_tool.specs.declared.tool.Families.{Families}
+use Rattle.ipnet.specs.declared.net.ipv6_net.Ipv6Net.{Ipv6Net}
+use Rattle.ipnet_tool.proofs.AnswerLaws.{one_line_more, text_of_lines-append}
+use Rattle.ipnet_tool.proofs.WritingLaws.{pieces_more, front_written, all_written, whole_front, text_cut}
+use Rattle.ipnet_tool.proofs.answer.write_answer.Goals as goal
+
+pub loop-network-preserved : goal.loop-network-preserved
+loop-network-preserved g c =
+    let held = g.W.Write.contents in
+    let items = c.deref-network-items.result.now in
+    let i = c.loop-network.network-index in
+    let text = text_of_lines (map ipv4_network (take i items)) in
+    let line = canonical_text (ipv4_network c.network-item.result) in
+    let more = one_line_more ipv4_network [] items i c.network-item.result text ((text ++ line) ++ 10 ∷ [])
+    c.loop-network-test.true c.network-item.is refl refl in
+    pieces_more (held c.args.out.now) (held c.loop-network.out) (held c.push_line.new.out) c.loop-network.piece.bytes
+    c.push_line.new.piece.bytes line text (text_of_lines (map ipv4_network (take (i + 1) items)))
+    c.loop-network.invariant c.in_ok-push_line.ensures.ok (sym more)
+
+pub loop-network-2-preserved : goal.loop-network-2-preserved
+loop-network-2-preserved g c =
+    let held = g.W.Write.contents in
+    let first = text_of_lines (map ipv4_network c.args.families.now.ipv4.items) in
+    let items = c.deref-network-items-2.result.now in
+    let i = c.loop-network-2.network-index in
+    let text = first ++ text_of_lines (map ipv6_network (take i items)) in
+    let line = canonical_text (ipv6_network c.network-item-in-loop-network-2.result) in
+    let more = one_line_more ipv6_network first items i c.network-item-in-loop-network-2.result text
+    ((text ++ line) ++ 10 ∷ []) c.loop-network-2-test.true c.network-item-in-loop-network-2.is refl refl in
+    pieces_more (held c.args.out.now) (held c.loop-network-2.out) (held c.push_line-in-loop-network-2.new.out)
+    c.loop-network-2.piece.bytes c.push_line-in-loop-network-2.new.piece.bytes line text
+    (first ++ text_of_lines (map ipv6_network (take (i + 1) items))) c.loop-network-2.invariant
+    c.in_ok-push_line-2.ensures.ok (sym more)
+
+pub returns-in_err-push_line-clause-front : goal.returns-in_err-push_line-clause-front
+returns-in_err-push_line-clause-front g c =
+    let held = g.W.Write.contents in
+    let ipv4 = c.args.families.now.ipv4.items in
+    let ipv6 = text_of_lines (map ipv6_network c.args.families.now.ipv6.items) in
+    let items = c.deref-network-items.result.now in
+    let i = c.loop-network.network-index in
+    let text = text_of_lines (map ipv4_network (take i items)) in
+    let rest = text_of_lines (map ipv4_network (drop i items)) in
+    let cut : text_of_lines (networks_of c.args.families.now) ≡ text ++ (rest ++ ipv6) =
+    text_of_lines-append (map ipv4_network ipv4) (map ipv6_network c.args.families.now.ipv6.items)
+    ∙ ap (λ z. text_of_lines (map ipv4_network z) ++ ipv6) (sym c.deref-network-items.ensures.value)
+    ∙ ap (λ z. z ++ ipv6) (text_cut ipv4_network items i) ∙ append_assoc text rest ipv6 in
+    front_written (held c.args.out.now) (held c.loop-network.out) (held c.push_line.new.out)
+    c.loop-network.piece.bytes text (rest ++ ipv6) (text_of_lines (networks_of c.args.families.now))
+    c.loop-network.invariant cut c.in_err-push_line.ensures.front
+
+pub returns-in_err-push_line-2-clause-front : goal.returns-in_err-push_line-2-clause-front
+returns-in_err-push_line-2-clause-front g c =
+    let held = g.W.Write.contents in
+    let first = text_of_lines (map ipv4_network c.args.families.now.ipv4.items) in
+    let items = c.deref-network-items-2.result.now in
+    let i = c.loop-network-2.network-index in
+    let text = text_of_lines (map ipv6_network (take i items)) in
+    let rest = text_of_lines (map ipv6_network (drop i items)) in
+    let cut : text_of_lines (networks_of c.args.families.now) ≡ (first ++ text) ++ rest =
+    text_of_lines-append (map ipv4_network c.args.families.now.ipv4.items)
+    (map ipv6_network c.args.families.now.ipv6.items)
+    ∙ ap (λ z. first ++ text_of_lines (map ipv6_network z)) (sym c.deref-network-items-2.ensures.value)
+    ∙ ap (λ z. first ++ z) (text_cut ipv6_network items i) ∙ sym (append_assoc first text rest) in
+    front_written (held c.args.out.now) (held c.loop-network-2.out) (held c.push_line-in-loop-network-2.new.out)
+    c.loop-network-2.piece.bytes (first ++ text) rest (text_of_lines (networks_of c.args.families.now))
+    c.loop-network-2.invariant cut c.in_err-push_line-2.ensures.front
+
+-- the text of all networks, where the second loop has gone through its list
+whole_text : (families : Families) (items : List Ipv6Net) (i : ℕ) → length items ≤ i → items ≡ families.ipv6.items
+    → text_of_lines (map ipv4_network families.ipv4.items) ++ text_of_lines (map ipv6_network (take i items))
+    ≡ text_of_lines (networks_of families)
+whole_text families items i all is =
+    ap (λ z. text_of_lines (map ipv4_network families.ipv4.items) ++ text_of_lines (map ipv6_network z))
+    (take_all i items all ∙ is)
+    ∙ sym (text_of_lines-append (map ipv4_network families.ipv4.items) (map ipv6_network families.ipv6.items))
+
+pub returns-in_err-write_whole-clause-front : goal.returns-in_err-write_whole-clause-front
+returns-in_err-write_whole-clause-front g c =
+    let held = g.W.Write.contents in
+    let start = held c.args.out.now in
+    let here = held c.loop-network-2.out in
+    let families = c.args.families.now in
+    let whole = text_of_lines (networks_of families) in
+    let bytes = c.loop-network-2.piece.bytes in
+    let piece : c.as_bytes.result.now ≡ bytes = c.as_bytes.ensures.value ∙ c.as_str.ensures.value in
+    let all : IsInPieces start here bytes whole =
+    subst (IsInPieces start here bytes) (whole_text families c.deref-network-items-2.result.now
+    c.loop-network-2.network-index c.loop-network-2-test.false c.deref-network-items-2.ensures.value)
+    c.loop-network-2.invariant in
+    front_written start here (held c.write_whole.new.out) bytes whole [] whole all (sym (append-nil whole))
+    (subst (λ z. (front : List ℕ) × StartsWith z front × Appends here (held c.write_whole.new.out) front) piece
+    c.in_err-write_whole.ensures.front)
+
+on_ok : {T E P : Type 0} (result : Result T E) → P → OnOk result P
+on_ok (Ok x) p = p
+on_ok (Err e) p = tt
+
+pub returns-clause-whole : goal.returns-clause-whole
+returns-clause-whole g c =
+    let held = g.W.Write.contents in
+    let start = held c.args.out.now in
+    let here = held c.loop-network-2.out in
+    let families = c.args.families.now in
+    let whole = text_of_lines (networks_of families) in
+    let bytes = c.loop-network-2.piece.bytes in
+    let piece : c.as_bytes.result.now ≡ bytes = c.as_bytes.ensures.value ∙ c.as_str.ensures.value in
+    let all : IsInPieces start here bytes whole =
+    subst (IsInPieces start here bytes) (whole_text families c.deref-network-items-2.result.now
+    c.loop-network-2.network-index c.loop-network-2-test.false c.deref-network-items-2.ensures.value)
+    c.loop-network-2.invariant in
+    let written : Appends start (held c.flush.new.self) whole =
+    Appends-kept start (held c.write_whole.new.out) (held c.flush.new.self) whole
+    (all_written start here (held c.write_whole.new.out) bytes whole all
+    (subst (Appends here (held c.write_whole.new.out)) piece c.in_ok-write_whole.ensures.whole))
+    c.flush.ensures.bytes in
+    on_ok c.flush.result written
+
+pub returns-clause-front : goal.returns-clause-front
+returns-clause-front g c =
+    let held = g.W.Write.contents in
+    let start = held c.args.out.now in
+    let here = held c.loop-network-2.out in
+    let families = c.args.families.now in
+    let whole = text_of_lines (networks_of families) in
+    let bytes = c.loop-network-2.piece.bytes in
+    let piece : c.as_bytes.result.now ≡ bytes = c.as_bytes.ensures.value ∙ c.as_str.ensures.value in
+    let all : IsInPieces start here bytes whole =
+    subst (IsInPieces start here bytes) (whole_text families c.deref-network-items-2.result.now
+    c.loop-network-2.network-index c.loop-network-2-test.false c.deref-network-items-2.ensures.value)
+    c.loop-network-2.invariant in
+    let written : Appends start (held c.flush.new.self) whole =
+    Appends-kept start (held c.write_whole.new.out) (held c.flush.new.self) whole
+    (all_written start here (held c.write_whole.new.out) bytes whole all
+    (subst (Appends here (held c.write_whole.new.out)) piece c.in_ok-write_whole.ensures.whole))
+    c.flush.ensures.bytes in
+    (whole, whole_front whole, written)

@@ -1,0 +1,14 @@
+use Rattle.std.proofs.Common.{◌++◌, [], map, take}
+use Rattle.ipnet.specs.NetworkOf.{ipv4_network, ipv6_network}
+use Rattle.ipnet_tool.specs.Answers.{text_of_lines}
+use Rattle.ipnet_tool.specs.Pieces.{IsInPieces}
+use Rattle.ipnet_tool.proofs.answer.write_answer.Given as goal
+
+abbrev pub invariant-loop-network : goal.invariant-loop-network
+invariant-loop-network g l = IsInPieces (g.W.Write.contents l.fn.out) (g.W.Write.contents l.out) l.piece.bytes
+    ([] ++ text_of_lines (map ipv4_network (take l.network-index l.network-items)))
+
+abbrev pub invariant-loop-network-2 : goal.invariant-loop-network-2
+invariant-loop-network-2 g l = IsInPieces (g.W.Write.contents l.fn.out) (g.W.Write.contents l.out) l.piece.bytes
+    (text_of_lines (map ipv4_network l.families.ipv4.items)
+    ++ text_of_lines (map ipv6_network (take l.network-index l.network-items)))

@@ -1,0 +1,190 @@
+-- In each turn more is read behind what is held (`read_more`), and its whole lines are taken (`piece_taken`). At the
+-- end all is taken. A bad line is that of what was read so far, and what follows it is a text as well.
+use Rattle.std.proofs.Common.{◌≡◌, ◌≢◌, ℕ, ◌+◌, ◌-◌, ◌<◌, ◌≤◌, ◌*◌, List, length, get_or, take, drop, take_all, Err, sym}
+use Rattle.std.proofs.Common.{ap, ◌∙◌, subst, arith, refl, IsUtf8, length-take, true, false}
+use Rattle.ipnet.specs.Lines.{lines_of, IsFirstBadLine}
+use Rattle.ipnet_tool.specs.declared.tool.ToolError.TheVariants as ToolErrors
+use Rattle.ipnet_tool.specs.declared.program.Failure.TheVariants as Failures
+use Rattle.ipnet_tool.specs.Families.{networks_of}
+use Rattle.ipnet_tool.specs.Reading.{IsBadLineFrom}
+use Rattle.ipnet_tool.specs.Window.{held}
+use Rattle.ipnet_tool.proofs.PieceLaws.{IsClosed, lines_count}
+use Rattle.ipnet_tool.proofs.ReadingLaws.{IsReadUpTo, AddsNetworksOf, read_none, read_more, piece_taken, last_taken}
+use Rattle.ipnet_tool.proofs.ReadingLaws.{last_bad, bad_then_text, long_then_text, none_after}
+use Rattle.ipnet_tool.proofs.input.read_networks.Goals as goal
+
+pub loop-init : goal.loop-init
+loop-init g c = record {
+  taken = read_none c.args.grammar (g.R.Read.remaining c.args.input.now) (held c.new-window.result)
+      (networks_of c.new-families.result) c.new-window.ensures c.new-families.ensures;
+  room = omega (arith, ap length c.new-window.ensures);
+  bound = omega arith;
+}
+
+pub returns-then-more-2-clause-bad_line : goal.returns-then-more-2-clause-bad_line
+returns-then-more-2-clause-bad_line g c = λ number e.
+    let grammar = c.args.grammar in
+    let rest = g.R.Read.remaining in
+    let start = rest c.args.input.now in
+    let here = rest c.fill.new.input in
+    let now = held c.fill.new.self in
+    let old = networks_of c.loop.families in
+    let number0 = c.loop.number in
+    let count = c.lines_len-count.result in
+    let (given, grown, read) = c.in_ok-more.ensures.read in
+    let so_far : IsReadUpTo grammar start here now old number0 =
+    read_more grammar start (rest c.loop.input) here (held c.loop.window) given now old number0 c.loop.invariant.taken
+    grown read in
+    let value = c.held-held.ensures.value in
+    let cases = c.in-Ok.ensures.cases in
+    let cut = ap (take count) value in
+    let piece : c.in-Ok.text.now ≡ take count now = cases.0 ∙ cut in
+    let is_text : IsUtf8 (take count now) = subst IsUtf8 cut cases.1 in
+    let closed : IsClosed (take count now) =
+    subst IsClosed (ap (take count) value) (c.lines_len-count.ensures.closed c.if-more-2.true) in
+    let told : c.after_bad_line.result ≡ Failures.Line number = cc in
+    let (is, left) = c.after_bad_line.ensures.line number told in
+    let refused : c.push_lines-result.result ≡ Err (ToolErrors.Line c.in-Line.bad) =
+    c.in-Err.is ∙ ap Err c.in-Line.is in
+    let (later, sum, first) = c.push_lines-result.ensures.bad_line c.in-Line.bad refused in
+    bad_then_text grammar start here (rest c.after_bad_line.new.input) now (held c.take.new.self) old number0 later
+    number count so_far is_text closed (subst (λ z. IsFirstBadLine grammar (lines_of z) later) piece first)
+    c.take.ensures (is ∙ sum) left
+
+pub returns-in-Err-clause-bad_line : goal.returns-in-Err-clause-bad_line
+returns-in-Err-clause-bad_line g c = λ number e.
+    let grammar = c.args.grammar in
+    let rest = g.R.Read.remaining in
+    let start = rest c.args.input.now in
+    let here = rest c.fill.new.input in
+    let now = held c.fill.new.self in
+    let old = networks_of c.loop.families in
+    let number0 = c.loop.number in
+    let count = c.lines_len-count.result in
+    let (given, grown, read) = c.in_ok-more.ensures.read in
+    let so_far : IsReadUpTo grammar start here now old number0 =
+    read_more grammar start (rest c.loop.input) here (held c.loop.window) given now old number0 c.loop.invariant.taken
+    grown read in
+    let value = c.held-held.ensures.value in
+    let cases = c.in-Ok.ensures.cases in
+    let all = c.lines_len-count.ensures.all c.if-more-2.false in
+    let cut = ap (λ n. take n c.held-held.result.now) all
+    ∙ take_all (length c.held-held.result.now) c.held-held.result.now (omega arith) ∙ value in
+    let piece : c.in-Ok.text.now ≡ now = cases.0 ∙ cut in
+    let is_text : IsUtf8 now = subst IsUtf8 cut cases.1 in
+    let told : c.in-Line.bad ≡ number = cc in
+    let refused : c.push_lines-result.result ≡ Err (ToolErrors.Line c.in-Line.bad) =
+    c.in-Err.is ∙ ap Err c.in-Line.is in
+    let (later, sum, first) = c.push_lines-result.ensures.bad_line c.in-Line.bad refused in
+    last_bad grammar start here now old number0 later number so_far is_text
+    (subst (λ z. IsFirstBadLine grammar (lines_of z) later) piece first) (sym told ∙ sum)
+    (c.in_ok-more.ensures.end c.if-more-2.false)
+
+pub returns-then-not-more-clause-networks : goal.returns-then-not-more-clause-networks
+returns-then-not-more-clause-networks g c =
+    let grammar = c.args.grammar in
+    let rest = g.R.Read.remaining in
+    let start = rest c.args.input.now in
+    let here = rest c.fill.new.input in
+    let now = held c.fill.new.self in
+    let old = networks_of c.loop.families in
+    let number0 = c.loop.number in
+    let count = c.lines_len-count.result in
+    let (given, grown, read) = c.in_ok-more.ensures.read in
+    let so_far : IsReadUpTo grammar start here now old number0 =
+    read_more grammar start (rest c.loop.input) here (held c.loop.window) given now old number0 c.loop.invariant.taken
+    grown read in
+    let value = c.held-held.ensures.value in
+    let cases = c.in-Ok.ensures.cases in
+    let all = c.lines_len-count.ensures.all c.if-not-more.true in
+    let cut = ap (λ n. take n c.held-held.result.now) all
+    ∙ take_all (length c.held-held.result.now) c.held-held.result.now (omega arith) ∙ value in
+    let piece : c.in-Ok.text.now ≡ now = cases.0 ∙ cut in
+    let is_text : IsUtf8 now = subst IsUtf8 cut cases.1 in
+    let new = networks_of c.push_lines-result.new.self in
+    let adds : AddsNetworksOf grammar now old new =
+    subst (λ z. AddsNetworksOf grammar z old new) piece c.in-Ok-result.ensures.networks in
+    last_taken grammar start here now old new number0 so_far adds (c.in_ok-more.ensures.end c.if-not-more.true)
+
+pub returns-then-held-eq-SIZE-clause-bad_line : goal.returns-then-held-eq-SIZE-clause-bad_line
+returns-then-held-eq-SIZE-clause-bad_line g c = λ number e.
+    let grammar = c.args.grammar in
+    let rest = g.R.Read.remaining in
+    let start = rest c.args.input.now in
+    let here = rest c.fill.new.input in
+    let now = held c.fill.new.self in
+    let old = networks_of c.loop.families in
+    let number0 = c.loop.number in
+    let count = c.lines_len-count.result in
+    let (given, grown, read) = c.in_ok-more.ensures.read in
+    let so_far : IsReadUpTo grammar start here now old number0 =
+    read_more grammar start (rest c.loop.input) here (held c.loop.window) given now old number0 c.loop.invariant.taken
+    grown read in
+    let value = c.held-held.ensures.value in
+    let cases = c.in-Ok.ensures.cases in
+    let cut = ap (take count) value in
+    let piece : c.in-Ok.text.now ≡ take count now = cases.0 ∙ cut in
+    let is_text : IsUtf8 (take count now) = subst IsUtf8 cut cases.1 in
+    let closed : IsClosed (take count now) =
+    subst IsClosed (ap (take count) value) (c.lines_len-count.ensures.closed c.if-not-more.false) in
+    let new = networks_of c.push_lines-result.new.self in
+    let adds : AddsNetworksOf grammar (take count now) old new =
+    subst (λ z. AddsNetworksOf grammar z old new) piece c.in-Ok-result.ensures.networks in
+    let lines = c.in-Ok-result.lines in
+    let sum : lines ≡ number0 + length (lines_of (take count now)) =
+    subst (λ z. lines ≡ number0 + length (lines_of z)) piece c.in-Ok-result.ensures.count in
+    let after = held c.take.new.self in
+    let taken = piece_taken grammar start here now after old new number0 lines count so_far is_text closed adds sum
+    c.take.ensures in
+    let told : c.after_bad_line-then-held-eq-SIZE.result ≡ Failures.Line number = cc in
+    let (is, left) = c.after_bad_line-then-held-eq-SIZE.ensures.line number told in
+    let none : (k : ℕ) → count ≤ k → k < length now → get_or now k 0 ≢ 10 =
+    subst (λ z. (k : ℕ) → count ≤ k → k < length z → get_or z k 0 ≢ 10) value
+    (c.lines_len-count.ensures.last c.if-not-more.false) in
+    let full : length after ≡ 65536 = sym (ap length c.held.ensures.value) ∙ c.if-held-eq-SIZE.true in
+    subst (IsBadLineFrom grammar start (rest c.after_bad_line-then-held-eq-SIZE.new.input)) (sym is)
+    (long_then_text grammar start here (rest c.after_bad_line-then-held-eq-SIZE.new.input) after new lines taken
+    (omega (arith, full)) (none_after now after count c.take.ensures none) left)
+
+pub loop-preserved : goal.loop-preserved
+loop-preserved g c =
+    let grammar = c.args.grammar in
+    let rest = g.R.Read.remaining in
+    let start = rest c.args.input.now in
+    let here = rest c.fill.new.input in
+    let now = held c.fill.new.self in
+    let old = networks_of c.loop.families in
+    let number0 = c.loop.number in
+    let count = c.lines_len-count.result in
+    let (given, grown, read) = c.in_ok-more.ensures.read in
+    let so_far : IsReadUpTo grammar start here now old number0 =
+    read_more grammar start (rest c.loop.input) here (held c.loop.window) given now old number0 c.loop.invariant.taken
+    grown read in
+    let value = c.held-held.ensures.value in
+    let cases = c.in-Ok.ensures.cases in
+    let cut = ap (take count) value in
+    let piece : c.in-Ok.text.now ≡ take count now = cases.0 ∙ cut in
+    let is_text : IsUtf8 (take count now) = subst IsUtf8 cut cases.1 in
+    let closed : IsClosed (take count now) =
+    subst IsClosed (ap (take count) value) (c.lines_len-count.ensures.closed c.if-not-more.false) in
+    let new = networks_of c.push_lines-result.new.self in
+    let adds : AddsNetworksOf grammar (take count now) old new =
+    subst (λ z. AddsNetworksOf grammar z old new) piece c.in-Ok-result.ensures.networks in
+    let lines = c.in-Ok-result.lines in
+    let sum : lines ≡ number0 + length (lines_of (take count now)) =
+    subst (λ z. lines ≡ number0 + length (lines_of z)) piece c.in-Ok-result.ensures.count in
+    let after = held c.take.new.self in
+    record {
+      taken = piece_taken grammar start here now after old new number0 lines count so_far is_text closed adds sum
+          c.take.ensures;
+      room = omega (arith, ap length c.held.ensures.value, c.held.ensures.fits, c.if-held-eq-SIZE.false);
+      bound = omega (
+        arith,
+        sum,
+        lines_count (take count now),
+        length-take {A = ℕ},
+        ap length value,
+        c.held-held.ensures.fits,
+        c.loop.invariant.bound,
+      );
+    }

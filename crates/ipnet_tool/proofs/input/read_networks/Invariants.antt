@@ -1,0 +1,15 @@
+use Rattle.std.proofs.Common.{◌<◌, ◌≤◌, ◌*◌, length}
+use Rattle.ipnet_tool.specs.Families.{networks_of}
+use Rattle.ipnet_tool.specs.Window.{held}
+use Rattle.ipnet_tool.proofs.ReadingLaws.{IsReadUpTo}
+use Rattle.ipnet_tool.proofs.input.read_networks.Given as goal
+
+-- What was read is what was taken and what the window holds; there is room behind it, and a turn takes no more lines
+-- than the window has bytes.
+abbrev pub invariant-loop : goal.invariant-loop
+invariant-loop g l = record {
+  taken : IsReadUpTo l.grammar (g.R.Read.remaining l.fn.input) (g.R.Read.remaining l.input) (held l.window)
+      (networks_of l.families) l.number;
+  room : length (held l.window) < 65536;
+  bound : l.number ≤ 65536 * l.counter;
+}

@@ -1,0 +1,35 @@
+-- Each turn leaves what the window holds as it was (`WindowLaws`), until a read gives something or is the last.
+use Rattle.std.proofs.Common.{◌≡◌, ◌≤◌, ◌++◌, length, take, ap, ◌∙◌, arith, []}
+use Rattle.std.specs.Io.KnownBytes.{Consumes}
+use Rattle.std.proofs.KnownBytes.{Consumes-nil, Consumes-trans, Consumes-kept}
+use Rattle.ipnet_tool.proofs.WindowLaws.{grown, kept, none_given}
+use Rattle.ipnet_tool.proofs.window.Window.fill.Goals as goal
+
+pub returns-in-Ok-clause-read : goal.returns-in-Ok-clause-read
+returns-in-Ok-clause-read g c =
+    let w = c.loop.self in
+    let within : w.end ≤ length w.bytes = omega arith in
+    let n = c.in-Ok.count in
+    let bound = c.in-Ok.ensures.bound in
+    let rest = g.R.Read.remaining in (
+      take n c.read.new.buf,
+      grown w.bytes c.read.new.buf w.start w.end _ n w.ordered within bound.0
+          ∙ ap (λ z. z ++ take n c.read.new.buf) c.loop.invariant.same,
+      Consumes-trans (rest c.args.input.now) (rest c.loop.input) (rest c.read.new.self) [] (take n c.read.new.buf)
+          c.loop.invariant.none c.in-Ok.ensures.bytes.0,
+    )
+
+pub returns-in-Ok-clause-end : goal.returns-in-Ok-clause-end
+returns-in-Ok-clause-end g c = λ e. c.in-Ok.ensures.bytes.1 (none_given c.in-Ok.count e) (omega arith)
+
+pub loop-preserved : goal.loop-preserved
+loop-preserved g c =
+    let w = c.loop.self in
+    let within : w.end ≤ length w.bytes = omega arith in
+    let rest = g.R.Read.remaining in
+    record {
+      same = kept w.bytes c.read.new.buf w.start w.end _ w.ordered within ∙ c.loop.invariant.same;
+      none = Consumes-kept (rest c.args.input.now) (rest c.loop.input) (rest c.read.new.self) []
+          c.loop.invariant.none c.in-Err.ensures.bytes;
+      room = c.loop.invariant.room;
+    }
