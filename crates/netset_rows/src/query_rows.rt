@@ -8,7 +8,7 @@ use std::process::Abort;
 use std::str;
 use std::test::Fail;
 
-/// The query, the lists, the answer, its lines joined by " / ".
+/// The query, the lists, the answer, its lines joined by " / ". LAST is the last IPv6 address.
 const ANSWERS: &str = r#"
 nothing | count | | IPv4 0, IPv6 0
 an address of each family | count | 10.0.0.1, ::1 | IPv4 1, IPv6 1
@@ -17,23 +17,23 @@ host bits | count | 10.0.0.9/24 | IPv4 256, IPv6 0
 all IPv4 addresses | count | 0.0.0.0/0 | IPv4 4294967296, IPv6 0
 all IPv4 addresses but one | count | 0.0.0.1-255.255.255.255 | IPv4 4294967295, IPv6 0
 a /64 | count | 2001:db8::/64 | IPv4 0, IPv6 18446744073709551616
-all IPv6 addresses | count | ::/0 | IPv4 0, IPv6 340282366920938463463374607431768211456
-the halves of IPv6 | count | 8000::/1, ::/1 | IPv4 0, IPv6 340282366920938463463374607431768211456
-all IPv6 addresses but one | count | ::1-ffff:ffff:ffff:ffff:ffff:ffff:ffff:ffff | IPv4 0, IPv6 340282366920938463463374607431768211455
-both families whole | count | ::/0, 0.0.0.0/0 | IPv4 4294967296, IPv6 340282366920938463463374607431768211456
+all IPv6 addresses | count | ::/0 | IPv4 0, IPv6 2^128
+the halves of IPv6 | count | 8000::/1, ::/1 | IPv4 0, IPv6 2^128
+all IPv6 addresses but one | count | ::1-LAST | IPv4 0, IPv6 2^128 - 1
+both families whole | count | ::/0, 0.0.0.0/0 | IPv4 4294967296, IPv6 2^128
 equal lists | compare | 10.0.0.0/31, ::1 + ::1-::1, 10.0.0.1, 10.0.0.0 |
 two empty lists | compare | + |
 one address more | compare | 10.0.0.0/31 + 10.0.0.1 | first alone: IPv4 1, IPv6 0 / second alone: IPv4 0, IPv6 0
 one address less | compare | ::1 + ::1-::3 | first alone: IPv4 0, IPv6 0 / second alone: IPv4 0, IPv6 2
-each has some alone | compare | 10.0.0.0/30 + 10.0.0.3-10.0.0.9 | first alone: IPv4 3, IPv6 0 / second alone: IPv4 6, IPv6 0
+each has some alone | compare | ::/126 + ::3-::9 | first alone: IPv4 0, IPv6 3 / second alone: IPv4 0, IPv6 6
 a mapped address | compare | 10.0.0.1 + ::ffff:10.0.0.1 | first alone: IPv4 1, IPv6 0 / second alone: IPv4 0, IPv6 1
-all and nothing | compare | ::/0 + | first alone: IPv4 0, IPv6 340282366920938463463374607431768211456 / second alone: IPv4 0, IPv6 0
-entries of each kind | filter | 10.0.0.0/8 + 10.1.0.0/16, 10.0.0.1, 10.0.0.1-10.0.0.9 | 10.1.0.0/16 / 10.0.0.1 / 10.0.0.1-10.0.0.9
+all and nothing | compare | ::/0 + | first alone: IPv4 0, IPv6 2^128 / second alone: IPv4 0, IPv6 0
+entries of each kind | filter | ::/64 + ::2/127, ::1, ::1-::9 | ::2/127 / ::1 / ::1-::9
 entries in part inside | filter | 10.0.0.0/31 + 10.0.0.0/30, 10.0.0.1-10.0.0.2 |
 the set itself | filter | 10.0.0.0/8 + 10.0.0.0/8 | 10.0.0.0/8
 as written | filter | 10.0.0.0/8, fd00::/8 + 10.0.0.9/24, FD00::0001 | 10.0.0.9/24 / FD00::0001
 in order, and each time | filter | ::/0 + ::2, ::1, ::2 | ::2 / ::1 / ::2
-over two entries of the set | filter | 10.0.0.0/25, 10.0.0.128/25 + 10.0.0.0/24, 10.0.0.127-10.0.0.128 | 10.0.0.0/24 / 10.0.0.127-10.0.0.128
+over two entries of the set | filter | ::/127, ::2/127 + ::/126, ::1-::2 | ::/126 / ::1-::2
 over a hole of the set | filter | 10.0.0.0, 10.0.0.2 + 10.0.0.0-10.0.0.2 |
 an empty set | filter | + 10.0.0.1, ::/0 |
 an empty list | filter | 10.0.0.0/8 + |
@@ -52,14 +52,14 @@ a default route | route | 0.0.0.0/0, 10.0.0.0/8 + 11.0.0.1, ::1 | 11.0.0.1 0.0.0
 the network itself | route | 10.0.0.0/8 + 10.0.0.0/8 | 10.0.0.0/8 10.0.0.0/8
 a network that is longer | route | 10.0.0.0/8 + 10.0.0.0/7 | 10.0.0.0/7 -
 a network over a longer one | route | 10.0.0.0/8, 10.0.0.0/16 + 10.0.0.0/12 | 10.0.0.0/12 10.0.0.0/8
-a range over two networks | route | 10.0.0.0/8, 10.1.0.0/16, 10.2.0.0/16 + 10.1.0.0-10.2.0.0 | 10.1.0.0-10.2.0.0 10.0.0.0/8
+a range over two networks | route | ::/64, ::/127, ::2/127 + ::1-::2 | ::1-::2 ::/64
 a range inside one | route | 10.0.0.0/8, 10.1.0.0/16 + 10.1.0.1-10.1.0.9 | 10.1.0.1-10.1.0.9 10.1.0.0/16
-a range of all addresses | route | ::/0 + ::-ffff:ffff:ffff:ffff:ffff:ffff:ffff:ffff | ::-ffff:ffff:ffff:ffff:ffff:ffff:ffff:ffff ::/0
+a range of all addresses | route | ::/0 + ::-LAST | ::-LAST ::/0
 two networks that join hold no more | route | 10.0.0.0/25, 10.0.0.128/25 + 10.0.0.0/24 | 10.0.0.0/24 -
-an address of the table | route | 10.0.0.1, 10.0.0.0/31 + 10.0.0.1, 10.0.0.0 | 10.0.0.1 10.0.0.1/32 / 10.0.0.0 10.0.0.0/31
-a range of the table | route | 10.0.0.0-10.0.0.5 + 10.0.0.3, 10.0.0.4, 10.0.0.3-10.0.0.4 | 10.0.0.3 10.0.0.0/30 / 10.0.0.4 10.0.0.4/31 / 10.0.0.3-10.0.0.4 -
+an address of the table | route | ::1, ::/127 + ::1, :: | ::1 ::1/128 / :: ::/127
+a range of the table | route | ::-::5 + ::3, ::4, ::3-::4 | ::3 ::/126 / ::4 ::4/127 / ::3-::4 -
 host bits in the table | route | 10.0.0.9/8 + 10.1.1.1 | 10.1.1.1 10.0.0.0/8
-as written, in order, and each time | route | fd00::/8 + FD00::0001, fd00::9/16, FD00::0001 | FD00::0001 fd00::/8 / fd00::9/16 fd00::/8 / FD00::0001 fd00::/8
+as written, in order, each time | route | ::/8 + ::0AB, ::9/16, ::0AB | ::0AB ::/8 / ::9/16 ::/8 / ::0AB ::/8
 "#;
 
 /// The query, and each number of lists up to four of which it answers none.
@@ -83,10 +83,27 @@ pub fn query(rt: &impl Abort, name: &str) -> Query {
     }
 }
 
+/// What short words of a table stand for; the longer word is first.
+const WORDS: [(&str, &str); 3] = [
+    ("2^128 - 1", "340282366920938463463374607431768211455"),
+    ("2^128", "340282366920938463463374607431768211456"),
+    ("LAST", "ffff:ffff:ffff:ffff:ffff:ffff:ffff:ffff"),
+];
+
+/// The cell with its short words in full.
+fn in_full(alloc: Global, cell: &str) -> Result<String, AllocError> {
+    let mut text = String::from_str(alloc, cell)?;
+    for (word, meant) in WORDS {
+        text = text.as_str().replace(alloc, word, meant)?;
+    }
+    Ok(text)
+}
+
 /// The answer of a cell, in which " / " stands between lines.
-pub fn answer_lines(alloc: Global, cell: &str) -> Result<String, AllocError> {
-    let mut text = cell.replace(alloc, " / ", "\n")?;
-    if !cell.is_empty() {
+fn answer_lines(alloc: Global, cell: &str) -> Result<String, AllocError> {
+    let cell = in_full(alloc, cell)?;
+    let mut text = cell.as_str().replace(alloc, " / ", "\n")?;
+    if !text.is_empty() {
         text.push_str("\n")?;
     }
     Ok(text)
@@ -131,7 +148,8 @@ fn answers(rt: HostRuntime) -> Result<(), Fail> {
     let alloc = rt.alloc();
     for row in rows(&rt, "query_rows::ANSWERS", ANSWERS, 50) {
         let [label, name, given, wanted, ..] = cells(&rt, row, 4);
-        let given = lists(alloc, given)?;
+        let given = in_full(alloc, given)?;
+        let given = lists(alloc, given.as_str())?;
         let wanted = answer_lines(alloc, wanted)?;
         let query = query(&rt, name);
         check(&rt, alloc, label, query, given.as_slice(), wanted.as_str())?;

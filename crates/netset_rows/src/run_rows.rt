@@ -18,10 +18,17 @@ an answer | difference | "10.0.0.0/30\n" "10.0.0.0/31\n" | "10.0.0.2/31\n" | ""
 an empty answer | intersection | "10.0.0.0/31" "10.0.0.2" | "" | ""
 another number of lists | complement | "10.0.0.0/31" "x" | "" | "netset: another number of lists is wanted\n"
 a refused line of the first list | union | "\nx # y\n" "10.0.0.0/31\n" | "" | "a:2@x\n"
-refused lines of both lists | union | "x\ny" "10.0.0.0/33\n" | "" | "a:1@x\na:2@y\nb:1@10.0.0.0/33 (the prefix length is above 32)\n"
-refused lines, each with a cause | union | "::2-::1\nfd00::/129\n" "10.0.0.1-::1\n" | "" | "a:1@::2-::1 (the range ends before it starts)\na:2@fd00::/129 (the prefix length is above 128)\nb:1@10.0.0.1-::1 (the range has addresses of two families)\n"
-a leading zero | union | "10.0.0.01\n" "" | "" | "a:1@10.0.0.01 (a leading zero, or "::" for no group: only --legacy reads it)\n"
+refused lines of both lists | union | "x\ny" "10.0.0.0/x\n" | "" | "a:1@x\na:2@y\nb:1@10.0.0.0/x\n"
 a refused line that is no text | union | "\xff\t\xff" "" | "" | "a:1@\xff\t\xff\n"
+"#;
+
+/// A line that is refused, and the cause that is told.
+const CAUSES: &str = r#"
+10.0.0.0/33   | the prefix length is above 32
+fd00::/129    | the prefix length is above 128
+::2-::1       | the range ends before it starts
+10.0.0.1-::1  | the range has addresses of two families
+10.0.0.01     | a leading zero, or "::" for no group: only --legacy reads it
 "#;
 
 /// How many bytes a write takes, which write fails; standard output, standard error.
@@ -119,7 +126,7 @@ fn check(
 #[test]
 fn runs(rt: HostRuntime) -> Result<(), Fail> {
     let alloc = rt.alloc();
-    for row in rows(&rt, "run_rows::RUNS", RUNS, 8) {
+    for row in rows(&rt, "run_rows::RUNS", RUNS, 6) {
         let [label, name, given, answer, told, ..] = cells(&rt, row, 5);
         let lists = two_lists(&rt, alloc, given)?;
         let answer = report(&rt, alloc, answer)?;
@@ -133,6 +140,30 @@ fn runs(rt: HostRuntime) -> Result<(), Fail> {
             lists.as_slice(),
             &mut out,
             [answer.as_str(), told.as_str()],
+        )?;
+    }
+    Ok(())
+}
+
+#[test]
+fn causes(rt: HostRuntime) -> Result<(), Fail> {
+    let alloc = rt.alloc();
+    for row in rows(&rt, "run_rows::CAUSES", CAUSES, 5) {
+        let [text, cause, ..] = cells(&rt, row, 2);
+        let lists = one_list(alloc, text)?;
+        let line = "not a network, an address or a range";
+        let told = format!(in alloc; "a:1: {line}: {text} ({cause})\n")?;
+        let request = request(&rt, "union");
+        let mut out = ArrayWriter::whole();
+        let wanted = ["", told.as_str()];
+        check(
+            &rt,
+            alloc,
+            text,
+            request,
+            lists.as_slice(),
+            &mut out,
+            wanted,
         )?;
     }
     Ok(())
