@@ -1,6 +1,7 @@
 //! Sets of addresses, kept by the numbers at which they begin and end; and tables of routes.
 #![tactic(auto)]
 
+mod load;
 mod number;
 pub mod routes;
 pub mod set;

@@ -1,14 +1,15 @@
 //! Sets of addresses of both families.
-ghost use Rattle.std.specs.Prelude.{◌≡◌, ◌⊎◌, ◌↔◌, IsTrue, false, map, ◌++◌, IfOk, OnOk, IsNone, IfSome};
+ghost use Rattle.std.specs.Prelude.{◌≡◌, ◌⊎◌, ◌↔◌, IsTrue, false, map, [], ◌++◌, IsOk, IfOk, OnOk, IsNone, IfSome};
 ghost use Rattle.ipnet_base.specs.Address.{IPv4, IPv6, Address, IsAddress, ip_address};
 ghost use Rattle.ipnet_base.specs.Network.{InBlock};
-ghost use Rattle.ipnet_base.specs.Blocks.{IsCoveredBy, AreMaximalBlocks, AreAggregatedNeighbours};
+ghost use Rattle.ipnet_base.specs.Blocks.{IsCoveredBy, AreMaximalBlocks};
 ghost use Rattle.ipnet.specs.NetworkOf.{ip_network};
 ghost use Rattle.ipnet.specs.SubnetsLeft.{ip_subnets_left};
 ghost use Rattle.ipnet_sets.specs.SetRanges.{AreRangesOf};
 ghost use Rattle.ipnet_sets.specs.TurnRanges.{ranges_of, HasBlocksAdded};
 ghost use Rattle.ipnet_sets.specs.Turns.{AreTurns, combined};
 
+use crate::load;
 use crate::number::Number;
 use crate::set_ranges::IpSetRanges;
 use crate::turns::{self, Operation};
@@ -39,7 +40,8 @@ pub struct IpSet {
 /// Puts the networks of the ranges between the turns at the end of the list.
 fn push_networks<T: Number>(networks: &mut Vec<IpNet>, turns: &[T]) -> Result<(), AllocError>
     requires { AreTurns T.family (map T.number turns.now) }
-    ensures { OnOk result (HasBlocksAdded (ranges_of T.family (map T.number turns.now))
+    ensures empty { turns.now ≡ [] → IsOk result }
+    ensures blocks { OnOk result (HasBlocksAdded (ranges_of T.family (map T.number turns.now))
         (map ip_network networks.old.items) (map ip_network networks.new.items)) }
 {
     let mut left = turns;
@@ -102,30 +104,6 @@ impl IpSet {
         Ok(set)
     }
 
-    /// The set of the addresses of the networks, which are an aggregate: each comes after those before.
-    fn from_aggregate(alloc: Global, networks: &[IpNet]) -> Result<IpSet, AllocError>
-        requires { AreAggregatedNeighbours (map ip_network networks.now) }
-        ensures { IfOk result (λ s. (x : Address) → IsMember s x ↔ IsCoveredBy (map ip_network networks.now) x) }
-    {
-        let mut ipv4 = Vec::new(alloc);
-        let mut ipv6 = Vec::new(alloc);
-        for network in networks {
-            match network {
-                IpNet::V4(network) => turns::add_range(
-                    &mut ipv4,
-                    network.network().to_bits(),
-                    network.broadcast().to_bits(),
-                )?,
-                IpNet::V6(network) => turns::add_range(
-                    &mut ipv6,
-                    network.network().to_bits(),
-                    network.broadcast().to_bits(),
-                )?,
-            }
-        }
-        Ok(IpSet { ipv4, ipv6 })
-    }
-
     /// The set of the addresses that lie in the networks' blocks. Order, repeats, overlaps and host bits of the list
     /// do not matter. Fails only when memory runs out; an empty list needs none.
     ///
@@ -133,11 +111,14 @@ impl IpSet {
     /// 10.0.0.0/30, 10.0.0.4/31: 10.0.0.0-10.0.0.5
     /// ```
     pub fn from_networks(alloc: Global, networks: &Vec<IpNet>) -> Result<IpSet, AllocError>
-        ensures { IfOk result (λ s. (x : Address)
+        ensures empty { networks.now.items ≡ [] → IsOk result }
+        ensures members { IfOk result (λ s. (x : Address)
             → IsMember s x ↔ IsCoveredBy (map ip_network networks.now.items) x) }
     {
-        let list = IpNet::aggregate(alloc, networks)?;
-        IpSet::from_aggregate(alloc, list.as_slice())
+        let families = load::split(alloc, networks.as_slice())?;
+        let ipv4 = load::turns_of(alloc, &families.ipv4)?;
+        let ipv6 = load::turns_of(alloc, &families.ipv6)?;
+        Ok(IpSet { ipv4, ipv6 })
     }
 
     /// The set that the operation makes of this one and the other.
@@ -337,7 +318,8 @@ impl IpSet {
     /// of 10.0.0.0 to 10.0.0.5: 10.0.0.0/30, 10.0.0.4/31
     /// ```
     pub fn networks(&self, alloc: Global) -> Result<Vec<IpNet>, AllocError>
-        ensures { IfOk result (λ list. AreMaximalBlocks (IsMember self.now) 0 (map ip_network list.items)) }
+        ensures empty { ((x : Address) → ¬ (IsMember self.now x)) → IsOk result }
+        ensures blocks { IfOk result (λ list. AreMaximalBlocks (IsMember self.now) 0 (map ip_network list.items)) }
     {
         let mut networks = Vec::new(alloc);
         push_networks(&mut networks, self.ipv4.as_slice())?;

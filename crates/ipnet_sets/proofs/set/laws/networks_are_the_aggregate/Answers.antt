@@ -14,4 +14,4 @@ returns c =
     IfOk-weaker c.networks.result (λ list. AreMaximalBlocks (IsMember set) 0 (map ip_network list.items))
     (λ answer. IsAggregateOf (map ip_network answer.items) given)
     (λ list h. AreMaximalBlocks-same_set (IsMember set) (IsCoveredBy given) 0 (map ip_network list.items)
-    c.in_ok-set.ensures h) c.networks.ensures
+    c.in_ok-set.ensures.members h) c.networks.ensures.blocks
