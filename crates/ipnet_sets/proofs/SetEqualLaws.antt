@@ -1,5 +1,5 @@
 -- Sets are equal where they have the same addresses.
-use Rattle.std.proofs.Common.{◌≡◌, ℕ, ◌^◌, ◌<◌, ◌≤◌, ◌⊎◌, ◌↔◌, ◌&&◌, Bool, true, false, IsTrue}
+use Rattle.std.proofs.Common.{◌≡◌, ℕ, ◌^◌, ◌<◌, ◌≤◌, ◌⊎◌, ◌↔◌, ◌&&◌, Bool, true, false}
 use Rattle.std.proofs.Common.{not}
 use Rattle.std.proofs.Common.{List, [], ◌∷◌, map, Less, Equal, Greater, Ordering, Option, Some}
 use Rattle.std.proofs.Common.{nat_cmp, nat_eq}
@@ -179,10 +179,6 @@ member_or_not s x = elim (cases_lt x.number (2 ^ width x.family)) [
   ]
   | inr out ↦ inr (λ m. omega (arith, out, m.fits))
 ]
-
-pub equal_answer : (a b : IpSet) (answer : Bool) → answer ≡ (pointwise nat_eq a.ipv4.items b.ipv4.items
-    && pointwise nat_eq a.ipv6.items b.ipv6.items) → HaveSameAddresses a b → IsTrue answer
-equal_answer a b answer e same = e ∙ (equal_by_addresses a b).1 same
 
 partial_more : (o : Ordering) (rest : Option Ordering) (all : Ordering) → rest ≡ Some all
     → partial_ordering_then (Some o) rest ≡ Some (ordering_then o all)

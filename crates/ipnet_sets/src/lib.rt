@@ -5,7 +5,7 @@ mod load;
 mod number;
 pub mod routes;
 pub mod set;
-mod set_ranges;
+pub mod set_ranges;
 #[cfg(test)]
 mod tests;
 mod turns;
