@@ -19,7 +19,7 @@ fits_to IPv4 x lt = omega arith
 fits_to IPv6 x lt = omega arith
 
 -- each address of a network's block is one of its family
-block_fits : (n : Network) → IsNetwork n → (x : Address) → InBlock n x → IsAddress x
+pub block_fits : (n : Network) → IsNetwork n → (x : Address) → InBlock n x → IsAddress x
 block_fits n valid x a =
     omega (arith, (between_from_block n x a).to_end, last_fits n valid, ap (λ f. 2 ^ width f) a.same_family)
 

@@ -1,5 +1,5 @@
 -- Sets are equal where they have the same addresses.
-use Rattle.std.proofs.Common.{◌≡◌, ℕ, ◌^◌, ◌<◌, ◌≤◌, ◌⊎◌, ◌↔◌, ◌&&◌, Bool, true, false, IsTrue}
+use Rattle.std.proofs.Common.{◌≡◌, ℕ, ◌^◌, ◌<◌, ◌≤◌, ◌⊎◌, ◌↔◌, ◌&&◌, Bool, true, false}
 use Rattle.std.proofs.Common.{not}
 use Rattle.std.proofs.Common.{List, [], ◌∷◌, map, Less, Equal, Greater, Ordering, Option, Some}
 use Rattle.std.proofs.Common.{nat_cmp, nat_eq}
@@ -94,6 +94,25 @@ same_words a b same = (
       (same_turns_of a b IPv6 a.ipv6_turns b.ipv6_turns same),
 )
 
+-- a set without address has none
+pub no_words : (s : IpSet) → ((x : Address) → ¬ (IsMember s x)) → (s.ipv4.items ≡ []) × (s.ipv6.items ≡ [])
+no_words s none = (
+  same_numbers s.ipv4.items [] (same_turns IPv4 (turns_of s IPv4) [] s.ipv4_turns (empty IPv4) (outside IPv4)),
+  same_numbers s.ipv6.items [] (same_turns IPv6 (turns_of s IPv6) [] s.ipv6_turns (empty IPv6) (outside IPv6)),
+)
+  where
+    empty : (f : Family) → AreTurns f []
+    empty f = record {
+      ascending = λ i j d lt l. absurd (omega (arith, l));
+      fits = λ k d l. absurd (omega (arith, l));
+    }
+
+    outside : (f : Family) (n : ℕ) → n ≤ greatest_number f → is_inside (turns_of s f) n ≡ false
+    outside f n le = elim (cases_Bool (is_inside (turns_of s f) n)) [
+      | inl e ↦ absurd (none (record { family = f; number = n }) (record { fits = fits_below f n le; inside = e }))
+      | inr e ↦ e
+    ]
+
 pub same_addresses : (a b : IpSet) → a.ipv4.items ≡ b.ipv4.items → a.ipv6.items ≡ b.ipv6.items → HaveSameAddresses a b
 same_addresses a b e g x = (
   λ m. record { fits = m.fits; inside = sym (both x.family x.number) ∙ m.inside },
@@ -160,10 +179,6 @@ member_or_not s x = elim (cases_lt x.number (2 ^ width x.family)) [
   ]
   | inr out ↦ inr (λ m. omega (arith, out, m.fits))
 ]
-
-pub equal_answer : (a b : IpSet) (answer : Bool) → answer ≡ (pointwise nat_eq a.ipv4.items b.ipv4.items
-    && pointwise nat_eq a.ipv6.items b.ipv6.items) → HaveSameAddresses a b → IsTrue answer
-equal_answer a b answer e same = e ∙ (equal_by_addresses a b).1 same
 
 partial_more : (o : Ordering) (rest : Option Ordering) (all : Ordering) → rest ≡ Some all
     → partial_ordering_then (Some o) rest ≡ Some (ordering_then o all)

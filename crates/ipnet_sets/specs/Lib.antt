@@ -2,6 +2,7 @@
 pub mod Turns
 pub mod Members
 pub mod SetRanges
+pub mod Loads
 pub mod TurnRanges
 pub mod RangesLeft
 pub mod Routes

@@ -2,6 +2,8 @@
 use Rattle.std.specs.Prelude.{◌≡◌, ◌≢◌, ◌+◌, ◌<◌, ◌≤◌, ◌⊎◌, ◌↔◌, ℕ, Bool, true, List, map, length}
 use Rattle.std.specs.Prelude.{Contains, AllPairs}
 use Rattle.ipnet_base.specs.Address.{Family, Address, IsAddress, family_index}
+use Rattle.ipnet_base.specs.Network.{Network}
+use Rattle.ipnet_base.specs.Blocks.{IsCoveredBy}
 use Rattle.ipnet_sets.specs.declared.set.IpSet.{IpSet}
 use Rattle.ipnet_sets.specs.Turns.{is_inside, by_family}
 
@@ -25,6 +27,39 @@ HasNoMoreTurns s a b = (f : Family) → length (turns_of s f) ≤ length (turns_
 -- the two sets have the same addresses
 abbrev pub HaveSameAddresses : IpSet → IpSet → Type 0
 HaveSameAddresses s t = (x : Address) → IsMember s x ↔ IsMember t x
+
+-- the set has no address
+abbrev pub HasNoAddress : IpSet → Type 0
+HasNoAddress s = (x : Address) → ¬ (IsMember s x)
+
+-- the first set lies in the second
+abbrev pub IsSubset : IpSet → IpSet → Type 0
+IsSubset a b = (x : Address) → IsMember a x → IsMember b x
+
+-- s has the addresses that are in a or in b
+abbrev pub IsUnion : IpSet → IpSet → IpSet → Type 0
+IsUnion s a b = (x : Address) → IsMember s x ↔ (IsMember a x ⊎ IsMember b x)
+
+-- those that are in a and in b
+abbrev pub IsIntersection : IpSet → IpSet → IpSet → Type 0
+IsIntersection s a b = (x : Address) → IsMember s x ↔ (IsMember a x × IsMember b x)
+
+-- those that are in a and not in b
+abbrev pub IsDifference : IpSet → IpSet → IpSet → Type 0
+IsDifference s a b = (x : Address) → IsMember s x ↔ (IsMember a x × ¬ (IsMember b x))
+
+-- those that are in one of a and b alone
+abbrev pub IsSymmetricDifference : IpSet → IpSet → IpSet → Type 0
+IsSymmetricDifference s a b = (x : Address) → IsMember s x
+    ↔ ((IsMember a x × ¬ (IsMember b x)) ⊎ (IsMember b x × ¬ (IsMember a x)))
+
+-- and the addresses of both families that are not in a
+abbrev pub IsComplement : IpSet → IpSet → Type 0
+IsComplement s a = (x : Address) → IsAddress x → IsMember s x ↔ ¬ (IsMember a x)
+
+-- the set has the addresses that the networks cover
+abbrev pub HasAddressesOf : IpSet → List Network → Type 0
+HasAddressesOf s networks = (x : Address) → IsMember s x ↔ IsCoveredBy networks x
 
 -- the addresses of the set that are of the family
 abbrev pub IsMemberOf : Family → IpSet → Address → Type 0

@@ -1,10 +1,11 @@
 //! Sets of addresses, kept by the numbers at which they begin and end; and tables of routes.
 #![tactic(auto)]
 
+mod load;
 mod number;
 pub mod routes;
 pub mod set;
-mod set_ranges;
+pub mod set_ranges;
 #[cfg(test)]
 mod tests;
 mod turns;

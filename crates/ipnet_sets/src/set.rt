@@ -1,14 +1,15 @@
 //! Sets of addresses of both families.
-ghost use Rattle.std.specs.Prelude.{◌≡◌, ◌⊎◌, ◌↔◌, IsTrue, false, map, ◌++◌, IfOk, OnOk, IsNone, IfSome};
+ghost use Rattle.std.specs.Prelude.{◌≡◌, ◌↔◌, IsTrue, false, map, [], ◌++◌, IsOk, IfOk, OnOk, IsNone, IfSome};
 ghost use Rattle.ipnet_base.specs.Address.{IPv4, IPv6, Address, IsAddress, ip_address};
 ghost use Rattle.ipnet_base.specs.Network.{InBlock};
-ghost use Rattle.ipnet_base.specs.Blocks.{IsCoveredBy, AreMaximalBlocks, AreAggregatedNeighbours};
+ghost use Rattle.ipnet_base.specs.Blocks.{AreMaximalBlocks};
 ghost use Rattle.ipnet.specs.NetworkOf.{ip_network};
 ghost use Rattle.ipnet.specs.SubnetsLeft.{ip_subnets_left};
 ghost use Rattle.ipnet_sets.specs.SetRanges.{AreRangesOf};
 ghost use Rattle.ipnet_sets.specs.TurnRanges.{ranges_of, HasBlocksAdded};
 ghost use Rattle.ipnet_sets.specs.Turns.{AreTurns, combined};
 
+use crate::load;
 use crate::number::Number;
 use crate::set_ranges::IpSetRanges;
 use crate::turns::{self, Operation};
@@ -39,7 +40,8 @@ pub struct IpSet {
 /// Puts the networks of the ranges between the turns at the end of the list.
 fn push_networks<T: Number>(networks: &mut Vec<IpNet>, turns: &[T]) -> Result<(), AllocError>
     requires { AreTurns T.family (map T.number turns.now) }
-    ensures { OnOk result (HasBlocksAdded (ranges_of T.family (map T.number turns.now))
+    ensures empty { turns.now ≡ [] → IsOk result }
+    ensures blocks { OnOk result (HasBlocksAdded (ranges_of T.family (map T.number turns.now))
         (map ip_network networks.old.items) (map ip_network networks.new.items)) }
 {
     let mut left = turns;
@@ -64,11 +66,13 @@ fn push_walk(networks: &mut Vec<IpNet>, walk: IpSubnets) -> Result<(), AllocErro
 impl IpSet {
     ghost use Rattle.ipnet_sets.specs.RangesLeft.{ranges_left};
     ghost use Rattle.ipnet_sets.specs.Members.{is_member, IsMember, IsMemberOf, IsCountOf, HasNoMoreTurns};
+    ghost use Rattle.ipnet_sets.specs.Members.{HasNoAddress, IsSubset, IsUnion, IsIntersection, IsDifference};
+    ghost use Rattle.ipnet_sets.specs.Members.{IsSymmetricDifference, IsComplement, HasAddressesOf};
     ghost use Rattle.ipnet_sets.specs.Members.{IsFirstOf, IsLastOf, IsFromTo};
 
     /// The set with no address.
     pub fn new(alloc: Global) -> IpSet
-        ensures { (x : Address) → ¬ (IsMember result x) }
+        ensures { HasNoAddress result }
     {
         IpSet {
             ipv4: Vec::new(alloc),
@@ -86,7 +90,7 @@ impl IpSet {
     /// from 10.0.0.8 to 10.0.0.3: no address
     /// ```
     pub fn from_range(alloc: Global, start: IpAddr, end: IpAddr) -> Result<IpSet, AllocError>
-        ensures { IfOk result (λ s. (x : Address) → IsAddress x
+        ensures { IfOk result (λ s. (x : Address)
             → IsMember s x ↔ IsFromTo (ip_address start) (ip_address end) x) }
     {
         let mut set = IpSet::new(alloc);
@@ -102,30 +106,6 @@ impl IpSet {
         Ok(set)
     }
 
-    /// The set of the addresses of the networks, which are an aggregate: each comes after those before.
-    fn from_aggregate(alloc: Global, networks: &[IpNet]) -> Result<IpSet, AllocError>
-        requires { AreAggregatedNeighbours (map ip_network networks.now) }
-        ensures { IfOk result (λ s. (x : Address) → IsMember s x ↔ IsCoveredBy (map ip_network networks.now) x) }
-    {
-        let mut ipv4 = Vec::new(alloc);
-        let mut ipv6 = Vec::new(alloc);
-        for network in networks {
-            match network {
-                IpNet::V4(network) => turns::add_range(
-                    &mut ipv4,
-                    network.network().to_bits(),
-                    network.broadcast().to_bits(),
-                )?,
-                IpNet::V6(network) => turns::add_range(
-                    &mut ipv6,
-                    network.network().to_bits(),
-                    network.broadcast().to_bits(),
-                )?,
-            }
-        }
-        Ok(IpSet { ipv4, ipv6 })
-    }
-
     /// The set of the addresses that lie in the networks' blocks. Order, repeats, overlaps and host bits of the list
     /// do not matter. Fails only when memory runs out; an empty list needs none.
     ///
@@ -133,11 +113,13 @@ impl IpSet {
     /// 10.0.0.0/30, 10.0.0.4/31: 10.0.0.0-10.0.0.5
     /// ```
     pub fn from_networks(alloc: Global, networks: &Vec<IpNet>) -> Result<IpSet, AllocError>
-        ensures { IfOk result (λ s. (x : Address)
-            → IsMember s x ↔ IsCoveredBy (map ip_network networks.now.items) x) }
+        ensures empty { networks.now.items ≡ [] → IsOk result }
+        ensures members { IfOk result (λ s. HasAddressesOf s (map ip_network networks.now.items)) }
     {
-        let list = IpNet::aggregate(alloc, networks)?;
-        IpSet::from_aggregate(alloc, list.as_slice())
+        let families = load::split(alloc, networks.as_slice())?;
+        let ipv4 = load::turns_of(alloc, &families.ipv4)?;
+        let ipv6 = load::turns_of(alloc, &families.ipv6)?;
+        Ok(IpSet { ipv4, ipv6 })
     }
 
     /// The set that the operation makes of this one and the other.
@@ -172,8 +154,7 @@ impl IpSet {
     /// 10.0.0.0-10.0.0.5 and 10.0.0.3-10.0.0.9: 10.0.0.0-10.0.0.9
     /// ```
     pub fn union(&self, alloc: Global, other: &IpSet) -> Result<IpSet, AllocError>
-        ensures members { IfOk result (λ s. (x : Address)
-            → IsMember s x ↔ (IsMember self.now x ⊎ IsMember other.now x)) }
+        ensures members { IfOk result (λ s. IsUnion s self.now other.now) }
         ensures turns { IfOk result (λ s. HasNoMoreTurns s self.now other.now) }
     {
         self.combined(alloc, Operation::Union, other)
@@ -185,8 +166,7 @@ impl IpSet {
     /// 10.0.0.0-10.0.0.5 and 10.0.0.3-10.0.0.9: 10.0.0.3-10.0.0.5
     /// ```
     pub fn intersection(&self, alloc: Global, other: &IpSet) -> Result<IpSet, AllocError>
-        ensures members { IfOk result (λ s. (x : Address)
-            → IsMember s x ↔ (IsMember self.now x × IsMember other.now x)) }
+        ensures members { IfOk result (λ s. IsIntersection s self.now other.now) }
         ensures turns { IfOk result (λ s. HasNoMoreTurns s self.now other.now) }
     {
         self.combined(alloc, Operation::Intersection, other)
@@ -198,8 +178,7 @@ impl IpSet {
     /// 10.0.0.0-10.0.0.5 and 10.0.0.3-10.0.0.9: 10.0.0.0-10.0.0.2
     /// ```
     pub fn difference(&self, alloc: Global, other: &IpSet) -> Result<IpSet, AllocError>
-        ensures members { IfOk result (λ s. (x : Address)
-            → IsMember s x ↔ (IsMember self.now x × ¬ (IsMember other.now x))) }
+        ensures members { IfOk result (λ s. IsDifference s self.now other.now) }
         ensures turns { IfOk result (λ s. HasNoMoreTurns s self.now other.now) }
     {
         self.combined(alloc, Operation::Difference, other)
@@ -211,8 +190,7 @@ impl IpSet {
     /// 10.0.0.0-10.0.0.5 and 10.0.0.3-10.0.0.9: 10.0.0.0-10.0.0.2 and 10.0.0.6-10.0.0.9
     /// ```
     pub fn symmetric_difference(&self, alloc: Global, other: &IpSet) -> Result<IpSet, AllocError>
-        ensures members { IfOk result (λ s. (x : Address) → IsMember s x
-            ↔ ((IsMember self.now x × ¬ (IsMember other.now x)) ⊎ (IsMember other.now x × ¬ (IsMember self.now x)))) }
+        ensures members { IfOk result (λ s. IsSymmetricDifference s self.now other.now) }
         ensures turns { IfOk result (λ s. HasNoMoreTurns s self.now other.now) }
     {
         self.combined(alloc, Operation::SymmetricDifference, other)
@@ -224,7 +202,7 @@ impl IpSet {
     /// of no address: 0.0.0.0-255.255.255.255 and ::-ffff:ffff:ffff:ffff:ffff:ffff:ffff:ffff
     /// ```
     pub fn complement(&self, alloc: Global) -> Result<IpSet, AllocError>
-        ensures { IfOk result (λ s. (x : Address) → IsAddress x → IsMember s x ↔ ¬ (IsMember self.now x)) }
+        ensures { IfOk result (λ s. IsComplement s self.now) }
     {
         // One turn, at 0, is the set of all numbers: what is in that or in this set alone is not in this set.
         let not_both = Operation::SymmetricDifference;
@@ -287,7 +265,7 @@ impl IpSet {
     /// 10.0.0.1-10.0.0.3 is a subset of 10.0.0.0-10.0.0.5; the empty set is one of each set
     /// ```
     pub fn is_subset(&self, other: &IpSet) -> bool
-        ensures { IsTrue result ↔ ((x : Address) → IsMember self.now x → IsMember other.now x) }
+        ensures { IsTrue result ↔ IsSubset self.now other.now }
     {
         self.makes_nothing(Operation::Difference, other)
     }
@@ -309,7 +287,7 @@ impl IpSet {
     /// from 10.0.0.8 to 10.0.0.3: true; from 10.0.0.8 to 10.0.0.8: false
     /// ```
     pub fn is_empty(&self) -> bool
-        ensures { IsTrue result ↔ ((x : Address) → ¬ (IsMember self.now x)) }
+        ensures { IsTrue result ↔ HasNoAddress self.now }
     {
         self.first().is_none()
     }
@@ -337,7 +315,8 @@ impl IpSet {
     /// of 10.0.0.0 to 10.0.0.5: 10.0.0.0/30, 10.0.0.4/31
     /// ```
     pub fn networks(&self, alloc: Global) -> Result<Vec<IpNet>, AllocError>
-        ensures { IfOk result (λ list. AreMaximalBlocks (IsMember self.now) 0 (map ip_network list.items)) }
+        ensures empty { HasNoAddress self.now → IsOk result }
+        ensures blocks { IfOk result (λ list. AreMaximalBlocks (IsMember self.now) 0 (map ip_network list.items)) }
     {
         let mut networks = Vec::new(alloc);
         push_networks(&mut networks, self.ipv4.as_slice())?;
@@ -377,7 +356,7 @@ impl IpSet {
     /// of fd00::/126 and 10.0.0.0/30: Some(10.0.0.0)
     /// ```
     pub fn first(&self) -> Option<IpAddr>
-        ensures none { IsNone result ↔ ((x : Address) → ¬ (IsMember self.now x)) }
+        ensures none { IsNone result ↔ HasNoAddress self.now }
         ensures some { IfSome result (λ a. IsFirstOf (IsMember self.now) (ip_address a)) }
     {
         match turns::first(self.ipv4.as_slice()) {
@@ -395,7 +374,7 @@ impl IpSet {
     /// of fd00::/126 and 10.0.0.0/30: Some(fd00::3)
     /// ```
     pub fn last(&self) -> Option<IpAddr>
-        ensures none { IsNone result ↔ ((x : Address) → ¬ (IsMember self.now x)) }
+        ensures none { IsNone result ↔ HasNoAddress self.now }
         ensures some { IfSome result (λ a. IsLastOf (IsMember self.now) (ip_address a)) }
     {
         match turns::last(self.ipv6.as_slice()) {

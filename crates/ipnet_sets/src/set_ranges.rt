@@ -5,6 +5,8 @@ ghost use Rattle.ipnet_base.specs.Address.{IPv4, IPv6};
 ghost use Rattle.ipnet_base.specs.RangeOf.{ip_range};
 ghost use Rattle.ipnet_sets.specs.Turns.{AreTurns};
 
+pub mod laws;
+
 use crate::number::Number;
 use crate::turns;
 use ipnet::IpAddrRange;

@@ -74,26 +74,16 @@ fn next_turn<T: Number>(first: &[T], first_at: usize, second: &[T], second_at: u
             second: second_at,
         };
     }
+    // Which list is next cannot be foretold, so the choice is made by sums, and takes no branch.
     let one = first[first_at];
     let other = second[second_at];
-    if one.is_below(other) {
-        return Turn {
-            number: one,
-            first: first_at + 1,
-            second: second_at,
-        };
-    }
-    if other.is_below(one) {
-        return Turn {
-            number: other,
-            first: first_at,
-            second: second_at + 1,
-        };
-    }
+    let first_turns = !other.is_below(one);
+    let second_turns = !one.is_below(other);
+    let number = if first_turns { one } else { other };
     Turn {
-        number: one,
-        first: first_at + 1,
-        second: second_at + 1,
+        number,
+        first: first_at + usize::from(first_turns),
+        second: second_at + usize::from(second_turns),
     }
 }
 

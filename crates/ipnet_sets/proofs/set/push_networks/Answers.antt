@@ -1,5 +1,5 @@
 -- Each turn pushes the networks of the first range that is left, and those of the ranges after it stay to be pushed.
-use Rattle.std.proofs.Common.{◌≡◌, ◌∷◌, [], map, sym, ap, ◌∙◌, refl}
+use Rattle.std.proofs.Common.{◌≡◌, ◌∷◌, [], map, drop, sym, ap, ◌∙◌, refl}
 use Rattle.ipnet.specs.NetworkOf.{ip_network}
 use Rattle.ipnet.specs.SubnetsLeft.{ip_subnets_left}
 use Rattle.ipnet_sets.specs.SetRanges.{range_of}
@@ -18,6 +18,7 @@ loop-range-preserved g c =
     = c.in-Some.ensures.some
     ∙ ap (λ z. range ∷ ranges_of family (map number z)) (sym c.after_first_range-left.ensures) in
     record {
+      empty = λ e. c.after_first_range-left.ensures ∙ ap (drop 2) (c.loop-range.invariant.empty e);
       turns = turns_after number family xs left c.after_first_range-left.ensures c.loop-range.invariant.turns;
       pushing = pushing_more (ranges_of family (map number c.args.turns.now)) (ranges_of family (map number xs))
           (ranges_of family (map number left)) range (map ip_network c.args.networks.now.items)
@@ -26,8 +27,8 @@ loop-range-preserved g c =
           c.loop-range.invariant.pushing;
     }
 
-pub returns : goal.returns
-returns g c =
+pub returns-clause-blocks : goal.returns-clause-blocks
+returns-clause-blocks g c =
     let number = g.T.Number.number in
     let family = g.T.Number.family in
     let empty : c.loop-range.left.now ≡ [] = c.in_default.ensures.none.0 refl in

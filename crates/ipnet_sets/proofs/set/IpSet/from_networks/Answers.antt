@@ -1,30 +1,20 @@
--- The aggregate covers what the list does, and its neighbours show that it is one.
-use Rattle.std.proofs.Common.{◌↔◌, map, sym, subst}
-use Rattle.std.proofs.lemmas.Result.{IfOk-weaker}
-use Rattle.ipnet_base.specs.Address.{Address}
-use Rattle.ipnet_base.specs.Blocks.{IsCoveredBy, AreAggregatedNeighbours}
-use Rattle.ipnet.specs.NetworkOf.{ip_network}
-use Rattle.ipnet_sets.specs.Members.{IsMember}
-use Rattle.ipnet_sets.proofs.LoadLaws.{all_valid, neighbours_of_aggregate, cover_of_aggregate}
+-- The numbers of each family are those of the networks of this family, and these have together the list's addresses.
+use Rattle.std.proofs.Common.{map, refl, subst}
+use Rattle.ipnet_base.specs.Address.{IPv4, IPv6}
+use Rattle.ipnet.specs.NetworkOf.{ipv4_network, ipv6_network, ip_network}
+use Rattle.ipnet.specs.NetLaws.{ip_valid}
+use Rattle.ipnet_sets.specs.Loads.{AreOfFamilies}
+use Rattle.ipnet_sets.proofs.LoadLaws.{all_valid, all_of_family, members_of_families}
 use Rattle.ipnet_sets.proofs.set.IpSet.from_networks.Goals as goal
 
-pub from_aggregate-requires : goal.from_aggregate-requires
-from_aggregate-requires c =
+pub returns-clause-members : goal.returns-clause-members
+returns-clause-members c =
     let xs = c.args.networks.now.items in
-    subst (λ z. AreAggregatedNeighbours (map ip_network z)) (sym c.as_slice.ensures.value)
-    (neighbours_of_aggregate (map ip_network xs) (map ip_network c.in_ok-list.list.items) (all_valid xs)
-    c.in_ok-list.ensures.aggregate.aggregate)
-
-pub returns : goal.returns
-returns c =
-    let xs = c.args.networks.now.items in
-    let list = c.in_ok-list.list.items in
-    let same = cover_of_aggregate (map ip_network xs) (map ip_network list) (all_valid xs)
-    c.in_ok-list.ensures.aggregate.aggregate in
-    IfOk-weaker c.from_aggregate.result
-    (λ s. (x : Address) → IsMember s x ↔ IsCoveredBy (map ip_network c.as_slice.result.now) x)
-    (λ s. (x : Address) → IsMember s x ↔ IsCoveredBy (map ip_network xs) x)
-    (λ s h x. (
-      λ m. (same x).0 (subst (λ z. IsCoveredBy (map ip_network z) x) c.as_slice.ensures.value ((h x).0 m)),
-      λ a. (h x).1 (subst (λ z. IsCoveredBy (map ip_network z) x) (sym c.as_slice.ensures.value) ((same x).1 a)),
-    )) c.from_aggregate.ensures
+    let ipv4 = c.in_ok-families.families.ipv4.items in
+    let ipv6 = c.in_ok-families.families.ipv6.items in
+    members_of_families _ (map ip_network xs) (map ipv4_network ipv4) (map ipv6_network ipv6)
+    (all_valid ip_network ip_valid xs) (all_of_family ipv4_network IPv4 (λ n. refl) ipv4)
+    (all_of_family ipv6_network IPv6 (λ n. refl) ipv6)
+    (subst (λ z. AreOfFamilies (map ip_network z) (map ipv4_network ipv4) (map ipv6_network ipv6))
+    c.as_slice.ensures.value c.in_ok-families.ensures.addresses)
+    c.in_ok-ipv4.ensures.members c.in_ok-ipv6.ensures.members

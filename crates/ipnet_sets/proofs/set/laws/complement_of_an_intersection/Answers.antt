@@ -1,11 +1,5 @@
-use Rattle.ipnet_sets.proofs.SetEqualLaws.{equal_answer}
 use Rattle.ipnet_sets.proofs.SetAlgebra.{intersection_complement}
 use Rattle.ipnet_sets.proofs.set.laws.complement_of_an_intersection.Goals as goal
 
 pub returns : goal.returns
-returns c =
-    equal_answer c.in_ok-first.first c.in_ok-second.second c.eq.result c.eq.ensures
-    (intersection_complement c.args.a.now c.args.b.now
-    c.in_ok-shared.shared c.in_ok-first.first c.in_ok-not_a.not_a c.in_ok-not_b.not_b c.in_ok-second.second
-    c.in_ok-shared.ensures.members c.in_ok-first.ensures c.in_ok-not_a.ensures c.in_ok-not_b.ensures
-    c.in_ok-second.ensures.members)
+returns c a b both not_a not_b s = intersection_complement a b both not_a not_b s
