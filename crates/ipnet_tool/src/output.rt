@@ -8,9 +8,9 @@ use std::io::{ErrorKind, Write};
 
 /// Writes all the bytes, and does not flush.
 ///
-/// A write that was interrupted is made again. Where one fails otherwise, the writer has taken a front of the bytes, and
-/// its error is given; a writer that takes no byte gives `WriteZero`. `write_all` of the standard library does the same,
-/// and promises nothing of what stands on the output after an error.
+/// A write that was interrupted is made again. Where one fails otherwise, the writer has taken a front of the bytes,
+/// and its error is given; a writer that takes no byte gives `WriteZero`. `write_all` of the standard library does the
+/// same, and promises nothing of what stands on the output after an error.
 ///
 /// ```text
 /// "10.0.0.0/8\n" to a writer that takes four bytes and then fails: its error, and "10.0" is written
