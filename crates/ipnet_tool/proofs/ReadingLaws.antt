@@ -1,5 +1,5 @@
 -- What a reader gave, of which the window holds the last bytes.
-use Rattle.std.proofs.Common.{◌≡◌, ℕ, ◌+◌, ◌<◌, List, [], ◌++◌, length, take, drop, refl, sym, ap, ◌∙◌, subst}
+use Rattle.std.proofs.Common.{◌≡◌, ℕ, ◌+◌, ◌<◌, List, [], ◌++◌, length, take, drop, sym, ap, ◌∙◌, subst}
 use Rattle.std.proofs.Common.{IsUtf8, Option}
 use Rattle.std.proofs.Common.{append_assoc, append-nil, take-append-drop, get_or, ◌≢◌, ◌≤◌, arith, length-drop}
 use Rattle.std.specs.Io.KnownBytes.{Consumes, IsAtEnd}

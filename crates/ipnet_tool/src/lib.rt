@@ -4,6 +4,7 @@
 
 mod answer;
 mod input;
+mod joins;
 pub mod output;
 pub mod program;
 #[cfg(test)]

@@ -108,10 +108,9 @@ pub fn run<R: Read, W: Write, X: Write>(
         Ok(families) => families,
         Err(failure) => return report(faults, failure),
     };
-    let Ok(blocks) = aggregated(alloc, &families) else {
+    let Ok(blocks) = aggregated(alloc, families) else {
         return report(faults, Failure::Memory);
     };
-    drop(families);
     let Ok(()) = write_answer(out, &blocks) else {
         return report(faults, Failure::Unwritable);
     };

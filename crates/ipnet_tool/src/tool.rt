@@ -13,6 +13,7 @@ ghost use Rattle.ipnet.specs.NetworkTexts.{IsNetworkText, ReadsNetwork};
 ghost use Rattle.ipnet_tool.specs.Answers.{IsTextAnswer, StartsWithBadLine, text_of_lines};
 ghost use Rattle.ipnet_tool.specs.Families.{networks_of};
 
+use crate::joins::{push_joined, sort_and_join};
 use ipnet::parser::AddrParseError;
 use ipnet::{Grammar, IpNet, Ipv4Net, Ipv6Net};
 use std::alloc::{AllocError, Global};
@@ -80,10 +81,9 @@ fn answer_to(alloc: Global, text: &str, grammar: Grammar) -> Result<String, Tool
 {
     let mut families = Families::new(alloc);
     families.push_lines(0, text, grammar)?;
-    let Ok(blocks) = aggregated(alloc, &families) else {
+    let Ok(blocks) = aggregated(alloc, families) else {
         return Err(ToolError::Memory);
     };
-    drop(families);
     let Ok(answer) = printed(alloc, &blocks) else {
         return Err(ToolError::Memory);
     };
@@ -110,68 +110,6 @@ fn read_line(line: &str, grammar: Grammar) -> Result<IpNet, AddrParseError>
         Grammar::Strict => line.parse::<IpNet>(),
         Grammar::Legacy => IpNet::parse_legacy(line),
     }
-}
-
-/// A type of networks of one family, of which two may be joined to one.
-trait Join: Copy {
-    /// The network that a value stands for.
-    ghost network: { Self → Network };
-
-    /// One network with exactly the addresses of this one and of the other, where the other lies in this one or is the
-    /// other half of its supernet.
-    fn joined(&self, other: &Self) -> Option<Self>
-        ensures { IfSome result (λ whole.
-            HaveSameCover (network whole ∷ []) (network self.now ∷ network other.now ∷ [])) };
-}
-
-impl Join for Ipv4Net {
-    ghost use Rattle.ipnet.specs.NetworkOf.{ipv4_network};
-
-    ghost network = { ipv4_network };
-
-    fn joined(&self, other: &Ipv4Net) -> Option<Ipv4Net> {
-        if self.contains(other) {
-            return Some(*self);
-        }
-        if self.is_sibling(other) {
-            return self.supernet();
-        }
-        None
-    }
-}
-
-impl Join for Ipv6Net {
-    ghost use Rattle.ipnet.specs.NetworkOf.{ipv6_network};
-
-    ghost network = { ipv6_network };
-
-    fn joined(&self, other: &Ipv6Net) -> Option<Ipv6Net> {
-        if self.contains(other) {
-            return Some(*self);
-        }
-        if self.is_sibling(other) {
-            return self.supernet();
-        }
-        None
-    }
-}
-
-/// Appends a network, joined with the last ones as far as they can be: most lists that people keep are in order, and
-/// then take the memory of their answer, not that of all their lines.
-fn push_joined<N: Join>(list: &mut Vec<N>, network: N) -> Result<(), AllocError>
-    ensures { OnOk result (HaveSameCover (map N.network list.new.items)
-        (map N.network list.old.items ++ N.network network ∷ [])) }
-{
-    let mut next = network;
-    while let Some(last) = list.last() {
-        let Some(whole) = last.joined(&next) else {
-            break;
-        };
-        next = whole;
-        list.pop();
-    }
-    list.push(next)?;
-    Ok(())
 }
 
 impl Families {
@@ -236,14 +174,22 @@ impl Families {
     }
 }
 
-/// The aggregate of each family: together they are the aggregate of all.
-pub(crate) fn aggregated(alloc: Global, families: &Families) -> Result<Families, AllocError>
-    ensures empty { networks_of families.now ≡ [] → IsOkAnd result (λ blocks. networks_of blocks ≡ []) }
-    ensures aggregate { IfOk result (λ blocks. IsAggregateOf (networks_of blocks) (networks_of families.now)) }
+/// The aggregate of each family: together they are the aggregate of all. What can be joined in the lists that are given
+/// is joined there, before memory is asked for the answer's.
+pub(crate) fn aggregated(alloc: Global, families: Families) -> Result<Families, AllocError>
+    ensures empty { networks_of families ≡ [] → IsOkAnd result (λ blocks. networks_of blocks ≡ []) }
+    ensures aggregate { IfOk result (λ blocks. IsAggregateOf (networks_of blocks) (networks_of families)) }
 {
-    let ipv4 = Ipv4Net::aggregate(alloc, &families.ipv4)?;
-    let ipv6 = Ipv6Net::aggregate(alloc, &families.ipv6)?;
-    Ok(Families { ipv4, ipv6 })
+    let Families { mut ipv4, mut ipv6 } = families;
+    sort_and_join(&mut ipv4);
+    let ipv4_blocks = Ipv4Net::aggregate(alloc, &ipv4)?;
+    drop(ipv4);
+    sort_and_join(&mut ipv6);
+    let ipv6_blocks = Ipv6Net::aggregate(alloc, &ipv6)?;
+    Ok(Families {
+        ipv4: ipv4_blocks,
+        ipv6: ipv6_blocks,
+    })
 }
 
 /// The canonical texts of the networks, one a line, IPv4 first.

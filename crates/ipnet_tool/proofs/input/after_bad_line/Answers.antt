@@ -1,11 +1,11 @@
 -- In each turn the longest front of what is held that is UTF-8 is judged, and more is read behind the rest
 -- (`judged_more`). Where nothing is left at the end, all was judged.
-use Rattle.std.proofs.Common.{◌≡◌, ℕ, ◌≤◌, ◌++◌, List, [], length, take, take_all, sym, ap, ◌∙◌, subst, arith, refl}
+use Rattle.std.proofs.Common.{◌≡◌, ◌≤◌, ◌++◌, [], length, take, take_all, sym, ap, ◌∙◌, subst, arith}
 use Rattle.std.proofs.Common.{IsUtf8}
 use Rattle.std.specs.Str.{valid_up_to}
 use Rattle.ipnet_tool.specs.Window.{held}
 use Rattle.ipnet_tool.proofs.LineCuts.{no_bytes, empty_text}
-use Rattle.ipnet_tool.proofs.ReadingLaws.{IsJudged, judged_none, judged_more, judged_whole}
+use Rattle.ipnet_tool.proofs.ReadingLaws.{judged_none, judged_more, judged_whole}
 use Rattle.ipnet_tool.proofs.input.after_bad_line.Goals as goal
 use Rattle.ipnet_tool.proofs.input.after_bad_line.Goals.{in-Ok, in-Err}
 

@@ -1,7 +1,7 @@
 -- In each turn more is read behind what is held (`read_more`), and its whole lines are taken (`piece_taken`). At the
 -- end all is taken. A bad line is that of what was read so far, and what follows it is a text as well.
-use Rattle.std.proofs.Common.{◌≡◌, ◌≢◌, ℕ, ◌+◌, ◌<◌, ◌≤◌, List, length, get_or, take, drop, take_all, Err, sym}
-use Rattle.std.proofs.Common.{ap, ◌∙◌, subst, arith, refl, IsUtf8, length-take, true, false}
+use Rattle.std.proofs.Common.{◌≡◌, ◌≢◌, ℕ, ◌+◌, ◌<◌, ◌≤◌, length, get_or, take, take_all, Err, sym}
+use Rattle.std.proofs.Common.{ap, ◌∙◌, subst, arith, IsUtf8, length-take}
 use Rattle.ipnet.specs.Lines.{lines_of, IsFirstBadLine}
 use Rattle.ipnet_tool.specs.declared.tool.ToolError.TheVariants as ToolErrors
 use Rattle.ipnet_tool.specs.declared.program.Failure.TheVariants as Failures

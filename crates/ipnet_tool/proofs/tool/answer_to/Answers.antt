@@ -1,7 +1,7 @@
 -- An answer is the lines' networks, aggregated and printed (`answer_from`). Memory runs out neither for a text of empty
 -- lines nor where the first line that is not empty is bad, as each of the three steps promises.
-use Rattle.std.proofs.Common.{◌≡◌, ℕ, ◌+◌, ◌∙◌, ◌++◌, string_bytes, Ok, Err, Result, IsErrAnd, String, Global, sym}
-use Rattle.std.proofs.Common.{subst, ap, [], arith}
+use Rattle.std.proofs.Common.{◌≡◌, ◌+◌, ◌∙◌, ◌++◌, string_bytes, Ok, Err, Result, IsErrAnd, String, Global, sym}
+use Rattle.std.proofs.Common.{subst, ap, arith}
 use Rattle.std.proofs.lemmas.Bool.{false≢true}
 use Rattle.ipnet.specs.Lines.{lines_of, IsFirstBadLine}
 use Rattle.ipnet_tool.specs.Answers.{IsTextAnswer, text_of_lines}

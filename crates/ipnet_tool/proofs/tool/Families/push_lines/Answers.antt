@@ -1,6 +1,6 @@
 -- What was read and what is still to be read make the whole text: a line more, empty or a network, moves from the one
 -- to the other (`LineLaws`, `cover_moves_on`); where it is bad it is the first bad one (`EarlyLines`).
-use Rattle.std.proofs.Common.{◌≡◌, ℕ, ◌+◌, ◌<◌, ◌∷◌, ◌++◌, [], length, refl, subst, arith, rules, append-nil}
+use Rattle.std.proofs.Common.{◌≡◌, ◌+◌, ◌<◌, ◌∷◌, ◌++◌, [], length, refl, subst, arith, rules, append-nil}
 use Rattle.std.proofs.Common.{inl, inr, ap, sym, ◌∙◌}
 use Rattle.ipnet.specs.Lines.{lines_of, IsFirstBadLine}
 use Rattle.ipnet.specs.NetworkOf.{ip_network}

@@ -1,7 +1,6 @@
 -- Each turn leaves what the window holds as it was (`WindowLaws`), until a read gives something or is the last.
-use Rattle.std.proofs.Common.{◌≡◌, ◌≤◌, ◌++◌, length, take, ap, ◌∙◌, arith, []}
-use Rattle.std.specs.Io.KnownBytes.{Consumes}
-use Rattle.std.proofs.KnownBytes.{Consumes-nil, Consumes-trans, Consumes-kept}
+use Rattle.std.proofs.Common.{◌≤◌, ◌++◌, length, take, ap, ◌∙◌, arith, []}
+use Rattle.std.proofs.KnownBytes.{Consumes-trans, Consumes-kept}
 use Rattle.ipnet_tool.proofs.WindowLaws.{grown, kept, none_given}
 use Rattle.ipnet_tool.proofs.window.Window.fill.Goals as goal
 

@@ -1,6 +1,6 @@
 use Rattle.std.proofs.Common.{[], ◌∷◌, ◌++◌, map, length}
 use Rattle.ipnet.specs.Blocks.{HaveSameCover}
-use Rattle.ipnet_tool.proofs.tool.push_joined.Given as goal
+use Rattle.ipnet_tool.proofs.joins.push_joined.Given as goal
 
 -- with the network that is still to be put there, the list covers what it is to cover at the end
 abbrev pub invariant-loop-last : goal.invariant-loop-last

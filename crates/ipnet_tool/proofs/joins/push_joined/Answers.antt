@@ -5,7 +5,7 @@ use Rattle.std.proofs.lemmas.List.{map_push}
 use Rattle.ipnet.specs.Blocks.{HaveSameCover}
 use Rattle.ipnet.proofs.ListLaws.{popped_last}
 use Rattle.ipnet_tool.proofs.JoinLaws.{cover_of_last_joined}
-use Rattle.ipnet_tool.proofs.tool.push_joined.Goals as goal
+use Rattle.ipnet_tool.proofs.joins.push_joined.Goals as goal
 
 pub loop-last-init : goal.loop-last-init
 loop-last-init g c = λ x. (λ a. a, λ a. a)

@@ -5,7 +5,7 @@ use Rattle.std.proofs.lemmas.Option.{IfSome_then}
 use Rattle.ipnet.specs.NetLaws.{ipv4_valid}
 use Rattle.ipnet.specs.NetworkOf.{ipv4_network}
 use Rattle.ipnet_tool.proofs.JoinLaws.{cover_of_siblings}
-use Rattle.ipnet_tool.proofs.tool.Ipv4NetJoin.joined.Goals as goal
+use Rattle.ipnet_tool.proofs.joins.Ipv4NetJoin.joined.Goals as goal
 
 pub returns-then-is_sibling : goal.returns-then-is_sibling
 returns-then-is_sibling c =
