@@ -1,7 +1,6 @@
 -- A list that is read entry by entry, while something is made of the entries so far: at the start it is made of none,
 -- each entry that is found comes to it, and at the end it is made of all entries of the list.
-use Rattle.std.proofs.Common.{◌≡◌, ℕ, ◌≤◌, List, [], ◌∷◌, ◌++◌, length, sym, subst, append-nil, Option, Some, None}
-use Rattle.std.proofs.Common.{IfNone}
+use Rattle.std.proofs.Common.{◌≡◌, ℕ, List, [], ◌∷◌, ◌++◌, subst, append-nil, Option, Some, None, IfNone}
 use Rattle.ipnet.specs.declared.parser.Grammar.{Grammar}
 use Rattle.netset_lists.specs.declared.reader.EntryReader.{EntryReader}
 use Rattle.netset_lists.specs.declared.reader.FoundEntry.{FoundEntry}

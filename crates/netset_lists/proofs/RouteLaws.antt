@@ -1,10 +1,8 @@
 -- The search for the longest network that holds an entry, and the lines of entries. A network holds all of a range with
 -- an address where it has the two ends, so the search asks for these alone: it begins at the longest network with the
 -- first one, and climbs from supernet to supernet, past which no network of the table with both ends can be longer.
-use Rattle.std.proofs.Common.{◌≡◌, ◌≢◌, ℕ, ◌<◌, ◌≤◌, ◌+◌, ◌⊎◌, ◌↔◌, List, [], ◌∷◌, ◌++◌, All, Contains, Option, Some}
-use Rattle.std.proofs.Common.{None}
-use Rattle.std.proofs.Common.{Bool, IsTrue, false, codes, refl, sym, ap, ◌∙◌, subst, arith, inl, inr, append_assoc}
-use Rattle.std.proofs.Common.{append-nil}
+use Rattle.std.proofs.Common.{◌≡◌, ℕ, ◌<◌, ◌≤◌, ◌+◌, ◌↔◌, List, [], ◌∷◌, ◌++◌, All, Option, Some, None}
+use Rattle.std.proofs.Common.{Bool, IsTrue, false, refl, sym, ap, ◌∙◌, subst, arith, inl, inr, append_assoc, append-nil}
 use Rattle.std.proofs.lemmas.Bool.{cases_order, true≢false}
 use Rattle.std.proofs.lemmas.List.Elements.{All-nil, All-cons, All-head, All-tail}
 use Rattle.ipnet_base.specs.Address.{Family, Address, address_at, width}
@@ -14,7 +12,6 @@ use Rattle.ipnet_base.specs.Ranges.{AddressRange}
 use Rattle.ipnet_base.proofs.BlockLaws.{between_from_block, block_from_between, first_from_least, last_from_greatest}
 use Rattle.ipnet_base.proofs.NestingLaws.{nested}
 use Rattle.ipnet_base.proofs.NetworkLaws.{same_from_block, truncation_of_truncated}
-use Rattle.ipnet.specs.CanonicalTexts.{canonical_text}
 use Rattle.ipnet.specs.NetworkOf.{ip_network}
 use Rattle.ipnet.specs.declared.net.IpNet.{IpNet}
 use Rattle.ipnet.specs.declared.parser.Grammar.{Grammar}
@@ -27,8 +24,7 @@ use Rattle.netset_lists.specs.Entries.{IsEntryText}
 use Rattle.netset_lists.specs.Lists.{ListEntry, Refusal, AreRead, held_texts}
 use Rattle.netset_lists.specs.Pairs.{WasMadeOf, WasPairRead}
 use Rattle.netset_lists.specs.RefusedLines.{AreRefused}
-use Rattle.netset_lists.specs.RouteAnswers.{IsTableNetwork, Holds, IsLongest, HaveNone, IsRouteLine, AreRouteLines}
-use Rattle.netset_lists.specs.RouteAnswers.{IsRouteAnswer}
+use Rattle.netset_lists.specs.RouteAnswers.{IsTableNetwork, Holds, HaveNone, IsRouteLine, AreRouteLines, IsRouteAnswer}
 use Rattle.netset_lists.specs.Routing.{AreTableNetworks, InTable, HasEnds, HoldsEnds, IsLongestIfAny, route_line}
 use Rattle.netset_lists.proofs.PairLaws.{pair_good}
 use Rattle.netset_lists.proofs.TableLaws.{plain_route, table_good}

@@ -1,14 +1,12 @@
 -- The networks of a table: those that are pushed for an entry are the fewest of its range once their host bits are
 -- taken away, and a table of routes with no values has just the networks that were given, without host bits.
-use Rattle.std.proofs.Common.{◌≡◌, ◌≢◌, ℕ, zero, suc, ◌<◌, ◌≤◌, ◌⊎◌, ◌↔◌, List, [], ◌∷◌, ◌++◌, length, map, get_or}
-use Rattle.std.proofs.Common.{Contains}
-use Rattle.std.proofs.Common.{All, Any, Option, Some, None, IsNone, IsSome, IfSome, refl, sym, ap, ◌∙◌, subst, arith}
-use Rattle.std.proofs.Common.{inl, inr}
+use Rattle.std.proofs.Common.{◌≡◌, ℕ, zero, suc, ◌<◌, ◌⊎◌, ◌↔◌, List, [], ◌∷◌, ◌++◌, length, map, get_or, Contains}
+use Rattle.std.proofs.Common.{Option, Some, None, IsNone, IsSome, IfSome, refl, sym, ap, ◌∙◌, subst, arith, inl, inr}
 use Rattle.std.proofs.lemmas.Bool.{cases_order}
 use Rattle.std.proofs.lemmas.List.{map-append}
 use Rattle.std.proofs.lemmas.List.Elements.{Contains-append_left, Contains-append_right, Contains-append_cases}
-use Rattle.ipnet_base.specs.Address.{Family, Address, width}
-use Rattle.ipnet_base.specs.Network.{Network, IsNetwork, InBlock, IsSubnetOf, IsTruncated, truncation}
+use Rattle.ipnet_base.specs.Address.{Address, width}
+use Rattle.ipnet_base.specs.Network.{Network, IsNetwork, IsTruncated, truncation}
 use Rattle.ipnet_base.specs.Blocks.{IsInside, IsMaximal, AreMaximalBlocks}
 use Rattle.ipnet_base.specs.Ranges.{AddressRange}
 use Rattle.ipnet_base.proofs.BlockLaws.{between_from_block, block_from_between}
@@ -25,7 +23,6 @@ use Rattle.ipnet_sets.specs.declared.routes.RouteTable.{RouteTable}
 use Rattle.ipnet_sets.proofs.RouteLaws.{same_networks, all_valid}
 use Rattle.netset_lists.specs.Entries.{block_range}
 use Rattle.netset_lists.specs.Lists.{ListEntry}
-use Rattle.netset_lists.specs.RouteAnswers.{IsTableNetwork}
 use Rattle.netset_lists.specs.Routing.{IsTruncatedOne, AddsMaximal, AreTableNetworks, InTable}
 use Rattle.netset_lists.proofs.OperationLaws.{any_push}
 use Rattle.netset_lists.proofs.RangeCovers.{whole_block}

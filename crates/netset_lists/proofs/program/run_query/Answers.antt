@@ -1,4 +1,4 @@
-use Rattle.std.proofs.Common.{◌≡◌, [], subst, sym, ◌∙◌, string_bytes}
+use Rattle.std.proofs.Common.{subst, sym, ◌∙◌, string_bytes}
 use Rattle.netset_lists.specs.Bytes.{bytes_of}
 use Rattle.netset_lists.specs.Replies.{IsReply}
 use Rattle.netset_lists.proofs.CountTexts.{lists_same, lists_differ, none_or_some}

@@ -1,4 +1,3 @@
-use Rattle.std.proofs.Common.{refl}
 use Rattle.ipnet_sets.specs.Routes.{ip_networks}
 use Rattle.netset_lists.specs.FoundEntry.{found_entry}
 use Rattle.netset_lists.specs.Routing.{AreTableNetworks, IsTruncatedOne}
