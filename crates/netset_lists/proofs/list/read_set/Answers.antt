@@ -16,4 +16,4 @@ returns c =
     (λ s. WasRead c.args.grammar c.args.list c.args.bytes.now (IsMember s) c.args.refused.now
     c.read_networks.new.refused)
     (λ s same. read_same c.args.grammar c.args.list c.args.bytes.now (IsCoveredBy networks) (IsMember s)
-    c.args.refused.now c.read_networks.new.refused same c.in_ok-networks.ensures) c.from_networks.ensures
+    c.args.refused.now c.read_networks.new.refused same c.in_ok-networks.ensures) c.from_networks.ensures.members
