@@ -13,7 +13,7 @@ loop-network-preserved c =
 pub returns : goal.returns
 returns c = record {
   blocks = map ip_network c.in_ok-networks.networks.items;
-  maximal = c.in_ok-networks.ensures;
+  maximal = c.in_ok-networks.ensures.blocks;
   spelled =
       c.loop-network.invariant
       ∙ ap (λ z. text_of_lines (map ip_network z))
