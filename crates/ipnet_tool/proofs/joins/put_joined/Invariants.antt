@@ -1,5 +1,4 @@
--- The front of the list and the next network cover what the front and the network that came did, and behind the place of
--- that network the list is as it was.
+-- The front of the list and the next network cover what the front and the network that came did.
 use Rattle.std.proofs.Common.{◌≤◌, [], ◌∷◌, ◌++◌, map, take}
 use Rattle.ipnet.specs.Blocks.{HaveSameCover}
 use Rattle.ipnet_tool.proofs.joins.put_joined.Given as goal

@@ -1,6 +1,6 @@
--- What is sorted and joined covers the same addresses, so its aggregate is that of the networks that came; the aggregates
--- of the two families, one after the other, are that of both (`both_families`). No networks are none of either family,
--- and joining makes none of none.
+-- What is sorted and joined covers the same addresses, so its aggregate is that of the networks that came; the
+-- aggregates of the two families, one after the other, are that of both (`both_families`). No networks are none of
+-- either family, and joining makes none of none.
 use Rattle.std.proofs.Common.{◌≡◌, ◌≤◌, [], List, length, map, arith}
 use Rattle.std.proofs.lemmas.List.{nil_from_length}
 use Rattle.ipnet.specs.NetworkOf.{ipv4_network, ipv6_network}
