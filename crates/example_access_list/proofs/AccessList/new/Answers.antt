@@ -3,8 +3,8 @@ use Rattle.example_access_list.proofs.AccessList.new.Goals as goal
 -- the difference has what the one set has and the other has not, and each set what its networks cover
 pub returns : goal.returns
 returns c x =
-    let allowed = c.in_ok-allowed.ensures x in
-    let denied = c.in_ok-denied.ensures x in
+    let allowed = c.in_ok-allowed.ensures.members x in
+    let denied = c.in_ok-denied.ensures.members x in
     let rest = c.in_ok-open.ensures.members x in (
       λ is_let_in.
           let both = rest.0 is_let_in in

@@ -16,5 +16,5 @@ returns c =
     IfOk-weaker c.networks.result (λ list. AreMaximalBlocks (IsMember set) 0 (map ip_network list.items))
     (λ list. AreBlocksOfBoth c.args.operation networks others (map ip_network list.items))
     (λ list h. blocks_of_both c.args.operation networks others (map ip_network list.items) set c.in_ok-first.first
-    c.in_ok-second.second c.in_ok-first.ensures c.in_ok-second.ensures c.in_ok-combined.ensures h)
+    c.in_ok-second.second c.in_ok-first.ensures.members c.in_ok-second.ensures.members c.in_ok-combined.ensures h)
     c.networks.ensures.blocks
