@@ -67,7 +67,8 @@ pub record HasRefused (grammar : Grammar) (lists : List (List ℕ)) (lines : Ref
   pub some : refusals ≢ []
   pub kept : AreRefused lines refusals
 
--- why there is no answer: the operation takes another number of lists, a line is refused, or want of memory
+-- why there is no answer: the operation takes another number of lists, a line is refused, or want of memory; of when
+-- the last comes nothing is said
 abbrev pub IsFailureOf : Request → List (List ℕ) → Failure → Type 0
 IsFailureOf request lists Failures.Count = ¬ (IsCountFor request.operation (length lists))
 IsFailureOf request lists (Failures.Refused lines) = HasRefused request.grammar lists lines

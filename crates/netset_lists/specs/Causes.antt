@@ -1,5 +1,6 @@
 -- Why a text is no entry, where a cause can be named. The addresses of a text that has one are those of the legacy
--- grammar, which takes the texts of both: a prefix length of 33 is too long whatever zeros the address has.
+-- grammar, which takes the texts of both: a prefix length of 33 is too long behind "010.0.0.0" too. Of "0010.0.0.0/33"
+-- no cause is named: four digits are an octet of neither grammar.
 use Rattle.std.specs.Prelude.{◌≡◌, ◌≢◌, ◌<◌, ◌↔◌, ℕ, List, ◌++◌, codes, Option, Some}
 use Rattle.std.specs.Str.Parse.{IsNumeral, digits_value}
 use Rattle.ipnet_base.specs.Address.{Family, IPv4, IPv6, width, Address}

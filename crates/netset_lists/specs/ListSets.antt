@@ -34,7 +34,7 @@ pub record AreGoodSets (grammar : Grammar) (lists : List (List ℕ)) (sets : Lis
   pub read : AreListsRead grammar 0 lists entries []
   pub members : HaveMembers sets entries
 
--- why there are no such sets: some lines are refused, or want of memory
+-- why there are no such sets: some lines are refused, or want of memory; of when the last comes nothing is said
 abbrev pub IsReadFailure : Grammar → List (List ℕ) → Failure → Type 0
 IsReadFailure grammar lists Failures.Count = ⊥
 IsReadFailure grammar lists (Failures.Refused lines) = HasRefused grammar lists lines

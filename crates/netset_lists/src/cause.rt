@@ -14,8 +14,8 @@ use std::alloc::AllocError;
 use std::str;
 use thiserror::Error;
 
-/// A cause that can be named why a text is no entry. It holds of a text whatever zeros stand before its numbers, and
-/// no text has two.
+/// A cause that can be named why a text is no entry. It holds of a text whatever zeros stand before its prefix length,
+/// and before the octets of its addresses those that the legacy grammar reads. No text has two.
 ///
 /// ```text
 /// 10.0.0.0/33            LengthAbove32
