@@ -18,6 +18,9 @@ use std::io;
 use std::io::{ErrorKind, Read, Write};
 use thiserror::Error;
 
+/// How many bytes of a refused line are told.
+const MOST_TOLD: usize = 100;
+
 /// Why the bytes of a list could not be had.
 #[derive(Clone, Copy, Debug, PartialEq, Eq, Drop, Error)]
 pub enum ReadFailure {
@@ -49,15 +52,17 @@ pub fn read_whole<R: Read>(alloc: Global, input: &mut R) -> Result<Vec<u8>, Read
 /// | Status | On `faults` | When |
 /// |---|---|---|
 /// | 2 | `netset: another number of lists is wanted` | the operation takes another number of lists |
-/// | 2 | `NAME:LINE: not a network, an address or a range: TEXT`, for the first ten | some lines are no entries |
+/// | 2 | `NAME:LINE: not a network, an address or a range: TEXT (CAUSE)`, for ten at most | some lines are no entries |
 /// | 2 | `netset: out of memory` | want of memory |
 /// | 2 | `netset: output cannot be written` | a write fails, or the flush after it; the answer may be out in part |
 /// | 0 | nothing | otherwise |
 ///
+/// Of a text of more than 100 bytes the first 100 are told, and `..` behind them; the cause stands where one is known.
+///
 /// ```text
 /// Union of "10.0.0.0/9\n10.128.0.0/9\n", named a:  status 0, and out gets "10.0.0.0/8\n"
 /// Union of "10.0.0.0/33\n", named a:               status 2, and faults gets
-///     "a:1: not a network, an address or a range: 10.0.0.0/33\n"
+///     "a:1: not a network, an address or a range: 10.0.0.0/33 (the prefix length is above 32)\n"
 /// ```
 pub fn run<W: Write, X: Write>(
     alloc: Global,
@@ -174,14 +179,17 @@ fn report_lines<X: Write>(faults: &mut X, names: &[&str], lines: &RefusedLines) 
     Ok(())
 }
 
-/// Tells one refused line. Bytes of its text that are not printable ASCII are escaped.
+/// Tells one refused line. Bytes of its text that are not printable ASCII are escaped, and of a long text the beginning
+/// alone is told, so that a file that is no list does not flood a screen.
 fn report_line<X: Write>(faults: &mut X, names: &[&str], line: &RefusedLine) -> io::Result<()> {
     let name = names.get(line.list).copied().unwrap_or("list");
     let number = line.line;
-    let text = line.text.escape_ascii();
+    let told = line.text.len().min(MOST_TOLD);
+    let text = line.text.as_slice()[..told].escape_ascii();
+    let rest = if told < line.text.len() { ".." } else { "" };
     write!(
         faults,
-        "{name}:{number}: not a network, an address or a range: {text}"
+        "{name}:{number}: not a network, an address or a range: {text}{rest}"
     )?;
     match line.cause {
         Some(cause) => writeln!(faults, " ({cause})"),
