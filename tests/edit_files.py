@@ -1,8 +1,8 @@
 """Edit files: small changes of a crate's text, each of which makes one function or law wrong.
 
 They lie in `crates/NAME/must-fail` and `crates/NAME/wrong`. An edit has lines `file: PATH` and then pairs of lines
-`old: TEXT` and `new: TEXT`; each old text is in the file exactly once. The lines `at:`, `clause:` and `weak:` are for
-`tests/wrong_bodies`. This module is not run: `tests/edits` and `tests/wrong_bodies` import it.
+`old: TEXT` and `new: TEXT`; each old text is in the file exactly once. The lines `at:`, `clause:`, `weak:` and `expected:` are
+for `tests/wrong_bodies`. This module is not run: `tests/edits` and `tests/wrong_bodies` import it.
 """
 import difflib
 import os
@@ -10,7 +10,7 @@ import re
 
 TOP = os.path.dirname(os.path.dirname(os.path.abspath(__file__)))
 FOLDERS = ("must-fail", "wrong")
-NOTES = ("at", "clause", "weak")
+NOTES = ("at", "clause", "weak", "expected")
 # the head of a function, an impl or a type
 HEAD = re.compile(r"^(?P<indent> *)(?:pub(?:\([a-z]+\))? )?(?:const |unsafe |extern .C. )*(?:fn (?P<function>\w+)"
                   r"|(?P<impl>impl\b.*)|(?:struct|enum|trait) (?P<type>\w+)|const (?P<const>\w+))")
@@ -20,7 +20,7 @@ CONTRACT = re.compile(r"^\s*(?:ensures|requires|invariant|decreases)\b")
 class Edit:
     """One edit file, and what it makes of the texts of its crate.
 
-    - `notes` holds the values of the lines `at:`, `clause:` and `weak:`;
+    - `notes` holds the values of the lines `at:`, `clause:`, `weak:` and `expected:`;
     - `texts` holds the edited text of each file that the edit changes;
     - `fault` says why the edit cannot be applied, and is None if it can.
     """
@@ -89,16 +89,19 @@ def read_text(path):
         return file.read()
 
 
-def edits_of(crate, folders=FOLDERS, top=TOP):
+def edits_of(crate, folders=FOLDERS):
     """The edits of a crate in these folders, by name."""
     found = []
-    crate_folder = os.path.join(top, "crates", crate)
     for folder in folders:
-        place = os.path.join(crate_folder, folder)
-        for name in os.listdir(place) if os.path.isdir(place) else []:
-            if name.endswith(".edit"):
-                found.append(Edit(os.path.join(place, name), crate_folder))
+        found += edits_in(os.path.join(TOP, "crates", crate, folder), crate)
     return sorted(found, key=lambda edit: edit.name)
+
+
+def edits_in(folder, crate):
+    """The edits of the crate that lie in this folder, by name."""
+    names = sorted(os.listdir(folder)) if os.path.isdir(folder) else []
+    crate_folder = os.path.join(TOP, "crates", crate)
+    return [Edit(os.path.join(folder, name), crate_folder) for name in names if name.endswith(".edit")]
 
 
 class Item:

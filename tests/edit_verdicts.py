@@ -47,7 +47,6 @@ class Report:
         self.errors = collections.defaultdict(list)
         self.false_goals = collections.defaultdict(set)
         self.is_proved = any(line.startswith("logic=proved") for line in self.lines)
-        self.was_judged = any(line.startswith("logic=") for line in self.lines)
         self.read()
 
     def read(self):
@@ -65,9 +64,12 @@ class Report:
                 self.errors[owner(error[1])].append((error[1], error[2] or "", error[3], more))
 
     def unread_text(self):
-        """The first error of a source, which means that no contract was tried. None if there is none."""
-        return next((errors[0][0] + ": " + errors[0][2] for place, errors in sorted(self.errors.items())
-                     if place.startswith(("src/", "specs/"))), None)
+        """The first error that says that a source cannot be read, so that no contract was tried. None if there is none."""
+        for place, errors in sorted(self.errors.items()):
+            for path, goal, message, _ in errors:
+                if place.startswith(("src/", "specs/")) and (not goal or NAME.search(message)):
+                    return path + ": " + message
+        return None if self.verdicts else "\n".join(self.lines[-6:])
 
     def refusal_of(self, function):
         """Why the check refuses the function, or that it does not."""
