@@ -1,8 +1,8 @@
 """Edit files: small changes of a crate's text, each of which makes one function or law wrong.
 
 They lie in `crates/NAME/must-fail` and `crates/NAME/wrong`. An edit has lines `file: PATH` and then pairs of lines
-`old: TEXT` and `new: TEXT`; each old text is in the file exactly once. The lines `at:`, `clause:`, `weak:` and `expected:` are
-for `tests/wrong_bodies`. This module is not run: `tests/edits` and `tests/wrong_bodies` import it.
+`old: TEXT` and `new: TEXT`; each old text is in the file exactly once. The lines `at:`, `clause:`, `weak:` and
+`expected:` are for `tests/wrong_bodies`. This module is not run: `tests/edits` and `tests/wrong_bodies` import it.
 """
 import difflib
 import os

@@ -7,13 +7,14 @@ import re
 
 VERDICT = re.compile(r"fn (\S+): (.*)")
 OPEN = re.compile(r"did not prove ((?:`[^`]*`(?:, )?)+)")
-FALSE = re.compile(r"^note: .*\(`([^`]*)`\); the facts known there allow values at which this goal is false")
+FALSE = re.compile(r"note: .*\(`([^`]*)`\); the facts known there allow values at which this goal is false")
 ERROR = re.compile(r"(?:\./)?((?:proofs|src|specs)/\S+?):\d+:\d+: error: (?:`([^`]*)`: )?(.*)")
 # an error that only repeats another one
 REPEATED = re.compile(r"declarations? that depends? on|was rejected|was not admitted")
 NAME = re.compile(r"has no field|has no `|is not in scope|is not the name of|unknown name")
-TYPE = re.compile(r"types? (?:first )?differ|expected type|but (?:this )?has type|mismatch|is applied to|is not a function"
-                  r"|cannot be applied|is not equal|takes? \d+ argument|too many arguments|is wanted here")
+TYPE = re.compile(r"types? (?:first )?differ|expected type|but (?:this )?has type|mismatch|is applied to"
+                  r"|is not a function|cannot be applied|is not equal|takes? \d+ argument|too many arguments"
+                  r"|is wanted here")
 KINDS = {
     "goal": "refused by a goal",
     "type": "refused only because the type of a hand proof differs",
@@ -64,7 +65,7 @@ class Report:
                 self.errors[owner(error[1])].append((error[1], error[2] or "", error[3], more))
 
     def unread_text(self):
-        """The first error that says that a source cannot be read, so that no contract was tried. None if there is none."""
+        """The first error that says that a source cannot be read, so that no contract was tried, or None."""
         for place, errors in sorted(self.errors.items()):
             for path, goal, message, _ in errors:
                 if place.startswith(("src/", "specs/")) and (not goal or NAME.search(message)):
