@@ -23,7 +23,7 @@ KINDS = {
     "callee": "refused only through a function that it calls",
     "proved": "NOT REFUSED: still proved",
     "missing": "the check does not print its function",
-    "unread": "the check cannot read the edited text",
+    "unread": "the check does not come to a verdict",
     "fault": "the edit cannot be applied",
     "clause": "refused by another clause",
 }
