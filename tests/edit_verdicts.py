@@ -1,0 +1,114 @@
+"""What one `rt check` says about each function, and why it refuses a function.
+
+This module is not run: `tests/wrong_bodies` imports it.
+"""
+import collections
+import re
+
+VERDICT = re.compile(r"fn (\S+): (.*)")
+OPEN = re.compile(r"did not prove ((?:`[^`]*`(?:, )?)+)")
+FALSE = re.compile(r"note: .*\(`([^`]*)`\); the facts known there allow values at which this goal is false")
+ERROR = re.compile(r"(?:\./)?((?:proofs|src|specs)/\S+?):\d+:\d+: error: (?:`([^`]*)`: )?(.*)")
+# an error that only repeats another one
+REPEATED = re.compile(r"declarations? that depends? on|was rejected|was not admitted")
+NAME = re.compile(r"has no field|has no `|is not in scope|is not the name of|unknown name")
+TYPE = re.compile(r"types? (?:first )?differ|expected type|but (?:this )?has type|mismatch|is applied to"
+                  r"|is not a function|cannot be applied|is not equal|takes? \d+ argument|too many arguments"
+                  r"|is wanted here")
+KINDS = {
+    "goal": "refused by a goal",
+    "type": "refused only because the type of a hand proof differs",
+    "name": "refused only because a hand proof names what the edit took away",
+    "other": "refused for a reason that is none of a goal, a type and a name",
+    "callee": "refused only through a function that it calls",
+    "proved": "NOT REFUSED: still proved",
+    "missing": "the check does not print its function",
+    "unread": "the check does not come to a verdict",
+    "fault": "the edit cannot be applied",
+    "clause": "refused by another clause",
+}
+
+
+class Refusal:
+    """The kind of a verdict (a key of KINDS), the goals that the check names, and the text that it prints."""
+
+    def __init__(self, kind, text="", goals=(), is_false=False):
+        self.kind = kind
+        self.text = text
+        self.goals = set(goals)
+        self.is_false = is_false
+
+
+class Report:
+    """The output of one `rt check`."""
+
+    def __init__(self, output):
+        self.lines = [line for line in output.split("\n") if not line.startswith("so far: ")]
+        self.verdicts = {}
+        self.errors = collections.defaultdict(list)
+        self.false_goals = collections.defaultdict(set)
+        self.is_proved = any(line.startswith("logic=proved") for line in self.lines)
+        self.read()
+
+    def read(self):
+        false = set()
+        for at, line in enumerate(self.lines):
+            verdict, error, goal = VERDICT.match(line), ERROR.match(line), FALSE.match(line)
+            if verdict:
+                self.verdicts[verdict[1]] = verdict[2]
+                self.false_goals[verdict[1]] |= false
+                false = set()
+            elif goal:
+                false.add(goal[1])
+            elif error:
+                more = self.lines[at + 1] if at + 1 < len(self.lines) else ""
+                self.errors[owner(error[1])].append((error[1], error[2] or "", error[3], more))
+
+    def unread_text(self):
+        """The first error that says that a source cannot be read, so that no contract was tried, or None."""
+        for place, errors in sorted(self.errors.items()):
+            for path, goal, message, _ in errors:
+                if place.startswith(("src/", "specs/")) and (not goal or NAME.search(message)):
+                    return path + ": " + message
+        return None if self.verdicts else "\n".join(self.lines[-6:])
+
+    def refusal_of(self, function):
+        """Why the check refuses the function, or that it does not."""
+        text = self.verdicts.get(function)
+        if text is None:
+            return Refusal("missing", function)
+        if text.startswith("proved"):
+            return Refusal("proved", function)
+        left_open = OPEN.search(text)
+        goals = re.findall(r"`([^`]*)`", left_open[1]) if left_open else []
+        false = self.false_goals[function]
+        if goals or false:
+            return Refusal("goal", text, {*goals, *false}, bool(false))
+        errors = [it for it in self.errors["/".join(function.split("::")[1:])] if not REPEATED.search(it[2])]
+        kinds = [(kind_of(message, more), goal, message) for _, goal, message, more in errors]
+        for kind in ("goal", "type", "name", "other"):
+            found = [it for it in kinds if it[0] == kind]
+            if found:
+                false = kind == "goal" and any("goal fails at" in it[3] or "goal fails at" in it[2] for it in errors)
+                return Refusal(kind, found[0][2], [it[1] for it in found], false)
+        if "not proved" in text and "it calls" in text:
+            return Refusal("callee", text)
+        return Refusal("other", text)
+
+
+def owner(path):
+    """The function that a file of proofs belongs to, as `net/IpNet/new`; for other files their path."""
+    found = re.fullmatch(r"proofs/(.*)/(?:Answers|Invariants|Proof)\.antt", path)
+    return found[1] if found else path
+
+
+def kind_of(message, more):
+    """Whether an error of a hand proof is a goal that is left open, a type that differs, or a name that is gone."""
+    if NAME.search(message):
+        return "name"
+    if TYPE.search(message) or re.match(r"\s+(?:but )?(?:this )?has type|\s+expected", more):
+        return "type"
+    if re.search(r"no proof|found nothing|does not follow|is false|left open|goal fails|did not prove|gave up"
+                 r"|missing equation|could not|no way|limit|not derived|unsolved|remains", message):
+        return "goal"
+    return "other"
