@@ -22,6 +22,7 @@ KINDS = {
     "other": "refused for a reason that is none of a goal, a type and a name",
     "callee": "refused only through a function that it calls",
     "proved": "NOT REFUSED: still proved",
+    "elsewhere": "refused by other functions than the one that it names",
     "missing": "the check does not print its function",
     "unread": "the check does not come to a verdict",
     "fault": "the edit cannot be applied",
@@ -94,6 +95,11 @@ class Report:
         if "not proved" in text and "it calls" in text:
             return Refusal("callee", text)
         return Refusal("other", text)
+
+    def refused(self):
+        """The functions that are refused, and not only through a function that they call."""
+        return [function for function in self.verdicts
+                if self.refusal_of(function).kind in ("goal", "type", "name", "other")]
 
 
 def owner(path):
