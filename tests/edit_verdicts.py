@@ -7,6 +7,7 @@ import re
 
 VERDICT = re.compile(r"fn (\S+): (.*)")
 OPEN = re.compile(r"did not prove ((?:`[^`]*`(?:, )?)+)")
+WAITS = re.compile(r"note: `search` has not tried the goals of `([^`]*)`, which wait for a callee's proof")
 FALSE = re.compile(r"note: .*\(`([^`]*)`\); the facts known there allow values at which this goal is false")
 ERROR = re.compile(r"(?:\./)?((?:proofs|src|specs)/\S+?):\d+:\d+: error: (?:`([^`]*)`: )?(.*)")
 # an error that only repeats another one
@@ -22,6 +23,7 @@ KINDS = {
     "other": "refused for a reason that is none of a goal, a type and a name",
     "callee": "refused only through a function that it calls",
     "proved": "NOT REFUSED: still proved",
+    "elsewhere": "refused by other functions than the one that it names",
     "missing": "the check does not print its function",
     "unread": "the check does not come to a verdict",
     "fault": "the edit cannot be applied",
@@ -47,6 +49,7 @@ class Report:
         self.verdicts = {}
         self.errors = collections.defaultdict(list)
         self.false_goals = collections.defaultdict(set)
+        self.waiting = {found[1] for found in map(WAITS.match, self.lines) if found}
         self.is_proved = any(line.startswith("logic=proved") for line in self.lines)
         self.read()
 
@@ -94,6 +97,25 @@ class Report:
         if "not proved" in text and "it calls" in text:
             return Refusal("callee", text)
         return Refusal("other", text)
+
+    def is_waiting(self, function):
+        """Whether goals of the function were not tried, since a function that it calls is not proved."""
+        return function in self.waiting and self.refusal_of(function).kind != "goal"
+
+    def unproved_below(self, function):
+        """The functions that it calls and that are not proved, and those that they call."""
+        found, rest = set(), [function]
+        while rest:
+            _, calls, callees = self.verdicts.get(rest.pop(), "").partition("it calls ")
+            new = set(re.findall(r"`([^`]*)`", callees.partition(", which")[0])) - found if calls else set()
+            found |= new
+            rest += new
+        return found
+
+    def refused(self):
+        """The functions that are refused, and not only through a function that they call."""
+        return [function for function in self.verdicts
+                if self.refusal_of(function).kind in ("goal", "type", "name", "other")]
 
 
 def owner(path):
