@@ -1,24 +1,10 @@
-//! Tests of `netset_lists`: rows of entries, lists, operations and runs, a slow model over small universes, and runs
-//! short of memory.
+//! Tests of `netset_lists` that call the library: kinds of entries, numbers of lists, readers and writers that fail, and
+//! refused memory.
 #![tactic(auto)]
 
 #[cfg(test)]
-mod devices;
+mod entries;
 #[cfg(test)]
-mod entry_rows;
+mod memory;
 #[cfg(test)]
-mod list_rows;
-#[cfg(test)]
-mod memory_rows;
-#[cfg(test)]
-mod model;
-#[cfg(test)]
-mod operation_rows;
-#[cfg(test)]
-mod query_model;
-#[cfg(test)]
-mod query_rows;
-#[cfg(test)]
-mod run_rows;
-#[cfg(test)]
-mod table;
+mod runs;

@@ -78,8 +78,8 @@ impl Read for ByteReader<'_> {
     }
 }
 
-/// How many bytes a writer has room for: few, since the array lies on the stack.
-pub const ROOM: usize = 32768;
+/// How many bytes a writer has room for.
+pub const ROOM: usize = 131072;
 
 /// A writer over an array: each write takes at most `most` bytes, and the write `fails_at` fails.
 #[derive(Drop)]
@@ -92,7 +92,7 @@ pub struct ArrayWriter {
     flushes: bool,
     writes: usize,
     largest: usize,
-    ghost inside: { len ≤ 32768 },
+    ghost inside: { len ≤ 131072 },
 }
 
 impl ArrayWriter {
