@@ -35,9 +35,8 @@ impl Env for System<'_> {
 
 #[test]
 fn arguments_without_the_name(rt: HostRuntime) -> Result<(), Fail> {
-    let long = [b'x'; 4993];
-    let words: [&[u8]; 4] = [b"ipnet", b"legacy", b"", &long];
-    for count in 0..words.len() + 1 {
+    let words: [&[u8]; 4] = [b"ipnet", b"legacy", b"", &[b'x'; 4993]];
+    for count in 0..5 {
         let system = System {
             words: &words[..count],
         };
@@ -46,13 +45,11 @@ fn arguments_without_the_name(rt: HostRuntime) -> Result<(), Fail> {
         };
         assert!(&rt;
             found.len() == count.saturating_sub(1),
-            "arguments: {count} words: how many"
+            "arguments: {count} words"
         );
-        for (place, word) in found.iter().enumerate() {
-            assert!(&rt;
-                word.as_bytes() == words[place + 1],
-                "arguments: {count} words: word {place}"
-            );
+        for place in 0..found.len() {
+            let is_same = found[place].as_bytes() == words[place + 1];
+            assert!(&rt; is_same, "arguments: {count} words: word {place}");
         }
     }
     Ok(())

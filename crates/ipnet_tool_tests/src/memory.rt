@@ -16,10 +16,10 @@ use test_support::memory::{
 
 /// The outcome of the text tool, where this answer or the bad line of this number is right.
 fn text_outcome(answer: Result<String, ToolError>, wanted: Result<&str, usize>) -> Outcome {
-    match (answer, wanted) {
-        (Ok(answer), Ok(wanted)) if answer.as_str() == wanted => Outcome::Answered,
-        (Err(ToolError::Line(line)), Err(wanted)) if line == wanted => Outcome::Answered,
-        (Err(ToolError::Memory), _) => Outcome::Refused,
+    match &answer {
+        Ok(text) if wanted == Ok(text.as_str()) => Outcome::Answered,
+        Err(ToolError::Line(line)) if wanted == Err(*line) => Outcome::Answered,
+        Err(ToolError::Memory) => Outcome::Refused,
         _ => Outcome::Wrong,
     }
 }

@@ -21,7 +21,7 @@ fn lists_of(alloc: Global, text: &str) -> Result<Vec<Vec<u8>>, AllocError> {
 
 /// The outcome of the request over the lists, where this text is right.
 fn answer_outcome(alloc: Global, request: Request, lists: &[Vec<u8>], wanted: &str) -> Outcome {
-    match answer(alloc, request, lists) {
+    match &answer(alloc, request, lists) {
         Ok(text) if text.as_str() == wanted => Outcome::Answered,
         Err(Failure::Memory) => Outcome::Refused,
         _ => Outcome::Wrong,
@@ -195,7 +195,7 @@ fn queries(rt: HostRuntime) -> Result<(), Fail> {
 /// The outcome of reading the bytes, seven at most a read.
 fn read_outcome(alloc: Global, bytes: &[u8]) -> Outcome {
     let mut input = ByteReader::new(bytes, 7, NEVER, ErrorKind::Other);
-    match read_whole(alloc, &mut input) {
+    match &read_whole(alloc, &mut input) {
         Ok(found) if found.as_slice() == bytes => Outcome::Answered,
         Err(ReadFailure::Memory) => Outcome::Refused,
         _ => Outcome::Wrong,
