@@ -1,5 +1,5 @@
-//! Tests of `netset_lists` that call the library: kinds of entries, numbers of lists, readers and writers that fail, and
-//! refused memory.
+//! Tests of `netset_lists` that call the library: the kinds of entries, the numbers of lists, readers and writers that
+//! fail, and refused memory.
 #![tactic(auto)]
 
 #[cfg(test)]

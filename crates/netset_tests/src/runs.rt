@@ -1,4 +1,4 @@
-//! Runs with other numbers of lists, and on readers and writers that fail, are interrupted, or move few bytes in a call.
+//! Runs on other numbers of lists, and on readers and writers that fail, are interrupted, or move few bytes in a call.
 use ipnet::Grammar;
 use netset_lists::answer::{Failure, Form, Request, answer};
 use netset_lists::program::{ReadFailure, read_whole, run, run_query};
