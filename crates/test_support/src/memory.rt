@@ -1,15 +1,14 @@
 //! Memory that runs out, for the tests of calls that allocate.
 use std::alloc::{AllocError, Global};
 
-/// How many runs [`outcomes`] makes: not so many that what it holds back of the spare block would stand among the
-/// allocator's lists of small blocks.
+/// The number of runs of [`outcomes`]. With more runs, the part of the spare block that is held back would be a small
+/// block, which the allocator keeps in lists by size.
 pub const RUNS: usize = 180;
 
-/// The bytes that [`outcomes`] gives back piece by piece: so many that the block stands outside these lists.
+/// The size of the spare block, which [`outcomes`] gives back piece by piece. It is too large for these lists.
 const SPARE: usize = 4096;
 
-/// The bytes by which each run of [`outcomes`] finds more memory than the one before it: the allocator hands out no
-/// less.
+/// How many bytes more each run of [`outcomes`] finds than the run before it: the allocator's smallest block.
 const STEP: usize = 16;
 
 /// The greatest size of the allocator's small blocks. A free one of these serves no request of another size.
@@ -18,19 +17,19 @@ const GREATEST_SMALL: usize = 1040;
 /// More blocks than all memory has.
 const MOST_BLOCKS: usize = 100_000;
 
-/// How much of the stack a test takes beside what its call takes.
+/// How much of the stack a test takes, without its call.
 const STACK: usize = 262_144;
 
 fn block(alloc: Global, len: usize) -> Result<Vec<u8>, AllocError> {
     Vec::with_capacity(alloc, len)
 }
 
-/// Takes much of the stack. Each test that calls [`outcomes`] does this once before, and then never again: with no
-/// memory to be had the stack can't grow, nor afterwards, since the allocator may keep a block close below it.
+/// Makes the stack grow. A test calls this once before it calls [`outcomes`], and never again: without memory the stack
+/// cannot grow, and afterwards the allocator may keep a block close below it.
 ///
-/// Some of what was written there goes into a block, so that no compiler leaves it out.
+/// Some of the bytes go into a block, so that no compiler leaves the array out.
 //
-// Inlined, the room would stand in the test's own frame, and the calls below it.
+// If this were inlined, the array would be in the frame of the test, and the frames of its calls below it.
 #[inline(never)]
 pub fn grow_stack(alloc: Global) -> Result<(), AllocError> {
     let mut kept = block(alloc, STEP)?;
@@ -56,7 +55,7 @@ fn take(alloc: Global, len: usize, held: &mut Vec<Vec<u8>>) -> Result<(), AllocE
     Ok(())
 }
 
-/// All the memory that can be had, in blocks of ever smaller sizes, and then each small block that stands free.
+/// Takes all memory, in blocks of smaller and smaller sizes, and then each free small block.
 fn take_all(alloc: Global) -> Result<Vec<Vec<u8>>, AllocError> {
     let mut held = Vec::with_capacity(alloc, MOST_BLOCKS)?;
     let mut len = 1usize << 46;
@@ -70,16 +69,16 @@ fn take_all(alloc: Global) -> Result<Vec<Vec<u8>>, AllocError> {
     Ok(held)
 }
 
-/// What the call answers in each of [`RUNS`] runs, the first with no memory to be had and each later one with a little
-/// more; none where the allocator never refuses, as under a sanitizer.
+/// The results of [`RUNS`] runs of the call, the first run with no memory and each later run with a little more; `None`
+/// if the allocator never refuses, as under a sanitizer.
 ///
-/// The test has called [`grow_stack`] before; a call may take 200 KiB of the stack.
+/// The test has called [`grow_stack`] before. A call may take 200 KiB of the stack.
 ///
-/// What one run gave back may serve a later one, so a call that makes several requests may be answered in one run and
-/// refused in the next.
+/// A block that one run gave back may serve a later run. So a call that makes several requests may be answered in one
+/// run and refused in the next.
 ///
 /// ```text
-/// of a call that makes one request of 100 bytes: refused in the first seven runs, answered in all others
+/// a call that requests 100 bytes once: refused in the first seven runs, answered in all others
 /// ```
 pub fn outcomes<T: Copy, F: FnMut() -> T>(
     alloc: Global,
