@@ -3,7 +3,9 @@ use ipnet::Grammar;
 use netset_lists::answer::{Failure, Form, Request, answer};
 use netset_lists::program::{ReadFailure, read_whole, run, run_query};
 use netset_lists::{Families, Operation, Query, Side};
+use std::alloc::AllocError;
 use std::io::ErrorKind;
+use std::process::Abort;
 use std::test::Fail;
 use test_support::devices::{ArrayWriter, ByteReader, NEVER, WHOLE};
 
@@ -127,109 +129,111 @@ fn counts_of_queries(rt: HostRuntime) -> Result<(), Fail> {
     Ok(())
 }
 
-#[test]
-fn writers(rt: HostRuntime) -> Result<(), Fail> {
+/// Standard output, standard error and the status of a run.
+type Ends = (&'static [u8], &'static [u8], u8);
+
+/// Asserts the ends of a union of two addresses on this writer.
+fn check_union<R: Abort + AllocGlobal>(
+    rt: &R,
+    label: &str,
+    out: &mut ArrayWriter,
+    wanted: Ends,
+) -> Result<(), AllocError> {
     let alloc = rt.alloc();
     let lists = [Vec::from_slice(alloc, b"10.0.0.0\nfd00::1")?];
-    let whole: &[u8] = b"10.0.0.0/32\nfd00::1/128\n";
-    // label, the writer, the status, standard output, standard error
-    let rows: [(&str, ArrayWriter, u8, &[u8], &[u8]); 5] = [
-        (
-            "one byte a write",
-            ArrayWriter::new(1, NEVER),
-            0,
-            whole,
-            b"",
-        ),
-        (
-            "first write fails",
-            ArrayWriter::new(WHOLE, 1),
-            2,
-            b"",
-            UNWRITABLE,
-        ),
+    let mut faults = ArrayWriter::whole();
+    let status = run(alloc, UNION, &NAMES, &lists, out, &mut faults);
+    let (answer, report, number) = wanted;
+    assert!(rt; status == number, "writers: {label}: status {status}");
+    assert!(rt; out.held() == answer, "writers: {label}: standard output");
+    assert!(rt; faults.held() == report, "writers: {label}: standard error");
+    Ok(())
+}
+
+#[test]
+fn writers(rt: HostRuntime) -> Result<(), Fail> {
+    let answer: &[u8] = b"10.0.0.0/32\nfd00::1/128\n";
+    // label, the most bytes of a write, the write that fails, the ends of the run
+    let rows: [(&str, usize, usize, Ends); 4] = [
+        ("one byte a write", 1, NEVER, (answer, b"", 0)),
+        ("first write fails", WHOLE, 1, (b"", UNWRITABLE, 2)),
         (
             "third write of one byte fails",
-            ArrayWriter::new(1, 3),
-            2,
-            b"10",
-            UNWRITABLE,
+            1,
+            3,
+            (b"10", UNWRITABLE, 2),
         ),
         (
             "a writer that takes nothing",
-            ArrayWriter::new(0, NEVER),
-            2,
-            b"",
-            UNWRITABLE,
-        ),
-        (
-            "a flush that fails",
-            ArrayWriter::never_flushed(),
-            2,
-            whole,
-            UNWRITABLE,
+            0,
+            NEVER,
+            (b"", UNWRITABLE, 2),
         ),
     ];
-    for (label, writer, number, wanted, report) in rows {
-        let mut out = writer;
-        let mut faults = ArrayWriter::whole();
-        let status = run(alloc, UNION, &NAMES, &lists, &mut out, &mut faults);
-        assert!(&rt; status == number, "writers: {label}: status {status}");
-        assert!(&rt; out.held() == wanted, "writers: {label}: standard output");
-        assert!(&rt; faults.held() == report, "writers: {label}: standard error");
+    for (label, most, fails_at, wanted) in rows {
+        check_union(&rt, label, &mut ArrayWriter::new(most, fails_at), wanted)?;
     }
+    let wanted = (answer, UNWRITABLE, 2);
+    check_union(
+        &rt,
+        "a flush that fails",
+        &mut ArrayWriter::never_flushed(),
+        wanted,
+    )?;
+    Ok(())
+}
+
+/// Asserts that a filter cannot write to this writer, which has these bytes then.
+fn check_filter<R: Abort + AllocGlobal>(
+    rt: &R,
+    label: &str,
+    out: &mut ArrayWriter,
+    wanted: &[u8],
+) -> Result<(), AllocError> {
+    let alloc = rt.alloc();
+    let set = Vec::from_slice(alloc, b"10.0.0.0/8\n")?;
+    let lists = [set, Vec::from_slice(alloc, b"10.0.0.1\n::1\n10.0.0.2\n")?];
+    let mut faults = ArrayWriter::whole();
+    let query = Query::Filter(Side::Inside);
+    let status = run_query(
+        alloc,
+        query,
+        Grammar::Strict,
+        &NAMES,
+        &lists,
+        out,
+        &mut faults,
+    );
+    assert!(rt; status == 2, "writers of queries: {label}: status {status}");
+    assert!(rt;
+        out.held() == wanted,
+        "writers of queries: {label}: standard output"
+    );
+    assert!(rt;
+        faults.held() == UNWRITABLE,
+        "writers of queries: {label}: standard error"
+    );
     Ok(())
 }
 
 #[test]
 fn writers_of_queries(rt: HostRuntime) -> Result<(), Fail> {
-    let alloc = rt.alloc();
-    let lists = [
-        Vec::from_slice(alloc, b"10.0.0.0/8\n")?,
-        Vec::from_slice(alloc, b"10.0.0.1\n::1\n10.0.0.2\n")?,
+    // label, the most bytes of a write, the write that fails, standard output
+    let rows: [(&str, usize, usize, &[u8]); 3] = [
+        ("first write fails", 1, 1, b""),
+        ("third write of one byte fails", 1, 3, b"10"),
+        ("a writer that takes nothing", 0, NEVER, b""),
     ];
-    // label, the writer, standard output
-    let rows: [(&str, ArrayWriter, &[u8]); 4] = [
-        ("first write fails", ArrayWriter::new(1, 1), b""),
-        (
-            "third write of one byte fails",
-            ArrayWriter::new(1, 3),
-            b"10",
-        ),
-        (
-            "a writer that takes nothing",
-            ArrayWriter::new(0, NEVER),
-            b"",
-        ),
-        (
-            "a flush that fails",
-            ArrayWriter::never_flushed(),
-            b"10.0.0.1\n10.0.0.2\n",
-        ),
-    ];
-    for (label, writer, wanted) in rows {
-        let mut out = writer;
-        let mut faults = ArrayWriter::whole();
-        let query = Query::Filter(Side::Inside);
-        let status = run_query(
-            alloc,
-            query,
-            Grammar::Strict,
-            &NAMES,
-            &lists,
-            &mut out,
-            &mut faults,
-        );
-        assert!(&rt; status == 2, "writers of queries: {label}: status {status}");
-        assert!(&rt;
-            out.held() == wanted,
-            "writers of queries: {label}: standard output"
-        );
-        assert!(&rt;
-            faults.held() == UNWRITABLE,
-            "writers of queries: {label}: standard error"
-        );
+    for (label, most, fails_at, wanted) in rows {
+        check_filter(&rt, label, &mut ArrayWriter::new(most, fails_at), wanted)?;
     }
+    let wanted = b"10.0.0.1\n10.0.0.2\n";
+    check_filter(
+        &rt,
+        "a flush that fails",
+        &mut ArrayWriter::never_flushed(),
+        wanted,
+    )?;
     Ok(())
 }
 
