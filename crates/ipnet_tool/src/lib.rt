@@ -7,8 +7,6 @@ mod input;
 mod joins;
 pub mod output;
 pub mod program;
-#[cfg(test)]
-mod tests;
 pub mod tool;
 mod window;
 

@@ -13,8 +13,6 @@ pub mod query;
 mod reader;
 pub mod refused;
 pub mod route;
-#[cfg(test)]
-mod tests;
 
 pub use answer::{Failure, Form, Request};
 pub use cause::Cause;

@@ -1,0 +1,16 @@
+//! Tests of `ipnet_tool` that call the library: texts, the arguments of a test system, readers and writers that fail or
+//! move few bytes, and refused memory. They also test `test_support`.
+#![tactic(auto)]
+
+#[cfg(test)]
+mod arguments;
+#[cfg(test)]
+mod memory;
+#[cfg(test)]
+mod pieces;
+#[cfg(test)]
+mod runs;
+#[cfg(test)]
+mod support;
+#[cfg(test)]
+mod texts;

@@ -1,2 +1,0 @@
-//! Rows on the causes why lines are no entries.
-mod cause_rows;

@@ -1,0 +1,141 @@
+//! What `read_entry` and `cause_of` give where the program netset does not show it: the kind of an entry, texts with
+//! blanks or comments, and texts that are entries and so have no cause.
+use ipnet::Grammar;
+use netset_lists::cause::cause_of;
+use netset_lists::entry::read_entry;
+use std::alloc::Global;
+use std::test::Fail;
+
+/// The entry that the text is, or `none`.
+fn entry_text(alloc: Global, text: &str, grammar: Grammar) -> Result<String, Fail> {
+    let mut room = String::from_str(alloc, "what the room had before")?;
+    match read_entry(&mut room, text, grammar)? {
+        Some(entry) => Ok(format!(in alloc; "{entry:?}")?),
+        None => Ok(String::from_str(alloc, "none")?),
+    }
+}
+
+#[test]
+fn kinds(rt: HostRuntime) -> Result<(), Fail> {
+    let alloc = rt.alloc();
+    // label, text, the entry by the strict grammar, and by the legacy grammar
+    let rows = [
+        (
+            "a network with host bits",
+            "10.0.0.9/8",
+            "Network(10.0.0.9/8)",
+            "Network(10.0.0.9/8)",
+        ),
+        (
+            "the network of one IPv6 address",
+            "::1/128",
+            "Network(::1/128)",
+            "Network(::1/128)",
+        ),
+        (
+            "an IPv4 address",
+            "10.0.0.1",
+            "Address(10.0.0.1)",
+            "Address(10.0.0.1)",
+        ),
+        (
+            "upper case",
+            "FD00::ABCD",
+            "Address(fd00::abcd)",
+            "Address(fd00::abcd)",
+        ),
+        (
+            "a range of one address",
+            "10.0.0.1-10.0.0.1",
+            "Ipv4Range(10.0.0.1, 10.0.0.1)",
+            "Ipv4Range(10.0.0.1, 10.0.0.1)",
+        ),
+        (
+            "a range in dotted form",
+            "::-::0.0.0.2",
+            "Ipv6Range(::, ::2)",
+            "Ipv6Range(::, ::2)",
+        ),
+        (
+            "a leading zero in an address",
+            "10.0.0.01",
+            "none",
+            "Address(10.0.0.1)",
+        ),
+        (
+            "a leading zero in a network",
+            "010.0.0.0/8",
+            "none",
+            "Network(10.0.0.0/8)",
+        ),
+        (
+            "leading zeros in a range",
+            "10.0.0.001-10.0.0.009",
+            "none",
+            "Ipv4Range(10.0.0.1, 10.0.0.9)",
+        ),
+        ("nothing", "", "none", "none"),
+        ("a blank", " ", "none", "none"),
+        ("a blank in front", " 10.0.0.1", "none", "none"),
+        ("a blank behind", "10.0.0.1 ", "none", "none"),
+        (
+            "a comment is no part of an entry",
+            "10.0.0.1#x",
+            "none",
+            "none",
+        ),
+    ];
+    for (label, text, strict, legacy) in rows {
+        let found = entry_text(alloc, text, Grammar::Strict)?;
+        assert!(&rt; found.as_str() == strict, "entries: {label}: {found}");
+        let found = entry_text(alloc, text, Grammar::Legacy)?;
+        assert!(&rt;
+            found.as_str() == legacy,
+            "entries: {label}, legacy: {found}"
+        );
+    }
+    Ok(())
+}
+
+#[test]
+fn no_cause(rt: HostRuntime) -> Result<(), Fail> {
+    // label, text, grammar
+    let rows = [
+        ("the last length of IPv4", "10.0.0.0/32", Grammar::Strict),
+        ("the last length of IPv6", "fd00::/128", Grammar::Strict),
+        ("a length above 32 of IPv6", "fd00::/33", Grammar::Strict),
+        (
+            "a range of one address",
+            "10.0.0.1-10.0.0.1",
+            Grammar::Strict,
+        ),
+        ("leading zeros in a group", "fd00::0001", Grammar::Strict),
+        ("a network", "10.0.0.0/8", Grammar::Strict),
+        ("nothing", "", Grammar::Strict),
+        ("a leading zero in an address", "010.0.0.1", Grammar::Legacy),
+        (
+            "a leading zero in a prefix length",
+            "10.0.0.0/08",
+            Grammar::Legacy,
+        ),
+        (
+            "leading zeros in a range",
+            "10.0.0.001-10.0.0.009",
+            Grammar::Legacy,
+        ),
+        (
+            "a leading zero in an IPv6 address",
+            "::010.0.0.1",
+            Grammar::Legacy,
+        ),
+        ("\"::\" for no group", "1:2:3:4:5:6:7::8", Grammar::Legacy),
+    ];
+    for (label, text, grammar) in rows {
+        let mut room = String::from_str(rt.alloc(), "what the room had before")?;
+        assert!(&rt;
+            cause_of(&mut room, text.as_bytes(), grammar)?.is_none(),
+            "causes: {label}"
+        );
+    }
+    Ok(())
+}

@@ -1,0 +1,10 @@
+//! Tests of `netset_lists` that call the library: the kinds of entries, the numbers of lists, readers and writers that
+//! fail, and refused memory.
+#![tactic(auto)]
+
+#[cfg(test)]
+mod entries;
+#[cfg(test)]
+mod memory;
+#[cfg(test)]
+mod runs;
