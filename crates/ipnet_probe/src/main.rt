@@ -1,4 +1,12 @@
-//! Answers questions about the library, one a line: the name of a call, and its arguments.
+//! Answers questions about the library, one a line: a type, the name of a call, and at most three arguments.
+//!
+//! Words are separated by one blank. A text is percent-encoded, and a list joins its items by commas.
+//!
+//! ```text
+//! Ipv4Net supernet 10.1.0.0/16                Some(10.0.0.0/15)
+//! IpNet aggregate 10.0.0.0/25,10.0.0.128/25   [10.0.0.0/24]
+//! Ipv4Net area 10.1.0.0/16                    no such question
+//! ```
 #![tactic(auto)]
 
 mod networks;
@@ -12,13 +20,39 @@ pub fn show<T: Debug + Drop>(alloc: Global, value: T) -> Result<String, AllocErr
     format!(in alloc; "{value:?}")
 }
 
-/// The answer to the question; none if there is no such question.
-fn answer(alloc: Global, line: &str) -> Result<Option<String>, AllocError> {
-    let words: Vec<&str> = line.split(' ').collect(alloc)?;
-    match words.as_slice() {
-        ["Ipv4Net", call, net] => networks::ask_ipv4(alloc, call, net),
-        ["Ipv6Net", call, net] => networks::ask_ipv6(alloc, call, net),
-        ["IpNet", call, net] => networks::ask_ip(alloc, call, net),
+/// A question; an argument that it does not have is the empty text.
+#[derive(Clone, Copy)]
+pub struct Question<'a> {
+    /// The type that is asked.
+    pub kind: &'a str,
+    /// The name of the call.
+    pub call: &'a str,
+    /// The first argument.
+    pub first: &'a str,
+    /// The second argument.
+    pub second: &'a str,
+    /// The third argument.
+    pub third: &'a str,
+}
+
+/// The question that the line writes.
+fn read(line: &str) -> Question<'_> {
+    let mut words = line.split(' ');
+    Question {
+        kind: words.next().unwrap_or(""),
+        call: words.next().unwrap_or(""),
+        first: words.next().unwrap_or(""),
+        second: words.next().unwrap_or(""),
+        third: words.next().unwrap_or(""),
+    }
+}
+
+/// The answer to a question; none if there is no such question.
+fn answer(alloc: Global, question: Question<'_>) -> Result<Option<String>, AllocError> {
+    match question.kind {
+        "Ipv4Net" => networks::ask_ipv4(alloc, question),
+        "Ipv6Net" => networks::ask_ipv6(alloc, question),
+        "IpNet" => networks::ask_ip(alloc, question),
         _ => Ok(None),
     }
 }
@@ -26,7 +60,7 @@ fn answer(alloc: Global, line: &str) -> Result<Option<String>, AllocError> {
 fn main(rt: HostRuntime) -> io::Result<()> {
     for line in rt.lines(rt.alloc()) {
         let line = line?;
-        match answer(rt.alloc(), line.as_str())? {
+        match answer(rt.alloc(), read(line.as_str()))? {
             Some(text) => println!(rt; "{text}")?,
             None => println!(rt; "no such question")?,
         }
