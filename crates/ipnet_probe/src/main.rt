@@ -9,11 +9,24 @@
 //! ```
 #![tactic(auto)]
 
+mod addresses;
+mod bytes;
+mod constructors;
+mod errors;
+mod json;
+mod lists;
 mod networks;
+mod pairs;
+mod ranges;
+mod texts;
+mod walks;
 
 use std::alloc::{AllocError, Global};
 use std::fmt::Debug;
 use std::io;
+
+/// An answer; none if there is no such question.
+pub type Answer = Result<Option<String>, AllocError>;
 
 /// What `{:?}` writes of the value.
 pub fn show<T: Debug + Drop>(alloc: Global, value: T) -> Result<String, AllocError> {
@@ -47,12 +60,23 @@ fn read(line: &str) -> Question<'_> {
     }
 }
 
-/// The answer to a question; none if there is no such question.
-fn answer(alloc: Global, question: Question<'_>) -> Result<Option<String>, AllocError> {
+/// The answer to a question.
+fn answer(alloc: Global, question: Question<'_>) -> Answer {
     match question.kind {
         "Ipv4Net" => networks::ask_ipv4(alloc, question),
         "Ipv6Net" => networks::ask_ipv6(alloc, question),
         "IpNet" => networks::ask_ip(alloc, question),
+        "Ipv4Addr" => addresses::ask_ipv4(alloc, question),
+        "Ipv6Addr" => addresses::ask_ipv6(alloc, question),
+        "IpAddr" => addresses::ask_ip(alloc, question),
+        "Ipv4AddrRange" => ranges::ask_ipv4(alloc, question),
+        "Ipv6AddrRange" => ranges::ask_ipv6(alloc, question),
+        "IpAddrRange" => ranges::ask_ip(alloc, question),
+        "Ipv4Subnets" => walks::ask_ipv4(alloc, question),
+        "Ipv6Subnets" => walks::ask_ipv6(alloc, question),
+        "IpSubnets" => walks::ask_ip(alloc, question),
+        "Text" => texts::ask(alloc, question),
+        "Error" => errors::ask(alloc, question),
         _ => Ok(None),
     }
 }
