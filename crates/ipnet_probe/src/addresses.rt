@@ -1,8 +1,8 @@
 //! Questions about addresses: sums, differences and bits, masks, and texts.
 use crate::{Answer, Question, show};
-use ipnet::{IpAdd, IpAddr, IpBitAnd, IpBitOr, IpSub, Ipv4Addr, Ipv6Addr};
 use ipnet::{
-    ip_mask_to_prefix, ipv4_addr_text, ipv4_mask_to_prefix, ipv6_addr_text, ipv6_mask_to_prefix,
+    IpAdd, IpAddr, IpBitAnd, IpBitOr, IpSub, Ipv4Addr, Ipv6Addr, ip_mask_to_prefix, ipv4_addr_text,
+    ipv4_mask_to_prefix, ipv6_addr_text, ipv6_mask_to_prefix,
 };
 use std::alloc::Global;
 

@@ -36,16 +36,17 @@ trait Asked: Debug + Drop {
 /// The answer of a call on a range.
 macro_rules! call {
     ($range:expr, $count:expr, $alloc:expr, $name:expr, $n:expr) => {{
+        let now = *$range;
         let text = match $name {
             "next" => show($alloc, $range.next()),
             "next_back" => show($alloc, $range.next_back()),
             "nth" => show($alloc, $range.nth($n)),
             "nth_back" => show($alloc, $range.nth_back($n)),
-            "size_hint" => show($alloc, $range.size_hint()),
+            "size_hint" => show($alloc, now.size_hint()),
             "count" => show($alloc, $count),
-            "min" => show($alloc, $range.min()),
-            "max" => show($alloc, $range.max()),
-            "last" => show($alloc, $range.last()),
+            "min" => show($alloc, now.min()),
+            "max" => show($alloc, now.max()),
+            "last" => show($alloc, now.last()),
             _ => return Ok(None),
         };
         text.map(Some)
