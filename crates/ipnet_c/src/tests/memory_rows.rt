@@ -2,10 +2,10 @@
 //! is refused and the last is answered. Calls that promise to take no memory are answered in each run.
 use crate::statuses::{BAD_LINE, BAD_LINE_IN_OTHER, OK, OUT_OF_MEMORY};
 use crate::tests::calls::{IntoBuffer, YesOrNo};
-use out_of_memory::{RUNS, grow_stack, outcomes};
 use std::alloc::Global;
 use std::process::Abort;
 use std::test::Fail;
+use test_support::memory::{RUNS, grow_stack, outcomes};
 
 /// How a run of a call ended.
 #[derive(Clone, Copy, Debug, PartialEq, Eq, Drop)]

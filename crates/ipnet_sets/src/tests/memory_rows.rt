@@ -6,10 +6,10 @@ use crate::tests::route_rows::table_of;
 use crate::tests::rows::{address, made, networks, set_of};
 use crate::{IpSet, RouteTable};
 use ipnet::IpNet;
-use out_of_memory::{RUNS, grow_stack, outcomes};
 use std::alloc::{AllocError, Global};
 use std::process::Abort;
 use std::test::Fail;
+use test_support::memory::{RUNS, grow_stack, outcomes};
 
 /// Asserts that the first run of the call is refused and the last is not, and that what the others give is right.
 fn check_runs<F: FnMut() -> Option<bool>>(
