@@ -11,7 +11,7 @@ from collections import namedtuple
 from functools import lru_cache
 from itertools import product
 
-from model import (GREATEST, WIDTH, Network, address_text, debug_list, debug_walk, kind, largest_networks, range_text,
+from model import (GREATEST, WIDTH, Network, debug_list, debug_walk, kind, largest_networks, range_text,
                    size, text, walk_left)
 from support import Checks, ask_lines, read_arguments
 

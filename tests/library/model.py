@@ -19,8 +19,8 @@ Network = namedtuple("Network", "family number length")
 
 
 def read_tables(name):
-    """The tables of tests/rows/NAME.txt by name. `[NAME]` begins a table, `#` a comment; a row goes on after a `\\` at the
-    end of its line. A row is a list of cells."""
+    """The tables of tests/rows/NAME.txt by name. `[NAME]` begins a table, `#` a comment; a row goes on after a `\\` at
+    the end of its line. A row is a list of cells."""
     with open(os.path.join(os.path.dirname(HERE), "rows", name + ".txt"), encoding="utf-8") as file:
         text = re.sub(r"\\\n\s*", "", file.read())
     tables = {}

@@ -114,7 +114,8 @@ def check(checks, program, label, texts):
 def check_pieces(checks, program):
     """All texts of up to six pieces."""
     for count in range(6):
-        check(checks, program, "texts of %d pieces" % count, ["".join(pieces) for pieces in product(PIECES, repeat=count)])
+        check(checks, program, "texts of %d pieces" % count,
+              ["".join(pieces) for pieces in product(PIECES, repeat=count)])
     for first in PIECES:
         check(checks, program, "texts of six pieces",
               [first + "".join(pieces) for pieces in product(PIECES, repeat=5)])

@@ -5,7 +5,7 @@ Run it from anywhere, as `tests/library/rows.py [--program PATH]`. Each row that
 family is asked of the type of this family and of the type of both. It prints the label of each row that fails, and
 ends with the line `N passed, M failed`.
 """
-from model import (GREATEST, WIDTH, Network, address, address_text, debug_list, debug_range, debug_walk, items, kind,
+from model import (GREATEST, WIDTH, address, address_text, debug_range, debug_walk, items, kind,
                    network, range_text, read_tables, text)
 from support import Checks, ask, read_arguments
 
@@ -53,8 +53,8 @@ def add_constructors(rows, tables):
         rows.both("networks: " + label, address(ip).family, "Net", want, "from", ip)
     for label, net in (("from a network, IPv4", "10.1.1.0/24"), ("from a network, IPv6", "fd00::/32")):
         rows.add("networks: " + label, some(net), "IpNet", "from", net)
-    for label, name, want in (("default, either family", "IpNet", "0.0.0.0/0"), ("default, IPv4", "Ipv4Net", "0.0.0.0/0"),
-                              ("default, IPv6", "Ipv6Net", "::/0")):
+    for label, name, want in (("default, either family", "IpNet", "0.0.0.0/0"),
+                              ("default, IPv4", "Ipv4Net", "0.0.0.0/0"), ("default, IPv6", "Ipv6Net", "::/0")):
         rows.add("networks: " + label, want, name, "default")
 
 
@@ -287,7 +287,6 @@ def add_ranges(rows):
         family = address(start).family
         ends = address(start).number, address(end).number
         count = "None" if count == "not allowed" else some(count)
-        # The type of IPv4 has a count always.
         answers = " ".join([hint, count, least, greatest, greatest])
         rows.both("ranges: " + label, family, "AddrRange",
                   lambda either: answers + " " + debug_range(family, *ends, either),
@@ -354,14 +353,14 @@ def add_walks(rows):
 
 def check_counts(checks, program):
     """Walks of which the row gives only the count of items, the first and the last."""
-    tables = [row for row in read_tables("walks")["counts"]]
-    tables += [["items of a walk with minimum prefix length 0", start, end, "0", count, None, None, None]
-               for start, end, count in read_tables("limits")["walks"]]
-    for label, start, end, length, count, first, last, left in tables:
+    table = read_tables("walks")["counts"]
+    table += [["items of a walk with minimum prefix length 0", start, end, "0", count, None, None, None]
+              for start, end, count in read_tables("limits")["walks"]]
+    for label, start, end, length, count, first, last, left in table:
         family = address(start).family
         for name, either in ((kind(family, "Subnets"), False), ("IpSubnets", True)):
             (answer,) = ask(program, [[name, "items", "%s-%s-%s" % (start, end, length)]])
-            shown, stored = answer.split("] ")
+            shown, _, stored = answer.partition("] ")
             shown = shown[1:].split(", ")
             checks.check("walks: %s, by %s: how many" % (label, name), len(shown), int(count))
             if left:
