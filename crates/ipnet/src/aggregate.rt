@@ -251,6 +251,3 @@ pub fn same_addresses(
     let second = aggregated(alloc, others)?;
     Ok(first == second)
 }
-
-#[cfg(test)]
-mod tests;

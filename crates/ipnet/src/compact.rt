@@ -168,22 +168,3 @@ impl IpNet {
         }
     }
 }
-
-#[cfg(test)]
-mod tests {
-    use super::*;
-    use std::test::Fail;
-
-    #[test]
-    fn error_texts(rt: HostRuntime) -> Result<(), Fail> {
-        let rows = [
-            (CompactError::Length, "invalid length"),
-            (CompactError::Variant, "invalid variant"),
-            (CompactError::Prefix, "invalid IP prefix length"),
-        ];
-        for (error, text) in &rows {
-            assert_eq!(rt; error.to_string(rt.alloc())?.as_str(), *text);
-        }
-        Ok(())
-    }
-}

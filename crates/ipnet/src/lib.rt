@@ -4,8 +4,6 @@
 pub mod aggregate;
 pub mod compact;
 pub mod json;
-#[cfg(test)]
-mod memory;
 pub mod net;
 pub mod parser;
 pub mod print;

@@ -1,0 +1,93 @@
+//! Answers questions about the library, one a line: a type, the name of a call, and at most three arguments.
+//!
+//! Words are separated by one blank. A text is percent-encoded, and a list joins its items by commas.
+//!
+//! ```text
+//! Ipv4Net supernet 10.1.0.0/16                Some(10.0.0.0/15)
+//! IpNet aggregate 10.0.0.0/25,10.0.0.128/25   [10.0.0.0/24]
+//! Ipv4Net area 10.1.0.0/16                    no such question
+//! ```
+#![tactic(auto)]
+
+mod addresses;
+mod bytes;
+mod constructors;
+mod errors;
+mod json;
+mod lists;
+mod networks;
+mod pairs;
+mod ranges;
+mod texts;
+mod walks;
+
+use std::alloc::{AllocError, Global};
+use std::fmt::Debug;
+use std::io;
+
+/// An answer; none if there is no such question.
+pub type Answer = Result<Option<String>, AllocError>;
+
+/// What `{:?}` writes of the value.
+pub fn show<T: Debug + Drop>(alloc: Global, value: T) -> Result<String, AllocError> {
+    format!(in alloc; "{value:?}")
+}
+
+/// A question; an argument that it does not have is the empty text.
+#[derive(Clone, Copy)]
+pub struct Question<'a> {
+    /// The type that is asked.
+    pub kind: &'a str,
+    /// The name of the call.
+    pub call: &'a str,
+    /// The first argument.
+    pub first: &'a str,
+    /// The second argument.
+    pub second: &'a str,
+    /// The third argument.
+    pub third: &'a str,
+}
+
+/// The question that the line writes.
+fn read(line: &str) -> Question<'_> {
+    let mut words = line.split(' ');
+    Question {
+        kind: words.next().unwrap_or(""),
+        call: words.next().unwrap_or(""),
+        first: words.next().unwrap_or(""),
+        second: words.next().unwrap_or(""),
+        third: words.next().unwrap_or(""),
+    }
+}
+
+/// The answer to a question.
+fn answer(alloc: Global, question: Question<'_>) -> Answer {
+    match question.kind {
+        "Ipv4Net" => networks::ask_ipv4(alloc, question),
+        "Ipv6Net" => networks::ask_ipv6(alloc, question),
+        "IpNet" => networks::ask_ip(alloc, question),
+        "Ipv4Addr" => addresses::ask_ipv4(alloc, question),
+        "Ipv6Addr" => addresses::ask_ipv6(alloc, question),
+        "IpAddr" => addresses::ask_ip(alloc, question),
+        "Ipv4AddrRange" => ranges::ask_ipv4(alloc, question),
+        "Ipv6AddrRange" => ranges::ask_ipv6(alloc, question),
+        "IpAddrRange" => ranges::ask_ip(alloc, question),
+        "Ipv4Subnets" => walks::ask_ipv4(alloc, question),
+        "Ipv6Subnets" => walks::ask_ipv6(alloc, question),
+        "IpSubnets" => walks::ask_ip(alloc, question),
+        "Text" => texts::ask(alloc, question),
+        "Error" => errors::ask(alloc, question),
+        _ => Ok(None),
+    }
+}
+
+fn main(rt: HostRuntime) -> io::Result<()> {
+    for line in rt.lines(rt.alloc()) {
+        let line = line?;
+        match answer(rt.alloc(), read(line.as_str()))? {
+            Some(text) => println!(rt; "{text}")?,
+            None => println!(rt; "no such question")?,
+        }
+    }
+    Ok(())
+}
