@@ -1,0 +1,88 @@
+"""What the scripts of tests/ share: the built programs, questions to the probe, tables of rows, and the counts.
+
+This is a module, not a script: `from support import Checks, ask, probe_path` in a script of tests/.
+"""
+import argparse
+import os
+import subprocess
+import sys
+from urllib.parse import quote
+
+TOP = os.path.dirname(os.path.dirname(os.path.abspath(__file__)))
+
+# Bytes of a word that need no percent sign; a blank, a newline, NUL and `%` do.
+PLAIN = "!\"#$&'()*+,-./:;<=>?@[\\]^_`{|}~"
+
+MOST_FAILURES_SHOWN = 20
+
+
+def built_program(name):
+    """The path of the program that `rt ci`, `rt run` or `rt try` left in the crate."""
+    return os.path.join(TOP, "crates", name, "out", name)
+
+
+def read_arguments(description, program="ipnet_probe"):
+    """Parses the command line: `--program PATH`."""
+    parser = argparse.ArgumentParser(description=description)
+    parser.add_argument("--program", default=built_program(program), metavar="PATH", help="the program to ask")
+    arguments = parser.parse_args()
+    if not os.access(arguments.program, os.X_OK):
+        sys.exit("no program {}: build it with `rt run` in crates/{}".format(arguments.program, program))
+    return arguments
+
+
+def line_of(words):
+    """The question as a line: the words, percent-encoded, with one blank between two."""
+    return " ".join(quote(word, safe=PLAIN) for word in words)
+
+
+def ask_lines(program, lines):
+    """The answers to the questions, each a line. Each word is encoded already."""
+    given = "".join(line + "\n" for line in lines).encode()
+    run = subprocess.run([program], input=given, stdout=subprocess.PIPE, check=False)
+    answers = run.stdout.decode().split("\n")
+    answers.pop()
+    if run.returncode != 0 or len(answers) != len(lines):
+        sys.exit("{}: status {}, {} answers to {} questions".format(
+            program, run.returncode, len(answers), len(lines)))
+    return answers
+
+
+def ask(program, questions):
+    """The answers to the questions, each a list of words."""
+    return ask_lines(program, [line_of(words) for words in questions])
+
+
+def read_table(path, columns):
+    """The rows of a table: cells between `|`, without the blanks around them. A row goes on after a `\\` at the end of
+    its line; a line that begins with `#` is a comment. Cells that a row lacks are empty."""
+    with open(path, encoding="utf-8") as file:
+        text = file.read().replace("\\\n", "")
+    rows = []
+    for line in text.split("\n"):
+        if line.strip() and not line.startswith("#"):
+            cells = [cell.strip() for cell in line.split("|")]
+            rows.append(cells + [""] * (columns - len(cells)))
+    return rows
+
+
+class Checks:
+    """Counts the checks that passed and those that failed."""
+
+    def __init__(self):
+        self.passed = 0
+        self.failed = 0
+
+    def check(self, label, found, wanted):
+        """Counts the check as passed if the two are equal, and else prints its label and both."""
+        if found == wanted:
+            self.passed += 1
+            return
+        self.failed += 1
+        if self.failed <= MOST_FAILURES_SHOWN:
+            print("FAILED: {}\n  found  {}\n  wanted {}".format(label, found, wanted))
+
+    def finish(self):
+        """Prints the counts, and ends the script: with status 0 if no check failed."""
+        print("{} passed, {} failed".format(self.passed, self.failed))
+        sys.exit(0 if self.failed == 0 and self.passed > 0 else 1)
