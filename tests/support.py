@@ -82,6 +82,16 @@ class Checks:
         if self.failed <= MOST_FAILURES_SHOWN:
             print("FAILED: {}\n  found  {}\n  wanted {}".format(label, found, wanted))
 
+    def check_all(self, label, questions, found, wanted):
+        """Checks each answer to the questions. The label stands before the question of a failed check."""
+        if found == wanted:
+            self.passed += len(wanted)
+            return
+        if len(found) != len(wanted):
+            self.check(label + ": how many answers", len(found), len(wanted))
+        for question, one, other in zip(questions, found, wanted):
+            self.check("{}: {}".format(label, question), one, other)
+
     def finish(self):
         """Prints the counts, and ends the script: with status 0 if no check failed."""
         print("{} passed, {} failed".format(self.passed, self.failed))

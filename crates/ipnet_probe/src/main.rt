@@ -2,6 +2,8 @@
 #![tactic(auto)]
 
 mod networks;
+mod routes;
+mod sets;
 
 use std::alloc::{AllocError, Global};
 use std::fmt::Debug;
@@ -19,6 +21,8 @@ fn answer(alloc: Global, line: &str) -> Result<Option<String>, AllocError> {
         ["Ipv4Net", call, net] => networks::ask_ipv4(alloc, call, net),
         ["Ipv6Net", call, net] => networks::ask_ipv6(alloc, call, net),
         ["IpNet", call, net] => networks::ask_ip(alloc, call, net),
+        ["IpSet", call, first, second] => sets::ask(alloc, call, first, second),
+        ["RouteTable", call, routes, part] => routes::ask(alloc, call, routes, part),
         _ => Ok(None),
     }
 }
