@@ -61,7 +61,10 @@ fn read_set(alloc: Global, text: &str) -> Result<Option<IpSet>, AllocError> {
 /// The ends of the range; none if the text is no range.
 fn read_range(text: &str) -> Option<(IpAddr, IpAddr)> {
     let (start, end) = text.split_once('-')?;
-    Some((start.parse::<IpAddr>().ok()?, end.parse::<IpAddr>().ok()?))
+    match (start.parse::<IpAddr>(), end.parse::<IpAddr>()) {
+        (Ok(start), Ok(end)) => Some((start, end)),
+        _ => None,
+    }
 }
 
 /// The set of the range; none if one of the texts is no address.
@@ -85,7 +88,6 @@ fn ask_one(alloc: Global, call: &str, set: &IpSet) -> Result<Option<String>, All
         "ipv4_count" => show(alloc, set.ipv4_count())?,
         "ipv6_count" => show(alloc, set.ipv6_count())?,
         "ranges" => show(alloc, list(alloc, set.ranges())?)?,
-        "ranges_count" => show(alloc, set.ranges().count())?,
         "ranges_size_hint" => show(alloc, set.ranges().size_hint())?,
         "hash" => show(alloc, hash_of(set))?,
         _ => return Ok(None),
@@ -93,10 +95,10 @@ fn ask_one(alloc: Global, call: &str, set: &IpSet) -> Result<Option<String>, All
     Ok(Some(text))
 }
 
-/// What a hasher says of the set.
-fn hash_of(set: &IpSet) -> u64 {
+/// What a hasher says of the value.
+fn hash_of<T: Hash>(value: &T) -> u64 {
     let mut state = DefaultHasher::new();
-    set.hash(&mut state);
+    value.hash(&mut state);
     state.finish()
 }
 
@@ -177,11 +179,7 @@ fn compare(
         "is_subset" => show(alloc, set.is_subset(other))?,
         "is_disjoint" => show(alloc, set.is_disjoint(other))?,
         "eq" => show(alloc, set == other)?,
-        "ne" => show(alloc, set != other)?,
         "lt" => show(alloc, set < other)?,
-        "le" => show(alloc, set <= other)?,
-        "gt" => show(alloc, set > other)?,
-        "ge" => show(alloc, set >= other)?,
         "cmp" => show(alloc, set.cmp(other))?,
         "partial_cmp" => show(alloc, set.partial_cmp(other))?,
         _ => return Ok(None),
