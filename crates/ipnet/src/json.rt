@@ -139,8 +139,8 @@ impl IpNet {
 #[cfg(test)]
 mod tests {
     use super::*;
-    use out_of_memory::{RUNS, grow_stack, outcomes};
     use std::test::Fail;
+    use test_support::memory::{RUNS, grow_stack, outcomes};
 
     #[test]
     fn error_texts(rt: HostRuntime) -> Result<(), Fail> {

@@ -3,11 +3,11 @@ use crate::aggregate::is_aggregated;
 use crate::net::IpNet;
 use crate::subnets::Ipv4Subnets;
 use ipnet_base::{IpAddr, Ipv4Addr, Ipv4AddrRange};
-use out_of_memory::{RUNS, grow_stack, outcomes};
 use serde_json::Value;
 use std::alloc::{AllocError, Global};
 use std::process::Abort;
 use std::test::Fail;
+use test_support::memory::{RUNS, grow_stack, outcomes};
 
 /// Asserts that the call is true in every run.
 fn check<F: FnMut() -> bool>(

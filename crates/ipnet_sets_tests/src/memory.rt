@@ -4,10 +4,10 @@
 //! The lists are short, because memory that a call gives back does not serve the requests of later runs.
 use ipnet::{IpAddr, IpNet};
 use ipnet_sets::{IpSet, RouteTable};
-use out_of_memory::{RUNS, grow_stack, outcomes};
 use std::alloc::{AllocError, Global};
 use std::process::Abort;
 use std::test::Fail;
+use test_support::memory::{Outcome, grow_stack, is_refused_and_answered, needs_no_memory};
 
 /// A call, the networks of its arguments, and the networks of its answer.
 type Row = (&'static str, &'static str, &'static str, &'static str);
@@ -21,6 +21,7 @@ struct Inputs {
     second: IpSet,
     wanted: Vec<IpNet>,
     wanted_set: IpSet,
+    wanted_table: RouteTable<usize>,
 }
 
 /// The networks of the texts between blanks.
@@ -42,6 +43,7 @@ fn make_inputs(rt: &impl Abort, alloc: Global, row: Row) -> Result<Inputs, Alloc
     let first = IpSet::from_networks(alloc, &list)?;
     let second = IpSet::from_networks(alloc, &other)?;
     let wanted_set = IpSet::from_networks(alloc, &wanted)?;
+    let wanted_table = table_of(alloc, &list)?;
     Ok(Inputs {
         call,
         list,
@@ -49,6 +51,7 @@ fn make_inputs(rt: &impl Abort, alloc: Global, row: Row) -> Result<Inputs, Alloc
         second,
         wanted,
         wanted_set,
+        wanted_table,
     })
 }
 
@@ -63,17 +66,23 @@ fn table_of(alloc: Global, networks: &Vec<IpNet>) -> Result<RouteTable<usize>, A
     RouteTable::from_routes(alloc, routes)
 }
 
-/// Whether the table has these networks.
-fn has_networks(table: &RouteTable<usize>, networks: &Vec<IpNet>) -> bool {
-    if table.len() != networks.len() {
+/// Whether the routes are these networks, in this order.
+fn are_of_networks(routes: &[(IpNet, usize)], networks: &[IpNet]) -> bool {
+    if routes.len() != networks.len() {
         return false;
     }
-    for network in networks {
-        if table.get(network).is_none() {
+    for place in 0..routes.len() {
+        if routes[place].0 != networks[place] {
             return false;
         }
     }
     true
+}
+
+/// Whether the table is the one that ample memory makes.
+fn is_right_table(table: &RouteTable<usize>, inputs: &Inputs) -> bool {
+    table.routes() == inputs.wanted_table.routes()
+        && are_of_networks(table.routes(), inputs.wanted.as_slice())
 }
 
 /// The set of the row's call; empty if there is no such call.
@@ -94,21 +103,29 @@ fn make(alloc: Global, inputs: &Inputs) -> Result<IpSet, AllocError> {
     }
 }
 
-/// Whether the row's call gives the right answer; none if memory runs out.
-fn run_call(alloc: Global, inputs: &Inputs) -> Option<bool> {
+/// How the row's call ended.
+fn run_call(alloc: Global, inputs: &Inputs) -> Outcome {
     match inputs.call {
         "networks" => match inputs.first.networks(alloc) {
-            Ok(networks) => Some(networks == inputs.wanted),
-            Err(_) => None,
+            Ok(networks) => outcome(networks == inputs.wanted),
+            Err(_) => Outcome::Refused,
         },
         "from_routes" => match table_of(alloc, &inputs.list) {
-            Ok(table) => Some(has_networks(&table, &inputs.wanted)),
-            Err(_) => None,
+            Ok(table) => outcome(is_right_table(&table, inputs)),
+            Err(_) => Outcome::Refused,
         },
         _ => match make(alloc, inputs) {
-            Ok(set) => Some(set == inputs.wanted_set),
-            Err(_) => None,
+            Ok(set) => outcome(set == inputs.wanted_set),
+            Err(_) => Outcome::Refused,
         },
+    }
+}
+
+fn outcome(is_right: bool) -> Outcome {
+    if is_right {
+        Outcome::Answered
+    } else {
+        Outcome::Wrong
     }
 }
 
@@ -171,19 +188,15 @@ fn calls_with_memory_refused(rt: HostRuntime) -> Result<(), Fail> {
     let alloc = rt.alloc();
     for row in ALLOCATING {
         let inputs = make_inputs(&rt, alloc, row)?;
-        if let Some(answers) = outcomes(alloc, || run_call(alloc, &inputs))? {
-            assert!(rt; answers[0] == None, "{}", inputs.call);
-            assert!(rt; answers[RUNS - 1] == Some(true), "{}", inputs.call);
-            for answer in answers {
-                assert!(rt; answer != Some(false), "{}", inputs.call);
-            }
-        }
+        let is_right = is_refused_and_answered(alloc, || run_call(alloc, &inputs))?;
+        assert!(rt; is_right, "{}", inputs.call);
     }
     for row in FREE {
         let inputs = make_inputs(&rt, alloc, row)?;
-        if let Some(answers) = outcomes(alloc, || run_call(alloc, &inputs))? {
-            assert!(rt; answers == [Some(true); RUNS], "{}, empty", inputs.call);
-        }
+        let is_right = needs_no_memory(alloc, || {
+            run_call(alloc, &inputs) == Outcome::Answered
+        })?;
+        assert!(rt; is_right, "{}, empty", inputs.call);
     }
     Ok(())
 }
@@ -225,11 +238,9 @@ fn questions_need_no_memory(rt: HostRuntime) -> Result<(), Fail> {
     let table = table_of(alloc, &list)?;
     let ip = "10.0.2.7".parse::<IpAddr>()?;
     let network = "10.0.0.0/23".parse::<IpNet>()?;
-    let runs = outcomes(alloc, || {
+    let is_right = needs_no_memory(alloc, || {
         ask_set(&set, &part, &ip, &network) && ask_table(&table, &ip, &network)
     })?;
-    if let Some(answers) = runs {
-        assert!(rt; answers == [true; RUNS], "questions");
-    }
+    assert!(rt; is_right, "questions");
     Ok(())
 }

@@ -10,10 +10,10 @@
 //! of the allocator. Where the allocator never refuses, as under a sanitizer, the runs show nothing.
 use super::same_addresses;
 use crate::net::{IpNet, Ipv4Net, Ipv6Net};
-use out_of_memory::{RUNS, grow_stack, outcomes};
 use std::alloc::{AllocError, Global};
 use std::process::Abort;
 use std::test::Fail;
+use test_support::memory::{RUNS, grow_stack, outcomes};
 
 /// A network type, by its own public calls.
 trait Listed: Copy + PartialEq {

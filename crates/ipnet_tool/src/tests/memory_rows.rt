@@ -9,10 +9,10 @@ use crate::program::{Failure, arguments, run};
 use crate::tests::argument_rows::System;
 use crate::tests::devices::{ArrayWriter, ByteReader};
 use crate::tool::{ToolError, aggregate_text, aggregate_text_legacy};
-use out_of_memory::{RUNS, grow_stack, outcomes};
 use std::alloc::{AllocError, Global};
 use std::process::Abort;
 use std::test::Fail;
+use test_support::memory::{RUNS, grow_stack, outcomes};
 
 /// How a run of a call ended.
 #[derive(Clone, Copy, Debug, PartialEq, Eq, Drop)]

@@ -1,6 +1,4 @@
-//! Memory that runs out, for the tests of calls that take some. Nothing but tests uses this crate.
-#![tactic(auto)]
-
+//! Memory that runs out, for the tests of calls that allocate.
 use std::alloc::{AllocError, Global};
 
 /// How many runs [`outcomes`] makes: not so many that what it holds back of the spare block would stand among the
@@ -106,32 +104,98 @@ pub fn outcomes<T: Copy, F: FnMut() -> T>(
     Ok(Some(answers))
 }
 
-#[cfg(test)]
-mod tests {
-    use super::*;
-    use std::test::Fail;
+/// How one run of a call ended.
+#[derive(Clone, Copy, Debug, PartialEq, Eq, Drop)]
+pub enum Outcome {
+    /// The call reported that memory ran out, and changed nothing.
+    Refused,
+    /// The call gave the answer that is right with ample memory.
+    Answered,
+    /// The call gave anything else.
+    Wrong,
+}
 
-    #[test]
-    fn one_request(rt: HostRuntime) -> Result<(), Fail> {
-        grow_stack(rt.alloc())?;
-        let alloc = rt.alloc();
-        if let Some(answers) = outcomes(alloc, || block(alloc, 100).is_ok())? {
-            let refused = answers.iter().take_while(|given| !**given).count();
-            assert_eq!(rt; refused, 7, "a request of 100 bytes");
-            assert!(rt;
-                answers[refused..].iter().all(|given| *given),
-                "a request of 100 bytes"
-            );
-        }
-        Ok(())
-    }
+/// Whether the first run of the call is refused, and each other run is refused or answered; true if the allocator
+/// never refuses.
+///
+/// The test has called [`grow_stack`] before.
+pub fn is_refused<F: FnMut() -> Outcome>(alloc: Global, call: F) -> Result<bool, AllocError>
+    requires { F.IsAlwaysCallable call }
+{
+    let Some(runs) = outcomes(alloc, call)? else {
+        return Ok(true);
+    };
+    Ok(runs[0] == Outcome::Refused && has_no_wrong(&runs))
+}
 
-    #[test]
-    fn no_request(rt: HostRuntime) -> Result<(), Fail> {
-        grow_stack(rt.alloc())?;
-        if let Some(answers) = outcomes(rt.alloc(), || true)? {
-            assert!(rt; answers == [true; RUNS], "no request");
+/// Whether the first run of the call is refused, the last run is answered, and each other run is refused or answered;
+/// true if the allocator never refuses.
+///
+/// The test has called [`grow_stack`] before.
+pub fn is_refused_and_answered<F: FnMut() -> Outcome>(
+    alloc: Global,
+    call: F,
+) -> Result<bool, AllocError>
+    requires { F.IsAlwaysCallable call }
+{
+    let Some(runs) = outcomes(alloc, call)? else {
+        return Ok(true);
+    };
+    Ok(has_both_ends(&runs) && has_no_wrong(&runs))
+}
+
+/// Whether the runs of the call are refused up to one run and answered from then on, the first run refused and the
+/// last answered; true if the allocator never refuses.
+///
+/// The test has called [`grow_stack`] before.
+pub fn is_refused_then_answered<F: FnMut() -> Outcome>(
+    alloc: Global,
+    call: F,
+) -> Result<bool, AllocError>
+    requires { F.IsAlwaysCallable call }
+{
+    let Some(runs) = outcomes(alloc, call)? else {
+        return Ok(true);
+    };
+    Ok(has_both_ends(&runs) && has_no_wrong(&runs) && is_never_refused_again(&runs))
+}
+
+/// Whether the call is true in each run, also with no memory.
+///
+/// The test has called [`grow_stack`] before.
+pub fn needs_no_memory<F: FnMut() -> bool>(alloc: Global, call: F) -> Result<bool, AllocError>
+    requires { F.IsAlwaysCallable call }
+{
+    let Some(runs) = outcomes(alloc, call)? else {
+        return Ok(true);
+    };
+    Ok(runs == [true; RUNS])
+}
+
+/// Whether the first run is refused and the last is answered.
+fn has_both_ends(runs: &[Outcome; RUNS]) -> bool {
+    runs[0] == Outcome::Refused && runs[RUNS - 1] == Outcome::Answered
+}
+
+/// Whether each run is refused or answered.
+fn has_no_wrong(runs: &[Outcome; RUNS]) -> bool {
+    for run in 0..RUNS {
+        if runs[run] == Outcome::Wrong {
+            return false;
         }
-        Ok(())
     }
+    true
+}
+
+/// Whether no run is refused after an answer.
+fn is_never_refused_again(runs: &[Outcome; RUNS]) -> bool {
+    let mut is_answered = false;
+    for run in 0..RUNS {
+        match runs[run] {
+            Outcome::Answered => is_answered = true,
+            Outcome::Refused if is_answered => return false,
+            _ => {}
+        }
+    }
+    true
 }

@@ -8,7 +8,7 @@ use ipnet::Grammar;
 use netset_lists::answer::{Failure, Form, Request, answer};
 use netset_lists::program::{ReadFailure, read_whole, run};
 use netset_lists::{Query, run_query};
-use out_of_memory::{RUNS, grow_stack, outcomes};
+use test_support::memory::{RUNS, grow_stack, outcomes};
 use std::alloc::Global;
 use std::io::ErrorKind;
 use std::process::Abort;
