@@ -1,5 +1,6 @@
-/* Makes each call that takes memory with its growths refused: first all of them, then all but the first, and so on.
- * Each must tell that memory is short, leave what it was lent as it was, and keep no block, until all are granted.
+/* Makes each call that allocates with its requests refused: first all of them, then all but the first, and so on.
+ * Each must report that memory ran out, leave its buffers as they were, and keep no block, until all are granted.
+ * Calls that need no memory are made with all requests refused: each must make none, and give its status.
  *
  * The linker puts the functions below in the place of malloc, realloc and free (--wrap).
  */
@@ -13,11 +14,12 @@ void *__real_malloc(size_t len);
 void *__real_realloc(void *block, size_t len);
 void __real_free(void *block);
 
-/* How many growths are granted, and how many blocks are held. */
-static long granted = -1, held;
+/* How many growths are granted, how many blocks are held, and how many requests were made. */
+static long granted = -1, held, requests;
 
 static int is_refused(void)
 {
+    requests++;
     if (granted == 0) {
         return 1;
     }
@@ -145,9 +147,83 @@ static long least_growths(uint8_t (*call)(struct lent *), const char *answer)
     return -1;
 }
 
-int main(void)
+/* Functions with a text or bytes as their argument, and with two of them, that write into a buffer. */
+typedef uint8_t of_one(const uint8_t *, size_t, uint8_t *, size_t, size_t *);
+typedef uint8_t of_two(const uint8_t *, size_t, const uint8_t *, size_t, uint8_t *, size_t, size_t *);
+/* Functions that answer yes or no. */
+typedef uint8_t yes_or_no(const uint8_t *, size_t, const uint8_t *, size_t, uint8_t *, size_t *);
+
+/* Calls that need no memory, and their statuses. */
+static const struct {
+    const char *name;
+    of_one *one;
+    of_two *two;
+    yes_or_no *asks;
+    const char *first;
+    size_t first_len;
+    const char *second;
+    size_t second_len;
+    uint8_t status;
+} free_calls[] = {
+#define TEXT(text) text, sizeof(text) - 1
+    {"aggregate, empty", ipnet_aggregate_text, NULL, NULL, TEXT(""), TEXT(""), IPNET_OK},
+    {"aggregate, a bad line at once", ipnet_aggregate_text, NULL, NULL, TEXT("\nx"), TEXT(""), IPNET_BAD_LINE},
+    {"aggregate legacy, empty lines", ipnet_aggregate_text_legacy, NULL, NULL, TEXT("\n\n"), TEXT(""), IPNET_OK},
+    {"aggregate legacy, a bad line at once", ipnet_aggregate_text_legacy, NULL, NULL, TEXT("x"), TEXT(""),
+     IPNET_BAD_LINE},
+    {"aggregate, not UTF-8", ipnet_aggregate_text, NULL, NULL, TEXT("10.0.0.0/24\n\xff"), TEXT(""), IPNET_NOT_UTF8},
+    {"union, empty", NULL, ipnet_union_text, NULL, TEXT(""), TEXT("\n"), IPNET_OK},
+    {"intersection, empty", NULL, ipnet_intersection_text, NULL, TEXT(""), TEXT(""), IPNET_OK},
+    {"difference, empty", NULL, ipnet_difference_text, NULL, TEXT(""), TEXT(""), IPNET_OK},
+    {"intersection, a bad line at once", NULL, ipnet_intersection_text, NULL, TEXT("\nx"), TEXT(list), IPNET_BAD_LINE},
+    {"union, a bad line at once in the other", NULL, ipnet_union_text, NULL, TEXT("\n"), TEXT("\nx"),
+     IPNET_BAD_LINE_IN_OTHER},
+    {"intersection, a bad line at once in the other", NULL, ipnet_intersection_text, NULL, TEXT(""),
+     TEXT("x\n10.0.0.0/24"), IPNET_BAD_LINE_IN_OTHER},
+    {"difference, a bad line at once in the other", NULL, ipnet_difference_text, NULL, TEXT("\n\n"), TEXT("\n\nx"),
+     IPNET_BAD_LINE_IN_OTHER},
+    {"same addresses, empty", NULL, NULL, ipnet_same_addresses, TEXT("\n"), TEXT(""), IPNET_OK},
+    {"same addresses, a bad line at once in the other", NULL, NULL, ipnet_same_addresses, TEXT("\n"), TEXT("\nx"),
+     IPNET_BAD_LINE_IN_OTHER},
+    {"is covered, empty", NULL, NULL, ipnet_is_covered, TEXT("\n"), TEXT("\0\12\0\0\0\30"), IPNET_OK},
+    {"is covered, a bad line at once", NULL, NULL, ipnet_is_covered, TEXT("\nx"), TEXT("\0\12\0\0\0\30"),
+     IPNET_BAD_LINE},
+    {"parse", ipnet_parse, NULL, NULL, TEXT("10.0.0.7/24"), TEXT(""), IPNET_OK},
+    {"parse legacy", ipnet_parse_legacy, NULL, NULL, TEXT("010.0.0.7/24"), TEXT(""), IPNET_OK},
+    {"print", ipnet_print, NULL, NULL, TEXT("\0\12\0\0\0\27"), TEXT(""), IPNET_OK},
+};
+
+/* How many of the calls above do what they must not. */
+static int free_faults(void)
 {
     int faults = 0;
+    for (size_t i = 0; i < sizeof free_calls / sizeof *free_calls; i++) {
+        const uint8_t *first = (const uint8_t *)free_calls[i].first, *second = (const uint8_t *)free_calls[i].second;
+        size_t first_len = free_calls[i].first_len, second_len = free_calls[i].second_len;
+        struct lent lent;
+        uint8_t status;
+        requests = 0;
+        granted = 0;
+        if (free_calls[i].one != NULL) {
+            status = free_calls[i].one(first, first_len, lent.buffer, sizeof lent.buffer, &lent.number);
+        } else if (free_calls[i].two != NULL) {
+            status = free_calls[i].two(first, first_len, second, second_len, lent.buffer, sizeof lent.buffer,
+                                       &lent.number);
+        } else {
+            status = free_calls[i].asks(first, first_len, second, second_len, &lent.yes, &lent.number);
+        }
+        granted = -1;
+        if (status != free_calls[i].status || requests != 0) {
+            printf("%s: status %d, %ld requests\n", free_calls[i].name, status, requests);
+            faults++;
+        }
+    }
+    return faults;
+}
+
+int main(void)
+{
+    int faults = free_faults();
     printf("growths:");
     for (size_t i = 0; i < sizeof calls / sizeof *calls; i++) {
         long growths = least_growths(calls[i].call, calls[i].answer);

@@ -9,5 +9,3 @@ mod lists;
 pub mod networks;
 pub mod sets;
 mod statuses;
-#[cfg(test)]
-mod tests;

@@ -18,6 +18,8 @@ mod lists;
 mod networks;
 mod pairs;
 mod ranges;
+mod routes;
+mod sets;
 mod texts;
 mod walks;
 
@@ -77,6 +79,8 @@ fn answer(alloc: Global, question: Question<'_>) -> Answer {
         "IpSubnets" => walks::ask_ip(alloc, question),
         "Text" => texts::ask(alloc, question),
         "Error" => errors::ask(alloc, question),
+        "IpSet" => sets::ask(alloc, question.call, question.first, question.second),
+        "RouteTable" => routes::ask(alloc, question.call, question.first, question.second),
         _ => Ok(None),
     }
 }

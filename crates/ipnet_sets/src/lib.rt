@@ -6,8 +6,6 @@ mod number;
 pub mod routes;
 pub mod set;
 pub mod set_ranges;
-#[cfg(test)]
-mod tests;
 mod turns;
 
 pub use routes::RouteTable;

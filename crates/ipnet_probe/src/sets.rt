@@ -1,0 +1,188 @@
+//! Questions about sets of addresses. A set is a list of networks and ranges with a comma between two, or `-` for none.
+use crate::show;
+use ipnet::{IpAddr, IpAddrRange, IpNet};
+use ipnet_sets::{IpSet, IpSetRanges};
+use std::alloc::{AllocError, Global};
+use std::hash::{DefaultHasher, Hash, Hasher};
+
+/// The answer of a call on a set; none if there is no such call, or its arguments cannot be read. A call with one
+/// argument takes `-` as the second.
+pub fn ask(
+    alloc: Global,
+    call: &str,
+    first: &str,
+    second: &str,
+) -> Result<Option<String>, AllocError> {
+    if call == "from_range" {
+        return ask_range(alloc, first, second);
+    }
+    let Some(set) = read_set(alloc, first)? else {
+        return Ok(None);
+    };
+    if let Some(answer) = ask_one(alloc, call, &set)? {
+        return Ok(Some(answer));
+    }
+    if let Some(answer) = ask_part(alloc, call, &set, second)? {
+        return Ok(Some(answer));
+    }
+    let Some(other) = read_set(alloc, second)? else {
+        return Ok(None);
+    };
+    if let Some(answer) = combine(alloc, call, &set, &other)? {
+        return Ok(Some(answer));
+    }
+    compare(alloc, call, &set, &other)
+}
+
+/// The set of the networks and ranges; none if the text is no list of them.
+fn read_set(alloc: Global, text: &str) -> Result<Option<IpSet>, AllocError> {
+    let mut networks = Vec::new(alloc);
+    let mut ranges = IpSet::new(alloc);
+    if text == "-" {
+        return Ok(Some(ranges));
+    }
+    for part in text.split(',') {
+        if let Ok(network) = part.parse::<IpNet>() {
+            networks.push(network)?;
+        } else {
+            let Some((start, end)) = read_range(part) else {
+                return Ok(None);
+            };
+            ranges = ranges.union(alloc, &IpSet::from_range(alloc, start, end)?)?;
+        }
+    }
+    let set = IpSet::from_networks(alloc, &networks)?;
+    if ranges.is_empty() {
+        return Ok(Some(set));
+    }
+    Ok(Some(ranges.union(alloc, &set)?))
+}
+
+/// The ends of the range; none if the text is no range.
+fn read_range(text: &str) -> Option<(IpAddr, IpAddr)> {
+    let (start, end) = text.split_once('-')?;
+    match (start.parse::<IpAddr>(), end.parse::<IpAddr>()) {
+        (Ok(start), Ok(end)) => Some((start, end)),
+        _ => None,
+    }
+}
+
+/// The set of the range; none if one of the texts is no address.
+fn ask_range(alloc: Global, start: &str, end: &str) -> Result<Option<String>, AllocError> {
+    let (Ok(start), Ok(end)) = (start.parse::<IpAddr>(), end.parse::<IpAddr>()) else {
+        return Ok(None);
+    };
+    Ok(Some(show(alloc, IpSet::from_range(alloc, start, end)?)?))
+}
+
+/// The answer of a call that takes the set only; none if there is no such call.
+fn ask_one(alloc: Global, call: &str, set: &IpSet) -> Result<Option<String>, AllocError> {
+    let text = match call {
+        "set" => format!(in alloc; "{set:?}")?,
+        "clone" => show(alloc, set.clone()?)?,
+        "complement" => show(alloc, set.complement(alloc)?)?,
+        "networks" => show(alloc, set.networks(alloc)?)?,
+        "is_empty" => show(alloc, set.is_empty())?,
+        "first" => show(alloc, set.first())?,
+        "last" => show(alloc, set.last())?,
+        "ipv4_count" => show(alloc, set.ipv4_count())?,
+        "ipv6_count" => show(alloc, set.ipv6_count())?,
+        "ranges" => show(alloc, list(alloc, set.ranges())?)?,
+        "ranges_size_hint" => show(alloc, set.ranges().size_hint())?,
+        "hash" => show(alloc, hash_of(set))?,
+        _ => return Ok(None),
+    };
+    Ok(Some(text))
+}
+
+/// What a hasher says of the value.
+fn hash_of<T: Hash>(value: &T) -> u64 {
+    let mut state = DefaultHasher::new();
+    value.hash(&mut state);
+    state.finish()
+}
+
+/// The ranges that are left.
+fn list(alloc: Global, ranges: IpSetRanges<'_>) -> Result<Vec<IpAddrRange>, AllocError> {
+    let mut list = Vec::new(alloc);
+    for range in ranges {
+        list.push(range)?;
+    }
+    Ok(list)
+}
+
+/// The answer of a call that takes an address, a network or a number beside the set; none if there is no such call.
+fn ask_part(
+    alloc: Global,
+    call: &str,
+    set: &IpSet,
+    part: &str,
+) -> Result<Option<String>, AllocError> {
+    match call {
+        "contains" => match part.parse::<IpAddr>() {
+            Ok(ip) => Ok(Some(show(alloc, set.contains(&ip))?)),
+            Err(_) => Ok(None),
+        },
+        "covers" => match part.parse::<IpNet>() {
+            Ok(network) => Ok(Some(show(alloc, set.covers(&network))?)),
+            Err(_) => Ok(None),
+        },
+        "ranges_after" => match part.parse::<usize>() {
+            Ok(steps) => ask_ranges_after(alloc, set, steps),
+            Err(_) => Ok(None),
+        },
+        _ => Ok(None),
+    }
+}
+
+/// The ranges that are left after these many calls of `next`: by the iterator, by its copy and by its clone.
+fn ask_ranges_after(
+    alloc: Global,
+    set: &IpSet,
+    steps: usize,
+) -> Result<Option<String>, AllocError> {
+    let mut ranges = set.ranges();
+    for _ in 0..steps {
+        ranges.next();
+    }
+    let copy = ranges;
+    let clone = ranges.clone()?;
+    let left = list(alloc, ranges)?;
+    Ok(Some(show(alloc, (left, list(alloc, copy)?, list(alloc, clone)?))?))
+}
+
+/// The set that the call makes of the two; none if there is no such call.
+fn combine(
+    alloc: Global,
+    call: &str,
+    set: &IpSet,
+    other: &IpSet,
+) -> Result<Option<String>, AllocError> {
+    let made = match call {
+        "union" => set.union(alloc, other)?,
+        "intersection" => set.intersection(alloc, other)?,
+        "difference" => set.difference(alloc, other)?,
+        "symmetric_difference" => set.symmetric_difference(alloc, other)?,
+        _ => return Ok(None),
+    };
+    Ok(Some(show(alloc, made)?))
+}
+
+/// The answer of a call that compares the two; none if there is no such call.
+fn compare(
+    alloc: Global,
+    call: &str,
+    set: &IpSet,
+    other: &IpSet,
+) -> Result<Option<String>, AllocError> {
+    let text = match call {
+        "is_subset" => show(alloc, set.is_subset(other))?,
+        "is_disjoint" => show(alloc, set.is_disjoint(other))?,
+        "eq" => show(alloc, set == other)?,
+        "lt" => show(alloc, set < other)?,
+        "cmp" => show(alloc, set.cmp(other))?,
+        "partial_cmp" => show(alloc, set.partial_cmp(other))?,
+        _ => return Ok(None),
+    };
+    Ok(Some(text))
+}

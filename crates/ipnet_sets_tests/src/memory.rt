@@ -1,0 +1,246 @@
+//! Memory that runs out. A call that allocates is refused in the first run, answers in the last, and never answers
+//! wrongly. A call that needs no memory answers in each run.
+//!
+//! The lists are short, because memory that a call gives back does not serve the requests of later runs.
+use ipnet::{IpAddr, IpNet};
+use ipnet_sets::{IpSet, RouteTable};
+use std::alloc::{AllocError, Global};
+use std::process::Abort;
+use std::test::Fail;
+use test_support::memory::{Outcome, grow_stack, is_refused_and_answered, needs_no_memory};
+
+/// A call, the networks of its arguments, and the networks of its answer.
+type Row = (&'static str, &'static str, &'static str, &'static str);
+
+/// What the call of a row needs. All of it is made before memory runs out.
+#[derive(Drop)]
+struct Inputs {
+    call: &'static str,
+    list: Vec<IpNet>,
+    first: IpSet,
+    second: IpSet,
+    wanted: Vec<IpNet>,
+    wanted_set: IpSet,
+    wanted_table: RouteTable<usize>,
+}
+
+/// The networks of the texts between blanks.
+fn networks(rt: &impl Abort, alloc: Global, texts: &str) -> Result<Vec<IpNet>, AllocError> {
+    let mut networks = Vec::new(alloc);
+    for text in texts.split(' ') {
+        if !text.is_empty() {
+            networks.push(text.parse::<IpNet>().ok().expect(rt, text))?;
+        }
+    }
+    Ok(networks)
+}
+
+fn make_inputs(rt: &impl Abort, alloc: Global, row: Row) -> Result<Inputs, AllocError> {
+    let (call, first, second, wanted) = row;
+    let list = networks(rt, alloc, first)?;
+    let other = networks(rt, alloc, second)?;
+    let wanted = networks(rt, alloc, wanted)?;
+    let first = IpSet::from_networks(alloc, &list)?;
+    let second = IpSet::from_networks(alloc, &other)?;
+    let wanted_set = IpSet::from_networks(alloc, &wanted)?;
+    let wanted_table = table_of(alloc, &list)?;
+    Ok(Inputs {
+        call,
+        list,
+        first,
+        second,
+        wanted,
+        wanted_set,
+        wanted_table,
+    })
+}
+
+/// The table of these networks, each with its place in the list as its value.
+fn table_of(alloc: Global, networks: &Vec<IpNet>) -> Result<RouteTable<usize>, AllocError> {
+    let mut routes = Vec::new(alloc);
+    let mut place = 0usize;
+    for network in networks {
+        routes.push((*network, place))?;
+        place = place.saturating_add(1);
+    }
+    RouteTable::from_routes(alloc, routes)
+}
+
+/// Whether the routes are these networks, in this order.
+fn are_of_networks(routes: &[(IpNet, usize)], networks: &[IpNet]) -> bool {
+    if routes.len() != networks.len() {
+        return false;
+    }
+    for place in 0..routes.len() {
+        if routes[place].0 != networks[place] {
+            return false;
+        }
+    }
+    true
+}
+
+/// Whether the table is the one that ample memory makes.
+fn is_right_table(table: &RouteTable<usize>, inputs: &Inputs) -> bool {
+    table.routes() == inputs.wanted_table.routes()
+        && are_of_networks(table.routes(), inputs.wanted.as_slice())
+}
+
+/// The set of the row's call; empty if there is no such call.
+fn make(alloc: Global, inputs: &Inputs) -> Result<IpSet, AllocError> {
+    match inputs.call {
+        "union" => inputs.first.union(alloc, &inputs.second),
+        "intersection" => inputs.first.intersection(alloc, &inputs.second),
+        "difference" => inputs.first.difference(alloc, &inputs.second),
+        "symmetric_difference" => inputs.first.symmetric_difference(alloc, &inputs.second),
+        "complement" => inputs.first.complement(alloc),
+        "clone" => inputs.first.clone(),
+        "from_networks" => IpSet::from_networks(alloc, &inputs.list),
+        "from_range" => match (inputs.first.first(), inputs.first.last()) {
+            (Some(start), Some(end)) => IpSet::from_range(alloc, start, end),
+            _ => Ok(IpSet::new(alloc)),
+        },
+        _ => Ok(IpSet::new(alloc)),
+    }
+}
+
+/// How the row's call ended.
+fn run_call(alloc: Global, inputs: &Inputs) -> Outcome {
+    match inputs.call {
+        "networks" => match inputs.first.networks(alloc) {
+            Ok(networks) => outcome(networks == inputs.wanted),
+            Err(_) => Outcome::Refused,
+        },
+        "from_routes" => match table_of(alloc, &inputs.list) {
+            Ok(table) => outcome(is_right_table(&table, inputs)),
+            Err(_) => Outcome::Refused,
+        },
+        _ => match make(alloc, inputs) {
+            Ok(set) => outcome(set == inputs.wanted_set),
+            Err(_) => Outcome::Refused,
+        },
+    }
+}
+
+fn outcome(is_right: bool) -> Outcome {
+    if is_right {
+        Outcome::Answered
+    } else {
+        Outcome::Wrong
+    }
+}
+
+const ONE: &str = "10.0.0.0/24 10.0.2.0/24 10.0.4.0/24 fd00::/32";
+
+const OTHER: &str = "10.0.1.0/24 10.0.4.0/25 fd00::/33 fd00:2::/32";
+
+/// Calls that allocate.
+const ALLOCATING: [Row; 11] = [
+    (
+        "union",
+        ONE,
+        OTHER,
+        "10.0.0.0/23 10.0.2.0/24 10.0.4.0/24 fd00::/32 fd00:2::/32",
+    ),
+    ("intersection", ONE, OTHER, "10.0.4.0/25 fd00::/33"),
+    (
+        "difference",
+        ONE,
+        OTHER,
+        "10.0.0.0/24 10.0.2.0/24 10.0.4.128/25 fd00:0:8000::/33",
+    ),
+    (
+        "symmetric_difference",
+        ONE,
+        OTHER,
+        "10.0.0.0/23 10.0.2.0/24 10.0.4.128/25 fd00:0:8000::/33 fd00:2::/32",
+    ),
+    (
+        "complement",
+        "0.0.0.0/2 128.0.0.0/1 8000::/1",
+        "",
+        "64.0.0.0/2 ::/1",
+    ),
+    ("clone", ONE, "", ONE),
+    ("from_networks", ONE, "", ONE),
+    ("networks", ONE, "", ONE),
+    ("from_range", "10.0.0.0/24", "", "10.0.0.0/24"),
+    ("from_range", "fd00::/32", "", "fd00::/32"),
+    (
+        "from_routes",
+        "fd00::/8 10.0.0.0/8 10.1.0.0/16 10.0.0.7/8 10.1.2.0/24",
+        "",
+        "10.0.0.0/8 10.1.0.0/16 10.1.2.0/24 fd00::/8",
+    ),
+];
+
+/// Calls that need no memory.
+const FREE: [Row; 5] = [
+    ("union", "", "", ""),
+    ("networks", "", "", ""),
+    ("clone", "", "", ""),
+    ("from_networks", "", "", ""),
+    ("from_routes", "", "", ""),
+];
+
+#[test]
+fn calls_with_memory_refused(rt: HostRuntime) -> Result<(), Fail> {
+    grow_stack(rt.alloc())?;
+    let alloc = rt.alloc();
+    for row in ALLOCATING {
+        let inputs = make_inputs(&rt, alloc, row)?;
+        let is_right = is_refused_and_answered(alloc, || run_call(alloc, &inputs))?;
+        assert!(rt; is_right, "{}", inputs.call);
+    }
+    for row in FREE {
+        let inputs = make_inputs(&rt, alloc, row)?;
+        let is_right = needs_no_memory(alloc, || {
+            run_call(alloc, &inputs) == Outcome::Answered
+        })?;
+        assert!(rt; is_right, "{}, empty", inputs.call);
+    }
+    Ok(())
+}
+
+/// Whether the questions about a set of 10.0.0.0/24, 10.0.2.0/24 and fd00::/126 have the right answers.
+fn ask_set(set: &IpSet, part: &IpSet, ip: &IpAddr, network: &IpNet) -> bool {
+    set.contains(ip)
+        && !set.covers(network)
+        && part.is_subset(set)
+        && !set.is_disjoint(part)
+        && !set.is_empty()
+        && set.first().is_some()
+        && set.last().is_some()
+        && set.ipv4_count() == 512
+        && set.ipv6_count() == Some(4)
+        && set.ranges().next().is_some()
+}
+
+/// Whether the questions about a table of 10.0.0.0/8, 10.0.2.0/24 and fd00::/8 have the right answers.
+fn ask_table(table: &RouteTable<usize>, ip: &IpAddr, network: &IpNet) -> bool {
+    let Some((_, place)) = table.longest_match(ip) else {
+        return false;
+    };
+    *place == 1
+        && table.get(network).is_none()
+        && table.routes().len() == 3
+        && table.len() == 3
+        && !table.is_empty()
+}
+
+#[test]
+fn questions_need_no_memory(rt: HostRuntime) -> Result<(), Fail> {
+    grow_stack(rt.alloc())?;
+    let alloc = rt.alloc();
+    let list = networks(&rt, alloc, "10.0.0.0/24 10.0.2.0/24 fd00::/126")?;
+    let set = IpSet::from_networks(alloc, &list)?;
+    let part = IpSet::from_networks(alloc, &networks(&rt, alloc, "10.0.2.0/25")?)?;
+    let list = networks(&rt, alloc, "10.0.0.0/8 10.0.2.0/24 fd00::/8")?;
+    let table = table_of(alloc, &list)?;
+    let ip = "10.0.2.7".parse::<IpAddr>()?;
+    let network = "10.0.0.0/23".parse::<IpNet>()?;
+    let is_right = needs_no_memory(alloc, || {
+        ask_set(&set, &part, &ip, &network) && ask_table(&table, &ip, &network)
+    })?;
+    assert!(rt; is_right, "questions");
+    Ok(())
+}
