@@ -21,7 +21,7 @@ FORMS = [
     # a sentence that begins with "Of ..", "Who ..", "What .."
     re.compile(r"(?:^|(?<=[.;:] ))(?:Of|Who|What) [a-z]"),
     # "answers" as a verb
-    re.compile(r"\banswers\b(?! (?:to|are|of|and|in|that|differ)\b)(?![.,;:|])"),
+    re.compile(r"\banswers\b(?! (?:to|are|of|and|in|that|differ)\b)(?!\s*[.,;:|])"),
 ]
 COMMENTS = {
     ".rt": r"\s*//[/!]? ?(.*)",
