@@ -25,6 +25,8 @@ try:
 except (netaddr.AddrFormatError, ValueError) as err:
     sys.exit(repr(err))
 """
+# of a longer output a cell shows the first and the last line
+MOST_LINES = 4
 # what `aggregate` prints to standard error for every input
 NOT_A_WARNING = "aggregate: maximum prefix length permitted will be 32\n"
 # the rows of the second table: the first column, the heading and the row in bench/README.md, the number of entries, and
@@ -66,6 +68,8 @@ def cell(command, lines):
     ran = subprocess.run(command, input="".join(line + "\n" for line in lines), stdout=subprocess.PIPE,
                          stderr=subprocess.PIPE, universal_newlines=True)
     parts = ["`%s`" % line for line in ran.stdout.split("\n") if line]
+    if len(parts) > MOST_LINES:
+        parts = ["%d lines, %s to %s" % (len(parts), parts[0], parts[-1])]
     if "netaddr" in command[-1] and ran.returncode:
         return "exception"
     if ran.returncode:
