@@ -20,7 +20,7 @@ FORMS = [
     re.compile(r"\b(?:wants? of|but for|so many|(?:that|those) of|(?<!there )(?:is|are) no)\b(?! longer)", re.I),
     # a sentence that begins with "Of ..", "Who ..", "What .."
     re.compile(r"(?:^|(?<=[.;:] ))(?:Of|Who|What) [a-z]"),
-    # "answers" as a verb
+    # `answers` as a verb
     re.compile(r"\banswers\b(?! (?:to|are|of|and|in|that|differ)\b)(?!\s*[.,;:|])"),
 ]
 COMMENTS = {
