@@ -30,7 +30,7 @@ MOST_LINES = 4
 # what `aggregate` prints to standard error for every input
 NOT_A_WARNING = "aggregate: maximum prefix length permitted will be 32\n"
 # the rows of the second table: the first column, the heading and the row in bench/README.md, the number of entries, and
-# the columns there with our time and those of iprange, the Rust crate and netaddr. A column that is a ratio gives the
+# the columns there with our time and the times of iprange, the Rust crate and netaddr. A ratio as column gives the
 # time by division: ("ours over it", COLUMN).
 SPEED = [
     ("`ipnet`, all IPv4 ranges of `tor-geoipdb`", "The program", "all IPv4 ranges", "lines", "processor ms",
