@@ -55,7 +55,8 @@ macro_rules! call {
 
 impl Asked for Ipv4AddrRange {
     fn call(&mut self, alloc: Global, name: &str, n: usize) -> Answer {
-        call!(self, Some(self.count()), alloc, name, n)
+        let range = *self;
+        call!(self, Some(range.count()), alloc, name, n)
     }
 }
 
