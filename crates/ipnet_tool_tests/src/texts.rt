@@ -1,7 +1,8 @@
 //! The text tool in both grammars.
+use crate::runs::{self, Ends};
 use ipnet::IpNet;
 use ipnet::aggregate::is_aggregated;
-use ipnet_tool::{ToolError, aggregate_text, aggregate_text_legacy, run};
+use ipnet_tool::{ToolError, aggregate_text, aggregate_text_legacy};
 use std::alloc::{AllocError, Global};
 use std::process::Abort;
 use std::test::Fail;
@@ -117,19 +118,8 @@ fn input_above_a_megabyte(rt: HostRuntime) -> Result<(), Fail> {
         wanted,
     )?;
     let mut input = ByteReader::whole(text.as_bytes());
-    let mut out = ArrayWriter::whole();
-    let status = run(
-        rt.alloc(),
-        &[],
-        &mut input,
-        &mut out,
-        &mut ArrayWriter::whole(),
-    );
-    assert!(&rt; status == 0, "program: {label}: status {status}");
-    assert!(&rt;
-        out.held() == b"10.6.0.0/15\n".as_slice(),
-        "program: {label}: standard output"
-    );
+    let ends: Ends = (b"10.6.0.0/15\n", b"", 0);
+    runs::check(&rt, label, &mut input, &mut ArrayWriter::whole(), ends);
     Ok(())
 }
 

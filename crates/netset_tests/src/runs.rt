@@ -17,6 +17,9 @@ const COUNT: &[u8] = b"netset: another number of lists is wanted\n";
 /// The report of a writer that fails.
 const UNWRITABLE: &[u8] = b"netset: output cannot be written\n";
 
+/// Standard output, standard error and the status of a run.
+type Ends = (&'static [u8], &'static [u8], u8);
+
 /// The request for the networks of all lists.
 const UNION: Request = Request {
     operation: Operation::Union,
@@ -83,6 +86,16 @@ fn counts_of_operations(rt: HostRuntime) -> Result<(), Fail> {
             lists.push(Vec::from_slice(alloc, b"10.0.0.1\n")?)?;
         }
     }
+    let lists = [
+        Vec::from_slice(alloc, b"10.0.0.1")?,
+        Vec::from_slice(alloc, b"x")?,
+    ];
+    let operation = Operation::Complement(Families::Named);
+    let found = answer(alloc, Request { operation, ..UNION }, &lists);
+    assert!(&rt;
+        matches!(found, Err(Failure::Count)),
+        "complement: two lists, and a refused line"
+    );
     Ok(())
 }
 
@@ -128,9 +141,6 @@ fn counts_of_queries(rt: HostRuntime) -> Result<(), Fail> {
     }
     Ok(())
 }
-
-/// Standard output, standard error and the status of a run.
-type Ends = (&'static [u8], &'static [u8], u8);
 
 /// Asserts the ends of a union of two addresses on this writer.
 fn check_union<R: Abort + AllocGlobal>(
