@@ -26,6 +26,7 @@ mod walks;
 use std::alloc::{AllocError, Global};
 use std::fmt::Debug;
 use std::io;
+use std::io::{BufRead, BufReader, BufWriter, Write};
 
 /// An answer; none if there is no such question.
 pub type Answer = Result<Option<String>, AllocError>;
@@ -86,12 +87,13 @@ fn answer(alloc: Global, question: Question<'_>) -> Answer {
 }
 
 fn main(rt: HostRuntime) -> io::Result<()> {
-    for line in rt.lines(rt.alloc()) {
+    let mut out = BufWriter::new(rt.alloc(), io::writer(&rt))?;
+    for line in BufReader::new(rt.alloc(), rt.reader())?.lines(rt.alloc()) {
         let line = line?;
         match answer(rt.alloc(), read(line.as_str()))? {
-            Some(text) => println!(rt; "{text}")?,
-            None => println!(rt; "no such question")?,
+            Some(text) => writeln!(out, "{text}")?,
+            None => writeln!(out, "no such question")?,
         }
     }
-    Ok(())
+    out.flush()
 }
