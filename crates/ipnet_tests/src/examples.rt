@@ -1,8 +1,8 @@
 //! Worked examples: a few calls of each kind, with answers that docs/EXAMPLES.md explains.
 use ipnet::{
-    CompactError, IpAdd, IpAddr, IpAddrRange, IpBitAnd, IpNet, IpSub, Ipv4Addr, Ipv4AddrRange,
-    Ipv4Net, Ipv4Subnets, Ipv6Addr, Ipv6AddrRange, Ipv6Net, Ipv6Subnets, JsonError, PrefixLenError,
-    ipv4_mask_to_prefix, ipv6_addr_text,
+    CompactError, IpAdd, IpAddr, IpAddrRange, IpBitAnd, IpNet, IpSub, IpSubnets, Ipv4Addr,
+    Ipv4AddrRange, Ipv4Net, Ipv4Subnets, Ipv6Addr, Ipv6AddrRange, Ipv6Net, Ipv6Subnets, JsonError,
+    PrefixLenError, ipv4_mask_to_prefix, ipv6_addr_text,
 };
 use serde_json::Value;
 use std::alloc::{AllocError, Global};
@@ -54,11 +54,7 @@ fn walked(
     end: Ipv4Addr,
     min_prefix_len: u8,
 ) -> Result<Vec<IpNet>, AllocError> {
-    let mut networks = Vec::new(alloc);
-    for network in Ipv4Subnets::new(start, end, min_prefix_len.min(32)) {
-        networks.push(IpNet::V4(network))?;
-    }
-    Ok(networks)
+    IpSubnets::V4(Ipv4Subnets::new(start, end, min_prefix_len.min(32))).collect(alloc)
 }
 
 #[test]
@@ -110,15 +106,13 @@ fn counts_and_ends_of_walks(rt: HostRuntime) -> Result<(), Fail> {
         walked(rt.alloc(), one, least, 0)?.is_empty(),
         "the start above the end"
     );
-    let mut count = 0;
-    for _ in Ipv6Subnets::new(
+    let longest: Vec<Ipv6Net> = Ipv6Subnets::new(
         Ipv6Addr::from_bits(1),
         Ipv6Addr::from_bits(u128::MAX - 1),
         0,
-    ) {
-        count = (count + 1).min(1000);
-    }
-    assert!(rt; count == 254, "the longest walk, IPv6");
+    )
+    .collect(rt.alloc())?;
+    assert!(rt; longest.len() == 254, "the longest walk, IPv6");
     let mut walk = Ipv4Subnets::new(greatest, greatest, 0);
     assert!(rt;
         walk.next() == Some(Ipv4Net::from(greatest)),
