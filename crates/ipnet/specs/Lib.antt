@@ -1,4 +1,5 @@
--- What the contracts of this crate cite, and the definitions of the base crate, for those who use this crate alone.
+-- The definitions that the contracts of this crate use. It reexports the definitions of the base crate, so that a user
+-- needs only this crate.
 pub mod NetworkOf
 pub mod NetworkParts
 pub mod NetLaws

@@ -1,28 +1,31 @@
--- The lines of a text, and the networks that they write.
+-- The lines of a text, and the networks in them.
 use Rattle.std.specs.Prelude.{◌≡◌, ◌≢◌, ℕ, ◌+◌, ◌⊎◌, List, [], ◌∷◌, ◌++◌, ◌==◌, length, All, if◌then◌else◌}
 use Rattle.ipnet_base.specs.Network.{Network}
 use Rattle.ipnet.specs.declared.parser.Grammar.{Grammar}
 use Rattle.ipnet.specs.NetworkTexts.{IsNetworkText, WritesNone}
 
--- the byte before the first line
+-- The lines with one more byte at the start of the first line.
 abbrev pub onto_first_line : ℕ → List (List ℕ) → List (List ℕ)
 onto_first_line b [] = (b ∷ []) ∷ []
 onto_first_line b (line ∷ lines) = (b ∷ line) ∷ lines
 
--- The text is cut at each "\n" (10). What stands after the last "\n" is a line too, unless it is empty.
+-- The lines of a text, without the "\n" (10) that ends each. The bytes after the last "\n" are a line unless there are
+-- none.
+-- Example: `"10.0.1.0/24\n\n10.0.0.0/24"` has three lines, the second is empty; `"\n\n"` has two lines, `""` none.
 abbrev pub lines_of : List ℕ → List (List ℕ)
 lines_of [] = []
 lines_of (b ∷ text) = if b == 10 then [] ∷ lines_of text else onto_first_line b (lines_of text)
 
--- a line that is empty, or writes a network
+-- The line is empty, or the text of a network. Example: `10.0.01.0/24` is good in the legacy grammar only.
 abbrev pub IsGoodLine : Grammar → List ℕ → Type 0
 IsGoodLine grammar line = (line ≡ []) ⊎ ((network : Network) × IsNetworkText grammar line network)
 
--- a line that isn't empty and writes no network
+-- The line is not empty, and is not the text of a network.
 abbrev pub IsBadLine : Grammar → List ℕ → Type 0
 IsBadLine grammar line = (line ≢ []) × WritesNone (IsNetworkText grammar) line
 
--- the networks that the lines write, in order; the empty lines are left out
+-- The networks of the lines that are not empty, in order. If a line is bad, there is no such list.
+-- Example: the lines `10.0.1.0/24`, an empty line and `10.0.0.0/24` have the networks 10.0.1.0/24, 10.0.0.0/24.
 abbrev pub AreNetworksOf : Grammar → List (List ℕ) → List Network → Type 0
 AreNetworksOf grammar [] networks = networks ≡ []
 AreNetworksOf grammar ([] ∷ lines) networks = AreNetworksOf grammar lines networks
@@ -30,7 +33,8 @@ AreNetworksOf grammar ((b ∷ line) ∷ lines) [] = ⊥
 AreNetworksOf grammar ((b ∷ line) ∷ lines) (network ∷ networks) =
     IsNetworkText grammar (b ∷ line) network × AreNetworksOf grammar lines networks
 
--- The line of this number, counted from 1 with the empty ones, is bad, and every line before it is good.
+-- The line with this number is bad, and all lines before it are good. Line numbers start at 1 and count empty lines.
+-- Example: for `10.0.0.0/24`, an empty line and `x` it is line 3.
 pub record IsFirstBadLine (grammar : Grammar) (lines : List (List ℕ)) (number : ℕ) : Type 0 where
   pub before : List (List ℕ)
   pub line : List ℕ

@@ -2,15 +2,19 @@
 use Rattle.std.specs.Prelude.{◌≡◌, ℕ, ◌-◌, ◌^◌, ◌≤◌}
 use Rattle.ipnet_base.specs.Address.{Family, width}
 
--- the netmask of the length: as many ones, followed by zeros
+-- The netmask of a prefix length: `prefix_len` ones, then zeros.
+-- Example: IPv4 and 20 give 2^32 - 2^12 = 4294963200, which is 255.255.240.0.
 abbrev pub netmask_number : Family → ℕ → ℕ
 netmask_number family prefix_len = 2 ^ width family - 2 ^ (width family - prefix_len)
 
--- the host mask of the length: as many zeros, followed by ones
+-- The host mask of a prefix length: `prefix_len` zeros, then ones.
+-- Example: IPv4 and 20 give 2^12 - 1 = 4095, which is 0.0.15.255.
 abbrev pub hostmask_number : Family → ℕ → ℕ
 hostmask_number family prefix_len = 2 ^ (width family - prefix_len) - 1
 
--- the number is the netmask of this length
+-- The number is the netmask of this prefix length, which fits in the family.
+-- Example: 255.255.240.0 is the IPv4 netmask of 20. 255.0.255.0 is not a netmask: 2^32 minus its number is 16711936,
+-- which is not a power of two.
 pub record IsNetmaskOf (family : Family) (number prefix_len : ℕ) : Type 0 where
   pub fits : prefix_len ≤ width family
   pub is_mask : number ≡ netmask_number family prefix_len
