@@ -1,2 +1,2 @@
--- What the contracts of this crate cite.
+-- The definitions that the contracts of this crate use.
 pub mod AccessLists

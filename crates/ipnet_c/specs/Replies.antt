@@ -1,5 +1,5 @@
--- What each call gives back: its status, and what it leaves in the memory that the caller lends. `old` and `new` are a
--- buffer before the call and after it, `count_old` and `count` a number that the call may write.
+-- The result of each C function: its status, and what it leaves in the caller's memory. `old` and `new` are a buffer
+-- before and after the call; `count_old` and `count` are a number that the call may write.
 use Rattle.std.specs.Prelude.{◌≡◌, ◌≢◌, ℕ, ◌↔◌, ◌⊎◌, List, [], All, IsUtf8}
 use Rattle.ipnet.specs.Address.{Address}
 use Rattle.ipnet.specs.Network.{Network, IsNetwork, InBlock}
@@ -18,44 +18,48 @@ use Rattle.ipnet_c.specs.declared.sets.Operation.TheVariants.{Union, Intersectio
 
 -- ---- lists
 
--- A text is aggregated in this grammar: `count` is the length of the answer, or the number of the first bad line.
+-- Aggregating a text: `count` is the length of the answer, or the number of the first bad line.
+-- Example: `"10.0.1.0/24\n\n10.0.0.0/24"` with a buffer of 12 bytes or more gives `ok`, `"10.0.0.0/23\n"` and 12, and
+-- with a smaller buffer `buffer_too_short` and 12; `"10.0.0.0/24\n\nx\n"` gives `bad_line` and 3. Each may be
+-- `out_of_memory`.
 pub record IsAggregateReply (grammar : Grammar) (text old new : List ℕ) (count_old count status : ℕ) : Type 0 where
   pub known : (status ≡ statuses.ok) ⊎ ((status ≡ statuses.buffer_too_short) ⊎ ((status ≡ statuses.bad_line)
       ⊎ ((status ≡ statuses.not_utf8) ⊎ (status ≡ statuses.out_of_memory))))
-  -- the answer of the text tool, whole
+  -- The whole answer of the text tool.
   pub ok : status ≡ statuses.ok → (answer : List ℕ) × IsAnswerTo grammar text answer × IsWritten answer old new count
   pub too_short : status ≡ statuses.buffer_too_short
       → (answer : List ℕ) × IsAnswerTo grammar text answer × IsTooLong answer old new count
   pub bad_line : status ≡ statuses.bad_line → IsFirstBadLine grammar (lines_of text) count
   pub not_utf8 : (status ≡ statuses.not_utf8) ↔ ¬ (IsUtf8 text)
-  -- what keeps its bytes: the buffer, unless the answer stands in it, and the number, where there is none to tell
+  -- The buffer is unchanged unless the status is `ok`, and the count unless there is one to report.
   pub buffer_kept : status ≢ statuses.ok → new ≡ old
   pub count_kept : (status ≡ statuses.not_utf8) ⊎ (status ≡ statuses.out_of_memory) → count ≡ count_old
-  -- what needs no memory: a text of empty lines alone, and one whose first line that is not empty is bad
+  -- Two cases need no memory: all lines are empty; or the first line that is not empty is bad.
   pub empty : All (λ line. line ≡ []) (lines_of text) → status ≢ statuses.out_of_memory
   pub bad_at_once : (number : ℕ) → IsUtf8 text → StartsWithBadLine grammar (lines_of text) number
       → status ≡ statuses.bad_line
 
--- 1 where it holds, and 0 where it does not
+-- 1 if the property is true, and 0 if it is false.
 abbrev pub IsYesExactlyAt : Type 0 → ℕ → Type 0
 IsYesExactlyAt P answer = ((answer ≡ 1) × P) ⊎ ((answer ≡ 0) × ¬ P)
 
--- Two texts are compared by the addresses that they cover.
+-- Comparing the addresses of two texts: `same` is 1 or 0.
+-- Example: `"10.0.0.0/25\n10.0.0.128/25"` and `"10.0.0.7/24"` give 1; `"10.0.0.0/25"` and `"10.0.0.0/24"` give 0.
 pub record IsSameAddressesReply (text other : List ℕ) (same_old same line_old line status : ℕ) : Type 0 where
   pub known : (status ≡ statuses.ok) ⊎ ((status ≡ statuses.bad_line) ⊎ ((status ≡ statuses.bad_line_in_other)
       ⊎ ((status ≡ statuses.not_utf8) ⊎ ((status ≡ statuses.other_not_utf8) ⊎ (status ≡ statuses.out_of_memory)))))
   pub ok : status ≡ statuses.ok → (networks others : List Network) × AreNetworksOf Strict (lines_of text) networks
       × AreNetworksOf Strict (lines_of other) others × IsYesExactlyAt (HaveSameCover networks others) same
   pub bad_line : status ≡ statuses.bad_line → IsFirstBadLine Strict (lines_of text) line
-  -- a bad line of the other text is told only where the first text has none
+  -- A bad line of the second text is reported only if the first text has none.
   pub bad_line_in_other : status ≡ statuses.bad_line_in_other
       → IsFirstBadLine Strict (lines_of other) line × All (IsGoodLine Strict) (lines_of text)
   pub not_utf8 : (status ≡ statuses.not_utf8) ↔ ¬ (IsUtf8 text)
   pub other_not_utf8 : (status ≡ statuses.other_not_utf8) ↔ (IsUtf8 text × ¬ (IsUtf8 other))
   pub same_kept : status ≢ statuses.ok → same ≡ same_old
   pub line_kept : status ≢ statuses.bad_line → status ≢ statuses.bad_line_in_other → line ≡ line_old
-  -- what needs no memory: two texts of empty lines alone; a first text whose first line that is not empty is bad; and
-  -- such an other text, where the first has empty lines alone
+  -- Three cases need no memory: all lines of both texts are empty; the first line of the first text that is not empty
+  -- is bad; or all lines of the first text are empty, and the first line of the second that is not empty is bad.
   pub empty : All (λ line. line ≡ []) (lines_of text) → All (λ line. line ≡ []) (lines_of other)
       → status ≡ statuses.ok
   pub bad_at_once : (number : ℕ) → IsUtf8 text → IsUtf8 other → StartsWithBadLine Strict (lines_of text) number
@@ -65,19 +69,20 @@ pub record IsSameAddressesReply (text other : List ℕ) (same_old same line_old 
 
 -- ---- sets made of two lists
 
--- an address is in what the operation makes of two sets, by whether it is in the first and in the second
+-- Whether an address is in the result of the operation, given whether it is in the first set and in the second.
 abbrev pub IsCombined : Operation → Type 0 → Type 0 → Type 0
 IsCombined Union first second = first ⊎ second
 IsCombined Intersection first second = first × second
 IsCombined Difference first second = first × ¬ second
 
--- the maximal blocks of what the operation makes of the addresses of the two lists
+-- The maximal blocks of the result of the operation on the addresses of the two lists.
 abbrev pub AreBlocksOfBoth : Operation → List Network → List Network → List Network → Type 0
 AreBlocksOfBoth operation networks others =
     AreMaximalBlocks (λ x. IsCombined operation (IsCoveredBy networks x) (IsCoveredBy others x)) 0
 
--- The lines of each text write networks, and the answer is the canonical texts of the maximal blocks of what the
--- operation makes of their addresses.
+-- The lines of both texts are networks or empty, and the answer is the text of the operation's result.
+-- Example: for `"10.0.0.0/24"` and `"10.0.0.128/25\n10.0.1.0/25"`, `"10.0.0.0/24\n10.0.1.0/25\n"` for the union,
+-- `"10.0.0.128/25\n"` for the intersection, and `"10.0.0.0/25\n"` for the difference.
 pub record IsSetText (operation : Operation) (text other answer : List ℕ) : Type 0 where
   pub networks : List Network
   pub others : List Network
@@ -87,7 +92,7 @@ pub record IsSetText (operation : Operation) (text other answer : List ℕ) : Ty
   pub combined : AreBlocksOfBoth operation networks others blocks
   pub spelled : answer ≡ text_of_lines blocks
 
--- Two texts are made one: `count` is the length of the answer, or the number of the first bad line.
+-- An operation on two texts: `count` is the length of the answer, or the number of the first bad line.
 pub record IsSetReply (operation : Operation) (text other old new : List ℕ) (count_old count status : ℕ) : Type 0 where
   pub known : (status ≡ statuses.ok) ⊎ ((status ≡ statuses.buffer_too_short) ⊎ ((status ≡ statuses.bad_line)
       ⊎ ((status ≡ statuses.bad_line_in_other) ⊎ ((status ≡ statuses.not_utf8)
@@ -104,8 +109,8 @@ pub record IsSetReply (operation : Operation) (text other old new : List ℕ) (c
   pub buffer_kept : status ≢ statuses.ok → new ≡ old
   pub count_kept : (status ≡ statuses.not_utf8) ⊎ ((status ≡ statuses.other_not_utf8)
       ⊎ (status ≡ statuses.out_of_memory)) → count ≡ count_old
-  -- what needs no memory: two texts of empty lines alone; a first text whose first line that is not empty is bad; and
-  -- such an other text, where the first has empty lines alone
+  -- Three cases need no memory: all lines of both texts are empty; the first line of the first text that is not empty
+  -- is bad; or all lines of the first text are empty, and the first line of the second that is not empty is bad.
   pub empty : All (λ line. line ≡ []) (lines_of text) → All (λ line. line ≡ []) (lines_of other)
       → status ≢ statuses.out_of_memory
   pub bad_at_once : (number : ℕ) → IsUtf8 text → IsUtf8 other → StartsWithBadLine Strict (lines_of text) number
@@ -115,16 +120,17 @@ pub record IsSetReply (operation : Operation) (text other old new : List ℕ) (c
 
 -- ---- lists asked for a network
 
--- the bytes are those of this network
+-- The bytes are the tagged compact form of this network. Example: 0, 10, 1, 1, 0, 24 for 10.1.1.0/24.
 pub record AreBytesOf (bytes : List ℕ) (n : Network) : Type 0 where
   pub network : IsNetwork n
   pub bytes_are : bytes ≡ tagged_network_bytes n
 
--- every address of the network's block is covered
+-- Every address of the network's block is covered.
 abbrev pub IsBlockCoveredBy : List Network → Network → Type 0
 IsBlockCoveredBy networks n = (x : Address) → InBlock n x → IsCoveredBy networks x
 
--- A text is asked whether it covers a network.
+-- Whether a text covers a network, given as bytes: `covered` is 1 or 0.
+-- Example: `"10.0.0.0/25\n10.0.0.128/25"` covers 0, 10, 0, 0, 0, 24; the reply is 1. With 23 as the last byte it is 0.
 pub record IsCoveredReply (text bytes : List ℕ) (covered_old covered line_old line status : ℕ) : Type 0 where
   pub known : (status ≡ statuses.ok) ⊎ ((status ≡ statuses.bad_line) ⊎ ((status ≡ statuses.not_utf8)
       ⊎ ((status ≡ statuses.wrong_length) ⊎ ((status ≡ statuses.unknown_family)
@@ -133,21 +139,22 @@ pub record IsCoveredReply (text bytes : List ℕ) (covered_old covered line_old 
       × AreNetworksOf Strict (lines_of text) networks × AreBytesOf bytes n
       × IsYesExactlyAt (IsBlockCoveredBy networks n) covered
   pub bad_line : status ≡ statuses.bad_line → IsFirstBadLine Strict (lines_of text) line
-  -- the bytes are looked at before the text
+  -- The bytes are checked before the text.
   pub not_utf8 : (status ≡ statuses.not_utf8) ↔ (((n : Network) × AreBytesOf bytes n) × ¬ (IsUtf8 text))
   pub wrong_length : (status ≡ statuses.wrong_length) ↔ HasWrongTaggedLen bytes
   pub unknown_family : (status ≡ statuses.unknown_family) ↔ HasUnknownVariant bytes
   pub prefix_too_long : (status ≡ statuses.prefix_too_long) ↔ HasLongTaggedPrefix bytes
   pub covered_kept : status ≢ statuses.ok → covered ≡ covered_old
   pub line_kept : status ≢ statuses.bad_line → line ≡ line_old
-  -- what needs no memory: a text of empty lines alone, and one whose first line that is not empty is bad
+  -- Two cases need no memory: all lines are empty; or the first line that is not empty is bad.
   pub empty : All (λ line. line ≡ []) (lines_of text) → status ≢ statuses.out_of_memory
   pub bad_at_once : (number : ℕ) (n : Network) → AreBytesOf bytes n → IsUtf8 text
       → StartsWithBadLine Strict (lines_of text) number → status ≡ statuses.bad_line
 
 -- ---- single networks
 
--- The text of one network becomes its bytes: `count` is how many these are.
+-- Parsing a network into bytes: `count` is the number of bytes.
+-- Example: `"10.1.1.0/24"` gives 0, 10, 1, 1, 0, 24; `"10.1.1.0"` gives `not_a_network`.
 pub record IsParseReply (grammar : Grammar) (text old new : List ℕ) (count_old count status : ℕ) : Type 0 where
   pub known : (status ≡ statuses.ok) ⊎ ((status ≡ statuses.buffer_too_short) ⊎ ((status ≡ statuses.not_a_network)
       ⊎ (status ≡ statuses.not_utf8)))
@@ -160,7 +167,8 @@ pub record IsParseReply (grammar : Grammar) (text old new : List ℕ) (count_old
   pub buffer_kept : status ≢ statuses.ok → new ≡ old
   pub count_kept : (status ≡ statuses.not_utf8) ⊎ (status ≡ statuses.not_a_network) → count ≡ count_old
 
--- The bytes of one network become its canonical text: `count` is the text's length.
+-- Printing bytes as the canonical text of a network: `count` is the length of the text.
+-- Example: 0, 10, 1, 1, 0, 24 gives `"10.1.1.0/24"`; the byte 2 gives `unknown_family`.
 pub record IsPrintReply (bytes old new : List ℕ) (count_old count status : ℕ) : Type 0 where
   pub known : (status ≡ statuses.ok) ⊎ ((status ≡ statuses.buffer_too_short) ⊎ ((status ≡ statuses.wrong_length)
       ⊎ ((status ≡ statuses.unknown_family) ⊎ (status ≡ statuses.prefix_too_long))))

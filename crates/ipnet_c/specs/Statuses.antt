@@ -1,51 +1,53 @@
--- What the status that a call returns means. A number keeps its meaning in all calls.
+-- The statuses that the C functions return. A number means the same in all functions.
 use Rattle.std.specs.Prelude.{ℕ}
 use Rattle.ipnet.specs.declared.compact.CompactError.{CompactError}
 use Rattle.ipnet.specs.declared.compact.CompactError.TheVariants.{Length, Variant, Prefix}
 
--- the answer stands in the memory that the caller lent
+-- The result is in the caller's memory.
 abbrev pub ok : ℕ
 ok = 0
 
--- a line of the text is neither empty nor a network
+-- A line of the text is neither empty nor a network.
 abbrev pub bad_line : ℕ
 bad_line = 1
 
--- the text is not UTF-8 (RFC 3629)
+-- The text is not UTF-8 (RFC 3629).
 abbrev pub not_utf8 : ℕ
 not_utf8 = 2
 
+-- Memory ran out.
 abbrev pub out_of_memory : ℕ
 out_of_memory = 3
 
--- there is an answer, and the buffer is too short for it
+-- There is an answer, and the buffer is too short for it.
 abbrev pub buffer_too_short : ℕ
 buffer_too_short = 4
 
--- the text writes no network
+-- The text is not a network.
 abbrev pub not_a_network : ℕ
 not_a_network = 5
 
--- the bytes are too few or too many for a network, or none
+-- The number of bytes is wrong for a network.
 abbrev pub wrong_length : ℕ
 wrong_length = 6
 
--- the first byte stands for no family
+-- The first byte is not a family's byte.
 abbrev pub unknown_family : ℕ
 unknown_family = 7
 
--- the last byte, the prefix length, is above the width of the address
+-- The last byte, the prefix length, is greater than the width of the address.
 abbrev pub prefix_too_long : ℕ
 prefix_too_long = 8
 
--- the first two for the second of two texts
+-- A line of the second text is neither empty nor a network.
 abbrev pub bad_line_in_other : ℕ
 bad_line_in_other = 9
 
+-- The second text is not UTF-8.
 abbrev pub other_not_utf8 : ℕ
 other_not_utf8 = 10
 
--- why bytes are not those of a network
+-- The status for bytes that are not a network.
 abbrev pub status_of_bytes : CompactError → ℕ
 status_of_bytes Length = wrong_length
 status_of_bytes Variant = unknown_family

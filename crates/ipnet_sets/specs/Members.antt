@@ -1,4 +1,5 @@
--- The addresses that a value of the set type has: all that contracts see of it.
+-- The addresses of a value of `IpSet`, and the operations on sets of addresses. Contracts see nothing else of a value.
+-- In the examples, a is 10.0.0.0 to 10.0.0.5, and b is 10.0.0.3 to 10.0.0.9.
 use Rattle.std.specs.Prelude.{◌≡◌, ◌≢◌, ◌+◌, ◌<◌, ◌≤◌, ◌⊎◌, ◌↔◌, ℕ, Bool, true, List, map, length}
 use Rattle.std.specs.Prelude.{Contains, AllPairs}
 use Rattle.ipnet_base.specs.Address.{Family, Address, IsAddress, family_index}
@@ -7,85 +8,92 @@ use Rattle.ipnet_base.specs.Blocks.{IsCoveredBy}
 use Rattle.ipnet_sets.specs.declared.set.IpSet.{IpSet}
 use Rattle.ipnet_sets.specs.Turns.{is_inside, by_family}
 
--- the numbers at which the set begins or ends in the family
+-- The turns of the set in a family: the ascending numbers at which it begins or ends. An end after the family's last
+-- address is left out. Example: for IPv4, a has the turns 10.0.0.0 and 10.0.0.6; 255.255.255.254/31 has one,
+-- 255.255.255.254.
 abbrev pub turns_of : IpSet → Family → List ℕ
 turns_of s = by_family (map (λ n. n) s.ipv4.items) (map (λ n. n) s.ipv6.items)
 
--- whether the set has the address
+-- Whether the set contains the address: the number of turns up to it is odd.
 abbrev pub is_member : IpSet → Address → Bool
 is_member s x = is_inside (turns_of s x.family) x.number
 
--- the set has the address, which is one of its family
+-- The set contains the address, which is valid. Example: the set a contains 10.0.0.5, and not 10.0.0.6.
 pub record IsMember (s : IpSet) (x : Address) : Type 0 where
   pub fits : IsAddress x
   pub inside : is_member s x ≡ true
 
--- what is made of a and b has no more turns than these together
+-- The set `s` has at most as many turns in each family as `a` and `b` together. So the operands bound the size of a
+-- result.
 abbrev pub HasNoMoreTurns : IpSet → IpSet → IpSet → Type 0
 HasNoMoreTurns s a b = (f : Family) → length (turns_of s f) ≤ length (turns_of a f) + length (turns_of b f)
 
--- the two sets have the same addresses
+-- The sets have the same addresses. Example: the set of 10.0.0.0/30, 10.0.0.4/31 and the set a.
 abbrev pub HaveSameAddresses : IpSet → IpSet → Type 0
 HaveSameAddresses s t = (x : Address) → IsMember s x ↔ IsMember t x
 
--- the set has no address
+-- The set is empty.
 abbrev pub HasNoAddress : IpSet → Type 0
 HasNoAddress s = (x : Address) → ¬ (IsMember s x)
 
--- the first set lies in the second
+-- The set `a` is a subset of `b`. Example: 10.0.0.3 to 10.0.0.5 is a subset of both sets a and b.
 abbrev pub IsSubset : IpSet → IpSet → Type 0
 IsSubset a b = (x : Address) → IsMember a x → IsMember b x
 
--- s has the addresses that are in a or in b
+-- `s` is the union of `a` and `b`. Example: 10.0.0.0 to 10.0.0.9.
 abbrev pub IsUnion : IpSet → IpSet → IpSet → Type 0
 IsUnion s a b = (x : Address) → IsMember s x ↔ (IsMember a x ⊎ IsMember b x)
 
--- those that are in a and in b
+-- `s` is the intersection of `a` and `b`. Example: 10.0.0.3 to 10.0.0.5.
 abbrev pub IsIntersection : IpSet → IpSet → IpSet → Type 0
 IsIntersection s a b = (x : Address) → IsMember s x ↔ (IsMember a x × IsMember b x)
 
--- those that are in a and not in b
+-- `s` is `a` without `b`. Example: 10.0.0.0 to 10.0.0.2.
 abbrev pub IsDifference : IpSet → IpSet → IpSet → Type 0
 IsDifference s a b = (x : Address) → IsMember s x ↔ (IsMember a x × ¬ (IsMember b x))
 
--- those that are in one of a and b alone
+-- `s` is the addresses that are in exactly one of `a` and `b`. Example: 10.0.0.0 to 10.0.0.2 and 10.0.0.6 to 10.0.0.9.
 abbrev pub IsSymmetricDifference : IpSet → IpSet → IpSet → Type 0
 IsSymmetricDifference s a b = (x : Address) → IsMember s x
     ↔ ((IsMember a x × ¬ (IsMember b x)) ⊎ (IsMember b x × ¬ (IsMember a x)))
 
--- and the addresses of both families that are not in a
+-- `s` is all addresses of both families that are not in `a`. Example: 0.0.0.0 to 9.255.255.255, 10.0.0.6 to
+-- 255.255.255.255 and all IPv6 addresses.
 abbrev pub IsComplement : IpSet → IpSet → Type 0
 IsComplement s a = (x : Address) → IsAddress x → IsMember s x ↔ ¬ (IsMember a x)
 
--- the set has the addresses that the networks cover
+-- The set has the addresses that the networks cover. Example: the set a, and 10.0.0.0/31, 10.0.0.2/31, 10.0.0.4/31.
 abbrev pub HasAddressesOf : IpSet → List Network → Type 0
 HasAddressesOf s networks = (x : Address) → IsMember s x ↔ IsCoveredBy networks x
 
--- the addresses of the set that are of the family
+-- The address is in the set and of this family.
 abbrev pub IsMemberOf : Family → IpSet → Address → Type 0
 IsMemberOf f s x = (x.family ≡ f) × IsMember s x
 
--- the set of addresses has as many as n: a list of n has each of them once, and no other
+-- The set has `n` addresses: a list of length `n` has each of them once, and no other. Example: 10.0.0.0/30 has 4.
 pub record IsCountOf (InSet : Address → Type 0) (n : ℕ) : Type 0 where
   pub addresses : List Address
   pub once : AllPairs (λ x y. x ≢ y) addresses
   pub members : (x : Address) → Contains addresses x ↔ InSet x
   pub count : length addresses ≡ n
 
--- The order of addresses: IPv4 before IPv6, then the number; x comes before y, or is y.
+-- The address `x` is `y` or comes before it: IPv4 before IPv6, then by number. Example: 10.0.0.1 is at most 10.0.0.1
+-- and `::`.
 abbrev pub IsAtMost : Address → Address → Type 0
 IsAtMost x y = (family_index x.family < family_index y.family) ⊎ ((x.family ≡ y.family) × (x.number ≤ y.number))
 
--- the first of the addresses of the set, and the last
+-- The first address of the set. Example: 10.0.0.0 for 10.0.0.0/8 and fd00::/8 together.
 pub record IsFirstOf (InSet : Address → Type 0) (x : Address) : Type 0 where
   pub member : InSet x
   pub first : (y : Address) → InSet y → IsAtMost x y
 
+-- The last address of the set. Example: fdff:ffff:ffff:ffff:ffff:ffff:ffff:ffff for 10.0.0.0/8 and fd00::/8 together.
 pub record IsLastOf (InSet : Address → Type 0) (x : Address) : Type 0 where
   pub member : InSet x
   pub last : (y : Address) → InSet y → IsAtMost y x
 
--- the addresses from start to end, where both are of one family
+-- The addresses from `start` to `end`, if both are of one family; none otherwise.
+-- Example: 10.0.0.3 to 10.0.0.5 has three addresses; 10.0.0.3 to fd00::5 has none.
 pub record IsFromTo (start end : Address) (x : Address) : Type 0 where
   pub family_of_start : x.family ≡ start.family
   pub family_of_end : x.family ≡ end.family

@@ -1,4 +1,4 @@
--- Routes: networks with a value each, and the longest of them that holds an address (RFC 1812, section 5.2.4.3).
+-- Routes, route tables, and the longest match for an address (RFC 1812, section 5.2.4.3; RFC 4632, section 5.1).
 use Rattle.std.specs.Prelude.{◌≡◌, ◌≢◌, ℕ, ◌<◌, ◌≤◌, ◌↔◌, List, map, length, slice_index_or, Contains}
 use Rattle.ipnet_base.specs.Address.{Address}
 use Rattle.ipnet_base.specs.Network.{Network, InBlock, truncation}
@@ -6,26 +6,28 @@ use Rattle.ipnet_base.specs.Blocks.{IsAscending}
 use Rattle.ipnet.specs.declared.net.IpNet.{IpNet}
 use Rattle.ipnet.specs.NetworkOf.{ip_network}
 
--- a route: a network and its value
+-- A route: a network and its value, of any type. Example: 10.0.0.0/8 with the value 1.
 abbrev pub Route : Type 0 → Type 0
 Route V = Network × V
 
--- the networks of the routes
+-- The networks of the routes.
 abbrev pub networks_of : {V : Type 0} → List (Route V) → List Network
 networks_of routes = map (λ r. r.0) routes
 
--- the routes that a list of networks with values stands for, and their networks
+-- The routes of a list of `IpNet`s with values.
 abbrev pub ip_routes : {V : Type 0} → List (IpNet × V) → List (Route V)
 ip_routes list = map (λ r. (ip_network r.0, r.1)) list
 
+-- The networks of a list of `IpNet`s with values.
 abbrev pub ip_networks : {V : Type 0} → List (IpNet × V) → List Network
 ip_networks list = map (λ r. ip_network r.0) list
 
--- the routes, each with its network's host bits taken away
+-- The routes with their networks truncated. Example: 10.0.0.7/8 with 3 becomes 10.0.0.0/8 with 3.
 abbrev pub without_host_bits : {V : Type 0} → List (Route V) → List (Route V)
 without_host_bits routes = map (λ r. (truncation r.0, r.1)) routes
 
--- the list has the route, and later none of the same network
+-- The route is in the list, and no later route has the same network.
+-- Example: in 10.0.0.0/8 with 1, 10.1.0.0/16 with 2, 10.0.0.0/8 with 3, the last two routes are.
 pub record IsLatest {V : Type 0} (routes : List (Route V)) (route : Route V) : Type 0 where
   pub place : ℕ
   pub within : place < length routes
@@ -33,13 +35,15 @@ pub record IsLatest {V : Type 0} (routes : List (Route V)) (route : Route V) : T
   pub last : (later : ℕ) (d : Route V) → place < later → later < length routes
       → (slice_index_or routes later d).0 ≢ route.0
 
--- The table that a list of routes makes: no host bits, ascending, each network once, with the last of the values that
--- were given for it.
+-- The table of a list of routes: truncated networks, ascending, each once, with the last value given for it.
+-- Example: 10.0.0.0/8 with 1, 10.1.0.0/16 with 2, 10.0.0.7/8 with 3 has the table 10.0.0.0/8 with 3, 10.1.0.0/16 with
+-- 2.
 pub record IsTableOf {V : Type 0} (given routes : List (Route V)) : Type 0 where
   pub ascending : IsAscending (networks_of routes)
   pub members : (route : Route V) → Contains routes route ↔ IsLatest (without_host_bits given) route
 
--- the route of the longest network that holds the address
+-- The route with the longest prefix among the routes whose network contains the address.
+-- Example: among 0.0.0.0/0, 10.0.0.0/8 and 10.1.0.0/16 it is 10.1.0.0/16 for 10.1.2.3, and 10.0.0.0/8 for 10.2.0.1.
 pub record IsLongestMatch {V : Type 0} (routes : List (Route V)) (x : Address) (route : Route V) : Type 0 where
   pub member : Contains routes route
   pub holds : InBlock route.0 x

@@ -3,20 +3,22 @@ use Rattle.std.specs.Prelude.{◌≡◌, ℕ, ◌+◌, ◌<◌, ◌≤◌, ◌�
 use Rattle.ipnet_base.specs.Address.{Family, Address, IsBetween, family_index}
 use Rattle.ipnet_base.specs.Ranges.{AddressRange}
 
--- the range of the family with these ends
+-- The range of the family with these ends.
 abbrev pub range_of : Family → ℕ → ℕ → AddressRange
 range_of f start end = record { family = f; start = start; end = end }
 
--- the address lies in the range
+-- The address lies in the range. Example: 10.0.0.3 lies in 10.0.0.0 to 10.0.0.5.
 abbrev pub IsInRange : AddressRange → Address → Type 0
 IsInRange r = IsBetween r.family r.start r.end
 
--- the first range comes before the second, and some address lies between them, or they are of two families
+-- The first range comes before the second and does not touch it, or its family comes first.
+-- Example: 10.0.0.0 to 10.0.0.5 and 10.0.0.7 to 10.0.0.9, with 10.0.0.6 between them.
 abbrev pub LiesApart : AddressRange → AddressRange → Type 0
 LiesApart r s = (family_index r.family < family_index s.family) ⊎ ((r.family ≡ s.family) × (r.end + 1 < s.start))
 
--- The list is the fewest ranges that have together the addresses of the set: each has an address, they ascend, and no
--- two of them overlap or touch.
+-- The list is the fewest ranges with exactly the addresses of the set: not empty, ascending, and no two overlap or
+-- touch.
+-- Example: 10.0.0.0 to 10.0.0.5 for the set of 10.0.0.0/30 and 10.0.0.4/31.
 pub record AreRangesOf (InSet : Address → Type 0) (ranges : List AddressRange) : Type 0 where
   pub some : All (λ r. r.start ≤ r.end) ranges
   pub apart : AllPairs LiesApart ranges

@@ -1,4 +1,5 @@
--- The ranges between the turns of a set, and the networks of each of them. Private contracts alone cite these.
+-- The ranges between the turns of a set, and the networks of each of these ranges.
+-- Only private contracts use these.
 use Rattle.std.specs.Prelude.{◌≡◌, ℕ, ◌+◌, ◌-◌, ◌≤◌, true, List, [], ◌∷◌, ◌++◌}
 use Rattle.ipnet_base.specs.Address.{Family, Address, greatest_number}
 use Rattle.ipnet_base.specs.Network.{Network}
@@ -7,29 +8,30 @@ use Rattle.ipnet_base.specs.Ranges.{AddressRange, address_count}
 use Rattle.ipnet_sets.specs.Turns.{is_inside}
 use Rattle.ipnet_sets.specs.SetRanges.{range_of, IsInRange}
 
--- the addresses of the family whose numbers are inside
+-- The addresses of the family that are inside.
 pub record IsInTurns (f : Family) (turns : List ℕ) (x : Address) : Type 0 where
   pub of_family : x.family ≡ f
   pub fits : x.number ≤ greatest_number f
   pub inside : is_inside turns x.number ≡ true
 
--- the ranges between the turns; the last may run to the family's end
+-- The ranges between the turns. The last range runs to the family's last address if the number of turns is odd.
+-- Example: the turns 3, 6, 9 give 3 to 5, and 9 to the last address.
 abbrev pub ranges_of : Family → List ℕ → List AddressRange
 ranges_of f [] = []
 ranges_of f (start ∷ []) = range_of f start (greatest_number f) ∷ []
 ranges_of f (start ∷ end ∷ turns) = range_of f start (end - 1) ∷ ranges_of f turns
 
--- how many addresses the ranges have together
+-- The number of addresses in all ranges together.
 abbrev pub count_of : List AddressRange → ℕ
 count_of [] = 0
 count_of (r ∷ ranges) = address_count r + count_of ranges
 
--- the maximal blocks of each of the ranges, one range after the other
+-- The maximal blocks of each range, one range after the other.
 abbrev pub AreBlocksOfRanges : List AddressRange → List Network → Type 0
 AreBlocksOfRanges [] networks = networks ≡ []
 AreBlocksOfRanges (r ∷ ranges) networks = (front : List Network) × (rest : List Network)
     × AreMaximalBlocks (IsInRange r) 0 front × AreBlocksOfRanges ranges rest × (networks ≡ front ++ rest)
 
--- these blocks stand at the end of the list
+-- The new list is the old list followed by these blocks.
 abbrev pub HasBlocksAdded : List AddressRange → List Network → List Network → Type 0
 HasBlocksAdded ranges old new = (more : List Network) × AreBlocksOfRanges ranges more × (new ≡ old ++ more)

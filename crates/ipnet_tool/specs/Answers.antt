@@ -1,4 +1,4 @@
--- The answer of the tool to a text: its networks aggregated, one a line.
+-- The output for a text of networks: its aggregate, one network per line.
 use Rattle.std.specs.Prelude.{◌≡◌, ℕ, List, [], ◌∷◌, ◌++◌, All, Result, Err, IfOk, IsOkAnd}
 use Rattle.std.specs.Prelude.{String, string_bytes}
 use Rattle.std.specs.declared.alloc.Global.{Global}
@@ -10,13 +10,13 @@ use Rattle.ipnet.specs.Lines.{lines_of, AreNetworksOf, IsFirstBadLine}
 use Rattle.ipnet_tool.specs.declared.tool.ToolError.{ToolError}
 use Rattle.ipnet_tool.specs.declared.tool.ToolError.TheVariants as ToolErrors
 
--- the canonical texts of the networks, in order, each followed by "\n" (10)
+-- The canonical texts of the networks, in order, each followed by "\n" (10).
 abbrev pub text_of_lines : List Network → List ℕ
 text_of_lines [] = []
 text_of_lines (n ∷ networks) = canonical_text n ++ 10 ∷ [] ++ text_of_lines networks
 
--- The lines of the text write networks in this grammar, and the answer is the canonical texts of the maximal
--- blocks of what these cover.
+-- The lines of the text are networks or empty, and the answer is the text of their aggregate.
+-- Example: `"fd00::/32\n10.0.0.0/24\n"` has the answer `"10.0.0.0/24\nfd00::/32\n"`.
 pub record IsAnswerTo (grammar : Grammar) (text answer : List ℕ) : Type 0 where
   pub networks : List Network
   pub written : AreNetworksOf grammar (lines_of text) networks
@@ -24,14 +24,16 @@ pub record IsAnswerTo (grammar : Grammar) (text answer : List ℕ) : Type 0 wher
   pub aggregate : IsAggregateOf blocks networks
   pub spelled : answer ≡ text_of_lines blocks
 
--- The first line that is not empty is bad, and this is its number, counted from 1 with the empty ones. So it is found
--- before any memory is needed.
+-- The first line that is not empty is bad, and has this number, counted from 1. No memory is needed to find it.
+-- Example: line 2 for an empty line and `x`; none for `10.0.0.0/24` and `x`.
 pub record StartsWithBadLine (grammar : Grammar) (lines : List (List ℕ)) (number : ℕ) : Type 0 where
   pub first : IsFirstBadLine grammar lines number
   pub empty : All (λ line. line ≡ []) first.before
 
--- What the text tool gives for a text in this grammar: the answer, or the first bad line, or that memory ran out. The
--- last comes neither where all lines are empty nor where the first line that is not empty is bad.
+-- The result of the text tool: the answer, the first bad line, or out of memory. Memory cannot run out if all lines are
+-- empty, or if the first line that is not empty is bad.
+-- Example: `""` and `"\n\n"` always give `Ok("")`; `"\nx\n"` always gives `Err(Line(2))`; `"10.0.0.0/24\nx\n"` gives
+-- `Err(Line(2))` or `Err(Memory)`.
 pub record IsTextAnswer (grammar : Grammar) (text : List ℕ) (result : Result (String Global) ToolError) : Type 0 where
   pub empty : All (λ line. line ≡ []) (lines_of text) → IsOkAnd result (λ answer. string_bytes answer ≡ [])
   pub answer : IfOk result (λ answer. IsAnswerTo grammar text (string_bytes answer))

@@ -1,10 +1,10 @@
--- What the private contracts of the tool see of the networks of two lists as one.
--- Private contracts alone cite these.
+-- The two lists of the tool, one for each family, as one list.
+-- Only private contracts use these.
 use Rattle.std.specs.Prelude.{List, ◌++◌, map}
 use Rattle.ipnet.specs.Network.{Network}
 use Rattle.ipnet.specs.NetworkOf.{ipv4_network, ipv6_network}
 use Rattle.ipnet_tool.specs.declared.tool.Families.{Families}
 
--- the networks of the two lists, IPv4 first
+-- The networks of the two lists, IPv4 first. Example: 10.0.0.0/24, fd00::/32.
 abbrev pub networks_of : Families → List Network
 networks_of f = map ipv4_network f.ipv4.items ++ map ipv6_network f.ipv6.items

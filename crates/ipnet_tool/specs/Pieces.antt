@@ -1,9 +1,9 @@
 -- A text that is written in pieces.
--- Private contracts alone cite these.
+-- Only private contracts use these.
 use Rattle.std.specs.Prelude.{◌≡◌, ℕ, List, ◌++◌, Option}
 use Rattle.std.specs.Io.KnownBytes.{Appends}
 
--- the writer got the front of the text, and the piece holds the rest
+-- The writer has received the front of the text, and the piece is the rest.
 pub record IsInPieces (held held_after : Option (List ℕ)) (piece text : List ℕ) : Type 0 where
   pub done : List ℕ
   pub written : Appends held held_after done

@@ -1,4 +1,6 @@
--- What a run of the program reads and writes.
+-- A run of the program `ipnet`: its arguments, its input and its output. `left` and `held` are the bytes that the
+-- reader still has and that the writer has received, before the run; `left_after` and `held_after` after it. They are
+-- `None` if unknown.
 use Rattle.std.specs.Prelude.{◌≡◌, ℕ, List, [], ◌∷◌, codes, IsUtf8, Option, String, string_bytes}
 use Rattle.std.specs.declared.alloc.Global.{Global}
 use Rattle.std.specs.Io.{StartsWith}
@@ -8,19 +10,19 @@ use Rattle.ipnet.specs.declared.parser.Grammar.TheVariants.{Strict, Legacy}
 use Rattle.ipnet.specs.Lines.{lines_of, IsFirstBadLine}
 use Rattle.ipnet_tool.specs.Answers.{IsAnswerTo}
 
--- The grammar that the arguments choose: the strict one where there is none, the legacy one by the one word
--- "legacy". Other arguments choose none.
+-- The grammar that the arguments choose: strict without arguments, legacy for `legacy`. Other arguments choose none.
 abbrev pub IsChosenBy : List (String Global) → Grammar → Type 0
 IsChosenBy [] grammar = grammar ≡ Strict
 IsChosenBy (word ∷ []) grammar = (string_bytes word ≡ codes "legacy") × (grammar ≡ Legacy)
 IsChosenBy (word ∷ more ∷ words) grammar = ⊥
 
--- the reader gave this text, up to its end
+-- The reader returned this text, and has nothing left.
 pub record GaveWhole (left left_after : Option (List ℕ)) (text : List ℕ) : Type 0 where
   pub given : Consumes left left_after text
   pub whole : IsAtEnd left_after
 
--- the input was a text with an answer in the chosen grammar, which went to the output
+-- The input is a text with an answer in the chosen grammar, and the whole answer was written.
+-- Example: without arguments, `"fd00::/32\n10.0.0.0/24\n"` is read and `"10.0.0.0/24\nfd00::/32\n"` is written.
 pub record IsAnswered (args : List (String Global)) (left left_after held held_after : Option (List ℕ)) : Type 0 where
   pub grammar : Grammar
   pub chosen : IsChosenBy args grammar
@@ -30,7 +32,7 @@ pub record IsAnswered (args : List (String Global)) (left left_after held held_a
   pub right : IsAnswerTo grammar text answer
   pub written : Appends held held_after answer
 
--- the input was a text with an answer in the chosen grammar, of which a front went to the output
+-- The input is a text with an answer in the chosen grammar, and a front of the answer was written, perhaps all of it.
 pub record IsCutShort (args : List (String Global)) (left left_after held held_after : Option (List ℕ)) : Type 0 where
   pub grammar : Grammar
   pub chosen : IsChosenBy args grammar
@@ -42,7 +44,8 @@ pub record IsCutShort (args : List (String Global)) (left left_after held held_a
   pub begins : StartsWith answer front
   pub written : Appends held held_after front
 
--- the input was a text, in UTF-8 (RFC 3629), with a bad line in the chosen grammar
+-- The input is a text in UTF-8 (RFC 3629) with a bad line in the chosen grammar.
+-- Example: without arguments, `"10.0.0.0/24\n10.0.01.0/24\n"`; the number is 2.
 pub record HasBadLine (args : List (String Global)) (left left_after : Option (List ℕ)) : Type 0 where
   pub grammar : Grammar
   pub chosen : IsChosenBy args grammar

@@ -1,9 +1,10 @@
--- The exit status of each failure that the program reports.
+-- The exit statuses of the program `ipnet`.
 use Rattle.std.specs.Prelude.{ℕ}
 use Rattle.ipnet_tool.specs.declared.program.Failure.{Failure}
 use Rattle.ipnet_tool.specs.declared.program.Failure.TheVariants.{Arguments, Unreadable, NotUtf8, Memory, Line}
 use Rattle.ipnet_tool.specs.declared.program.Failure.TheVariants.{Unwritable}
 
+-- The exit status of a failure: 1 for a bad line, 2 for wrong arguments, 3 for the others.
 abbrev pub status_of : Failure → ℕ
 status_of (Line number) = 1
 status_of Arguments = 2

@@ -1,8 +1,8 @@
--- What contracts see of a window.
--- Private contracts alone cite these.
+-- The window on the bytes that are read, as contracts see it.
+-- Only private contracts use these.
 use Rattle.std.specs.Prelude.{ℕ, List, slice_range}
 use Rattle.ipnet_tool.specs.declared.window.Window.{Window}
 
--- the bytes that it holds
+-- The bytes in the window.
 abbrev pub held : Window → List ℕ
 held w = slice_range w.bytes w.start w.end

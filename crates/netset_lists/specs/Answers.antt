@@ -1,4 +1,4 @@
--- The answer to a request: the text of the set that the operation makes of the entries of the lists.
+-- The output for a request: the text of the set that the operation makes of the lists.
 use Rattle.std.specs.Prelude.{◌≡◌, ◌≢◌, ℕ, ◌+◌, List, [], ◌∷◌, ◌++◌, length, codes}
 use Rattle.ipnet_base.specs.Address.{Address}
 use Rattle.ipnet_base.specs.Network.{Network}
@@ -18,7 +18,7 @@ use Rattle.netset_lists.specs.Lists.{ListEntry, Refusal, IsListRead, IsInEntries
 use Rattle.netset_lists.specs.Operations.{IsCountFor, IsInResult}
 use Rattle.netset_lists.specs.RefusedLines.{AreRefused}
 
--- the bytes of lists, the first of which has this place, have these entries and these refused lines
+-- The lists, the first with this index, have these entries and these refused lines.
 abbrev pub AreListsRead : Grammar → ℕ → List (List ℕ) → List (List ListEntry) → List Refusal → Type 0
 AreListsRead grammar list [] entries refusals = (entries ≡ []) × (refusals ≡ [])
 AreListsRead grammar list (bytes ∷ lists) entries refusals =
@@ -26,40 +26,41 @@ AreListsRead grammar list (bytes ∷ lists) entries refusals =
     × (entries ≡ first ∷ others) × (refusals ≡ here ++ later) × IsListRead grammar list bytes first here
     × AreListsRead grammar (list + 1) lists others later
 
--- the first and the last address of the range in canonical text, joined by "-"
+-- The first and the last address in canonical text, joined by "-". Example: `10.0.0.0-10.0.0.2`.
 abbrev pub range_text : AddressRange → List ℕ
 range_text r = address_text r.family r.start ++ codes "-" ++ address_text r.family r.end
 
--- the ranges in order, each followed by "\n" (10)
+-- The ranges in order, each followed by "\n" (10).
 abbrev pub text_of_ranges : List AddressRange → List ℕ
 text_of_ranges [] = []
 text_of_ranges (r ∷ ranges) = range_text r ++ 10 ∷ [] ++ text_of_ranges ranges
 
--- the lines are the maximal blocks of the set
+-- The lines are the maximal blocks of the set. Example: `10.0.0.0/31`, `10.0.0.2/32` for 10.0.0.0 to 10.0.0.2.
 pub record AreNetworkLines (InSet : Address → Type 0) (text : List ℕ) : Type 0 where
   pub blocks : List Network
   pub maximal : AreMaximalBlocks InSet 0 blocks
   pub spelled : text ≡ text_of_lines blocks
 
--- the lines are the fewest ranges of the set
+-- The lines are the fewest ranges of the set. Example: `10.0.0.0-10.0.0.2`.
 pub record AreRangeLines (InSet : Address → Type 0) (text : List ℕ) : Type 0 where
   pub ranges : List AddressRange
   pub fewest : AreRangesOf InSet ranges
   pub spelled : text ≡ text_of_ranges ranges
 
--- the text of the set in this form
+-- The text of the set in this form.
 abbrev pub IsSetText : Form → (Address → Type 0) → List ℕ → Type 0
 IsSetText Networks = AreNetworkLines
 IsSetText Ranges = AreRangeLines
 
--- No line of the lists is refused, and the answer is the text of what the operation makes of their entries.
+-- No line is refused, and the answer is the text of the operation's result.
+-- Example: the difference of `10.0.0.0/30` and `10.0.0.3` has the answer `10.0.0.0/31`, `10.0.0.2/32`, one per line.
 pub record IsAnswer (request : Request) (lists : List (List ℕ)) (answer : List ℕ) : Type 0 where
   pub count : IsCountFor request.operation (length lists)
   pub entries : List (List ListEntry)
   pub read : AreListsRead request.grammar 0 lists entries []
   pub right : IsSetText request.form (IsInResult IsInEntries request.operation entries) answer
 
--- some lines of the lists are refused, and these are they
+-- Some lines are refused, and these are all of them.
 pub record HasRefused (grammar : Grammar) (lists : List (List ℕ)) (lines : RefusedLines) : Type 0 where
   pub entries : List (List ListEntry)
   pub refusals : List Refusal
@@ -67,14 +68,14 @@ pub record HasRefused (grammar : Grammar) (lists : List (List ℕ)) (lines : Ref
   pub some : refusals ≢ []
   pub kept : AreRefused lines refusals
 
--- why there is no answer: the operation takes another number of lists, a line is refused, or want of memory; of when
--- the last comes nothing is said
+-- Why there is no answer: a wrong number of lists, a refused line, or out of memory. When memory runs out is not
+-- specified.
 abbrev pub IsFailureOf : Request → List (List ℕ) → Failure → Type 0
 IsFailureOf request lists Failures.Count = ¬ (IsCountFor request.operation (length lists))
 IsFailureOf request lists (Failures.Refused lines) = HasRefused request.grammar lists lines
 IsFailureOf request lists Failures.Memory = Unit {0}
 
--- the same where so many lists are wanted
+-- Why there is no answer to a query that takes `n` lists.
 abbrev pub IsFailureAt : ℕ → Grammar → List (List ℕ) → Failure → Type 0
 IsFailureAt n grammar lists Failures.Count = ¬ (length lists ≡ n)
 IsFailureAt n grammar lists (Failures.Refused lines) = HasRefused grammar lists lines

@@ -1,4 +1,5 @@
--- What the steps of filtering keep. Private contracts alone cite these.
+-- The private steps of filtering.
+-- Only private contracts use these.
 use Rattle.std.specs.Prelude.{◌≡◌, ℕ, List, All}
 use Rattle.ipnet_base.specs.Address.{Address, IsAddress}
 use Rattle.ipnet_base.specs.Ranges.{AddressRange}
@@ -6,11 +7,11 @@ use Rattle.ipnet_sets.specs.SetRanges.{IsInRange}
 use Rattle.netset_lists.specs.Filters.{LiesIn, AreKept, text_of_entries}
 use Rattle.netset_lists.specs.Lists.{ListEntry}
 
--- what lies in the range is an address of its family
+-- All numbers of the range are addresses of its family.
 abbrev pub HasAddresses : AddressRange → Type 0
 HasAddresses range = (x : Address) → IsInRange range x → IsAddress x
 
--- the text is those of the entries that lie in the set
+-- The text is the entries that lie in the set.
 pub record AreFiltered (InSet : Address → Type 0) (text : List ℕ) (entries : List ListEntry) : Type 0 where
   pub kept : List ListEntry
   pub are_kept : AreKept (LiesIn InSet) entries kept

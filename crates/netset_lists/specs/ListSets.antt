@@ -1,4 +1,5 @@
--- The sets of lists. Private contracts alone cite these.
+-- The sets of lists.
+-- Only private contracts use these.
 use Rattle.std.specs.Prelude.{◌↔◌, ℕ, List, [], ◌∷◌}
 use Rattle.ipnet_base.specs.Address.{Address}
 use Rattle.ipnet.specs.declared.parser.Grammar.{Grammar}
@@ -11,7 +12,7 @@ use Rattle.netset_lists.specs.Answers.{AreListsRead, HasRefused}
 use Rattle.netset_lists.specs.Lists.{ListEntry, Refusal, IsInEntries}
 use Rattle.netset_lists.specs.RefusedLines.{AreRefused}
 
--- each of the sets has the addresses of the entries in its place
+-- Each set has the addresses of the entries at its index.
 abbrev pub HaveMembers : List IpSet → List (List ListEntry) → Type 0
 HaveMembers [] [] = Unit {0}
 HaveMembers [] (entries ∷ others) = ⊥
@@ -19,7 +20,7 @@ HaveMembers (set ∷ sets) [] = ⊥
 HaveMembers (set ∷ sets) (entries ∷ others) =
     ((x : Address) → IsMember set x ↔ IsInEntries entries x) × HaveMembers sets others
 
--- the lists were read: into sets of the addresses of their entries, and these are all their refused lines
+-- The lists were read into these sets, and these are all their refused lines.
 pub record AreSetsOf (grammar : Grammar) (lists : List (List ℕ)) (sets : List IpSet) (lines : RefusedLines) : Type 0
   where
     pub entries : List (List ListEntry)
@@ -28,13 +29,13 @@ pub record AreSetsOf (grammar : Grammar) (lists : List (List ℕ)) (sets : List 
     pub members : HaveMembers sets entries
     pub kept : AreRefused lines refusals
 
--- the lists were read, no line is refused, and the sets have the addresses of their entries
+-- The lists were read into these sets, and no line is refused.
 pub record AreGoodSets (grammar : Grammar) (lists : List (List ℕ)) (sets : List IpSet) : Type 0 where
   pub entries : List (List ListEntry)
   pub read : AreListsRead grammar 0 lists entries []
   pub members : HaveMembers sets entries
 
--- why there are no such sets: some lines are refused, or want of memory; of when the last comes nothing is said
+-- Why there are no sets: refused lines, or out of memory. When memory runs out is not specified.
 abbrev pub IsReadFailure : Grammar → List (List ℕ) → Failure → Type 0
 IsReadFailure grammar lists Failures.Count = ⊥
 IsReadFailure grammar lists (Failures.Refused lines) = HasRefused grammar lists lines

@@ -1,4 +1,4 @@
--- Lists as people keep them: what their lines hold, the entries among these, and the lines that are refused.
+-- Lists as people keep them: the contents of their lines, the entries, and the lines that are refused.
 use Rattle.std.specs.Prelude.{◌≡◌, ◌⊎◌, ℕ, ◌+◌, ◌-◌, Bool, ◌||◌, ◌==◌, if◌then◌else◌, nat_eq, List, [], ◌∷◌, length}
 use Rattle.std.specs.Prelude.{take, drop, map, Any, Option}
 use Rattle.std.specs.Char.{is_ascii_whitespace}
@@ -12,52 +12,54 @@ use Rattle.netset_lists.specs.declared.cause.Cause.{Cause}
 use Rattle.netset_lists.specs.Causes.{IsCauseTold}
 use Rattle.netset_lists.specs.Entries.{IsEntryText, IsNoEntry}
 
--- the byte order mark in UTF-8 (RFC 3629, section 6)
+-- The byte order mark in UTF-8 (RFC 3629, section 6).
 abbrev pub byte_order_mark : List ℕ
 byte_order_mark = 239 ∷ 187 ∷ 191 ∷ []
 
--- the bytes of a list, without a byte order mark at their start
+-- The bytes of a list without a byte order mark at the start.
 abbrev pub after_mark : List ℕ → List ℕ
 after_mark bytes = if starts_with nat_eq bytes byte_order_mark then drop 3 bytes else bytes
 
--- "#" (35) or ";" (59), with which a comment begins
+-- "#" (35) or ";" (59), which begins a comment.
 abbrev pub is_comment_sign : ℕ → Bool
 is_comment_sign b = b == 35 || b == 59
 
--- the text without the blanks at its two ends; the carriage return of a line end CR LF is one
+-- The text without blanks at its ends. The carriage return of a line end CR LF is a blank, as are space, tab and form
+-- feed.
 abbrev pub without_blanks : List ℕ → List ℕ
 without_blanks text =
     let rest = drop (prefix_len is_ascii_whitespace text) text in
     take (length rest - suffix_len is_ascii_whitespace rest) rest
 
--- what a line holds: what stands before its comment, without blanks around it
+-- The contents of a line: the text before a comment, without blanks around it.
+-- Example: `\t10.0.0.1 # ours\r` contains `10.0.0.1`; `# 10.0.0.1` contains nothing.
 abbrev pub held_text : List ℕ → List ℕ
 held_text line = without_blanks (before_first is_comment_sign line)
 
--- what the lines of a list hold
+-- The contents of all lines of a list.
 abbrev pub held_texts : List ℕ → List (List ℕ)
 held_texts bytes = map held_text (lines_of (after_mark bytes))
 
--- an entry of a list: as it is written, and the range of its addresses
+-- An entry of a list: its text and its range.
 pub record ListEntry : Type 0 where
   pub text : List ℕ
   pub range : AddressRange
 
--- a line that is refused: the place of its list among all, from 0, its number, from 1, what it holds, and why this is
--- no entry, where a cause can be named
+-- A refused line: the index of its list from 0, its line number from 1, its contents, and the cause if one can be
+-- named.
 pub record Refusal : Type 0 where
   pub list : ℕ
   pub line : ℕ
   pub text : List ℕ
   pub cause : Option Cause
 
--- the entry is the next of these, before the others, and this text writes it
+-- The first of the entries has this text, and `more` are the others.
 pub record IsNextEntry (grammar : Grammar) (text : List ℕ) (entries more : List ListEntry) : Type 0 where
   pub range : AddressRange
   pub next : entries ≡ record { text = text; range = range } ∷ more
   pub writes : IsEntryText grammar text range
 
--- the line is the next that is refused, and its text is no entry, for this cause
+-- The first of the refused lines has this text, which is not an entry, and its cause; `more` are the others.
 pub record IsNextRefusal (grammar : Grammar) (list line : ℕ) (text : List ℕ) (refusals more : List Refusal) : Type
     0 where
   pub cause : Option Cause
@@ -65,8 +67,8 @@ pub record IsNextRefusal (grammar : Grammar) (list line : ℕ) (text : List ℕ)
   pub no_entry : IsNoEntry grammar text
   pub told : IsCauseTold grammar text cause
 
--- Lines from this number on that hold these texts have these entries, in order, and these of them are refused. A line
--- that holds nothing is passed over.
+-- Lines with these contents, the first with number `line`, have these entries and refused lines, in order. Empty ones
+-- are skipped.
 abbrev pub AreRead : Grammar → ℕ → ℕ → List (List ℕ) → List ListEntry → List Refusal → Type 0
 AreRead grammar list line [] entries refusals = (entries ≡ []) × (refusals ≡ [])
 AreRead grammar list line ([] ∷ texts) entries refusals = AreRead grammar list (line + 1) texts entries refusals
@@ -76,10 +78,11 @@ AreRead grammar list line ((b ∷ text) ∷ texts) entries refusals =
     ⊎ ((more : List Refusal) × IsNextRefusal grammar list line (b ∷ text) refusals more
     × AreRead grammar list (line + 1) texts entries more)
 
--- the bytes of the list of this place have these entries and these refused lines
+-- The bytes of the list with this index have these entries and refused lines. A list can be read in only one way.
+-- Example: `10.0.0.1\n\nx # y\n` has one entry, and line 3, `x`, is refused without a cause.
 abbrev pub IsListRead : Grammar → ℕ → List ℕ → List ListEntry → List Refusal → Type 0
 IsListRead grammar list bytes = AreRead grammar list 1 (held_texts bytes)
 
--- the address lies in one of the entries
+-- The address lies in one of the entries.
 abbrev pub IsInEntries : List ListEntry → Address → Type 0
 IsInEntries entries x = Any (λ e. IsInRange e.range x) entries

@@ -1,5 +1,5 @@
--- What the operations make of lists. A list has addresses by In: the entries of a list by `IsInEntries`, and in private
--- contracts a set by `IsMember`.
+-- The operations on lists, by the addresses of each list. `In` is the addresses of a list: `IsInEntries` for its
+-- entries, and `IsMember` for a set in private contracts.
 use Rattle.std.specs.Prelude.{◌≡◌, ◌⊎◌, ◌≤◌, ⊤, ℕ, List, [], ◌∷◌, All, Any}
 use Rattle.ipnet_base.specs.Address.{Family, IPv4, IPv6, Address, IsAddress}
 use Rattle.netset_lists.specs.declared.operation.Families.{Families}
@@ -9,7 +9,7 @@ use Rattle.netset_lists.specs.declared.operation.Operation.TheVariants.{Union, I
 use Rattle.netset_lists.specs.declared.operation.Operation.TheVariants.{SymmetricDifference}
 use Rattle.netset_lists.specs.declared.operation.Operation.TheVariants.{Complement}
 
--- how many lists the operation takes
+-- The number of lists that the operation takes.
 abbrev pub IsCountFor : Operation → ℕ → Type 0
 IsCountFor Union n = 1 ≤ n
 IsCountFor Intersection n = 2 ≤ n
@@ -17,41 +17,41 @@ IsCountFor Difference n = 2 ≤ n
 IsCountFor SymmetricDifference n = n ≡ 2
 IsCountFor (Complement families) n = n ≡ 1
 
--- the addresses of all lists
+-- The addresses of any list.
 abbrev pub IsInSome : {L : Type 0} → (L → Address → Type 0) → List L → Address → Type 0
 IsInSome In lists x = Any (λ l. In l x) lists
 
--- those that are in every list, the first and all others
+-- The addresses that are in every list. Example: 10.0.0.4 to 10.0.0.5 for `10.0.0.0-10.0.0.5` and `10.0.0.4-10.0.0.9`.
 abbrev pub IsInEach : {L : Type 0} → (L → Address → Type 0) → List L → Address → Type 0
 IsInEach In [] x = ⊥
 IsInEach In (first ∷ others) x = In first x × All (λ l. In l x) others
 
--- those of the first list that are in none of the others
+-- The addresses of the first list that are in no other list.
 abbrev pub IsInFirstAlone : {L : Type 0} → (L → Address → Type 0) → List L → Address → Type 0
 IsInFirstAlone In [] x = ⊥
 IsInFirstAlone In (first ∷ others) x = In first x × All (λ l. ¬ (In l x)) others
 
--- those that are in one of two lists alone
+-- The addresses that are in exactly one of two lists.
 abbrev pub IsInOneAlone : {L : Type 0} → (L → Address → Type 0) → List L → Address → Type 0
 IsInOneAlone In [] x = ⊥
 IsInOneAlone In (first ∷ []) x = ⊥
 IsInOneAlone In (first ∷ second ∷ []) x = (In first x × ¬ (In second x)) ⊎ (In second x × ¬ (In first x))
 IsInOneAlone In (first ∷ second ∷ third ∷ others) x = ⊥
 
--- the families of a complement: those of which the list has an address, one of the two, or both
+-- The families of a complement: those with an address in the list, one of the two, or both.
 abbrev pub IsChosen : {L : Type 0} → (L → Address → Type 0) → Families → L → Family → Type 0
 IsChosen In Named list f = (x : Address) × (x.family ≡ f) × In list x
 IsChosen In Ipv4 list f = f ≡ IPv4
 IsChosen In Ipv6 list f = f ≡ IPv6
 IsChosen In Both list f = ⊤
 
--- the addresses of these families that are not in the list
+-- The addresses of the chosen families that are not in the list. Example: only IPv4 for `10.0.0.0/8` and `Named`.
 abbrev pub IsInComplement : {L : Type 0} → (L → Address → Type 0) → Families → List L → Address → Type 0
 IsInComplement In families [] x = ⊥
 IsInComplement In families (list ∷ []) x = IsAddress x × IsChosen In families list x.family × ¬ (In list x)
 IsInComplement In families (list ∷ second ∷ others) x = ⊥
 
--- the addresses that the operation makes of the lists
+-- The addresses of the operation's result.
 abbrev pub IsInResult : {L : Type 0} → (L → Address → Type 0) → Operation → List L → Address → Type 0
 IsInResult In Union lists = IsInSome In lists
 IsInResult In Intersection lists = IsInEach In lists

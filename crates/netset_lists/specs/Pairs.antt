@@ -1,11 +1,12 @@
--- Two lists that are read one after the other. Private contracts alone cite these.
+-- Reading two lists, one after the other.
+-- Only private contracts use these.
 use Rattle.std.specs.Prelude.{ℕ, List}
 use Rattle.ipnet.specs.declared.parser.Grammar.{Grammar}
 use Rattle.netset_lists.specs.declared.refused.RefusedLines.{RefusedLines}
 use Rattle.netset_lists.specs.Lists.{ListEntry}
 use Rattle.netset_lists.specs.Reading.{WasReadAs}
 
--- the two lists were read, this was made of their entries, and their refused lines are added to those before
+-- The two lists were read, `IsMade` is true of their entries, and their refused lines are added.
 pub record WasPairRead (grammar : Grammar) (first second : List ℕ)
     (IsMade : List ListEntry → List ListEntry → Type 0) (old new : RefusedLines) : Type 0 where
   pub of_first : List ListEntry
@@ -15,7 +16,7 @@ pub record WasPairRead (grammar : Grammar) (first second : List ℕ)
   pub read_second : WasReadAs grammar 1 second of_second between new
   pub made : IsMade of_first of_second
 
--- the list was read, this was made of its entries, and its refused lines are added to those before
+-- The list was read, `IsMade` is true of its entries, and its refused lines are added.
 pub record WasMadeOf (grammar : Grammar) (list : ℕ) (bytes : List ℕ) (IsMade : List ListEntry → Type 0)
     (old new : RefusedLines) : Type 0 where
   pub entries : List ListEntry

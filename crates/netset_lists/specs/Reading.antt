@@ -1,4 +1,5 @@
--- What the steps of reading lists add to networks and to refused lines. Private contracts alone cite these.
+-- The private steps of reading lists: what they add to the networks and to the refused lines.
+-- Only private contracts use these.
 use Rattle.std.specs.Prelude.{◌≡◌, ◌⊎◌, ◌↔◌, ℕ, ◌+◌, List, ◌++◌, length, map, take}
 use Rattle.ipnet_base.specs.Address.{Address}
 use Rattle.ipnet_base.specs.Network.{Network}
@@ -12,17 +13,17 @@ use Rattle.netset_lists.specs.declared.refused.RefusedLines.{RefusedLines}
 use Rattle.netset_lists.specs.Lists.{ListEntry, Refusal, AreRead, IsListRead, IsInEntries, held_text}
 use Rattle.netset_lists.specs.RefusedLines.{shown_refusals, most_shown}
 
--- the refused lines have these more: of all, the first ten are kept, and how many there are
+-- The refused lines `more` are added: the first ten of all are kept, and all are counted.
 pub record HasMore (old new : RefusedLines) (more : List Refusal) : Type 0 where
   pub shown : shown_refusals new ≡ take most_shown (shown_refusals old ++ more)
   pub count : new.count ≡ old.count + length more
 
--- the lines of these bytes, of which so many stand before, have these entries and these refused lines
+-- The lines of these bytes, after `line` earlier lines, have these entries and refused lines.
 abbrev pub AreLinesRead : Grammar → ℕ → List ℕ → ℕ → List ListEntry → List Refusal → Type 0
 AreLinesRead grammar list rest line = AreRead grammar list (line + 1) (map held_text (lines_of rest))
 
--- Reading went from the lines of `rest` on to those of `after`, past these entries, and added the refused lines between
--- them: whatever entries and refused lines come later, those before come with them.
+-- Reading went from `rest` to `after`, past these entries, and added the refused lines between them. Later entries and
+-- refused lines follow these.
 pub record IsReadTo (grammar : Grammar) (list : ℕ) (rest : List ℕ) (line : ℕ) (after : List ℕ) (line_after : ℕ)
     (entries : List ListEntry) (old new : RefusedLines) : Type 0 where
   pub refusals : List Refusal
@@ -30,22 +31,22 @@ pub record IsReadTo (grammar : Grammar) (list : ℕ) (rest : List ℕ) (line : �
   pub reads : (more : List ListEntry) (later : List Refusal) → AreLinesRead grammar list after line_after more later
       → AreLinesRead grammar list rest line (entries ++ more) (refusals ++ later)
 
--- the reader of the list went on so
+-- The reader of the list went on in this way.
 abbrev pub IsReadFrom : Grammar → ℕ → EntryReader → EntryReader → List ListEntry → RefusedLines → RefusedLines → Type 0
 IsReadFrom grammar list old new = IsReadTo grammar list old.rest.now old.line new.rest.now new.line
 
--- the networks cover one range more
+-- The networks cover one more range.
 abbrev pub AddsRange : List Network → AddressRange → List Network → Type 0
 AddsRange old range new = (x : Address) → IsCoveredBy new x ↔ (IsCoveredBy old x ⊎ IsInRange range x)
 
--- the list was read to its end: it has these entries, and its refused lines are added to those before
+-- The whole list was read: it has these entries, and its refused lines are added.
 pub record WasReadAs (grammar : Grammar) (list : ℕ) (bytes : List ℕ) (entries : List ListEntry)
     (old new : RefusedLines) : Type 0 where
   pub refusals : List Refusal
   pub read : IsListRead grammar list bytes entries refusals
   pub added : HasMore old new refusals
 
--- the list was read: the set has the addresses of its entries, and its refused lines are added to those before
+-- The whole list was read: the set has the addresses of its entries, and its refused lines are added.
 pub record WasRead (grammar : Grammar) (list : ℕ) (bytes : List ℕ) (InSet : Address → Type 0)
     (old new : RefusedLines) : Type 0 where
   pub entries : List ListEntry
