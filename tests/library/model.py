@@ -1,4 +1,4 @@
-"""Addresses, networks, ranges and walks as plain numbers, written from docs/DEFINITIONS.md.
+"""Addresses, networks, ranges and walks as plain numbers, written from the definitions in crates/*/specs/.
 
 This is a module, not a script: the scripts of tests/library compare the answers of `ipnet_probe` with it.
 """

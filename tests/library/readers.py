@@ -99,7 +99,7 @@ def wanted(given):
     if "/" not in given:
         return NOTHING + " " + NOTHING
     strict = slowly_read(given, True)
-    # Every text that the strict reader reads is read alike by the legacy reader: docs/DEFINITIONS.md.
+    # Every text that the strict reader reads is read alike by the legacy reader: the law `strict_is_legacy`.
     return reading(strict) + " " + reading(slowly_read(given, False))
 
 
