@@ -7,7 +7,7 @@ use Rattle.ipnet.specs.declared.parser.Grammar.{Grammar}
 use Rattle.ipnet.specs.declared.parser.Grammar.TheVariants.{Strict, Legacy}
 use Rattle.ipnet.specs.Numerals.{IsOctet, IsGroup}
 
--- The text is texts of these numbers, joined by the separator. The empty list of numbers has the empty text.
+-- The text is the texts of these numbers, joined by the separator. The empty list of numbers has the empty text.
 -- Example: with "." and `IsOctet`, `10.1.1.0` is the text of 10, 1, 1, 0.
 abbrev pub IsJoined : List ℕ → (List ℕ → ℕ → Type 0) → List ℕ → List ℕ → Type 0
 IsJoined separator Writes text [] = text ≡ []

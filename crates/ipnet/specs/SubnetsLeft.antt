@@ -53,7 +53,7 @@ pub record IsSubnetStep {S A : Type 0} (network_of : A → Network) (range_of : 
   -- The stored ends after the call.
   pub advanced : IfSome answer (λ n. (x : Address) → IsGreatestOf (network_of n) x
       → IsAdvancedPast x.number (range_of old) (range_of new))
-  -- `None` is returned if and only if the start is greater than the end, and then nothing changes.
+  -- `None` comes exactly where the start lies above the end, and changes nothing
   pub over : IsNone answer ↔ ((range_of old).end < (range_of old).start)
   pub unchanged : IfNone answer (new ≡ old)
 

@@ -77,7 +77,7 @@ IsAggregateOf answer networks = AreMaximalBlocks (IsCoveredBy networks) 0 answer
 pub record IsCanonicalAggregateOf (answer networks : List Network) : Type 0 where
   -- It is the maximal blocks of the addresses that the list covers, ascending, each once.
   pub aggregate : IsAggregateOf answer networks
-  -- It covers the same addresses as the list.
+  -- it covers the same addresses as the list
   pub addresses : HaveSameCover answer networks
   -- No two of its networks share an address.
   pub disjoint : ArePairwiseDisjoint answer
