@@ -1,6 +1,6 @@
 -- The texts of addresses, in the strict and the legacy grammar (RFC 4291, section 2.2). Each definition relates a whole
--- text, as bytes, to the octets or groups that it denotes. The grammars differ only in leading zeros of decimal numbers
--- and in `most_written_groups`.
+-- text, as bytes, to the octets or groups that it denotes. The grammars, `Strict` and `Legacy` of the public enum
+-- `Grammar`, differ only in leading zeros of decimal numbers and in `most_written_groups`.
 use Rattle.std.specs.Prelude.{◌≡◌, ℕ, ◌+◌, ◌-◌, ◌≤◌, ◌⊎◌, List, [], ◌∷◌, ◌++◌, length, replicate, codes}
 use Rattle.std.specs.Net.Addr.{segments_of}
 use Rattle.ipnet.specs.declared.parser.Grammar.{Grammar}

@@ -1,5 +1,5 @@
 -- The ranges between the turns of a set, and the networks of each of these ranges.
--- Only private contracts use these.
+-- `RangesLeft` uses `ranges_of`. The other definitions are for private contracts.
 use Rattle.std.specs.Prelude.{◌≡◌, ℕ, ◌+◌, ◌-◌, ◌≤◌, true, List, [], ◌∷◌, ◌++◌}
 use Rattle.ipnet_base.specs.Address.{Family, Address, greatest_number}
 use Rattle.ipnet_base.specs.Network.{Network}

@@ -1,6 +1,6 @@
 -- A set of numbers as its turns: the ascending list of the numbers at which the set begins or ends. Each set of numbers
 -- of one family has exactly one such list.
--- Only private contracts use these.
+-- `Members` uses `is_inside` and `by_family`. The other definitions are for private contracts.
 use Rattle.std.specs.Prelude.{◌≡◌, ℕ, ◌+◌, ◌-◌, ◌<◌, ◌≤◌, ◌⊎◌, ◌↔◌, Bool, true, false, not, cond, leb, ◌&&◌, ◌||◌}
 use Rattle.std.specs.Prelude.{List, [], ◌∷◌, length, get_or, All, AllPairs}
 use Rattle.ipnet_base.specs.Address.{Family, IPv4, IPv6, greatest_number}
