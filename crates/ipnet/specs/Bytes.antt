@@ -28,6 +28,7 @@ abbrev pub tagged_network_bytes : Network → List ℕ
 tagged_network_bytes n = family_index n.family ∷ network_bytes n
 
 -- The bytes are the family's byte and then `rest`.
+-- Example: 0, 10, 1, 1, 0, 24 are IPv4 and the rest 10, 1, 1, 0, 24.
 abbrev pub IsTagged : List ℕ → Family → List ℕ → Type 0
 IsTagged bytes family rest = bytes ≡ family_index family ∷ rest
 

@@ -11,6 +11,7 @@ abbrev pub network_json : Network → Data
 network_json n = string (canonical_text n)
 
 -- The value is the JSON string with this text.
+-- Example: `"x"` is the JSON string with the text `x`.
 abbrev pub IsJsonString : Data → List ℕ → Type 0
 IsJsonString value text = value ≡ string text
 

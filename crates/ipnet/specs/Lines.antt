@@ -5,6 +5,7 @@ use Rattle.ipnet.specs.declared.parser.Grammar.{Grammar}
 use Rattle.ipnet.specs.NetworkTexts.{IsNetworkText, WritesNone}
 
 -- The lines with one more byte at the start of the first line.
+-- Example: the byte of `1` and the lines `0`, `2` give the lines `10`, `2`.
 abbrev pub onto_first_line : ℕ → List (List ℕ) → List (List ℕ)
 onto_first_line b [] = (b ∷ []) ∷ []
 onto_first_line b (line ∷ lines) = (b ∷ line) ∷ lines
@@ -21,6 +22,7 @@ abbrev pub IsGoodLine : Grammar → List ℕ → Type 0
 IsGoodLine grammar line = (line ≡ []) ⊎ ((network : Network) × IsNetworkText grammar line network)
 
 -- The line is not empty, and is not the text of a network.
+-- Example: `x` and `10.0.0.0`.
 abbrev pub IsBadLine : Grammar → List ℕ → Type 0
 IsBadLine grammar line = (line ≢ []) × WritesNone (IsNetworkText grammar) line
 

@@ -22,6 +22,7 @@ ipv6_range_of start end min_prefix_len =
     record { family = IPv6; start = start; end = end; min_prefix_len = min_prefix_len }
 
 -- The address lies in the range.
+-- Example: 10.0.0.1 lies in 10.0.0.0 to 10.0.0.239.
 abbrev pub IsInRange : SubnetRange → Address → Type 0
 IsInRange range = IsBetween range.family range.start range.end
 

@@ -113,6 +113,7 @@ pub record AreAggregatedNeighbours (networks : List Network) : Type 0 where
   pub unjoined : AllAdjacentBelow (λ n k. ¬ (AreHalves n k)) networks (length networks)
 
 -- The union of two sets.
+-- Example: 10.0.0.0 to 10.0.0.127 and 10.0.0.128 to 10.0.0.255 give 10.0.0.0 to 10.0.0.255.
 abbrev pub IsInEither : (Address → Type 0) → (Address → Type 0) → Address → Type 0
 IsInEither First Second x = First x ⊎ Second x
 

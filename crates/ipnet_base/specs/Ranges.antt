@@ -6,6 +6,7 @@ use Rattle.std.specs.List.{range_with_len, filter_map}
 use Rattle.ipnet_base.specs.Address.{Family, Address, address_at, family_index}
 
 -- The family of a range, and the numbers of its first and its last address. The range is empty if `start > end`.
+-- Example: 10.0.0.0 to 10.0.0.3 stores the numbers 167772160 and 167772163.
 pub record AddressRange : Type 0 where
   pub family : Family
   pub start : ℕ
@@ -24,6 +25,7 @@ abbrev pub address_count : AddressRange → ℕ
 address_count r = r.end + 1 - r.start
 
 -- The range of the same family with these ends.
+-- Example: 10.0.0.0 to 10.0.0.3 with the ends 1 and 0 is 0.0.0.1 to 0.0.0.0, which is empty.
 abbrev pub with_ends : AddressRange → ℕ → ℕ → AddressRange
 with_ends r start end = record { family = r.family; start = start; end = end }
 
@@ -75,6 +77,7 @@ pub record IsRangeStep {R A : Type 0} (address_of : A → Address) (range_of : R
   pub ends : IsNext (range_of old) (option_map address_of answer) (range_of new)
 
 -- One call of `next_back` on a range type: it adds the stored ends that the call leaves.
+-- Example: from 10.0.0.0 to 10.0.0.3, `next_back` returns 10.0.0.3 and leaves the ends 10.0.0.0 and 10.0.0.2.
 pub record IsRangeStepBack {R A : Type 0} (address_of : A → Address) (range_of : R → AddressRange) (old : R)
     (answer : Option A) (new : R) : Type 0 where
   -- Fewer addresses are left after each item.

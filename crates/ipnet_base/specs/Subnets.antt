@@ -24,6 +24,7 @@ abbrev pub IsMostBits : (distance b : ℕ) → Type 0
 IsMostBits distance b = (2 ^ b ≤ distance + 1) × ((c : ℕ) → 2 ^ c ≤ distance + 1 → c ≤ b)
 
 -- The contents of a walk: its family, the first and the last number that are left, and its minimum prefix length.
+-- Example: 10.0.0.0 to 10.0.0.239 with minimum 26.
 pub record SubnetRange : Type 0 where
   pub family : Family
   pub start : ℕ

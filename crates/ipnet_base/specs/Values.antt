@@ -21,6 +21,7 @@ abbrev pub HashesBy : {T V : Type 0} → (T → V) → (T → List (List ℕ)) �
 HashesBy view hash_input a b = (hash_input a ≡ hash_input b) ↔ (view a ≡ view b)
 
 -- `==` is true if and only if the two values are the same, as for errors.
+-- Example: `CompactError::Length` and `CompactError::Prefix` are not equal.
 abbrev pub EqualsExactly : {T : Type 0} → (T → T → Bool) → Type 0
 EqualsExactly {T} eq = (a b : T) → IsTrue (eq a b) ↔ (a ≡ b)
 

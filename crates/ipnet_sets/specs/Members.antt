@@ -15,6 +15,7 @@ abbrev pub turns_of : IpSet → Family → List ℕ
 turns_of s = by_family (map (λ n. n) s.ipv4.items) (map (λ n. n) s.ipv6.items)
 
 -- Whether the set contains the address: the number of turns up to it is odd.
+-- Example: the set a has one turn up to 10.0.0.5, so it contains 10.0.0.5, and two turns up to 10.0.0.6.
 abbrev pub is_member : IpSet → Address → Bool
 is_member s x = is_inside (turns_of s x.family) x.number
 
@@ -33,6 +34,7 @@ abbrev pub HaveSameAddresses : IpSet → IpSet → Type 0
 HaveSameAddresses s t = (x : Address) → IsMember s x ↔ IsMember t x
 
 -- The set is empty.
+-- Example: the difference of a and a.
 abbrev pub HasNoAddress : IpSet → Type 0
 HasNoAddress s = (x : Address) → ¬ (IsMember s x)
 
@@ -67,6 +69,7 @@ abbrev pub HasAddressesOf : IpSet → List Network → Type 0
 HasAddressesOf s networks = (x : Address) → IsMember s x ↔ IsCoveredBy networks x
 
 -- The address is in the set and of this family.
+-- Example: the IPv4 addresses of the set of 10.0.0.0/8 and fd00::/8 are 10.0.0.0/8.
 abbrev pub IsMemberOf : Family → IpSet → Address → Type 0
 IsMemberOf f s x = (x.family ≡ f) × IsMember s x
 

@@ -4,6 +4,7 @@ use Rattle.ipnet_base.specs.Address.{Family, Address, IsBetween, family_index}
 use Rattle.ipnet_base.specs.Ranges.{AddressRange}
 
 -- The range of the family with these ends.
+-- Example: `range_of IPv4 0 5` is 0.0.0.0 to 0.0.0.5.
 abbrev pub range_of : Family → ℕ → ℕ → AddressRange
 range_of f start end = record { family = f; start = start; end = end }
 
