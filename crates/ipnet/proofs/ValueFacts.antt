@@ -17,7 +17,7 @@ use Rattle.ipnet_base.proofs.NestingLaws.{nested, nested_or_disjoint, longer_fro
 use Rattle.ipnet_base.proofs.NetworkLaws.{truncated_from_number}
 use Rattle.ipnet_base.proofs.SupernetLaws.{supernet_below}
 use Rattle.ipnet_base.proofs.RangeLaws.{contains_from_between}
-use Rattle.ipnet.specs.NetworkParts.{HasReservedEnds, IsHostRange}
+use Rattle.ipnet.specs.NetworkParts.{HasReservedEnds, IsHostRange, IsSubnetOfLength, AreSubnetsOfLength}
 use Rattle.ipnet.proofs.HostLaws.{inner_hosts, whole_hosts, whole_from_31, whole_ipv6}
 
 -- two networks share an address exactly where one block lies in the other
@@ -185,3 +185,12 @@ pub member_from_nth : {S A : Type 0} (network : A → Network) (left : S → Lis
 member_from_nth network left old new n None h = tt
 member_from_nth network left old new n (Some k) h =
     contains_from_get (left old) n (network k) (sym (nth_of_list network left old new n (Some k) h).0)
+
+-- and is one of the subnets that the list has
+pub nth_has_length : {S A : Type 0} (network : A → Network) (left : S → List Network) (old new : S) (n : ℕ)
+    (answer : Option A) → SkipsThenYields (YieldsFirstBy network left) old n answer new
+    → (net : Network) (prefix_len : ℕ) → AreSubnetsOfLength net prefix_len (left old)
+    → IfSome answer (λ k. IsSubnetOfLength net prefix_len (network k))
+nth_has_length network left old new n None h net prefix_len subnets = tt
+nth_has_length network left old new n (Some k) h net prefix_len subnets =
+    (subnets.members (network k)).0 (member_from_nth network left old new n (Some k) h)

@@ -33,14 +33,24 @@ pub fn subnets_are_found_by_their_own_address(net: &IpNet, other: &IpNet)
         IsSubnetOf k n ↔ ((n.prefix_len ≤ k.prefix_len) × InBlock n (own_address k)) }
 {}
 
-/// A block has one least address and one greatest, and contains every address between the two.
-pub fn block_has_one_least_and_one_greatest_address(net: &IpNet)
-    ensures least { (x y : Address) → IsLeastOf (ip_network net.now) x → IsLeastOf (ip_network net.now) y → x ≡ y }
-    ensures greatest { (x y : Address) → IsGreatestOf (ip_network net.now) x → IsGreatestOf (ip_network net.now) y
-        → x ≡ y }
-    ensures between { (low high x : Address) → IsLeastOf (ip_network net.now) low
-        → IsGreatestOf (ip_network net.now) high
-        → InBlock (ip_network net.now) x ↔ IsBetween (ip_network net.now).family low.number high.number x }
+/// A block has one least address: any other that is least is the same address.
+pub fn least_address_is_one(net: &IpNet, first: &IpAddr)
+    ensures { IsLeastOf (ip_network net.now) (ip_address first.now)
+        → (x : Address) → IsLeastOf (ip_network net.now) x → x ≡ ip_address first.now }
+{}
+
+/// A block has one greatest address: any other that is greatest is the same address.
+pub fn greatest_address_is_one(net: &IpNet, last: &IpAddr)
+    ensures { IsGreatestOf (ip_network net.now) (ip_address last.now)
+        → (x : Address) → IsGreatestOf (ip_network net.now) x → x ≡ ip_address last.now }
+{}
+
+/// A block contains every address of its family from its least to its greatest, and no other address.
+pub fn block_lies_between_its_ends(net: &IpNet, first: &IpAddr, last: &IpAddr)
+    ensures { IsLeastOf (ip_network net.now) (ip_address first.now)
+        → IsGreatestOf (ip_network net.now) (ip_address last.now)
+        → (x : Address) → InBlock (ip_network net.now) x
+        ↔ IsBetween (ip_network net.now).family (ip_address first.now).number (ip_address last.now).number x }
 {}
 
 /// The supernet is the next wider network. It lies in each network that contains `net` and has a shorter prefix, and in
@@ -83,12 +93,30 @@ pub fn nth_is_at_its_place(
         → ip_subnets_left after.now ≡ drop (place + 1) (ip_subnets_left before.now) }
 {}
 
+/// A subnet that `nth` of a walk over `net` returns is truncated, has the length of the walk and lies in `net`.
+pub fn nth_subnet_has_its_length(
+    net: &IpNet,
+    before: &IpSubnets,
+    place: usize,
+    answer: &Option<IpNet>,
+    after: &IpSubnets,
+)
+    ensures { (prefix_len : ℕ) → AreSubnetsOfLength (ip_network net.now) prefix_len (ip_subnets_left before.now)
+        → SkipsThenYields ⟦<IpSubnets as Iterator>⟧.next_gives before.now place answer.now after.now
+        → IfSome answer.now (λ n. IsSubnetOfLength (ip_network net.now) prefix_len (ip_network n)) }
+{}
+
 /// A network that begins at the address after a block, with a prefix that is no shorter, has no host bit, and shares no
-/// address with the block.
-pub fn next_block_begins_after_the_last_address(net: &IpNet, next: &IpNet)
-    ensures { let n = ip_network net.now in let k = ip_network next.now in (last : Address) → IsGreatestOf n last
-        → k.family ≡ n.family → k.number ≡ last.number + 1 → n.prefix_len ≤ k.prefix_len
-        → IsTruncated k × AreDisjoint n k }
+/// address with the block. The block has one last address (`last`).
+pub fn next_network_begins_a_block(net: &IpNet, last: &IpAddr, next: &IpNet)
+    ensures last { IsGreatestOf (ip_network net.now) (ip_address last.now)
+        → (x : Address) → IsGreatestOf (ip_network net.now) x → x.number ≡ (ip_address last.now).number }
+    ensures truncated { let n = ip_network net.now in let k = ip_network next.now in
+        IsGreatestOf n (ip_address last.now) → k.family ≡ n.family → k.number ≡ (ip_address last.now).number + 1
+        → n.prefix_len ≤ k.prefix_len → IsTruncated k }
+    ensures apart { let n = ip_network net.now in let k = ip_network next.now in
+        IsGreatestOf n (ip_address last.now) → k.family ≡ n.family → k.number ≡ (ip_address last.now).number + 1
+        → n.prefix_len ≤ k.prefix_len → AreDisjoint n k }
 {}
 
 /// The list is its own aggregate if and only if its neighbours meet the four conditions.
@@ -98,16 +126,24 @@ pub fn neighbours_show_the_aggregate(networks: &[IpNet])
 {}
 
 /// A network of an aggregate has no host bit, and the list covers each of its addresses.
-pub fn members_of_an_aggregate_are_covered(aggregate: &[IpNet], networks: &[IpNet], member: &IpNet)
-    ensures { IsAggregateOf (map ip_network aggregate.now) (map ip_network networks.now)
-        → Contains (map ip_network aggregate.now) (ip_network member.now)
+pub fn members_of_an_aggregate_are_covered(
+    aggregate: &Vec<IpNet>,
+    networks: &Vec<IpNet>,
+    member: &IpNet,
+)
+    ensures { IsAggregateOf (map ip_network aggregate.now.items) (map ip_network networks.now.items)
+        → Contains (map ip_network aggregate.now.items) (ip_network member.now)
         → IsTruncated (ip_network member.now)
-        × ((x : Address) → InBlock (ip_network member.now) x → IsCoveredBy (map ip_network networks.now) x) }
+        × ((x : Address) → InBlock (ip_network member.now) x → IsCoveredBy (map ip_network networks.now.items) x) }
 {}
 
-/// Lists with the same addresses cover the address both, or neither does.
-pub fn same_cover_has_the_same_addresses(networks: &[IpNet], others: &[IpNet], address: &IpAddr)
-    ensures { HaveSameCover (map ip_network networks.now) (map ip_network others.now)
-        → IsCoveredBy (map ip_network networks.now) (ip_address address.now)
-        ↔ IsCoveredBy (map ip_network others.now) (ip_address address.now) }
+/// If two lists have the same addresses, each covers a given address if and only if the other does.
+pub fn same_cover_has_the_same_addresses(
+    networks: &Vec<IpNet>,
+    others: &Vec<IpNet>,
+    address: &IpAddr,
+)
+    ensures { HaveSameCover (map ip_network networks.now.items) (map ip_network others.now.items)
+        → IsCoveredBy (map ip_network networks.now.items) (ip_address address.now)
+        ↔ IsCoveredBy (map ip_network others.now.items) (ip_address address.now) }
 {}

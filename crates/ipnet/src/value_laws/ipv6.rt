@@ -33,14 +33,24 @@ pub fn subnets_are_found_by_their_own_address(net: &Ipv6Net, other: &Ipv6Net)
         IsSubnetOf k n ↔ ((n.prefix_len ≤ k.prefix_len) × InBlock n (own_address k)) }
 {}
 
-/// A block has one least address and one greatest, and contains every address between the two.
-pub fn block_has_one_least_and_one_greatest_address(net: &Ipv6Net)
-    ensures least { (x y : Address) → IsLeastOf (ipv6_network net.now) x → IsLeastOf (ipv6_network net.now) y → x ≡ y }
-    ensures greatest { (x y : Address) → IsGreatestOf (ipv6_network net.now) x → IsGreatestOf (ipv6_network net.now) y
-        → x ≡ y }
-    ensures between { (low high x : Address) → IsLeastOf (ipv6_network net.now) low
-        → IsGreatestOf (ipv6_network net.now) high
-        → InBlock (ipv6_network net.now) x ↔ IsBetween (ipv6_network net.now).family low.number high.number x }
+/// A block has one least address: any other that is least is the same address.
+pub fn least_address_is_one(net: &Ipv6Net, first: &Ipv6Addr)
+    ensures { IsLeastOf (ipv6_network net.now) (ipv6_address first.now)
+        → (x : Address) → IsLeastOf (ipv6_network net.now) x → x ≡ ipv6_address first.now }
+{}
+
+/// A block has one greatest address: any other that is greatest is the same address.
+pub fn greatest_address_is_one(net: &Ipv6Net, last: &Ipv6Addr)
+    ensures { IsGreatestOf (ipv6_network net.now) (ipv6_address last.now)
+        → (x : Address) → IsGreatestOf (ipv6_network net.now) x → x ≡ ipv6_address last.now }
+{}
+
+/// A block contains every address of its family from its least to its greatest, and no other address.
+pub fn block_lies_between_its_ends(net: &Ipv6Net, first: &Ipv6Addr, last: &Ipv6Addr)
+    ensures { IsLeastOf (ipv6_network net.now) (ipv6_address first.now)
+        → IsGreatestOf (ipv6_network net.now) (ipv6_address last.now)
+        → (x : Address) → InBlock (ipv6_network net.now) x
+        ↔ IsBetween (ipv6_network net.now).family (ipv6_address first.now).number (ipv6_address last.now).number x }
 {}
 
 /// The supernet is the next wider network. It lies in each network that contains `net` and has a shorter prefix, and in
@@ -83,12 +93,30 @@ pub fn nth_is_at_its_place(
         → ipv6_subnets_left after.now ≡ drop (place + 1) (ipv6_subnets_left before.now) }
 {}
 
+/// A subnet that `nth` of a walk over `net` returns is truncated, has the length of the walk and lies in `net`.
+pub fn nth_subnet_has_its_length(
+    net: &Ipv6Net,
+    before: &Ipv6Subnets,
+    place: usize,
+    answer: &Option<Ipv6Net>,
+    after: &Ipv6Subnets,
+)
+    ensures { (prefix_len : ℕ) → AreSubnetsOfLength (ipv6_network net.now) prefix_len (ipv6_subnets_left before.now)
+        → SkipsThenYields ⟦<Ipv6Subnets as Iterator>⟧.next_gives before.now place answer.now after.now
+        → IfSome answer.now (λ n. IsSubnetOfLength (ipv6_network net.now) prefix_len (ipv6_network n)) }
+{}
+
 /// A network that begins at the address after a block, with a prefix that is no shorter, has no host bit, and shares no
-/// address with the block.
-pub fn next_block_begins_after_the_last_address(net: &Ipv6Net, next: &Ipv6Net)
-    ensures { let n = ipv6_network net.now in let k = ipv6_network next.now in (last : Address) → IsGreatestOf n last
-        → k.family ≡ n.family → k.number ≡ last.number + 1 → n.prefix_len ≤ k.prefix_len
-        → IsTruncated k × AreDisjoint n k }
+/// address with the block. The block has one last address (`last`).
+pub fn next_network_begins_a_block(net: &Ipv6Net, last: &Ipv6Addr, next: &Ipv6Net)
+    ensures last { IsGreatestOf (ipv6_network net.now) (ipv6_address last.now)
+        → (x : Address) → IsGreatestOf (ipv6_network net.now) x → x.number ≡ (ipv6_address last.now).number }
+    ensures truncated { let n = ipv6_network net.now in let k = ipv6_network next.now in
+        IsGreatestOf n (ipv6_address last.now) → k.family ≡ n.family → k.number ≡ (ipv6_address last.now).number + 1
+        → n.prefix_len ≤ k.prefix_len → IsTruncated k }
+    ensures apart { let n = ipv6_network net.now in let k = ipv6_network next.now in
+        IsGreatestOf n (ipv6_address last.now) → k.family ≡ n.family → k.number ≡ (ipv6_address last.now).number + 1
+        → n.prefix_len ≤ k.prefix_len → AreDisjoint n k }
 {}
 
 /// The list is its own aggregate if and only if its neighbours meet the four conditions.
@@ -99,23 +127,23 @@ pub fn neighbours_show_the_aggregate(networks: &[Ipv6Net])
 
 /// A network of an aggregate has no host bit, and the list covers each of its addresses.
 pub fn members_of_an_aggregate_are_covered(
-    aggregate: &[Ipv6Net],
-    networks: &[Ipv6Net],
+    aggregate: &Vec<Ipv6Net>,
+    networks: &Vec<Ipv6Net>,
     member: &Ipv6Net,
 )
-    ensures { IsAggregateOf (map ipv6_network aggregate.now) (map ipv6_network networks.now)
-        → Contains (map ipv6_network aggregate.now) (ipv6_network member.now)
+    ensures { IsAggregateOf (map ipv6_network aggregate.now.items) (map ipv6_network networks.now.items)
+        → Contains (map ipv6_network aggregate.now.items) (ipv6_network member.now)
         → IsTruncated (ipv6_network member.now)
-        × ((x : Address) → InBlock (ipv6_network member.now) x → IsCoveredBy (map ipv6_network networks.now) x) }
+        × ((x : Address) → InBlock (ipv6_network member.now) x → IsCoveredBy (map ipv6_network networks.now.items) x) }
 {}
 
-/// Lists with the same addresses cover the address both, or neither does.
+/// If two lists have the same addresses, each covers a given address if and only if the other does.
 pub fn same_cover_has_the_same_addresses(
-    networks: &[Ipv6Net],
-    others: &[Ipv6Net],
+    networks: &Vec<Ipv6Net>,
+    others: &Vec<Ipv6Net>,
     address: &Ipv6Addr,
 )
-    ensures { HaveSameCover (map ipv6_network networks.now) (map ipv6_network others.now)
-        → IsCoveredBy (map ipv6_network networks.now) (ipv6_address address.now)
-        ↔ IsCoveredBy (map ipv6_network others.now) (ipv6_address address.now) }
+    ensures { HaveSameCover (map ipv6_network networks.now.items) (map ipv6_network others.now.items)
+        → IsCoveredBy (map ipv6_network networks.now.items) (ipv6_address address.now)
+        ↔ IsCoveredBy (map ipv6_network others.now.items) (ipv6_address address.now) }
 {}
