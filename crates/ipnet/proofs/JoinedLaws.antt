@@ -6,11 +6,12 @@ use Rattle.std.proofs.lemmas.Bool.{ltb-true, lt-ltb, eqb-true}
 use Rattle.std.proofs.lemmas.List.{length-map, map_more, get_or-map}
 use Rattle.ipnet_base.specs.Address.{family_index}
 use Rattle.ipnet_base.specs.Network.{Network, IsNetwork, IsTruncated, AreHalves, truncation, last_of}
-use Rattle.ipnet_base.specs.Blocks.{IsCoveredBy, HaveSameCover, IsAggregateOf}
+use Rattle.ipnet_base.specs.Blocks.{IsCoveredBy, HaveSameCover, IsAggregateOf, AreAggregatedNeighbours}
 use Rattle.ipnet_base.specs.Stack.{LiesBefore, AreJoined}
 use Rattle.ipnet_base.proofs.BlockLaws.{between_from_block}
 use Rattle.ipnet_base.proofs.NetworkLaws.{number_from_truncated, truncated_from_number}
 use Rattle.ipnet_base.proofs.EndLaws.{ends_by_numbers}
+use Rattle.ipnet_base.proofs.NeighbourLaws.{AreJoined-from_neighbours, AreAggregatedNeighbours-from_joined}
 use Rattle.ipnet_base.proofs.NeighbourLaws.{AreMaximalBlocks-from_neighbours, neighbours_from_blocks}
 use Rattle.ipnet_base.proofs.UniqueLaws.{AreMaximalBlocks-same_set}
 use Rattle.ipnet_base.proofs.StackLaws.{neighbours_push}
@@ -85,11 +86,19 @@ joined_pair f xs i x y joined some l e before =
       subst₂ (λ n k. ¬ (AreHalves n k)) first second (joined.unjoined (i - 1) (f x) (omega (arith, size))),
     )
 
--- what the answers of `is_aggregated` say
+-- what the answers of `is_aggregated` say of the aggregate, and of the neighbours
 pub joined_is_own : (networks : List Network) → All IsNetwork networks → AreJoined networks → IsTrue true
     ↔ IsAggregateOf networks networks
 joined_is_own networks valid joined = (λ h. AreMaximalBlocks-from_neighbours networks valid joined, λ h. refl)
 
+pub joined_is_neighbours : (networks : List Network) → AreJoined networks → IsTrue true
+    ↔ AreAggregatedNeighbours networks
+joined_is_neighbours networks joined = (λ h. AreAggregatedNeighbours-from_joined networks joined, λ h. refl)
+
 pub unjoined_is_not_own : (networks : List Network) → (AreJoined networks → ⊥) → IsTrue false
     ↔ IsAggregateOf networks networks
 unjoined_is_not_own networks never = (λ h. cc, λ h. absurd (never (neighbours_from_blocks networks h)))
+
+pub unjoined_is_not_neighbours : (networks : List Network) → (AreJoined networks → ⊥) → IsTrue false
+    ↔ AreAggregatedNeighbours networks
+unjoined_is_not_neighbours networks never = (λ h. cc, λ h. absurd (never (AreJoined-from_neighbours networks h)))

@@ -24,6 +24,7 @@ pub mod ZeroRuns
 pub mod LineLaws
 pub mod CompactLaws
 pub mod JsonLaws
+pub mod ValueFacts
 pub use Rattle.ipnet_base.proofs.ListLaws
 pub use Rattle.ipnet_base.proofs.CoverLaws
 pub use Rattle.ipnet_base.proofs.AggregateLaws

@@ -3,6 +3,7 @@ ghost use Rattle.std.specs.Prelude.{◌≡◌, ◌↔◌, ◌+◌, ◌<◌, ◌�
 ghost use Rattle.std.specs.Prelude.{IfOk, OnOk, IsOk, IsOkAnd, IsTrue};
 ghost use Rattle.ipnet_base.specs.Network.{IsTruncated};
 ghost use Rattle.ipnet_base.specs.Blocks.{HaveSameCover, IsAggregateOf, IsCanonicalAggregateOf};
+ghost use Rattle.ipnet_base.specs.Blocks.{AreAggregatedNeighbours};
 ghost use Rattle.ipnet_base.specs.Stack.{IsBeforeOrEqual, IsInOrder, LiesBefore, AreJoined};
 ghost use Rattle.ipnet_base.specs.Stack.{IsListWith, IsStackWith, IsStackOfFirst};
 ghost use Rattle.ipnet.specs.NetworkOf.{ipv4_network, ipv6_network, ip_network};
@@ -202,9 +203,9 @@ fn lies_before(first: &IpNet, second: &IpNet) -> bool
 
 /// Whether the list is its own aggregate: what `IpNet::aggregate` answers for it is the list as it stands.
 ///
-/// That is so exactly where its neighbours show it, as the law `neighbours_show_their_own_aggregate` says: each network
-/// has no host bit, IPv4 stands before IPv6, in a family each network starts after the last address of the one before,
-/// and no two neighbours are the two halves of one supernet. Takes no memory. The empty list is its own aggregate.
+/// This is the case if and only if four conditions hold: no network has a host bit; IPv4 comes before IPv6; within a
+/// family each network starts after the last address of the network before it; and no two neighbours are the two
+/// halves of one supernet. Allocates nothing. The empty list is its own aggregate.
 ///
 /// ```text
 /// 10.0.0.0/25, 10.0.1.0/24                    is its own aggregate
@@ -213,7 +214,9 @@ fn lies_before(first: &IpNet, second: &IpNet) -> bool
 /// 10.0.0.1/24                                 is not: a host bit is set
 /// ```
 pub fn is_aggregated(networks: &[IpNet]) -> bool
-    ensures { IsTrue result ↔ IsAggregateOf (map ip_network networks.now) (map ip_network networks.now) }
+    ensures own_aggregate { IsTrue result
+        ↔ IsAggregateOf (map ip_network networks.now) (map ip_network networks.now) }
+    ensures neighbours { IsTrue result ↔ AreAggregatedNeighbours (map ip_network networks.now) }
 {
     for index in 0..networks.len() {
         let network = networks[index];

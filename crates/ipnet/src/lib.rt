@@ -9,6 +9,7 @@ pub mod parser;
 pub mod print;
 pub mod subnets;
 pub mod text_laws;
+pub mod value_laws;
 
 pub use aggregate::{is_aggregated, same_addresses};
 pub use compact::CompactError;

@@ -4,12 +4,13 @@
 ghost use Rattle.std.specs.Prelude.{◌≡◌, ◌+◌, ◌-◌, ◌*◌, ◌≤◌, ◌<◌, [], ◌∷◌, ◌++◌, length, codes, decimal, Some};
 ghost use Rattle.std.specs.Char.{digit_char};
 ghost use Rattle.std.specs.Fmt.{DisplaysOnOk, DisplaysStyledOnOk};
-ghost use Rattle.std.specs.Net.Addr.{ipv4_octets, ipv6_segments};
+ghost use Rattle.std.specs.Net.Addr.{ipv4_octets, ipv4_bits, ipv6_segments, ipv6_bits};
 ghost use Rattle.std.specs.Net.Text.{ipv4_text, ipv6_text, hex, groups_text};
 ghost use Rattle.std.specs.Net.Text as text;
 ghost use Rattle.arrayvec.specs.ArrayString.{array_string_len};
+ghost use Rattle.ipnet_base.specs.Address.{IPv4, IPv6};
 ghost use Rattle.ipnet.specs.NetworkOf.{ipv4_network, ipv6_network, ip_network};
-ghost use Rattle.ipnet.specs.CanonicalTexts.{canonical_text};
+ghost use Rattle.ipnet.specs.CanonicalTexts.{address_text, canonical_text};
 
 use crate::net::{IpNet, Ipv4Net, Ipv6Net};
 use arrayvec::ArrayString;
@@ -201,7 +202,8 @@ fn push_ipv6(out: &mut Buffer, addr: Ipv6Addr)
 /// 10.1.1.0
 /// ```
 pub fn ipv4_addr_text(addr: Ipv4Addr) -> ArrayString<IPV4_ADDR_LEN>
-    ensures { result.bytes ≡ ipv4_text (ipv4_octets addr) }
+    ensures of_octets { result.bytes ≡ ipv4_text (ipv4_octets addr) }
+    ensures of_number { result.bytes ≡ address_text IPv4 (ipv4_bits addr) }
 {
     let mut buffer = Buffer::new();
     push_octets(&mut buffer, addr.octets());
@@ -223,7 +225,8 @@ pub fn ipv4_addr_text(addr: Ipv4Addr) -> ArrayString<IPV4_ADDR_LEN>
 /// ::102:304
 /// ```
 pub fn ipv6_addr_text(addr: Ipv6Addr) -> ArrayString<IPV6_ADDR_LEN>
-    ensures { result.bytes ≡ ipv6_text (ipv6_segments addr) }
+    ensures of_groups { result.bytes ≡ ipv6_text (ipv6_segments addr) }
+    ensures of_number { result.bytes ≡ address_text IPv6 (ipv6_bits addr) }
 {
     let mut buffer = Buffer::new();
     push_ipv6(&mut buffer, addr);

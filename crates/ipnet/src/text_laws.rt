@@ -14,6 +14,7 @@ ghost use Rattle.ipnet.specs.Lines.{AreNetworksOf, IsFirstBadLine};
 
 use crate::net::{IpNet, Ipv4Net, Ipv6Net};
 use crate::parser::{AddrParseError, Grammar};
+use crate::print::{IPV4_NETWORK_LEN, IPV6_NETWORK_LEN};
 use std::net::{Ipv4Addr, Ipv6Addr};
 
 /// In either grammar a text writes one network at most, whose number and prefix length are in the range of its family.
@@ -119,6 +120,13 @@ pub fn shortens_longest_run()
     ensures mapped { (groups : List ℕ) → IsIpv4Mapped groups
         → ipv6_text groups ≡ codes "::ffff:" ++ ipv4_text (octets_of (drop 6 groups)) }
     ensures others { (groups : List ℕ) → ¬ (IsIpv4Mapped groups) → IsShortened groups (ipv6_text groups) }
+{}
+
+/// The buffers that `to_text` returns have room for 18 bytes and for 43, the lengths of the longest texts of networks:
+/// `255.255.255.255/32` and `ffff:ffff:ffff:ffff:ffff:ffff:ffff:ffff/128`.
+pub fn network_texts_have_the_longest_room()
+    ensures ipv4 { IPV4_NETWORK_LEN ≡ 18 }
+    ensures ipv6 { IPV6_NETWORK_LEN ≡ 43 }
 {}
 
 /// The lines of a text write one list of networks at most, and none where a line is bad; and one line at most is the

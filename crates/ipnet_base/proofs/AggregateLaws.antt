@@ -1,10 +1,10 @@
 -- Aggregates of lists: what they cover, disjoint networks, no more than the list has, equal answers and equal covers,
 -- aggregates of aggregates.
 use Rattle.std.proofs.Common.{◌≡◌, ◌≤◌, ◌↔◌, List, ◌++◌, length, map, Contains, All, sym, subst, arith}
-use Rattle.ipnet_base.specs.Network.{Network, IsNetwork, InBlock, truncation}
+use Rattle.ipnet_base.specs.Network.{Network, IsNetwork, InBlock, IsTruncated, truncation}
 use Rattle.ipnet_base.specs.Blocks.{IsCoveredBy, HaveSameCover, IsExactCover, IsShortestCover, ArePairwiseDisjoint}
 use Rattle.ipnet_base.specs.Blocks.{IsAggregateOf, IsCanonicalAggregateOf, AreMaximalBlocks}
-use Rattle.ipnet_base.proofs.ListLaws.{all_at, any_from_contains}
+use Rattle.ipnet_base.proofs.ListLaws.{all_at, all_from_members, any_from_contains}
 use Rattle.ipnet_base.proofs.UniqueLaws.{AreMaximalBlocks-unique, AreMaximalBlocks-same_set, maximal_blocks_apart}
 use Rattle.ipnet_base.proofs.DecidedLaws.{IsDecided-cover}
 use Rattle.ipnet_base.proofs.CoverLaws.{HaveSameCover-sym, HaveSameCover-trans, HaveSameCover-append}
@@ -80,6 +80,10 @@ pub aggregate_valid : (networks answer : List Network) → All IsNetwork network
     → All IsNetwork answer
 aggregate_valid networks answer valid h = (IsExactCover-of_aggregate networks answer valid h).valid
 
+pub aggregate_truncated : (networks answer : List Network) → IsAggregateOf answer networks → All IsTruncated answer
+aggregate_truncated networks answer h =
+    all_from_members IsTruncated answer (λ n c. ((h.members n).0 c).inside.truncated)
+
 -- an aggregate is its own aggregate
 pub aggregate_of_aggregate : (networks answer : List Network) → All IsNetwork networks → IsAggregateOf answer networks
     → IsAggregateOf answer answer
@@ -150,6 +154,9 @@ pub IsCanonicalAggregateOf-from_aggregate : (networks answer : List Network) →
     → IsAggregateOf answer networks → IsCanonicalAggregateOf answer networks
 IsCanonicalAggregateOf-from_aggregate networks answer valid h = record {
   aggregate = h;
+  valid = aggregate_valid networks answer valid h;
+  truncated = aggregate_truncated networks answer h;
+  ascending = h.ascending;
   addresses = blocks_cover networks answer valid h;
   disjoint = aggregate_apart networks answer h;
   shortest = IsShortestCover-of_aggregate networks answer valid h;

@@ -284,7 +284,7 @@ AreJoined-from_neighbours networks h = record {
           inr (same, apart same)
     ]
 
-AreAggregatedNeighbours-from_joined : (networks : List Network) → AreJoined networks
+pub AreAggregatedNeighbours-from_joined : (networks : List Network) → AreJoined networks
     → AreAggregatedNeighbours networks
 AreAggregatedNeighbours-from_joined networks h = record {
   truncated = h.truncated;

@@ -77,6 +77,11 @@ IsAggregateOf answer networks = AreMaximalBlocks (IsCoveredBy networks) 0 answer
 pub record IsCanonicalAggregateOf (answer networks : List Network) : Type 0 where
   -- It is the maximal blocks of the addresses that the list covers, ascending, each once.
   pub aggregate : IsAggregateOf answer networks
+  -- each of its networks is an address of its family with a prefix that is no longer, and has no host bit
+  pub valid : All IsNetwork answer
+  pub truncated : All IsTruncated answer
+  -- each stands before all later ones
+  pub ascending : IsAscending answer
   -- it covers the same addresses as the list
   pub addresses : HaveSameCover answer networks
   -- No two of its networks share an address.

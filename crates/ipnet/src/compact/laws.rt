@@ -6,6 +6,7 @@ ghost use Rattle.ipnet_base.specs.Values.{EqualsExactly, ClonesExactly};
 
 use super::CompactError;
 use crate::net::{IpNet, Ipv4Net, Ipv6Net};
+use ipnet_base::mask::laws::is_error_with_eq;
 
 /// The bytes of an IPv4 network read back as that network.
 pub fn ipv4_bytes_read_back(network: &Ipv4Net) -> Result<Ipv4Net, CompactError>
@@ -37,3 +38,10 @@ pub fn compact_errors_compare_by_value()
 pub fn compact_errors_clone()
     ensures { ClonesExactly ⟦<CompactError as Clone>⟧.is_clone ⟦<CompactError as Clone>⟧.is_infallible }
 {}
+
+/// The error is an `Error` with `Eq`.
+//
+// The contract says nothing: the body does not compile if an implementation is missing.
+pub fn compact_errors_have_eq(error: &CompactError) {
+    is_error_with_eq(error);
+}

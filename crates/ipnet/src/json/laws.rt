@@ -5,6 +5,7 @@ ghost use Rattle.ipnet_base.specs.Values.{EqualsExactly, ClonesExactly};
 
 use super::JsonError;
 use crate::net::{IpNet, Ipv4Net, Ipv6Net};
+use ipnet_base::mask::laws::is_error_with_eq;
 use std::alloc::{AllocError, Global};
 
 /// The JSON value of an IPv4 network reads back as that network.
@@ -52,3 +53,10 @@ pub fn json_errors_compare_by_value()
 pub fn json_errors_clone()
     ensures { ClonesExactly ⟦<JsonError as Clone>⟧.is_clone ⟦<JsonError as Clone>⟧.is_infallible }
 {}
+
+/// The error is an `Error` with `Eq`.
+//
+// The contract says nothing: the body does not compile if an implementation is missing.
+pub fn json_errors_have_eq(error: &JsonError) {
+    is_error_with_eq(error);
+}

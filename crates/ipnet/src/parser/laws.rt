@@ -12,6 +12,7 @@ ghost use Rattle.ipnet.specs.declared.parser.Grammar.TheVariants.{Strict};
 
 use super::{AddrParseError, Grammar};
 use crate::net::{IpNet, Ipv4Net, Ipv6Net};
+use ipnet_base::mask::laws::is_error_with_eq;
 use std::str::FromStr;
 
 /// `==` says whether two grammars are one.
@@ -33,6 +34,13 @@ pub fn addr_parse_errors_compare_by_value()
 pub fn addr_parse_errors_clone()
     ensures { ClonesExactly ⟦<AddrParseError as Clone>⟧.is_clone ⟦<AddrParseError as Clone>⟧.is_infallible }
 {}
+
+/// The error is an `Error` with `Eq`.
+//
+// The contract says nothing: the body does not compile if an implementation is missing.
+pub fn addr_parse_errors_have_eq(error: &AddrParseError) {
+    is_error_with_eq(error);
+}
 
 /// `FromStr` reads the strict grammar, of all three types.
 pub fn from_str_reads_strict_texts()

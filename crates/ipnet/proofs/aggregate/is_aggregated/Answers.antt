@@ -6,7 +6,7 @@ use Rattle.ipnet_base.specs.Network.{IsNetwork}
 use Rattle.ipnet_base.proofs.ResultLaws.{true_gives, false_gives}
 use Rattle.ipnet_base.proofs.ListLaws.{All-read}
 use Rattle.ipnet.proofs.JoinedLaws.{joined_first, joined_more, joined_at, joined_pair, joined_is_own}
-use Rattle.ipnet.proofs.JoinedLaws.{unjoined_is_not_own}
+use Rattle.ipnet.proofs.JoinedLaws.{joined_is_neighbours, unjoined_is_not_own, unjoined_is_not_neighbours}
 use Rattle.ipnet_base.specs.Stack.{AreJoined}
 use Rattle.ipnet.specs.NetworkOf.{ip_network}
 use Rattle.ipnet.specs.NetLaws.{ip_valid}
@@ -22,9 +22,13 @@ has_host_bit c joined =
     (joined_at ip_network c.args.networks.now c.loop-index.index c.index-networks-index.result joined
     (omega arith) c.index-networks-index.is)
 
-pub returns-then-not-is_truncated : goal.returns-then-not-is_truncated
-returns-then-not-is_truncated c =
+pub returns-then-not-is_truncated-clause-own_aggregate : goal.returns-then-not-is_truncated-clause-own_aggregate
+returns-then-not-is_truncated-clause-own_aggregate c =
     unjoined_is_not_own (map ip_network c.args.networks.now) (has_host_bit c)
+
+pub returns-then-not-is_truncated-clause-neighbours : goal.returns-then-not-is_truncated-clause-neighbours
+returns-then-not-is_truncated-clause-neighbours c =
+    unjoined_is_not_neighbours (map ip_network c.args.networks.now) (has_host_bit c)
 
 -- two neighbours out of order, or the two halves of one supernet
 not_apart : (c : goal.Joined-then-not-lies_before) → AreJoined (map ip_network c.args.networks.now) → ⊥
@@ -39,9 +43,13 @@ not_apart c joined =
           pair.1 (true_gives w.is_other_half.result w.is_other_half.ensures w.if-is_other_half.true)
     ]
 
-pub returns-then-not-lies_before : goal.returns-then-not-lies_before
-returns-then-not-lies_before c =
+pub returns-then-not-lies_before-clause-own_aggregate : goal.returns-then-not-lies_before-clause-own_aggregate
+returns-then-not-lies_before-clause-own_aggregate c =
     unjoined_is_not_own (map ip_network c.args.networks.now) (not_apart c)
+
+pub returns-then-not-lies_before-clause-neighbours : goal.returns-then-not-lies_before-clause-neighbours
+returns-then-not-lies_before-clause-neighbours c =
+    unjoined_is_not_neighbours (map ip_network c.args.networks.now) (not_apart c)
 
 pub loop-index-preserved : goal.loop-index-preserved
 loop-index-preserved c =
@@ -65,7 +73,10 @@ all_joined : (c : goal.After-loop-index) → AreJoined (map ip_network c.args.ne
 all_joined c = subst (λ z. AreJoined (map ip_network z))
     (take_all c.loop-index.index c.args.networks.now (omega arith)) c.loop-index.invariant
 
-pub returns : goal.returns
-returns c =
+pub returns-clause-own_aggregate : goal.returns-clause-own_aggregate
+returns-clause-own_aggregate c =
     joined_is_own (map ip_network c.args.networks.now) (All-read IsNetwork ip_network ip_valid c.args.networks.now)
     (all_joined c)
+
+pub returns-clause-neighbours : goal.returns-clause-neighbours
+returns-clause-neighbours c = joined_is_neighbours (map ip_network c.args.networks.now) (all_joined c)

@@ -4,7 +4,8 @@ use Rattle.std.proofs.Common.{rules, ◌∙◌, sym, subst, ap, length}
 use Rattle.ipnet_base.specs.Subnets.{IsAdvancedPast}
 use Rattle.ipnet.specs.NetworkOf.{ipv4_network}
 use Rattle.ipnet.specs.SubnetsLeft.{ipv4_subnet_range, ipv4_subnets_left}
-use Rattle.ipnet.proofs.SubnetsLaws.{ipv4_subnets_left-are_blocks, nothing_left, left_advanced}
+use Rattle.ipnet.proofs.SubnetsLaws.{ipv4_walk, ipv4_subnets_left-are_blocks, nothing_left}
+use Rattle.ipnet.proofs.SubnetsLaws.{left_advanced}
 use Rattle.ipnet_base.proofs.BlockLaws.{last_from_greatest}
 use Rattle.ipnet.proofs.subnets.ipv4_subnets.Ipv4SubnetsIterator.next.Goals as goal
 
@@ -20,6 +21,8 @@ returns-then-self-clause-goes c = record {
   progress = search rules;
   largest = search rules;
   advanced = search rules;
+  walk = ipv4_walk c.args.self.now;
+  rest = ipv4_walk c.args.self.now;
   over = search rules;
   unchanged = search rules;
 }
@@ -46,6 +49,8 @@ returns-clause-goes c =
           (c.last_number.ensures ∙ sym (last_from_greatest (ipv4_network c.largest_subnet_at-network.result) x
           greatest))
           c.advance_past.ensures;
+      walk = ipv4_walk c.args.self.now;
+      rest = ipv4_walk c.advance_past.new.self;
       over = search rules;
       unchanged = search rules;
     }

@@ -4,7 +4,8 @@ use Rattle.std.proofs.Common.{rules, ◌∙◌, sym, subst, ap, length}
 use Rattle.ipnet_base.specs.Subnets.{IsAdvancedPast}
 use Rattle.ipnet.specs.NetworkOf.{ipv6_network}
 use Rattle.ipnet.specs.SubnetsLeft.{ipv6_subnet_range, ipv6_subnets_left}
-use Rattle.ipnet.proofs.SubnetsLaws.{ipv6_subnets_left-are_blocks, nothing_left, left_advanced}
+use Rattle.ipnet.proofs.SubnetsLaws.{ipv6_walk, ipv6_subnets_left-are_blocks, nothing_left}
+use Rattle.ipnet.proofs.SubnetsLaws.{left_advanced}
 use Rattle.ipnet_base.proofs.BlockLaws.{last_from_greatest}
 use Rattle.ipnet.proofs.subnets.ipv6_subnets.Ipv6SubnetsIterator.next.Goals as goal
 
@@ -20,6 +21,8 @@ returns-then-self-clause-goes c = record {
   progress = search rules;
   largest = search rules;
   advanced = search rules;
+  walk = ipv6_walk c.args.self.now;
+  rest = ipv6_walk c.args.self.now;
   over = search rules;
   unchanged = search rules;
 }
@@ -46,6 +49,8 @@ returns-clause-goes c =
           (c.last_number.ensures ∙ sym (last_from_greatest (ipv6_network c.largest_subnet_at-network.result) x
           greatest))
           c.advance_past.ensures;
+      walk = ipv6_walk c.args.self.now;
+      rest = ipv6_walk c.advance_past.new.self;
       over = search rules;
       unchanged = search rules;
     }

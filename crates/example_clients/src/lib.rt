@@ -1,0 +1,10 @@
+//! Functions of users of `ipnet`, with what they promise: none of them needs a proof file.
+//!
+//! Some call a law of `ipnet::value_laws` on the values in question. A law does nothing at run time.
+#![tactic(auto)]
+
+pub mod lists;
+pub mod networks;
+pub mod plans;
+pub mod texts;
+pub mod scratch;

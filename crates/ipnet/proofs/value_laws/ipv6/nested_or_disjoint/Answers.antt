@@ -1,0 +1,12 @@
+use Rattle.ipnet_base.proofs.NestingLaws as nesting
+use Rattle.ipnet.proofs.ValueFacts.{overlap_iff_nested}
+use Rattle.ipnet.specs.NetworkOf.{ipv6_network}
+use Rattle.ipnet.proofs.value_laws.ipv6.nested_or_disjoint.Goals as goal
+
+pub returns-clause-cases : goal.returns-clause-cases
+returns-clause-cases c =
+    nesting.nested_or_disjoint (ipv6_network c.args.net.now) (ipv6_network c.args.other.now)
+
+pub returns-clause-overlap : goal.returns-clause-overlap
+returns-clause-overlap c =
+    overlap_iff_nested (ipv6_network c.args.net.now) (ipv6_network c.args.other.now)
