@@ -92,18 +92,71 @@ fn sweep<N: Net>(list: &mut [N]) -> usize
     stacked
 }
 
-/// The aggregate, in the one list that is made for it. Sorting takes most of the time, so what can be joined in the
-/// order of the input is joined before. Afterwards each network has to be compared with the top of the stack alone.
+/// Writes a network after the first `kept` networks of the list. While it and the last of these are the two halves of
+/// one supernet, both are replaced by that supernet. Returns how many networks there are then.
+fn put_or_join<N: Net>(list: &mut [N], kept: usize, network: N) -> usize
+    requires room { kept < length list.old }
+    requires list { All IsTruncated (map N.network (take kept list.old)) }
+    requires network { IsTruncated (N.network network) }
+    ensures at_most { result ≤ kept + 1 }
+    ensures list { IsListWith (map N.network (take kept list.old)) (N.network network)
+        (map N.network (take result list.new)) }
+    ensures rest { drop (kept + 1) list.new ≡ drop (kept + 1) list.old }
+{
+    let mut front = kept;
+    let mut next = network;
+    while front > 0 && list[front - 1].is_other_half(&next) {
+        next = list[front - 1].joined();
+        front -= 1;
+    }
+    list[front] = next;
+    front + 1
+}
+
+/// Does in the list's own front what [`truncated_and_joined`] does in a new list. Returns how many networks are left.
+fn truncate_and_join<N: Net>(list: &mut [N]) -> usize
+    ensures at_most { result ≤ length list.old }
+    ensures truncated { All IsTruncated (map N.network (take result list.new)) }
+    ensures addresses { HaveSameCover (map N.network (take result list.new)) (map N.network list.old) }
+{
+    let mut kept = 0;
+    for index in 0..list.len() {
+        let network = list[index];
+        kept = put_or_join(list, kept, network.truncated());
+    }
+    kept
+}
+
+/// Replaces networks without host bits by their aggregate. After the sort, each network has to be compared with the
+/// topmost of the stack only.
+fn sort_and_sweep<N: Net>(list: &mut Vec<N>)
+    requires { All IsTruncated (map N.network list.old.items) }
+    ensures { IsAggregateOf (map N.network list.new.items) (map N.network list.old.items) }
+{
+    list.sort_unstable();
+    let stacked = sweep(list.as_mut_slice());
+    list.truncate(stacked);
+}
+
+/// The aggregate, in the one list that is made for it. Sorting takes most of the time, so networks that can be joined in
+/// the order of the input are joined before the sort.
 fn aggregated<N: Net>(alloc: Global, networks: &Vec<N>) -> Result<Vec<N>, AllocError>
     ensures empty { networks.now.items ≡ [] → IsOkAnd result (λ answer. answer.items ≡ []) }
     ensures aggregate { IfOk result (λ answer.
         IsCanonicalAggregateOf (map N.network answer.items) (map N.network networks.now.items)) }
 {
     let mut list = truncated_and_joined(alloc, networks)?;
-    list.sort_unstable();
-    let stacked = sweep(list.as_mut_slice());
-    list.truncate(stacked);
+    sort_and_sweep(&mut list);
     Ok(list)
+}
+
+/// Replaces the networks by their aggregate, in the memory that they have.
+fn aggregate_list<N: Net>(networks: &mut Vec<N>)
+    ensures { IsCanonicalAggregateOf (map N.network networks.new.items) (map N.network networks.old.items) }
+{
+    let kept = truncate_and_join(networks.as_mut_slice());
+    networks.truncate(kept);
+    sort_and_sweep(networks);
 }
 
 impl Ipv4Net {
@@ -127,6 +180,20 @@ impl Ipv4Net {
             IsCanonicalAggregateOf (map ipv4_network answer.items) (map ipv4_network networks.now.items)) }
     {
         aggregated::<Ipv4Net>(alloc, networks)
+    }
+
+    /// Replaces the networks by their [`aggregate`](Self::aggregate), in the memory that they have.
+    ///
+    /// Allocates nothing and cannot fail. The vector keeps its capacity.
+    ///
+    /// ```text
+    /// 10.0.1.0/24, 10.0.0.0/24, 10.0.0.7/25    become    10.0.0.0/23
+    /// 0.0.0.0/1, 128.0.0.0/1                   become    0.0.0.0/0
+    /// ```
+    pub fn aggregate_in_place(networks: &mut Vec<Ipv4Net>)
+        ensures { IsCanonicalAggregateOf (map ipv4_network networks.new.items) (map ipv4_network networks.old.items) }
+    {
+        aggregate_list::<Ipv4Net>(networks);
     }
 }
 
@@ -152,6 +219,20 @@ impl Ipv6Net {
     {
         aggregated::<Ipv6Net>(alloc, networks)
     }
+
+    /// Replaces the networks by their [`aggregate`](Self::aggregate), in the memory that they have.
+    ///
+    /// Allocates nothing and cannot fail. The vector keeps its capacity.
+    ///
+    /// ```text
+    /// fd00:1::/32, fd00::/32, fd00::7/64        become    fd00::/31
+    /// ::/1, 8000::/1                            become    ::/0
+    /// ```
+    pub fn aggregate_in_place(networks: &mut Vec<Ipv6Net>)
+        ensures { IsCanonicalAggregateOf (map ipv6_network networks.new.items) (map ipv6_network networks.old.items) }
+    {
+        aggregate_list::<Ipv6Net>(networks);
+    }
 }
 
 impl IpNet {
@@ -175,6 +256,19 @@ impl IpNet {
             IsCanonicalAggregateOf (map ip_network answer.items) (map ip_network networks.now.items)) }
     {
         aggregated::<IpNet>(alloc, networks)
+    }
+
+    /// Replaces the networks by their [`aggregate`](Self::aggregate), in the memory that they have.
+    ///
+    /// Allocates nothing and cannot fail. The vector keeps its capacity.
+    ///
+    /// ```text
+    /// fd00::/32, 10.0.1.0/24, 10.0.0.7/24    become    10.0.0.0/23, fd00::/32
+    /// ```
+    pub fn aggregate_in_place(networks: &mut Vec<IpNet>)
+        ensures { IsCanonicalAggregateOf (map ip_network networks.new.items) (map ip_network networks.old.items) }
+    {
+        aggregate_list::<IpNet>(networks);
     }
 }
 

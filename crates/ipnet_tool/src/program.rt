@@ -9,7 +9,6 @@ ghost use Rattle.ipnet_tool.specs.declared.program.Failure.TheVariants.{Argument
 
 use crate::answer::write_answer;
 use crate::input::read_networks;
-use crate::tool::aggregated;
 use ipnet::Grammar;
 use std::alloc::Global;
 use std::env;
@@ -104,14 +103,12 @@ pub fn run<R: Read, W: Write, X: Write>(
     let Some(grammar) = chosen(args) else {
         return report(faults, Failure::Arguments);
     };
-    let families = match read_networks(alloc, input, grammar) {
+    let mut families = match read_networks(alloc, input, grammar) {
         Ok(families) => families,
         Err(failure) => return report(faults, failure),
     };
-    let Ok(blocks) = aggregated(alloc, families) else {
-        return report(faults, Failure::Memory);
-    };
-    let Ok(()) = write_answer(out, &blocks) else {
+    families.aggregate();
+    let Ok(()) = write_answer(out, &families) else {
         return report(faults, Failure::Unwritable);
     };
     0

@@ -13,7 +13,7 @@ ghost use Rattle.ipnet.specs.NetworkTexts.{IsNetworkText, ReadsNetwork};
 ghost use Rattle.ipnet_tool.specs.Answers.{IsTextAnswer, StartsWithBadLine, text_of_lines};
 ghost use Rattle.ipnet_tool.specs.Families.{networks_of};
 
-use crate::joins::{push_joined, sort_and_join};
+use crate::joins::push_joined;
 use ipnet::parser::AddrParseError;
 use ipnet::{Grammar, IpNet, Ipv4Net, Ipv6Net};
 use std::alloc::{AllocError, Global};
@@ -81,10 +81,8 @@ fn answer_to(alloc: Global, text: &str, grammar: Grammar) -> Result<String, Tool
 {
     let mut families = Families::new(alloc);
     families.push_lines(0, text, grammar)?;
-    let Ok(blocks) = aggregated(alloc, families) else {
-        return Err(ToolError::Memory);
-    };
-    let Ok(answer) = printed(alloc, &blocks) else {
+    families.aggregate();
+    let Ok(answer) = printed(alloc, &families) else {
         return Err(ToolError::Memory);
     };
     Ok(answer)
@@ -172,24 +170,16 @@ impl Families {
         }
         Ok(number)
     }
-}
 
-/// The aggregate of each family: together they are the aggregate of all. What can be joined in the lists that are given
-/// is joined there, before memory is asked for the answer's.
-pub(crate) fn aggregated(alloc: Global, families: Families) -> Result<Families, AllocError>
-    ensures empty { networks_of families ≡ [] → IsOkAnd result (λ blocks. networks_of blocks ≡ []) }
-    ensures aggregate { IfOk result (λ blocks. IsAggregateOf (networks_of blocks) (networks_of families)) }
-{
-    let Families { mut ipv4, mut ipv6 } = families;
-    sort_and_join(&mut ipv4);
-    let ipv4_blocks = Ipv4Net::aggregate(alloc, &ipv4)?;
-    drop(ipv4);
-    sort_and_join(&mut ipv6);
-    let ipv6_blocks = Ipv6Net::aggregate(alloc, &ipv6)?;
-    Ok(Families {
-        ipv4: ipv4_blocks,
-        ipv6: ipv6_blocks,
-    })
+    /// Replaces the networks of each family by their aggregate; together they are the aggregate of all. Allocates
+    /// nothing.
+    pub(crate) fn aggregate(&mut self)
+        ensures empty { networks_of self.old ≡ [] → networks_of self.new ≡ [] }
+        ensures aggregate { IsAggregateOf (networks_of self.new) (networks_of self.old) }
+    {
+        Ipv4Net::aggregate_in_place(&mut self.ipv4);
+        Ipv6Net::aggregate_in_place(&mut self.ipv6);
+    }
 }
 
 /// The canonical texts of the networks, one a line, IPv4 first.

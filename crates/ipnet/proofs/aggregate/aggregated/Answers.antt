@@ -1,64 +1,30 @@
--- The sorted list is swept onto a stack that covers what the input covers. Nothing is left to join in it, so it is the
--- aggregate, and all that is said of aggregates follows.
-use Rattle.std.proofs.Common.{◌≡◌, All, map, take, drop, length, sym, ap, subst, arith}
+-- The list covers what the input covers, so its aggregate is that of the input, and all that is said of aggregates
+-- follows.
+use Rattle.std.proofs.Common.{map, length, ap, arith}
 use Rattle.std.proofs.lemmas.List.{length-map, nil_from_length}
-use Rattle.std.proofs.lemmas.List.Sorted.{All-permutation, IsPermutation-map}
-use Rattle.ipnet_base.specs.Network.{IsNetwork, IsTruncated}
-use Rattle.ipnet_base.specs.Stack.{IsInOrder, IsStackOfFirst}
+use Rattle.ipnet_base.specs.Network.{IsNetwork}
+use Rattle.ipnet_base.specs.Blocks.{IsCoveredBy}
 use Rattle.ipnet_base.proofs.AggregateLaws.{IsCanonicalAggregateOf-from_aggregate}
-use Rattle.ipnet_base.proofs.CoverLaws.{HaveSameCover-trans}
-use Rattle.ipnet_base.proofs.OrderLaws.{in_order_from_sort}
-use Rattle.ipnet_base.proofs.StackLaws.{stack_of_first_whole}
-use Rattle.ipnet.proofs.FrontLaws.{front_kept}
+use Rattle.ipnet_base.proofs.UniqueLaws.{AreMaximalBlocks-same_set}
 use Rattle.ipnet_base.proofs.ListLaws.{All-read}
-use Rattle.ipnet.proofs.JoinedLaws.{aggregate_from_stack}
 use Rattle.ipnet.proofs.aggregate.aggregated.Goals as goal
 
-pub sweep-stacked-requires-clause-truncated : goal.sweep-stacked-requires-clause-truncated
-sweep-stacked-requires-clause-truncated g c =
-    let net = g.N.Net.network in
-    let list = c.in_ok-list.list.items in
-    let sorted = c.sort_unstable.new.self.items in
-    subst (λ z. All IsTruncated (map net z)) (sym c.as_mut_slice.ensures.value)
-    (All-permutation IsTruncated (map net list) (map net sorted)
-    (IsPermutation-map net list sorted c.sort_unstable.ensures.permutation) c.in_ok-list.ensures.truncated)
-
-pub sweep-stacked-requires-clause-order : goal.sweep-stacked-requires-clause-order
-sweep-stacked-requires-clause-order g c =
-    let net = g.N.Net.network in
-    subst (λ z. IsInOrder (map net z)) (sym c.as_mut_slice.ensures.value)
-    (in_order_from_sort net g.N.Ord.cmp g.met.N.Net.in_order c.sort_unstable.new.self.items
-    c.sort_unstable.ensures.sorted)
-
--- what is left of the list is the stack that the sweep made in its front, so its networks are the aggregate
 pub returns-clause-aggregate : goal.returns-clause-aggregate
 returns-clause-aggregate g c =
     let net = g.N.Net.network in
-    let given = c.args.networks.now.items in
-    let list = c.in_ok-list.list.items in
-    let sorted = c.sort_unstable.new.self.items in
-    let n = c.sweep-stacked.result in
-    let stack = c.sweep-stacked.new.list in
-    let answer = c.truncate.new.self.items in
-    let kept : answer ≡ take n stack = front_kept answer stack (drop (length stack) sorted) n
-    c.sort_unstable.new.self.len c.truncate.ensures.items (omega arith) (omega arith) in
-    let swept : IsStackOfFirst (map net sorted) (length sorted) (map net answer) =
-    subst (λ z. IsStackOfFirst (map net sorted) (length sorted) (map net z)) (sym kept)
-    (subst (λ z. IsStackOfFirst (map net z) (length z) (map net (take n stack))) c.as_mut_slice.ensures.value
-    c.sweep-stacked.ensures.stack) in
-    IsCanonicalAggregateOf-from_aggregate (map net given) (map net answer)
-    (All-read IsNetwork net g.met.N.Net.valid given)
-    (aggregate_from_stack (map net given) (map net answer)
-    (All-read IsNetwork net g.met.N.Net.valid answer) swept.joined
-    (HaveSameCover-trans (map net answer) (map net list) (map net given)
-    (stack_of_first_whole net list sorted answer c.sort_unstable.ensures.permutation swept)
-    c.in_ok-list.ensures.addresses))
+    let given = map net c.args.networks.now.items in
+    let list = map net c.in_ok-list.list.items in
+    let answer = map net c.sort_and_sweep.new.list.items in
+    IsCanonicalAggregateOf-from_aggregate given answer
+    (All-read IsNetwork net g.met.N.Net.valid c.args.networks.now.items)
+    (AreMaximalBlocks-same_set (IsCoveredBy list) (IsCoveredBy given) 0 answer c.in_ok-list.ensures.addresses
+    c.sort_and_sweep.ensures)
 
 -- an aggregate is no longer than its list, so that of no networks has none
 pub returns-clause-empty : goal.returns-clause-empty
 returns-clause-empty g c e =
     let net = g.N.Net.network in
-    let answer = c.truncate.new.self.items in
+    let answer = c.sort_and_sweep.new.list.items in
     let shorter = (returns-clause-aggregate g c).no_longer in
     nil_from_length answer
     (omega (arith, shorter, length-map c.args.networks.now.items net, length-map answer net, ap length e))

@@ -36,7 +36,7 @@ returns-in-Err-clause-bad_line g c = λ one.
 pub returns-in_default-write_answer-clause-cut_short : goal.returns-in_default-write_answer-clause-cut_short
 returns-in_default-write_answer-clause-cut_short g c = λ _.
     let read = c.in-Ok.ensures.networks in
-    let blocks = networks_of c.in-Ok-aggregated.blocks in
+    let blocks = networks_of c.aggregate.new.self in
     let (front, begins, written) = c.write_answer.ensures.front in
     inr (record {
       grammar = c.in-Some.grammar;
@@ -45,7 +45,7 @@ returns-in_default-write_answer-clause-cut_short g c = λ _.
       read = read.read;
       answer = text_of_lines blocks;
       right = answer_from c.in-Some.grammar read.text (text_of_lines blocks) read.written
-          (networks_of c.in-Ok.families) blocks read.are read.same c.in-Ok-aggregated.ensures.aggregate refl;
+          (networks_of c.in-Ok.families) blocks read.are read.same c.aggregate.ensures.aggregate refl;
       front = front;
       begins = begins;
       written = written;
@@ -54,7 +54,7 @@ returns-in_default-write_answer-clause-cut_short g c = λ _.
 pub returns-clause-answered : goal.returns-clause-answered
 returns-clause-answered g c = λ _.
     let read = c.in-Ok.ensures.networks in
-    let blocks = networks_of c.in-Ok-aggregated.blocks in
+    let blocks = networks_of c.aggregate.new.self in
     record {
       grammar = c.in-Some.grammar;
       chosen = c.in-Some.ensures.some;
@@ -62,6 +62,6 @@ returns-clause-answered g c = λ _.
       read = read.read;
       answer = text_of_lines blocks;
       right = answer_from c.in-Some.grammar read.text (text_of_lines blocks) read.written
-          (networks_of c.in-Ok.families) blocks read.are read.same c.in-Ok-aggregated.ensures.aggregate refl;
+          (networks_of c.in-Ok.families) blocks read.are read.same c.aggregate.ensures.aggregate refl;
       written = c.in-Ok-write_answer.ensures.whole;
     }

@@ -1,5 +1,5 @@
 -- An answer is the lines' networks, aggregated and printed (`answer_from`). Memory runs out neither for a text of empty
--- lines nor where the first line that is not empty is bad, as each of the three steps promises.
+-- lines nor where the first line that is not empty is bad, as each step promises.
 use Rattle.std.proofs.Common.{◌≡◌, ◌+◌, ◌∙◌, ◌++◌, string_bytes, Ok, Err, Result, IsErrAnd, String, Global, sym}
 use Rattle.std.proofs.Common.{subst, ap, arith}
 use Rattle.std.proofs.lemmas.Bool.{false≢true}
@@ -38,14 +38,7 @@ returns-in_err-push_lines c =
 pub returns-in_default : goal.returns-in_default
 returns-in_default c =
     not_answered c.args.grammar c.args.text.now ToolErrors.Memory
-    (λ h. c.in_default.ensures.empty ((c.in_ok-push_lines.ensures.empty h).1 ∙ c.new-families.ensures))
-    (λ number e. absurd cc)
-    (λ number h. let clash = c.in_ok-push_lines.ensures.bad_at_once number h in absurd cc)
-
-pub returns-in_default-printed : goal.returns-in_default-printed
-returns-in_default-printed c =
-    not_answered c.args.grammar c.args.text.now ToolErrors.Memory
-    (λ h. false≢true (c.in_default-printed.ensures.empty (c.in-Ok.ensures.empty
+    (λ h. false≢true (c.in_default.ensures.empty (c.aggregate.ensures.empty
     ((c.in_ok-push_lines.ensures.empty h).1 ∙ c.new-families.ensures))))
     (λ number e. absurd cc)
     (λ number h. let clash = c.in_ok-push_lines.ensures.bad_at_once number h in absurd cc)
@@ -57,10 +50,10 @@ returns c =
     let (networks, written, after_none) = c.in_ok-push_lines.ensures.networks in
     let same : HaveSameCover networks families =
     subst (λ z. HaveSameCover (z ++ networks) families) c.new-families.ensures after_none in
-    let spelled = c.in-Ok-printed.ensures.text in
-    answered grammar c.args.text.now c.in-Ok-printed.answer
-    (λ h. spelled ∙ ap text_of_lines (c.in-Ok.ensures.empty
+    let spelled = c.in-Ok.ensures.text in
+    answered grammar c.args.text.now c.in-Ok.answer
+    (λ h. spelled ∙ ap text_of_lines (c.aggregate.ensures.empty
     ((c.in_ok-push_lines.ensures.empty h).1 ∙ c.new-families.ensures)))
-    (answer_from grammar c.args.text.now (string_bytes c.in-Ok-printed.answer) networks families
-    (networks_of c.in-Ok.blocks) written same c.in-Ok.ensures.aggregate spelled)
+    (answer_from grammar c.args.text.now (string_bytes c.in-Ok.answer) networks families
+    (networks_of c.aggregate.new.self) written same c.aggregate.ensures.aggregate spelled)
     (λ number h. let clash = c.in_ok-push_lines.ensures.bad_at_once number h in absurd cc)
