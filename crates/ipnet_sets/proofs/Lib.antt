@@ -10,4 +10,5 @@ pub mod SetEqualLaws
 pub mod CountLaws
 pub mod SetAlgebra
 pub mod RouteLaws
+pub mod CoveringLaws
 pub mod RouteOrderLaws

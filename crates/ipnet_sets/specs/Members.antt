@@ -65,6 +65,10 @@ HasAddressesOf s networks = (x : Address) → IsMember s x ↔ IsCoveredBy netwo
 abbrev pub IsMemberOf : Family → IpSet → Address → Type 0
 IsMemberOf f s x = (x.family ≡ f) × IsMember s x
 
+-- some address of the family is in the set
+abbrev pub HasFamily : Family → IpSet → Type 0
+HasFamily f s = (x : Address) × IsMemberOf f s x
+
 -- the set of addresses has as many as n: a list of n has each of them once, and no other
 pub record IsCountOf (InSet : Address → Type 0) (n : ℕ) : Type 0 where
   pub addresses : List Address

@@ -174,6 +174,15 @@ pub(crate) fn covers<T: Number>(turns: &[T], first: T, last: T) -> bool
     place % 2 == 1 && (place == turns.len() || last.is_below(turns[place]))
 }
 
+/// Whether all numbers from the first to the last are in the set; true if the first is above the last.
+pub(crate) fn covers_range<T: Number>(turns: &[T], first: T, last: T) -> bool
+    requires { AreTurns T.family (map T.number turns.now) }
+    ensures { IsTrue result ↔ ((x : ℕ) → T.number first ≤ x → x ≤ T.number last
+        → is_inside (map T.number turns.now) x ≡ true) }
+{
+    last.is_below(first) || covers(turns, first, last)
+}
+
 /// Whether the set, whose turns are at most the number, ends just before it.
 fn ends_before<T: Number>(turns: &[T], first: T) -> bool
     requires turns { AreTurns T.family (map T.number turns.now) }
