@@ -5,7 +5,7 @@ ghost use Rattle.ipnet_base.specs.Network.{InBlock};
 ghost use Rattle.ipnet_base.specs.Blocks.{AreMaximalBlocks};
 ghost use Rattle.ipnet.specs.NetworkOf.{ip_network};
 ghost use Rattle.ipnet.specs.SubnetsLeft.{ip_subnets_left};
-ghost use Rattle.ipnet_sets.specs.SetRanges.{AreRangesOf};
+ghost use Rattle.ipnet_sets.specs.SetRanges.{AreRangesOf, AreFewestRangesOf};
 ghost use Rattle.ipnet_sets.specs.TurnRanges.{ranges_of, HasBlocksAdded};
 ghost use Rattle.ipnet_sets.specs.Turns.{AreTurns, combined};
 
@@ -355,7 +355,8 @@ impl IpSet {
     /// of 10.0.0.0/30, 10.0.0.4/31, fd00::/126: 10.0.0.0 to 10.0.0.5, fd00:: to fd00::3
     /// ```
     pub fn ranges(&self) -> IpSetRanges<'_>
-        ensures { AreRangesOf (IsMember self.now) (ranges_left result) }
+        ensures ranges { AreRangesOf (IsMember self.now) (ranges_left result) }
+        ensures fewest { AreFewestRangesOf (IsMember self.now) (ranges_left result) }
     {
         IpSetRanges {
             ipv4: self.ipv4.as_slice(),
