@@ -18,7 +18,7 @@ fn main(rt: HostRuntime) -> Result<()> {
             _ => bail!("{line}: no rule"),
         }
     }
-    let list = AccessList::new(rt.alloc(), &allow, &deny)?;
+    let list = AccessList::new(rt.alloc(), allow.as_slice(), deny.as_slice())?;
     for address in &asked {
         let answer = if list.allows(address) {
             "allowed"

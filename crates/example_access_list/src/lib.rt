@@ -24,9 +24,9 @@ impl AccessList {
     ghost use Rattle.example_access_list.specs.AccessLists.{IsAllowed, IsLetIn};
 
     /// The access list that allows and denies the addresses of these networks. Fails only when memory runs out.
-    pub fn new(alloc: Global, allow: &Vec<IpNet>, deny: &Vec<IpNet>) -> Result<Self, AllocError>
+    pub fn new(alloc: Global, allow: &[IpNet], deny: &[IpNet]) -> Result<Self, AllocError>
         ensures { IfOk result (λ list. (x : Address) → IsLetIn list x
-            ↔ IsAllowed (map ip_network allow.now.items) (map ip_network deny.now.items) x) }
+            ↔ IsAllowed (map ip_network allow.now) (map ip_network deny.now) x) }
     {
         let allowed = IpSet::from_networks(alloc, allow)?;
         let denied = IpSet::from_networks(alloc, deny)?;

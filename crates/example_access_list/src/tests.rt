@@ -12,7 +12,7 @@ fn denial_stands_before_allowance(rt: HostRuntime) -> Result<(), Fail> {
     }
     let mut deny = Vec::new(rt.alloc());
     deny.push("10.0.1.128/25".parse::<IpNet>()?)?;
-    let list = AccessList::new(rt.alloc(), &allow, &deny)?;
+    let list = AccessList::new(rt.alloc(), allow.as_slice(), deny.as_slice())?;
     for (text, allowed) in [
         ("10.0.1.5", true),
         ("10.0.1.200", false),
@@ -55,8 +55,8 @@ fn sets_of_addresses(rt: HostRuntime) -> Result<(), Fail> {
     allow.push("10.0.0.0/24".parse::<IpNet>()?)?;
     let mut deny = Vec::new(alloc);
     deny.push("10.0.0.128/25".parse::<IpNet>()?)?;
-    let allowed = IpSet::from_networks(alloc, &allow)?;
-    let denied = IpSet::from_networks(alloc, &deny)?;
+    let allowed = IpSet::from_networks(alloc, allow.as_slice())?;
+    let denied = IpSet::from_networks(alloc, deny.as_slice())?;
     let open = allowed.difference(alloc, &denied)?;
     assert_eq!(rt; open.contains(&"10.0.0.5".parse::<IpAddr>()?), true);
     assert_eq!(rt; open.covers(&"10.0.0.64/25".parse::<IpNet>()?), true);

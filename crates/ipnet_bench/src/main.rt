@@ -102,7 +102,7 @@ fn over_sets(
         }
         "set_contains" => {
             let addresses = input::last_addresses(alloc, networks.as_slice())?;
-            let set = IpSet::from_networks(alloc, &first)?;
+            let set = IpSet::from_networks(alloc, first.as_slice())?;
             return measure::report(rt, alloc, task, work::SetContains { set, addresses });
         }
         "longest_match" => {

@@ -365,8 +365,8 @@ impl Work for Combine {
     }
 
     fn run(&mut self) -> Result<u64, AllocError> {
-        let first = IpSet::from_networks(self.alloc, &self.first)?;
-        let second = IpSet::from_networks(self.alloc, &self.second)?;
+        let first = IpSet::from_networks(self.alloc, self.first.as_slice())?;
+        let second = IpSet::from_networks(self.alloc, self.second.as_slice())?;
         let set = match self.operation {
             SetOperation::Union => first.union(self.alloc, &second)?,
             SetOperation::Intersection => first.intersection(self.alloc, &second)?,

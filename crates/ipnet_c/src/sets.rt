@@ -56,9 +56,9 @@ fn combined_networks(
     ensures { IfOk result (λ blocks. AreBlocksOfBoth operation (map ip_network networks.items)
         (map ip_network others.items) (map ip_network blocks.items)) }
 {
-    let first = IpSet::from_networks(alloc, &networks)?;
+    let first = IpSet::from_networks(alloc, networks.as_slice())?;
     drop(networks);
-    let second = IpSet::from_networks(alloc, &others)?;
+    let second = IpSet::from_networks(alloc, others.as_slice())?;
     drop(others);
     combined(alloc, operation, &first, &second)?.networks(alloc)
 }

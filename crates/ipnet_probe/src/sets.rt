@@ -51,7 +51,7 @@ fn read_set(alloc: Global, text: &str) -> Result<Option<IpSet>, AllocError> {
             ranges = ranges.union(alloc, &IpSet::from_range(alloc, start, end)?)?;
         }
     }
-    let set = IpSet::from_networks(alloc, &networks)?;
+    let set = IpSet::from_networks(alloc, networks.as_slice())?;
     if ranges.is_empty() {
         return Ok(Some(set));
     }

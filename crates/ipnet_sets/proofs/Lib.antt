@@ -7,7 +7,10 @@ pub mod MemberLaws
 pub mod LoadLaws
 pub mod SetRangeLaws
 pub mod SetEqualLaws
+pub mod FewestRanges
+pub mod RangeEndLaws
 pub mod CountLaws
 pub mod SetAlgebra
 pub mod RouteLaws
+pub mod CoveringLaws
 pub mod RouteOrderLaws

@@ -1,6 +1,6 @@
 -- Facts of the addresses of a set, from those of the numbers of each family.
 use Rattle.std.proofs.Common.{◌+◌, ◌≡◌, ℕ, ◌^◌, ◌<◌, ◌≤◌, ◌↔◌, Bool, true, false, IsTrue, List, length, map}
-use Rattle.std.proofs.Common.{refl, ap, ◌∙◌, subst, subst₂, arith}
+use Rattle.std.proofs.Common.{refl, sym, ap, ◌∙◌, subst, subst₂, arith}
 use Rattle.std.proofs.lemmas.List.{length-map}
 use Rattle.ipnet_base.specs.Address.{Family, IPv4, IPv6, Address, IsAddress, IsBetween, width, greatest_number}
 use Rattle.ipnet_base.specs.Network.{Network, IsNetwork, InBlock, IsLeastOf, IsGreatestOf}
@@ -8,7 +8,7 @@ use Rattle.ipnet_base.proofs.BlockLaws.{block_is_between, between_from_block, la
 use Rattle.ipnet_sets.specs.declared.set.IpSet.{IpSet}
 use Rattle.ipnet_sets.specs.declared.turns.Operation.{Operation}
 use Rattle.ipnet_sets.specs.Turns.{is_inside, combined, IsLeastInside, IsGreatestInside, by_family}
-use Rattle.ipnet_sets.specs.Members.{turns_of, is_member, IsMember}
+use Rattle.ipnet_sets.specs.Members.{turns_of, is_member, IsMember, IsFromTo}
 
 pub fits_below : (f : Family) (x : ℕ) → x ≤ greatest_number f → x < 2 ^ width f
 fits_below IPv4 x le = omega arith
@@ -63,6 +63,31 @@ covers_block s n low high slice first last answer valid least greatest e f turns
   λ all. h.1 (λ x le lf. ap (λ z. is_inside z x) turns ∙ (all (record { family = n.family; number = x })
       ((block_is_between n low high (record { family = n.family; number = x }) least greatest).1
       (record { of_family = refl; from_start = omega (arith, e, le); to_end = omega (arith, f, lf) }))).inside),
+)
+
+-- the addresses from one to another are in the set if the numbers between are inside
+pub covers_from_to : (s : IpSet) (f : Family) (start end : Address) (slice : List ℕ) (first last : ℕ) (answer : Bool)
+    → start.family ≡ f → end.family ≡ f → last ≤ greatest_number f → first ≡ start.number → last ≡ end.number
+    → HasTurns s f slice
+    → (IsTrue answer ↔ ((x : ℕ) → first ≤ x → x ≤ last → is_inside (map (λ n. n) slice) x ≡ true))
+    → IsTrue answer ↔ ((x : Address) → IsFromTo start end x → IsMember s x)
+covers_from_to s f start end slice first last answer d e fits g h turns inside = (
+  λ t x a.
+      let same : x.family ≡ f = a.family_of_start ∙ d in
+      let here : is_inside (turns_of s f) x.number ≡ true
+      = subst (λ z. is_inside z x.number ≡ true) turns
+      (inside.0 t x.number (omega (arith, g, a.from_start)) (omega (arith, h, a.to_end))) in
+      record {
+        fits = subst (λ k. x.number < 2 ^ width k) (sym same)
+            (fits_below f x.number (omega (arith, fits, h, a.to_end)));
+        inside = ap (λ k. is_inside (turns_of s k) x.number) same ∙ here;
+      },
+  λ all. inside.1 (λ x le lf. ap (λ z. is_inside z x) turns ∙ (all (record { family = f; number = x }) (record {
+    family_of_start = sym d;
+    family_of_end = sym e;
+    from_start = omega (arith, g, le);
+    to_end = omega (arith, h, lf);
+  })).inside),
 )
 
 -- what an operation makes of two sets is empty where it makes nothing of the numbers of either family

@@ -8,7 +8,7 @@ use Rattle.std.proofs.lemmas.List.{length-map, get_or-map}
 use Rattle.std.proofs.lemmas.List.Elements.{All-map}
 use Rattle.ipnet_base.specs.Address.{Address, width, family_index}
 use Rattle.ipnet_base.specs.Network.{Network, IsNetwork, host_bits, InBlock, IsSubnetOf, IsTruncated, IsBefore}
-use Rattle.ipnet_base.specs.Blocks.{IsCoveredBy, IsAscending}
+use Rattle.ipnet_base.specs.Blocks.{IsAscending}
 use Rattle.ipnet_base.specs.Stack.{IsBeforeOrEqual}
 use Rattle.ipnet_base.specs.Values.{ComparesBy}
 use Rattle.ipnet_base.proofs.BlockLaws.{own, own_in, block_between}
@@ -182,73 +182,11 @@ abbrev pub host : Address → Network
 host x = record { family = x.family; number = x.number; prefix_len = width x.family }
 
 -- a network contains it where it holds the address
-host_in : (k : Network) (x : Address) → InBlock k x → IsSubnetOf (host x) k
+pub host_in : (k : Network) (x : Address) → InBlock k x → IsSubnetOf (host x) k
 host_in k x a = nested (host x) k x (own_in (host x)) a (omega arith)
 
 pub in_from_host : (k : Network) (x : Address) → IsSubnetOf (host x) k → InBlock k x
 in_from_host k x sub = sub x (own_in (host x))
-
--- a network without host bits that holds an address stands no later than the network of the address
-not_after_host : (n : Network) (x : Address) → IsNetwork n → IsTruncated n → InBlock n x → IsBefore (host x) n → ⊥
-not_after_host n x valid t a (inl h) = omega (arith, h, ap family_index a.same_family)
-not_after_host n x valid t a (inr h) = elim h.1 [
-  | inl lt ↦ omega (arith, lt, t x a)
-  | inr same ↦ omega (arith, same.1, valid.prefix_fits, ap width a.same_family)
-]
-
--- so each network that holds an address stands before the place after that of the address
-holder_before : (networks : List Network) → All IsNetwork networks → IsTable networks → (x : Address) (limit : ℕ)
-    → IsPlaceAfter networks (host x) limit → (k : Network) (c : Contains networks k) → InBlock k x → c.0 < limit
-holder_before networks valid table x limit after k c a = elim (cases_lt c.0 limit) [
-  | inl lt ↦ lt
-  | inr ge ↦ absurd (not_after_host k x (all_at IsNetwork networks valid k c)
-      (all_at IsTruncated networks table.truncated k c) a (after.above k c ge))
-]
-
--- where no network is found, none holds the address
-pub none_holds : (networks : List Network) → All IsNetwork networks → IsTable networks → (x : Address)
-    (limit place : ℕ) → place ≡ 0 → IsPlaceAfter networks (host x) limit → IsNearest networks (host x) limit place
-    → IsCoveredBy networks x → ⊥
-none_holds networks valid table x limit place e after found a =
-    let c : Contains networks a.1 = (a.0, a.2, a.3) in
-    omega (
-      arith,
-      e,
-      found.nearest a.1 c (holder_before networks valid table x limit after a.1 c a.4) (host_in a.1 x a.4),
-    )
-
--- of two networks without host bits that hold an address the one that stands later is no shorter
-no_longer : (networks : List Network) → IsTable networks → (x : Address) (k e : Network) → Contains networks e
-    → InBlock k x → InBlock e x → IsBefore k e → k.prefix_len ≤ e.prefix_len
-no_longer networks table x k e c b a before = elim (cases_lt e.prefix_len k.prefix_len) [
-  | inr ge ↦ ge
-  | inl lt ↦
-      let bits : host_bits k ≤ host_bits e = omega (arith, lt, ap width (sym a.same_family ∙ b.same_family)) in
-      let least : e.number ≤ k.number
-      = all_at IsTruncated networks table.truncated e c (own k) (nested k e x b a bits (own k) (own_in k)) in
-      absurd (elim before [
-        | inl earlier ↦ omega (arith, earlier, ap family_index (sym a.same_family ∙ b.same_family))
-        | inr (f, inl less) ↦ omega (arith, less, least)
-        | inr (f, inr (same, shorter)) ↦ omega (arith, shorter, lt)
-      ])
-]
-
--- the network that is found is the longest
-pub longest_found : (networks : List Network) → All IsNetwork networks → IsTable networks → (x : Address)
-    (limit place : ℕ) (e : Network) (c : Contains networks e) → c.0 + 1 ≡ place
-    → IsPlaceAfter networks (host x) limit → IsNearest networks (host x) limit place
-    → (k : Network) → Contains networks k → InBlock k x → k.prefix_len ≤ e.prefix_len
-longest_found networks valid table x limit place e c at after found k b a = elim (cases_order b.0 c.0) [
-  | inl same ↦ omega (arith, ap (λ z. z.prefix_len) (one_place networks k e b c same))
-  | inr (inl less) ↦ no_longer networks table x k e c a (in_from_host e x (found.holds e c at))
-      (pair_at IsBefore networks (ascending_of networks table) k e b c less)
-  | inr (inr more) ↦ absurd (omega (
-    arith,
-    more,
-    at,
-    found.nearest k b (holder_before networks valid table x limit after k b a) (host_in k x a),
-  ))
-]
 
 -- a network of the table stands just before the place after it
 own_place : (networks : List Network) → IsTable networks → (n : Network) (place : ℕ)
@@ -332,16 +270,31 @@ found_network list table n place after c =
           (read_at (λ z. ip_network z.0) list (place - 1) r (omega (arith, at, c.1)) e) c (omega arith),
     )
 
+-- a network of a table has one value
+pub one_value : {V : Type 0} (list : List (IpNet × V)) → IsTable (ip_networks list) → (r s : Route V)
+    → Contains (ip_routes list) r → Contains (ip_routes list) s → r.0 ≡ s.0 → r ≡ s
+one_value list table r s h k same = elim (cases_order h.0 k.0) [
+  | inl at ↦ one_place (ip_routes list) r s h k at
+  | inr (inl lt) ↦ absurd (not_back r.0 s.0 (pair_at IsBefore networks ascending r.0 s.0 at_r at_s lt) (inl (sym same)))
+  | inr (inr gt) ↦ absurd (not_back s.0 r.0 (pair_at IsBefore networks ascending s.0 r.0 at_s at_r gt) (inl same))
+]
+  where
+    networks : List Network
+    networks = ip_networks list
+
+    ascending : IsAscending networks
+    ascending = ascending_of networks table
+
+    at_r : Contains networks r.0
+    at_r = network_of_route list r h
+
+    at_s : Contains networks s.0
+    at_s = network_of_route list s k
+
 -- a table has one longest match at most
 pub one_match : {V : Type 0} (list : List (IpNet × V)) → IsTable (ip_networks list) → (x : Address) (r s : Route V)
     → IsLongestMatch (ip_routes list) x r → IsLongestMatch (ip_routes list) x s → r ≡ s
-one_match list table x r s h k = elim (cases_order h.member.0 k.member.0) [
-  | inl at ↦ one_place (ip_routes list) r s h.member k.member at
-  | inr (inl lt) ↦ absurd (apart (subst (IsBefore r.0) (sym same)
-      (pair_at IsBefore networks (ascending_of networks table) r.0 s.0 at_r at_s lt)))
-  | inr (inr gt) ↦ absurd (apart (subst (λ z. IsBefore z r.0) (sym same)
-      (pair_at IsBefore networks (ascending_of networks table) s.0 r.0 at_s at_r gt)))
-]
+one_match list table x r s h k = one_value list table r s h.member k.member same
   where
     networks : List Network
     networks = ip_networks list
@@ -365,6 +318,3 @@ one_match list table x r s h k = elim (cases_order h.member.0 k.member.0) [
           nested r.0 s.0 x h.holds k.holds (omega (arith, same_bits)),
           nested s.0 r.0 x k.holds h.holds (omega (arith, same_bits)),
         )
-
-    apart : IsBefore r.0 r.0 → ⊥
-    apart before = not_back r.0 r.0 before (inl refl)

@@ -1,9 +1,9 @@
 -- Sets are equal where they have the same addresses.
 use Rattle.std.proofs.Common.{◌≡◌, ℕ, ◌^◌, ◌<◌, ◌≤◌, ◌⊎◌, ◌↔◌, ◌&&◌, Bool, true, false}
-use Rattle.std.proofs.Common.{not}
+use Rattle.std.proofs.Common.{not, IsTrue, length}
 use Rattle.std.proofs.Common.{List, [], ◌∷◌, map, Less, Equal, Greater, Ordering, Option, Some}
 use Rattle.std.proofs.Common.{nat_cmp, nat_eq}
-use Rattle.std.proofs.Common.{refl, sym, ap, ap₂, ◌∙◌, arith, inl, inr, le-leb, eq-eqb}
+use Rattle.std.proofs.Common.{refl, sym, ap, ap₂, ◌∙◌, subst, arith, inl, inr, le-leb, eq-eqb}
 use Rattle.std.proofs.lemmas.Bool.{cases_lt, cases_order, cases_Bool, eqb-true, lt-leb, and_parts, and_from}
 use Rattle.std.proofs.lemmas.Bool.Decides.{nat_tests}
 use Rattle.std.specs.Ordering.{ordering_then, partial_ordering_then}
@@ -12,7 +12,7 @@ use Rattle.ipnet_base.specs.Address.{Family, IPv4, IPv6, Address, IsAddress, wid
 use Rattle.ipnet.proofs.EqualLaws.{lists_equal}
 use Rattle.ipnet_sets.specs.declared.set.IpSet.{IpSet}
 use Rattle.ipnet_sets.specs.Turns.{is_inside, AreTurns}
-use Rattle.ipnet_sets.specs.Members.{turns_of, is_member, IsMember, HaveSameAddresses}
+use Rattle.ipnet_sets.specs.Members.{turns_of, is_member, IsMember, HaveSameAddresses, HasFamily}
 use Rattle.ipnet_sets.proofs.InsideLaws.{not_twice, inside_before}
 use Rattle.ipnet_sets.proofs.ExtendLaws.{least_inside_at}
 use Rattle.ipnet_sets.proofs.SetRangeLaws.{tail_turns, later}
@@ -179,6 +179,36 @@ member_or_not s x = elim (cases_lt x.number (2 ^ width x.family)) [
   ]
   | inr out ↦ inr (λ m. omega (arith, out, m.fits))
 ]
+
+-- a set has an address of a family if it has a turn there
+pub has_family : (s : IpSet) (f : Family) (words : List ℕ) (empty : Bool) → map (λ n. n) words ≡ turns_of s f
+    → AreTurns f (turns_of s f) → empty ≡ nat_eq (length words) 0 → IsTrue (not empty) ↔ HasFamily f s
+has_family s f [] empty e h is = (
+  λ t. absurd (cc),
+  λ m.
+      let some : is_inside (turns_of s f) m.0.number ≡ true
+      = subst (λ g. is_inside (turns_of s g) m.0.number ≡ true) m.1.0 m.1.1.inside in
+      let none : is_inside (turns_of s f) m.0.number ≡ false = ap (λ z. is_inside z m.0.number) (sym e) in
+      absurd (cc),
+)
+has_family s f (w ∷ ws) empty e h is =
+    let rest : List ℕ = map (λ n. n) ws in
+    let turns : AreTurns f (w ∷ rest) = subst (AreTurns f) (sym e) h in (
+      λ t. (
+        record { family = f; number = w },
+        (
+          refl,
+          record {
+            fits = fits_below f w (turns.fits 0 w (omega arith));
+            inside = ap (λ z. is_inside z w) (sym e) ∙ first_inside f w rest turns;
+          },
+        ),
+      ),
+      λ m. elim (cases_Bool empty) [
+        | inl none ↦ absurd (omega (arith, eqb-true (length (w ∷ ws)) 0 (sym is ∙ none)))
+        | inr some ↦ ap not some
+      ],
+    )
 
 partial_more : (o : Ordering) (rest : Option Ordering) (all : Ordering) → rest ≡ Some all
     → partial_ordering_then (Some o) rest ≡ Some (ordering_then o all)

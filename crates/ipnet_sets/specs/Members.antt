@@ -73,6 +73,10 @@ HasAddressesOf s networks = (x : Address) → IsMember s x ↔ IsCoveredBy netwo
 abbrev pub IsMemberOf : Family → IpSet → Address → Type 0
 IsMemberOf f s x = (x.family ≡ f) × IsMember s x
 
+-- The set has an address of the family.
+abbrev pub HasFamily : Family → IpSet → Type 0
+HasFamily f s = (x : Address) × IsMemberOf f s x
+
 -- The set has `n` addresses: a list of length `n` has each of them once, and no other. Example: 10.0.0.0/30 has 4.
 pub record IsCountOf (InSet : Address → Type 0) (n : ℕ) : Type 0 where
   pub addresses : List Address

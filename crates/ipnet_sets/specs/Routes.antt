@@ -1,7 +1,7 @@
 -- Routes, route tables, and the longest match for an address (RFC 1812, section 5.2.4.3; RFC 4632, section 5.1).
 use Rattle.std.specs.Prelude.{◌≡◌, ◌≢◌, ℕ, ◌<◌, ◌≤◌, ◌↔◌, List, map, length, slice_index_or, Contains}
 use Rattle.ipnet_base.specs.Address.{Address}
-use Rattle.ipnet_base.specs.Network.{Network, InBlock, truncation}
+use Rattle.ipnet_base.specs.Network.{Network, InBlock, IsSubnetOf, truncation}
 use Rattle.ipnet_base.specs.Blocks.{IsAscending}
 use Rattle.ipnet.specs.declared.net.IpNet.{IpNet}
 use Rattle.ipnet.specs.NetworkOf.{ip_network}
@@ -48,4 +48,11 @@ pub record IsLongestMatch {V : Type 0} (routes : List (Route V)) (x : Address) (
   pub member : Contains routes route
   pub holds : InBlock route.0 x
   pub longest : (other : Route V) → Contains routes other → InBlock other.0 x
+      → other.0.prefix_len ≤ route.0.prefix_len
+
+-- the route of the longest network that contains the block of n
+pub record IsLongestHolder {V : Type 0} (routes : List (Route V)) (n : Network) (route : Route V) : Type 0 where
+  pub member : Contains routes route
+  pub holds : IsSubnetOf n route.0
+  pub longest : (other : Route V) → Contains routes other → IsSubnetOf n other.0
       → other.0.prefix_len ≤ route.0.prefix_len

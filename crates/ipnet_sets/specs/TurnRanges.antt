@@ -1,6 +1,6 @@
 -- The ranges between the turns of a set, and the networks of each of these ranges.
 -- `RangesLeft` uses `ranges_of`. The other definitions are for private contracts.
-use Rattle.std.specs.Prelude.{◌≡◌, ℕ, ◌+◌, ◌-◌, ◌≤◌, true, List, [], ◌∷◌, ◌++◌}
+use Rattle.std.specs.Prelude.{◌≡◌, ℕ, ◌+◌, ◌-◌, ◌*◌, ◌/◌, ◌≤◌, true, List, [], ◌∷◌, ◌++◌, length}
 use Rattle.ipnet_base.specs.Address.{Family, Address, greatest_number}
 use Rattle.ipnet_base.specs.Network.{Network}
 use Rattle.ipnet_base.specs.Blocks.{AreMaximalBlocks}
@@ -20,6 +20,10 @@ abbrev pub ranges_of : Family → List ℕ → List AddressRange
 ranges_of f [] = []
 ranges_of f (start ∷ []) = range_of f start (greatest_number f) ∷ []
 ranges_of f (start ∷ end ∷ turns) = range_of f start (end - 1) ∷ ranges_of f turns
+
+-- The number of turns before the last range.
+abbrev pub before_last : {X : Type 0} → List X → ℕ
+before_last turns = (length turns - 1) / 2 * 2
 
 -- The number of addresses in all ranges together.
 abbrev pub count_of : List AddressRange → ℕ

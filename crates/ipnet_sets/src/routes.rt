@@ -1,13 +1,13 @@
 //! Routes: networks with a value each, and the longest of them that holds an address.
-ghost use Rattle.std.specs.Prelude.{◌≡◌, ℕ, ◌<◌, ◌≤◌, ◌↔◌, IsTrue, length, IfOk, OnOk, IsNone, IfSome};
+ghost use Rattle.std.specs.Prelude.{◌≡◌, ℕ, ◌<◌, ◌≤◌, ◌↔◌, IsTrue, [], length, IsOk, IfOk, OnOk, IsNone, IfSome};
 ghost use Rattle.std.specs.Prelude.{All, Any, Contains, IsPermutation};
 ghost use Rattle.ipnet_base.specs.Address.{ip_address};
-ghost use Rattle.ipnet_base.specs.Network.{Network, IsTruncated, IsBefore, truncation};
+ghost use Rattle.ipnet_base.specs.Network.{Network, IsSubnetOf, IsTruncated, IsBefore, truncation};
 ghost use Rattle.ipnet_base.specs.Blocks.{IsCoveredBy, IsAscending};
 ghost use Rattle.ipnet_base.specs.Stack.{IsBeforeOrEqual, IsInOrder};
 ghost use Rattle.ipnet.specs.NetworkOf.{ip_network};
 ghost use Rattle.ipnet_sets.specs.Routes.{Route, networks_of, ip_routes, ip_networks, without_host_bits, IsLatest};
-ghost use Rattle.ipnet_sets.specs.Routes.{IsTableOf, IsLongestMatch};
+ghost use Rattle.ipnet_sets.specs.Routes.{IsTableOf, IsLongestMatch, IsLongestHolder};
 ghost use Rattle.ipnet_sets.specs.RouteSteps.{EndsWith, AreOthers, IsTable, IsPlaceAfter, IsNearest, AreLinks};
 
 use ipnet::net::laws::ip_nets_compare_by_network;
@@ -171,8 +171,15 @@ impl<V> RouteTable<V> {
     pub fn from_routes(alloc: Global, routes: Vec<(IpNet, V)>) -> Result<RouteTable<V>, AllocError>
     where
         V: Drop,
-        ensures { IfOk result (λ table. IsTableOf (ip_routes routes.items) (routes_of table)) }
+        ensures empty { routes.items ≡ [] → IsOk result }
+        ensures table { IfOk result (λ table. IsTableOf (ip_routes routes.items) (routes_of table)) }
     {
+        if routes.is_empty() {
+            return Ok(RouteTable {
+                routes: Vec::new(alloc),
+                enclosing: Vec::new(alloc),
+            });
+        }
         let mut routes = routes;
         truncate_all(&mut routes);
         sort(&mut routes)?;
@@ -189,6 +196,21 @@ impl<V> RouteTable<V> {
         ensures truncated { All IsTruncated (networks_of (routes_of self.now)) }
     {
         self.routes.as_slice()
+    }
+
+    /// Returns the routes of the table, as `routes` lists them, with their values. Allocates nothing.
+    ///
+    /// To change a table, take its routes out, change them, and make a new table of them.
+    ///
+    /// ```text
+    /// the table of 10.1.0.0/16 with 2 and 10.0.0.0/8 with 1: 10.0.0.0/8 with 1, 10.1.0.0/16 with 2
+    /// ```
+    pub fn into_routes(self) -> Vec<(IpNet, V)>
+        ensures { ip_routes result.items ≡ routes_of self }
+    {
+        let RouteTable { routes, enclosing } = self;
+        drop(enclosing);
+        routes
     }
 
     /// How many routes the table has.
@@ -242,9 +264,26 @@ impl<V> RouteTable<V> {
             IsLongestMatch (routes_of self.now) (ip_address ip.now) (ip_network route.now.0, route.now.1)) }
     {
         let host = IpNet::from(*ip);
+        self.covering(&host)
+    }
+
+    /// Returns the route of the longest network that contains the network's whole block, or `None` if no network of the
+    /// table does. The host bits of `network` do not matter, and the network itself counts. Allocates nothing; the time
+    /// grows as that of `longest_match`.
+    ///
+    /// ```text
+    /// of 0.0.0.0/0, 10.0.0.0/8 and 10.1.0.0/16: 10.1.2.0/24 is in 10.1.0.0/16, 10.0.0.0/15 in 10.0.0.0/8,
+    /// 10.0.0.0/7 in 0.0.0.0/0
+    /// ```
+    pub fn covering(&self, network: &IpNet) -> Option<&(IpNet, V)>
+        ensures none { IsNone result ↔ ((k : Network) → Contains (networks_of (routes_of self.now)) k
+            → ¬ (IsSubnetOf (ip_network network.now) k)) }
+        ensures some { IfSome result (λ route. IsLongestHolder (routes_of self.now) (ip_network network.now)
+            (ip_network route.now.0, route.now.1)) }
+    {
         let routes = self.routes.as_slice();
-        let limit = place_after(routes, &host);
-        let place = nearest(routes, self.enclosing.as_slice(), limit, &host);
+        let limit = place_after(routes, network);
+        let place = nearest(routes, self.enclosing.as_slice(), limit, network);
         if place == 0 {
             return None;
         }

@@ -5,7 +5,7 @@ ghost use Rattle.ipnet_base.specs.Network.{InBlock};
 ghost use Rattle.ipnet_base.specs.Blocks.{AreMaximalBlocks};
 ghost use Rattle.ipnet.specs.NetworkOf.{ip_network};
 ghost use Rattle.ipnet.specs.SubnetsLeft.{ip_subnets_left};
-ghost use Rattle.ipnet_sets.specs.SetRanges.{AreRangesOf};
+ghost use Rattle.ipnet_sets.specs.SetRanges.{AreRangesOf, AreFewestRangesOf};
 ghost use Rattle.ipnet_sets.specs.TurnRanges.{ranges_of, HasBlocksAdded};
 ghost use Rattle.ipnet_sets.specs.Turns.{AreTurns, combined};
 
@@ -13,7 +13,7 @@ use crate::load;
 use crate::number::Number;
 use crate::set_ranges::IpSetRanges;
 use crate::turns::{self, Operation};
-use ipnet::{IpAddr, IpNet, IpSubnets};
+use ipnet::{IpAddr, IpAddrRange, IpNet, IpSubnets};
 use std::alloc::{AllocError, Global};
 use std::fmt;
 
@@ -65,7 +65,7 @@ fn push_walk(networks: &mut Vec<IpNet>, walk: IpSubnets) -> Result<(), AllocErro
 
 impl IpSet {
     ghost use Rattle.ipnet_sets.specs.RangesLeft.{ranges_left};
-    ghost use Rattle.ipnet_sets.specs.Members.{is_member, IsMember, IsMemberOf, IsCountOf, HasNoMoreTurns};
+    ghost use Rattle.ipnet_sets.specs.Members.{is_member, IsMember, IsMemberOf, IsCountOf, HasNoMoreTurns, HasFamily};
     ghost use Rattle.ipnet_sets.specs.Members.{HasNoAddress, IsSubset, IsUnion, IsIntersection, IsDifference};
     ghost use Rattle.ipnet_sets.specs.Members.{IsSymmetricDifference, IsComplement, HasAddressesOf};
     ghost use Rattle.ipnet_sets.specs.Members.{IsFirstOf, IsLastOf, IsFromTo};
@@ -106,17 +106,28 @@ impl IpSet {
         Ok(set)
     }
 
+    /// The set of the addresses in the network's block, whatever its host bits. Fails only when memory runs out.
+    ///
+    /// ```text
+    /// of 10.0.0.5/30: 10.0.0.4-10.0.0.7
+    /// ```
+    pub fn from_network(alloc: Global, network: &IpNet) -> Result<IpSet, AllocError>
+        ensures { IfOk result (λ s. (x : Address) → IsMember s x ↔ InBlock (ip_network network.now) x) }
+    {
+        IpSet::from_range(alloc, network.network(), network.broadcast())
+    }
+
     /// The set of the addresses that lie in the networks' blocks. Order, repeats, overlaps and host bits of the list
     /// do not matter. Fails only when memory runs out; an empty list needs none.
     ///
     /// ```text
     /// 10.0.0.0/30, 10.0.0.4/31: 10.0.0.0-10.0.0.5
     /// ```
-    pub fn from_networks(alloc: Global, networks: &Vec<IpNet>) -> Result<IpSet, AllocError>
-        ensures empty { networks.now.items ≡ [] → IsOk result }
-        ensures members { IfOk result (λ s. HasAddressesOf s (map ip_network networks.now.items)) }
+    pub fn from_networks(alloc: Global, networks: &[IpNet]) -> Result<IpSet, AllocError>
+        ensures empty { networks.now ≡ [] → IsOk result }
+        ensures members { IfOk result (λ s. HasAddressesOf s (map ip_network networks.now)) }
     {
-        let families = load::split(alloc, networks.as_slice())?;
+        let families = load::split(alloc, networks)?;
         let ipv4 = load::turns_of(alloc, &families.ipv4)?;
         let ipv6 = load::turns_of(alloc, &families.ipv6)?;
         Ok(IpSet { ipv4, ipv6 })
@@ -250,6 +261,51 @@ impl IpSet {
         }
     }
 
+    /// Returns whether every address from the first to the last, both included, is in the set. Allocates nothing; the
+    /// time grows with the logarithm of the number of ranges.
+    ///
+    /// If `start` is above `end`, or they are of different families, no address lies between them: the answer is true.
+    ///
+    /// ```text
+    /// 10.0.0.0-10.0.0.5 covers 10.0.0.3 to 10.0.0.5, and does not cover 10.0.0.3 to 10.0.0.6
+    /// ```
+    pub fn covers_range(&self, start: IpAddr, end: IpAddr) -> bool
+        ensures { IsTrue result ↔ ((x : Address)
+            → IsFromTo (ip_address start) (ip_address end) x → IsMember self.now x) }
+    {
+        match (start, end) {
+            (IpAddr::V4(start), IpAddr::V4(end)) => {
+                turns::covers_range(self.ipv4.as_slice(), start.to_bits(), end.to_bits())
+            }
+            (IpAddr::V6(start), IpAddr::V6(end)) => {
+                turns::covers_range(self.ipv6.as_slice(), start.to_bits(), end.to_bits())
+            }
+            _ => true,
+        }
+    }
+
+    /// Returns whether the set has an IPv4 address. Allocates nothing; the time does not depend on the set.
+    ///
+    /// ```text
+    /// of 10.0.0.0/8: true; of fd00::/8: false
+    /// ```
+    pub fn has_ipv4(&self) -> bool
+        ensures { IsTrue result ↔ HasFamily IPv4 self.now }
+    {
+        !self.ipv4.as_slice().is_empty()
+    }
+
+    /// Returns whether the set has an IPv6 address. Allocates nothing; the time does not depend on the set.
+    ///
+    /// ```text
+    /// of 10.0.0.0/8: false; of fd00::/8: true
+    /// ```
+    pub fn has_ipv6(&self) -> bool
+        ensures { IsTrue result ↔ HasFamily IPv6 self.now }
+    {
+        !self.ipv6.as_slice().is_empty()
+    }
+
     /// Whether the operation makes the empty set of this one and the other.
     fn makes_nothing(&self, operation: Operation, other: &IpSet) -> bool
         ensures { IsTrue result ↔ ((x : Address) → IsAddress x
@@ -299,7 +355,8 @@ impl IpSet {
     /// of 10.0.0.0/30, 10.0.0.4/31, fd00::/126: 10.0.0.0 to 10.0.0.5, fd00:: to fd00::3
     /// ```
     pub fn ranges(&self) -> IpSetRanges<'_>
-        ensures { AreRangesOf (IsMember self.now) (ranges_left result) }
+        ensures ranges { AreRangesOf (IsMember self.now) (ranges_left result) }
+        ensures fewest { AreFewestRangesOf (IsMember self.now) (ranges_left result) }
     {
         IpSetRanges {
             ipv4: self.ipv4.as_slice(),
@@ -397,6 +454,22 @@ impl Clone for IpSet {
         let ipv4 = self.ipv4.clone()?;
         let ipv6 = self.ipv6.clone()?;
         Ok(IpSet { ipv4, ipv6 })
+    }
+}
+
+impl<'a> IntoIterator for &'a IpSet {
+    type Item = IpAddrRange;
+
+    type IntoIter = IpSetRanges<'a>;
+
+    ghost use Rattle.ipnet_sets.specs.RangesLeft.{ranges_left};
+    ghost use Rattle.ipnet_sets.specs.Members.{IsMember};
+
+    ghost into_iter_gives = { λ set ranges. AreRangesOf (IsMember set.now) (ranges_left ranges) };
+
+    /// The ranges of the set, as `IpSet::ranges` returns them. A loop `for range in &set` goes through them.
+    fn into_iter(self) -> IpSetRanges<'a> {
+        self.ranges()
     }
 }
 

@@ -1,6 +1,6 @@
 //! The ranges of a set, one after the other.
 ghost use Rattle.std.specs.Prelude.{map};
-ghost use Rattle.std.specs.Iterator.{YieldsFirstBy, item_count};
+ghost use Rattle.std.specs.Iterator.{YieldsFirstBy, YieldsLastBy, item_count};
 ghost use Rattle.ipnet_base.specs.Address.{IPv4, IPv6};
 ghost use Rattle.ipnet_base.specs.RangeOf.{ip_range};
 ghost use Rattle.ipnet_sets.specs.Turns.{AreTurns};
@@ -44,6 +44,36 @@ impl Iterator for IpSetRanges<'_> {
         let range = turns::first_range(self.ipv6)?;
         self.ipv6 = turns::after_first_range(self.ipv6);
         Some(range.first.range_to(range.last))
+    }
+
+    /// Returns the number of the ranges that are left, as both bounds.
+    fn size_hint(&self) -> (usize, Option<usize>) {
+        let len = self.len();
+        (len, Some(len))
+    }
+}
+
+impl DoubleEndedIterator for IpSetRanges<'_> {
+    ghost use Rattle.ipnet_sets.specs.RangesLeft.{ranges_left};
+
+    ghost next_back_gives = { YieldsLastBy ip_range ranges_left };
+
+    /// Returns the last range that is left, or `None`, then and ever after, if none is.
+    fn next_back(&mut self) -> Option<IpAddrRange> {
+        if let Some(range) = turns::last_range(self.ipv6) {
+            self.ipv6 = turns::before_last_range(self.ipv6);
+            return Some(range.first.range_to(range.last));
+        }
+        let range = turns::last_range(self.ipv4)?;
+        self.ipv4 = turns::before_last_range(self.ipv4);
+        Some(range.first.range_to(range.last))
+    }
+}
+
+impl ExactSizeIterator for IpSetRanges<'_> {
+    /// Returns the number of the ranges that are left.
+    fn len(&self) -> usize {
+        turns::range_count(self.ipv4) + turns::range_count(self.ipv6)
     }
 }
 

@@ -1,11 +1,11 @@
 //! Sets of the numbers of one family, each as its turns: the ascending list of the numbers at which it begins or ends.
 //! A number is inside where an odd number of the turns are at most it. An end at the family's last number is left out.
 ghost use Rattle.std.specs.Prelude.{◌≡◌, ℕ, ◌+◌, ◌^◌, ◌<◌, ◌≤◌, ◌⊎◌, ◌↔◌, IsTrue, true, false, not, List, [], ◌∷◌};
-ghost use Rattle.std.specs.Prelude.{length, map, drop, All, IfOk, OnOk, IsNone, IfSome};
+ghost use Rattle.std.specs.Prelude.{◌++◌, length, map, take, drop, All, IfOk, OnOk, IsNone, IfSome};
 ghost use Rattle.ipnet_base.specs.Address.{greatest_number};
 ghost use Rattle.ipnet_sets.specs.Turns.{is_inside, combined, AreTurns, IsTurn, IsSplitAt, IsOpenedAt, IsExtended};
 ghost use Rattle.ipnet_sets.specs.SetRanges.{range_of};
-ghost use Rattle.ipnet_sets.specs.TurnRanges.{ranges_of, count_of};
+ghost use Rattle.ipnet_sets.specs.TurnRanges.{ranges_of, count_of, before_last};
 ghost use Rattle.ipnet_sets.specs.Turns.{EndsWith, IsLeastInside, IsGreatestInside};
 
 use crate::number::Number;
@@ -174,6 +174,15 @@ pub(crate) fn covers<T: Number>(turns: &[T], first: T, last: T) -> bool
     place % 2 == 1 && (place == turns.len() || last.is_below(turns[place]))
 }
 
+/// Whether all numbers from the first to the last are in the set; true if the first is above the last.
+pub(crate) fn covers_range<T: Number>(turns: &[T], first: T, last: T) -> bool
+    requires { AreTurns T.family (map T.number turns.now) }
+    ensures { IsTrue result ↔ ((x : ℕ) → T.number first ≤ x → x ≤ T.number last
+        → is_inside (map T.number turns.now) x ≡ true) }
+{
+    last.is_below(first) || covers(turns, first, last)
+}
+
 /// Whether the set, whose turns are at most the number, ends just before it.
 fn ends_before<T: Number>(turns: &[T], first: T) -> bool
     requires turns { AreTurns T.family (map T.number turns.now) }
@@ -299,6 +308,50 @@ pub(crate) fn after_first_range<T>(turns: &[T]) -> &[T]
         return &[];
     }
     &turns[2..]
+}
+
+/// Returns the last range of the set.
+pub(crate) fn last_range<T: Number>(turns: &[T]) -> Option<NumberRange<T>>
+    requires { AreTurns T.family (map T.number turns.now) }
+    ensures none { IsNone result ↔ (turns.now ≡ []) }
+    ensures some { IfSome result (λ r. ranges_of T.family (map T.number turns.now)
+        ≡ ranges_of T.family (map T.number (take (before_last turns.now) turns.now))
+        ++ range_of T.family (T.number r.first) (T.number r.last) ∷ []) }
+{
+    if turns.is_empty() {
+        return None;
+    }
+    let last = turns.len() - 1;
+    if last % 2 == 0 {
+        return Some(NumberRange {
+            first: turns[last],
+            last: T::last(),
+        });
+    }
+    Some(NumberRange {
+        first: turns[last - 1],
+        last: turns[last].previous(),
+    })
+}
+
+/// Returns the turns before those of the last range.
+pub(crate) fn before_last_range<T>(turns: &[T]) -> &[T]
+    ensures { result.now ≡ take (before_last turns.now) turns.now }
+{
+    if turns.is_empty() {
+        return turns;
+    }
+    &turns[..(turns.len() - 1) / 2 * 2]
+}
+
+/// Returns how many ranges the set has.
+pub(crate) fn range_count<T: Number>(turns: &[T]) -> usize
+    requires { AreTurns T.family (map T.number turns.now) }
+    ensures count { result ≡ length (ranges_of T.family (map T.number turns.now)) }
+    ensures fits { result ≤ greatest_number T.family + 1 }
+    ensures half { result ≤ 2 ^ 63 }
+{
+    turns.len() / 2 + turns.len() % 2
 }
 
 /// Whether every number of the family is in the set.

@@ -40,9 +40,9 @@ fn make_inputs(rt: &impl Abort, alloc: Global, row: Row) -> Result<Inputs, Alloc
     let list = networks(rt, alloc, first)?;
     let other = networks(rt, alloc, second)?;
     let wanted = networks(rt, alloc, wanted)?;
-    let first = IpSet::from_networks(alloc, &list)?;
-    let second = IpSet::from_networks(alloc, &other)?;
-    let wanted_set = IpSet::from_networks(alloc, &wanted)?;
+    let first = IpSet::from_networks(alloc, list.as_slice())?;
+    let second = IpSet::from_networks(alloc, other.as_slice())?;
+    let wanted_set = IpSet::from_networks(alloc, wanted.as_slice())?;
     let wanted_table = table_of(alloc, &list)?;
     Ok(Inputs {
         call,
@@ -94,7 +94,7 @@ fn make(alloc: Global, inputs: &Inputs) -> Result<IpSet, AllocError> {
         "symmetric_difference" => inputs.first.symmetric_difference(alloc, &inputs.second),
         "complement" => inputs.first.complement(alloc),
         "clone" => inputs.first.clone(),
-        "from_networks" => IpSet::from_networks(alloc, &inputs.list),
+        "from_networks" => IpSet::from_networks(alloc, inputs.list.as_slice()),
         "from_range" => match (inputs.first.first(), inputs.first.last()) {
             (Some(start), Some(end)) => IpSet::from_range(alloc, start, end),
             _ => Ok(IpSet::new(alloc)),
@@ -232,8 +232,8 @@ fn questions_need_no_memory(rt: HostRuntime) -> Result<(), Fail> {
     grow_stack(rt.alloc())?;
     let alloc = rt.alloc();
     let list = networks(&rt, alloc, "10.0.0.0/24 10.0.2.0/24 fd00::/126")?;
-    let set = IpSet::from_networks(alloc, &list)?;
-    let part = IpSet::from_networks(alloc, &networks(&rt, alloc, "10.0.2.0/25")?)?;
+    let set = IpSet::from_networks(alloc, list.as_slice())?;
+    let part = IpSet::from_networks(alloc, networks(&rt, alloc, "10.0.2.0/25")?.as_slice())?;
     let list = networks(&rt, alloc, "10.0.0.0/8 10.0.2.0/24 fd00::/8")?;
     let table = table_of(alloc, &list)?;
     let ip = "10.0.2.7".parse::<IpAddr>()?;

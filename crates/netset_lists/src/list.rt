@@ -76,5 +76,5 @@ pub(crate) fn read_set(
         WasRead grammar list bytes.now (IsMember set) refused.old refused.new) }
 {
     let networks = read_networks(alloc, grammar, list, bytes, refused)?;
-    IpSet::from_networks(alloc, &networks)
+    IpSet::from_networks(alloc, networks.as_slice())
 }

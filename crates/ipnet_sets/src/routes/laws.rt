@@ -1,12 +1,25 @@
-//! The law of all tables of routes: a function with nothing to run, whose contract is the law.
-ghost use Rattle.std.specs.Prelude.{◌≡◌};
+//! The laws of all tables of routes: functions with nothing to run, whose contracts are the laws.
+ghost use Rattle.std.specs.Prelude.{◌≡◌, All, Contains};
 ghost use Rattle.ipnet_base.specs.Address.{Address};
-ghost use Rattle.ipnet_sets.specs.Routes.{Route, IsLongestMatch};
+ghost use Rattle.ipnet_base.specs.Blocks.{IsAscending};
+ghost use Rattle.ipnet_base.specs.Network.{IsNetwork, IsTruncated};
+ghost use Rattle.ipnet_sets.specs.Routes.{Route, networks_of, IsLongestMatch};
 ghost use Rattle.ipnet_sets.specs.RoutesOf.{routes_of};
 ghost use Rattle.ipnet_sets.specs.declared.routes.RouteTable.{RouteTable};
+
+use super::RouteTable;
 
 /// A table has at most one longest match for an address.
 pub fn one_longest_match<V>()
     ensures { (table : RouteTable V) (x : Address) (r s : Route V)
         → IsLongestMatch (routes_of table) x r → IsLongestMatch (routes_of table) x s → r ≡ s }
+{}
+
+/// The networks of a table ascend and have no host bits, and each has one value.
+pub fn table_is_in_order<V>(table: &RouteTable<V>)
+    ensures ascending { IsAscending (networks_of (routes_of table.now)) }
+    ensures networks { All IsNetwork (networks_of (routes_of table.now)) }
+    ensures truncated { All IsTruncated (networks_of (routes_of table.now)) }
+    ensures one_value { (r s : Route V) → Contains (routes_of table.now) r → Contains (routes_of table.now) s
+        → r.0 ≡ s.0 → r ≡ s }
 {}

@@ -1,9 +1,9 @@
 -- The blocks of the combined set are those of both lists: each of the two sets has its list's addresses.
-use Rattle.std.proofs.Common.{map}
+use Rattle.std.proofs.Common.{map, subst}
 use Rattle.std.proofs.lemmas.Result.{IfOk-weaker}
 use Rattle.ipnet.specs.Blocks.{AreMaximalBlocks}
 use Rattle.ipnet.specs.NetworkOf.{ip_network}
-use Rattle.ipnet_sets.specs.Members.{IsMember}
+use Rattle.ipnet_sets.specs.Members.{IsMember, HasAddressesOf}
 use Rattle.ipnet_c.specs.Replies.{AreBlocksOfBoth}
 use Rattle.ipnet_c.proofs.SetReplies.{blocks_of_both}
 use Rattle.ipnet_c.proofs.sets.combined_networks.Goals as goal
@@ -16,5 +16,9 @@ returns c =
     IfOk-weaker c.networks.result (λ list. AreMaximalBlocks (IsMember set) 0 (map ip_network list.items))
     (λ list. AreBlocksOfBoth c.args.operation networks others (map ip_network list.items))
     (λ list h. blocks_of_both c.args.operation networks others (map ip_network list.items) set c.in_ok-first.first
-    c.in_ok-second.second c.in_ok-first.ensures.members c.in_ok-second.ensures.members c.in_ok-combined.ensures h)
+    c.in_ok-second.second
+    (subst (λ z. HasAddressesOf c.in_ok-first.first (map ip_network z)) c.as_slice.ensures.value
+    c.in_ok-first.ensures.members)
+    (subst (λ z. HasAddressesOf c.in_ok-second.second (map ip_network z)) c.as_slice-2.ensures.value
+    c.in_ok-second.ensures.members) c.in_ok-combined.ensures h)
     c.networks.ensures.blocks

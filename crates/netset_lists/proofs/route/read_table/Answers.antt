@@ -17,4 +17,4 @@ returns c =
       entries = read.entries;
       read = read.read;
       made = table_of_entries given (routes_of table) read.entries h read.made;
-    }) c.from_routes.ensures
+    }) c.from_routes.ensures.table

@@ -17,8 +17,8 @@ links-requires g c =
     (table_of (ip_networks kept) (truncated_kept (ip_routes given) kept (λ q. (members q).0))
     c.in_ok-routes.ensures.ascending)
 
-pub invariant_of-result : goal.invariant_of-result
-invariant_of-result g c =
+pub invariant_of-result-2 : goal.invariant_of-result-2
+invariant_of-result-2 g c =
     let given = c.args.routes.items in
     let kept = c.in_ok-routes.routes.items in
     let links = c.in_ok-enclosing.enclosing.items in
@@ -31,8 +31,8 @@ invariant_of-result g c =
       all = c.in_ok-enclosing.ensures.all ∙ ap length c.as_slice.ensures.value;
     }
 
-pub returns : goal.returns
-returns g c =
+pub returns-clause-table : goal.returns-clause-table
+returns-clause-table g c =
     let given = c.args.routes.items in
     let kept = c.in_ok-routes.routes.items in
     record {
