@@ -5,6 +5,7 @@
 
 mod fit;
 pub mod laws;
+pub mod plan;
 pub mod pool;
 
 pub use pool::{IpPool, PoolError};

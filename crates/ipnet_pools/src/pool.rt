@@ -12,7 +12,7 @@ ghost use Rattle.ipnet_pools.specs.declared.pool.PoolError.TheVariants.{PrefixLe
 use crate::fit;
 use ipnet::{IpNet, Ipv4Addr, Ipv4Net, Ipv6Addr, Ipv6Net, PrefixLenError};
 use ipnet_sets::IpSet;
-use std::alloc::{AllocError, Global};
+use std::alloc::{AllocError, AllocFailed, Global};
 use thiserror::Error;
 
 /// Why a call on a pool failed.
@@ -39,6 +39,14 @@ impl From<AllocError> for PoolError {
     ghost from_gives = { λ _ result. result ≡ Memory };
 
     fn from(_: AllocError) -> PoolError {
+        PoolError::Memory
+    }
+}
+
+impl<T: Drop> From<AllocFailed<T>> for PoolError {
+    ghost from_gives = { λ _ result. result ≡ Memory };
+
+    fn from(_: AllocFailed<T>) -> PoolError {
         PoolError::Memory
     }
 }
@@ -130,7 +138,7 @@ impl IpPool {
     }
 
     /// Takes the best fit for the request. Only the family and the prefix length of `request` count.
-    fn assign(&mut self, alloc: Global, request: IpNet) -> Result<IpNet, PoolError>
+    pub(crate) fn assign(&mut self, alloc: Global, request: IpNet) -> Result<IpNet, PoolError>
         ensures taken { IfOk result (λ n. IsTaken self.old self.new (ip_network n)) }
         ensures best { IfOk result (λ n. IsBestFit (IsFree self.old) (ip_network request).family
             (ip_network request).prefix_len (ip_network n)) }
