@@ -1,0 +1,87 @@
+-- Each network is the best fit for its length in what is left, and no later length loses its room.
+use Rattle.std.proofs.Common.{◌≡◌, ◌+◌, [], ◌∷◌, map, drop, sym, ap, ◌∙◌, subst, arith}
+use Rattle.std.proofs.Common.{Err, inl, inr}
+use Rattle.std.proofs.lemmas.List.{drop_more, map-append}
+use Rattle.std.proofs.lemmas.Result.{err_from_is_err_and}
+use Rattle.ipnet_base.proofs.ResultLaws.{false_gives}
+use Rattle.ipnet.specs.NetworkOf.{ip_network}
+use Rattle.ipnet_sets.specs.Members.{IsMember}
+use Rattle.ipnet_sets.proofs.SetEqualLaws.{member_or_not}
+use Rattle.ipnet_pools.specs.Fits.{HasRoom, IsBestFit, Without}
+use Rattle.ipnet_pools.specs.PlanSteps.{IsPlannedSoFar}
+use Rattle.ipnet_pools.specs.PoolOf.{IsFree}
+use Rattle.ipnet_pools.proofs.PlacementLaws.{best_fit_keeps_placements, CanPlace-more}
+use Rattle.ipnet_pools.proofs.PlanLaws.{planned_start, planned_more, planned_none, planned_end}
+use Rattle.ipnet_pools.proofs.plan.plan.Goals as goal
+
+pub loop-index-init : goal.loop-index-init
+loop-index-init c =
+    let lengths = c.args.lengths.now in
+    subst (λ z. IsPlannedSoFar (IsMember c.args.set.now) (IsFree c.in_ok-pool.pool) (ip_network c.args.family).family
+    lengths 0 (map ip_network z)) (sym c.new-networks.ensures.items)
+    (planned_start (IsMember c.args.set.now) (IsFree c.in_ok-pool.pool) (ip_network c.args.family).family lengths
+    (λ x h. (c.in_ok-pool.ensures.free x).0 h) (λ x h. (c.in_ok-pool.ensures.free x).1 h))
+
+pub returns-in_err-network-clause-prefix_len : goal.returns-in_err-network-clause-prefix_len
+returns-in_err-network-clause-prefix_len c =
+    let result = c.from_residual-in_err-network.result in
+    let (y, is, same) = err_from_is_err_and result c.from_residual-in_err-network.ensures.1 in
+    let was : c.assign.result ≡ Err c.in_err-network.field-0.0 = c.in_err-network.was in
+    (
+      λ e. elim (c.assign.ensures.errors (cc)) [
+        | inl exhausted ↦ absurd (cc)
+        | inr memory ↦ absurd (cc)
+      ],
+      λ any. absurd (false_gives c.has_too_long.result c.has_too_long.ensures c.if-has_too_long.false any),
+    )
+
+pub returns-in_err-network-clause-exhausted : goal.returns-in_err-network-clause-exhausted
+returns-in_err-network-clause-exhausted c e =
+    let lengths = c.args.lengths.now in
+    let i = c.loop-index.index in
+    let f = (ip_network c.args.family).family in
+    let request = ip_network c.in_ok-request.request in
+    let result = c.from_residual-in_err-network.result in
+    let (y, is, same) = err_from_is_err_and result c.from_residual-in_err-network.ensures.1 in
+    let was : c.assign.result ≡ Err c.in_err-network.field-0.0 = c.in_err-network.was in
+    planned_none (IsMember c.args.set.now) (IsFree c.loop-index.pool) (IsFree c.loop-index.pool) f lengths i request.prefix_len
+    (map ip_network c.loop-index.networks.items) (drop_more lengths i 0 (omega (arith, c.loop-index-test.true))
+    ∙ ap (λ z. z ∷ drop (i + 1) lengths) (sym (ap (λ z. z.prefix_len) c.in_ok-request.ensures.made))) c.loop-index.invariant
+    (subst (λ z. ¬ (HasRoom (IsFree c.loop-index.pool) z request.prefix_len)) (ap (λ z. z.family) c.in_ok-request.ensures.made ∙ ap (λ z. z.family) c.addr.ensures) (c.assign.ensures.exhausted (cc)))
+
+pub returns-in_err-push-clause-prefix_len : goal.returns-in_err-push-clause-prefix_len
+returns-in_err-push-clause-prefix_len c =
+    let (y, is, same) = err_from_is_err_and c.from_residual-in_err-push.result c.from_residual-in_err-push.ensures.1 in (
+      λ e. absurd (cc),
+      λ any. absurd (false_gives c.has_too_long.result c.has_too_long.ensures c.if-has_too_long.false any),
+    )
+
+pub loop-index-preserved : goal.loop-index-preserved
+loop-index-preserved c =
+    let lengths = c.args.lengths.now in
+    let i = c.loop-index.index in
+    let S = IsMember c.args.set.now in
+    let Old = IsFree c.loop-index.pool in
+    let New = IsFree c.assign.new.self in
+    let f = (ip_network c.args.family).family in
+    let request = ip_network c.in_ok-request.request in
+    let n = ip_network c.in_ok-network.network in
+    let xs = c.loop-index.networks.items in
+    let best : IsBestFit Old f request.prefix_len n =
+    subst (λ z. IsBestFit Old z request.prefix_len n) (ap (λ z. z.family) c.in_ok-request.ensures.made ∙ ap (λ z. z.family) c.addr.ensures) c.in_ok-network.ensures.best in
+    subst (IsPlannedSoFar S New f lengths (i + 1))
+    (sym (ap (map ip_network) c.in_ok-push.ensures.items ∙ map-append ip_network xs (c.in_ok-network.network ∷ [])))
+    (planned_more S Old New f lengths i request.prefix_len (map ip_network xs) (drop_more lengths i 0 (omega (arith, c.loop-index-test.true))
+    ∙ ap (λ z. z ∷ drop (i + 1) lengths) (sym (ap (λ z. z.prefix_len) c.in_ok-request.ensures.made))) c.loop-index.invariant n best
+    (λ x h. (c.in_ok-network.ensures.taken.free x).0 h)
+    (λ requests place. CanPlace-more requests (Without Old n) New (λ x h. (c.in_ok-network.ensures.taken.free x).1 h)
+    (best_fit_keeps_placements Old (member_or_not c.loop-index.pool.free) f request.prefix_len n best requests place)))
+
+pub returns-clause-plan : goal.returns-clause-plan
+returns-clause-plan c =
+    let lengths = c.args.lengths.now in
+    planned_end (IsMember c.args.set.now) (IsFree c.loop-index.pool) (ip_network c.args.family).family lengths
+    (map ip_network c.loop-index.networks.items)
+    (subst (λ z. IsPlannedSoFar (IsMember c.args.set.now) (IsFree c.loop-index.pool) (ip_network c.args.family).family
+    lengths z (map ip_network c.loop-index.networks.items))
+    (omega (arith, c.loop-index-test.false, c.loop-index.auto.index-end)) c.loop-index.invariant)

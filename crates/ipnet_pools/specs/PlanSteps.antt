@@ -1,0 +1,18 @@
+-- The steps of a plan. Private contracts alone cite these.
+use Rattle.std.specs.Prelude.{◌≡◌, ℕ, List, map, All, drop, ◌++◌}
+use Rattle.ipnet_base.specs.Address.{Family, Address}
+use Rattle.ipnet_base.specs.Network.{Network}
+use Rattle.ipnet_base.specs.Blocks.{IsInside, ArePairwiseDisjoint, IsCoveredBy}
+use Rattle.ipnet_pools.specs.Placements.{request_of, CanPlace}
+use Rattle.ipnet_pools.specs.Plans.{requests_of}
+
+-- The first lengths have their networks, and the rest of the set has room for the other lengths if the set had room for
+-- all of them.
+pub record IsPlannedSoFar (InSet IsLeft : Address → Type 0) (family : Family) (lengths : List ℕ) (done : ℕ)
+    (networks : List Network) : Type 0 where
+  pub requested : map request_of networks ++ requests_of family (drop done lengths) ≡ requests_of family lengths
+  pub inside : All (IsInside InSet 0) networks
+  pub disjoint : ArePairwiseDisjoint networks
+  pub left : (x : Address) → IsLeft x → InSet x
+  pub apart : (x : Address) → IsLeft x → ¬ (IsCoveredBy networks x)
+  pub keeps : CanPlace InSet (requests_of family lengths) → CanPlace IsLeft (requests_of family (drop done lengths))

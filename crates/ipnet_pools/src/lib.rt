@@ -1,0 +1,11 @@
+//! Address pools: networks of any length, taken from a set of addresses and returned to it.
+//!
+//! The free addresses and the addresses in use share no address, and together they are the pool. Every call keeps this.
+#![tactic(auto)]
+
+mod fit;
+pub mod laws;
+pub mod plan;
+pub mod pool;
+
+pub use pool::{IpPool, PoolError};
