@@ -1,8 +1,10 @@
 # What the scripts that build share. Set `top` to the top of the clone, and `script` to the name that messages begin
-# with; then run `. "$top/tools/build.sh"`. After `find_products` the variable `work` names the folder that has the
-# products: the clone, or, if the clone is read-only and nothing is built in it, a copy in ~/.cache/dewikonu.
-sources=()
-products=()
+# with; then run `. "$top/tools/build.sh"`. It has two functions to call, which build what is not built:
+#
+#   find_program CRATE [WORD..]    `program` is the path of the crate's program; `rt run WORD..` builds it
+#   find_libraries                 `libraries` is the folder that has libipnet.a and libipnet.so
+#
+# They build in the clone. If it is read-only, they build in a copy of it below ~/.cache/dewikonu.
 
 # version: prints the version, the first that CHANGELOG.md names
 version() {
@@ -109,35 +111,34 @@ copy_sources() {
     done
 }
 
-# find_products CRATE PRODUCT..: makes sure that the products, paths from the top of the clone, are built from the crate
-# and from what `sources` has already. If they are not, the function `build` builds them, in the crate's folder in
-# `work`; what it prints is shown only if it fails.
+# find_products CRATE COMMAND..: makes sure that `products`, paths from the top of the clone, are built from `sources`,
+# and sets `work` to the folder that has them, at the same paths. If they are not built, the command builds them, in the
+# crate's folder in `work`; what it prints is shown only if it fails.
 find_products() {
-    local crate=$1 lock status
-    shift
-    products=("$@")
-    sources_below "$crate"
+    local folder lock status
+    folder=$(dirname "$products")
     work=$top
     ! is_built || return 0
-    if ! mkdir -p "$work/$(dirname "$1")" 2>/dev/null || [ ! -w "$work/$(dirname "$1")" ]; then
+    if ! mkdir -p "$work/$folder" 2>/dev/null || [ ! -w "$work/$folder" ]; then
         work=${XDG_CACHE_HOME:-$HOME/.cache}/dewikonu/$(printf %s "$top" | sha256sum | head -c 16)
-        mkdir -p "$work/$(dirname "$1")" || return 1
+        mkdir -p "$work/$folder" || return 1
         ! is_current_copy || ! is_built || return 0
     fi
-    exec {lock}>"$work/$(dirname "$1")/.lock" || return 1
+    exec {lock}>"$work/$folder/.lock" || return 1
     if ! flock -n "$lock"; then
         complain "waiting for another build"
         flock "$lock" || return 1
     fi
-    build_products "$crate"
+    build_products "$@"
     status=$?
     exec {lock}>&-
     return $status
 }
 
-# build_products CRATE: builds the products, if no other call has done so by now
+# build_products CRATE COMMAND..: builds the products, if no other call has done so by now
 build_products() {
     local crate=$1 words product
+    shift
     [ "$work" = "$top" ] || is_current_copy || copy_sources || return 1
     ! is_built || return 0
     if ! command -v rt >/dev/null; then
@@ -146,7 +147,7 @@ build_products() {
     fi
     complain "proving and building $crate first; this can take some minutes"
     rm -f "$work/$products.built"
-    if ! words=$(cd "$work/crates/$crate" && build 2>&1 </dev/null); then
+    if ! words=$(cd "$work/crates/$crate" && "$@" 2>&1 </dev/null); then
         printf '%s\n' "$words" >&2
         complain "$crate could not be built"
         return 1
@@ -158,4 +159,27 @@ build_products() {
         fi
     done
     keep_sums
+}
+
+find_program() {
+    local crate=$1
+    shift
+    sources=()
+    products=("crates/$crate/out/$crate")
+    sources_below "$crate"
+    find_products "$crate" rt run "$@" && program=$work/$products
+}
+
+find_libraries() {
+    local tool
+    for tool in cc ar; do
+        if ! command -v "$tool" >/dev/null; then
+            complain "needs $tool"
+            return 1
+        fi
+    done
+    sources=(bindings/link)
+    products=(bindings/out/libipnet.a bindings/out/libipnet.so)
+    sources_below ipnet_c
+    find_products ipnet_c ../../bindings/link && libraries=$work/bindings/out
 }
