@@ -1,0 +1,31 @@
+# What ./install and ./uninstall share: `. "$top/tools/places.sh"`. `read_places ARGUMENT..` parses the arguments and sets
+#
+#   prefix     the folder that programs will know, /usr/local by default
+#   place      where its files go now: the prefix, below $DESTDIR
+#   package    whether a Debian package is wanted, yes or no
+#
+# `list` is the file, from the prefix, that names each installed file and each folder that was made for it.
+list=share/dewikonu/installed
+
+# usage: prints the head of the script, and ends with status 2
+usage() {
+    sed -n '2,/^[^#]/s/^# \{0,1\}//p' "$top/$script" >&2
+    exit 2
+}
+
+read_places() {
+    prefix=/usr/local
+    package=no
+    while [ $# -gt 0 ]; do
+        case $1 in
+            --prefix) [ $# -gt 1 ] && [ -n "$2" ] && prefix=$2 && shift || usage ;;
+            --prefix=?*) prefix=${1#--prefix=} ;;
+            --user) [ -n "${HOME-}" ] && prefix=$HOME/.local || usage ;;
+            --deb) [ "$script" = install ] && package=yes || usage ;;
+            *) usage ;;
+        esac
+        shift
+    done
+    prefix=$(realpath -ms -- "$prefix")
+    place=$(realpath -ms -- "${DESTDIR-}/$prefix")
+}
