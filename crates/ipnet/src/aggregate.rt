@@ -138,8 +138,8 @@ fn sort_and_sweep<N: Net>(list: &mut Vec<N>)
     list.truncate(stacked);
 }
 
-/// The aggregate, in the one list that is made for it. Sorting takes most of the time, so networks that can be joined in
-/// the order of the input are joined before the sort.
+/// The aggregate, in the one list that is made for it. Sorting takes most of the time, so networks that can be joined
+/// in the order of the input are joined before the sort.
 fn aggregated<N: Net>(alloc: Global, networks: &Vec<N>) -> Result<Vec<N>, AllocError>
     ensures empty { networks.now.items ≡ [] → IsOkAnd result (λ answer. answer.items ≡ []) }
     ensures aggregate { IfOk result (λ answer.
