@@ -46,9 +46,18 @@ function search() {
   count.textContent = words.length ? found + (found === 1 ? " entry" : " entries") : "";
 }
 
+// The text without `%20` and the like; as it is if a `%` begins nothing of that kind.
+function decoded(text) {
+  try {
+    return decodeURIComponent(text);
+  } catch {
+    return text;
+  }
+}
+
 // Follows the address: `#q=WORDS` searches (`#q=WORDS&all` in comments and contracts too), another one shows its box.
 function follow() {
-  const hash = decodeURIComponent(location.hash);
+  const hash = decoded(location.hash);
   const asked = /^#q=(.*?)(&all)?$/.exec(hash);
   if (asked) {
     query.value = asked[1].replace(/\+/g, " ");

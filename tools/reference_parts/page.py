@@ -85,6 +85,11 @@ class Page:
                     shown.append("<p>%s</p>" % self.sentence(entry, paragraph))
         return "\n".join(shown)
 
+    def kind(self, entry):
+        """What the entry is; a function that only states a fact is a law, and its file is named so."""
+        is_law = entry.kind == "fn" and entry.path.endswith("laws.rt")
+        return "law" if is_law else KINDS.get(entry.kind, entry.kind)
+
     def notes(self, entry):
         if entry.is_internal:
             yield "private: other crates cannot name it"
@@ -115,7 +120,7 @@ class Page:
 %s
 </article>''' % (
             escape(entry.anchor), escape(names), entry.path, entry.line, escape(entry.anchor), title,
-            KINDS.get(entry.kind, entry.kind), entry.path, entry.line, "\n".join(part for part in (
+            self.kind(entry), entry.path, entry.line, "\n".join(part for part in (
                 notes, self.prose(entry, entry.doc), self.code(entry), self.members(entry, crate)) if part))
 
     def module(self, module, crate):
