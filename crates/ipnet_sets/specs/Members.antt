@@ -4,7 +4,9 @@ use Rattle.std.specs.Prelude.{Contains, AllPairs}
 use Rattle.ipnet_base.specs.Address.{Family, Address, IsAddress, family_index}
 use Rattle.ipnet_base.specs.Network.{Network}
 use Rattle.ipnet_base.specs.Blocks.{IsCoveredBy}
+use Rattle.ipnet_base.specs.Ranges.{AddressRange}
 use Rattle.ipnet_sets.specs.declared.set.IpSet.{IpSet}
+use Rattle.ipnet_sets.specs.SetRanges.{AreRangesOf}
 use Rattle.ipnet_sets.specs.Turns.{is_inside, by_family}
 
 -- the numbers at which the set begins or ends in the family
@@ -19,10 +21,6 @@ is_member s x = is_inside (turns_of s x.family) x.number
 pub record IsMember (s : IpSet) (x : Address) : Type 0 where
   pub fits : IsAddress x
   pub inside : is_member s x ≡ true
-
--- what is made of a and b has no more turns than these together
-abbrev pub HasNoMoreTurns : IpSet → IpSet → IpSet → Type 0
-HasNoMoreTurns s a b = (f : Family) → length (turns_of s f) ≤ length (turns_of a f) + length (turns_of b f)
 
 -- the two sets have the same addresses
 abbrev pub HaveSameAddresses : IpSet → IpSet → Type 0
@@ -68,6 +66,17 @@ IsMemberOf f s x = (x.family ≡ f) × IsMember s x
 -- some address of the family is in the set
 abbrev pub HasFamily : Family → IpSet → Type 0
 HasFamily f s = (x : Address) × IsMemberOf f s x
+
+-- what is made of a and b has no more ranges than these together
+abbrev pub HasNoMoreRanges : IpSet → IpSet → IpSet → Type 0
+HasNoMoreRanges s a b = (ranges first second : List AddressRange) → AreRangesOf (IsMember s) ranges
+    → AreRangesOf (IsMember a) first → AreRangesOf (IsMember b) second
+    → length ranges ≤ length first + length second
+
+-- what is made of a has at most one range more in each family
+abbrev pub HasOneMoreRange : IpSet → IpSet → Type 0
+HasOneMoreRange s a = (f : Family) (ranges first : List AddressRange) → AreRangesOf (IsMemberOf f s) ranges
+    → AreRangesOf (IsMemberOf f a) first → length ranges ≤ length first + 1
 
 -- the set of addresses has as many as n: a list of n has each of them once, and no other
 pub record IsCountOf (InSet : Address → Type 0) (n : ℕ) : Type 0 where
