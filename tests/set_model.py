@@ -200,6 +200,14 @@ def longest_match(table, family, number):
     return min(matches, key=lambda route: route[0][2]) if matches else None
 
 
+def covering(table, block):
+    """The route of the block with the fewest open bits that contains this block; none if no block does."""
+    family, number, open_bits = block
+    holders = [(other, value) for other, value in table.items()
+               if other[0] == family and other[2] >= open_bits and other[1] >> other[2] == number >> other[2]]
+    return min(holders, key=lambda route: route[0][2]) if holders else None
+
+
 def network_text(family, number, open_bits):
     """The canonical text of the network."""
     return "{}/{}".format(address_text(family, number), WIDTH[family] - open_bits)

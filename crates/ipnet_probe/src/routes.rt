@@ -20,6 +20,8 @@ pub fn ask(
     match call {
         "get" => ask_get(alloc, &table, part),
         "longest_match" => ask_longest_match(alloc, &table, part),
+        "covering" => ask_covering(alloc, &table, part),
+        "into_routes" => Ok(Some(show(alloc, table.into_routes())?)),
         _ => ask_table(alloc, call, &table),
     }
 }
@@ -79,4 +81,16 @@ fn ask_longest_match(
         return Ok(None);
     };
     Ok(Some(show(alloc, table.longest_match(&ip))?))
+}
+
+/// The route of the longest network that contains the network; none if the text is no network.
+fn ask_covering(
+    alloc: Global,
+    table: &RouteTable<String>,
+    network: &str,
+) -> Result<Option<String>, AllocError> {
+    let Ok(network) = network.parse::<IpNet>() else {
+        return Ok(None);
+    };
+    Ok(Some(show(alloc, table.covering(&network))?))
 }

@@ -16,6 +16,9 @@ pub fn ask(
     if call == "from_range" {
         return ask_range(alloc, first, second);
     }
+    if call == "from_network" {
+        return ask_network(alloc, first);
+    }
     let Some(set) = read_set(alloc, first)? else {
         return Ok(None);
     };
@@ -75,6 +78,14 @@ fn ask_range(alloc: Global, start: &str, end: &str) -> Result<Option<String>, Al
     Ok(Some(show(alloc, IpSet::from_range(alloc, start, end)?)?))
 }
 
+/// The set of the network; none if the text is no network.
+fn ask_network(alloc: Global, network: &str) -> Result<Option<String>, AllocError> {
+    let Ok(network) = network.parse::<IpNet>() else {
+        return Ok(None);
+    };
+    Ok(Some(show(alloc, IpSet::from_network(alloc, &network)?)?))
+}
+
 /// The answer of a call that takes the set only; none if there is no such call.
 fn ask_one(alloc: Global, call: &str, set: &IpSet) -> Result<Option<String>, AllocError> {
     let text = match call {
@@ -87,7 +98,12 @@ fn ask_one(alloc: Global, call: &str, set: &IpSet) -> Result<Option<String>, All
         "last" => show(alloc, set.last())?,
         "ipv4_count" => show(alloc, set.ipv4_count())?,
         "ipv6_count" => show(alloc, set.ipv6_count())?,
+        "has_ipv4" => show(alloc, set.has_ipv4())?,
+        "has_ipv6" => show(alloc, set.has_ipv6())?,
         "ranges" => show(alloc, list(alloc, set.ranges())?)?,
+        "ranges_of_loop" => show(alloc, list_of_loop(alloc, set)?)?,
+        "ranges_back" => show(alloc, list_back(alloc, set.ranges())?)?,
+        "ranges_len" => show(alloc, set.ranges().len())?,
         "ranges_size_hint" => show(alloc, set.ranges().size_hint())?,
         "hash" => show(alloc, hash_of(set))?,
         _ => return Ok(None),
@@ -111,7 +127,26 @@ fn list(alloc: Global, ranges: IpSetRanges<'_>) -> Result<Vec<IpAddrRange>, Allo
     Ok(list)
 }
 
-/// The answer of a call that takes an address, a network or a number beside the set; none if there is no such call.
+/// The ranges that a loop over the set goes through.
+fn list_of_loop(alloc: Global, set: &IpSet) -> Result<Vec<IpAddrRange>, AllocError> {
+    let mut list = Vec::new(alloc);
+    for range in set {
+        list.push(range)?;
+    }
+    Ok(list)
+}
+
+/// The ranges that are left, from the last to the first.
+fn list_back(alloc: Global, ranges: IpSetRanges<'_>) -> Result<Vec<IpAddrRange>, AllocError> {
+    let mut list = Vec::new(alloc);
+    for range in ranges.rev() {
+        list.push(range)?;
+    }
+    Ok(list)
+}
+
+/// The answer of a call that takes an address, a network, a range or a number beside the set; none if there is no such
+/// call.
 fn ask_part(
     alloc: Global,
     call: &str,
@@ -126,6 +161,10 @@ fn ask_part(
         "covers" => match part.parse::<IpNet>() {
             Ok(network) => Ok(Some(show(alloc, set.covers(&network))?)),
             Err(_) => Ok(None),
+        },
+        "covers_range" => match read_range(part) {
+            Some((start, end)) => Ok(Some(show(alloc, set.covers_range(start, end))?)),
+            None => Ok(None),
         },
         "ranges_after" => match part.parse::<usize>() {
             Ok(steps) => ask_ranges_after(alloc, set, steps),

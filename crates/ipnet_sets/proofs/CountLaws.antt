@@ -186,7 +186,7 @@ not_whole_fits items slice other e g h out =
     ]
 
 -- lists that have each of the same members once are as long
-same_length : (xs ys : List Address) → AllPairs (λ x y. x ≢ y) xs → AllPairs (λ x y. x ≢ y) ys
+pub same_length : (xs ys : List Address) → AllPairs (λ x y. x ≢ y) xs → AllPairs (λ x y. x ≢ y) ys
     → ((x : Address) → Contains xs x ↔ Contains ys x) → length xs ≡ length ys
 same_length xs ys a b same = omega (arith, no_more xs ys a (λ x. (same x).0), no_more ys xs b (λ x. (same x).1))
   where

@@ -10,6 +10,9 @@ pub mod SetEqualLaws
 pub mod FewestRanges
 pub mod RangeEndLaws
 pub mod CountLaws
+pub mod CountSums
+pub mod RangeCountLaws
+pub mod HashLaws
 pub mod SetAlgebra
 pub mod RouteLaws
 pub mod CoveringLaws

@@ -11,7 +11,7 @@ use Rattle.ipnet_sets.specs.TurnRanges.{ranges_of, before_last}
 use Rattle.ipnet_sets.proofs.SetRangeLaws.{tail_turns, later}
 
 -- the first turns are turns
-pub take_turns : (f : Family) (ts : List ℕ) (k : ℕ) → k ≤ length ts → AreTurns f ts → AreTurns f (take k ts)
+take_turns : (f : Family) (ts : List ℕ) (k : ℕ) → k ≤ length ts → AreTurns f ts → AreTurns f (take k ts)
 take_turns f ts k le h = record {
   ascending = λ i j d l m.
       let fits : j < k = omega (arith, m, length-take-le k ts le) in

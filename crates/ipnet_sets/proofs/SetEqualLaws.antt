@@ -78,7 +78,7 @@ same_turns_of a b f h k same = same_turns f (turns_of a f) (turns_of b f) h k
     ))
 
 -- words that hold the same numbers are the same
-words_are_numbers : (xs : List ℕ) → map (λ n. n) xs ≡ xs
+pub words_are_numbers : (xs : List ℕ) → map (λ n. n) xs ≡ xs
 words_are_numbers [] = refl
 words_are_numbers (x ∷ xs) = ap (λ z. x ∷ z) (words_are_numbers xs)
 

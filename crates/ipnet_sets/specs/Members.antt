@@ -5,7 +5,9 @@ use Rattle.std.specs.Prelude.{Contains, AllPairs}
 use Rattle.ipnet_base.specs.Address.{Family, Address, IsAddress, family_index}
 use Rattle.ipnet_base.specs.Network.{Network}
 use Rattle.ipnet_base.specs.Blocks.{IsCoveredBy}
+use Rattle.ipnet_base.specs.Ranges.{AddressRange}
 use Rattle.ipnet_sets.specs.declared.set.IpSet.{IpSet}
+use Rattle.ipnet_sets.specs.SetRanges.{AreRangesOf}
 use Rattle.ipnet_sets.specs.Turns.{is_inside, by_family}
 
 -- The turns of the set in a family: the ascending numbers at which it begins or ends. An end after the family's last
@@ -23,11 +25,6 @@ is_member s x = is_inside (turns_of s x.family) x.number
 pub record IsMember (s : IpSet) (x : Address) : Type 0 where
   pub fits : IsAddress x
   pub inside : is_member s x ≡ true
-
--- The set `s` has at most as many turns in each family as `a` and `b` together. So the operands bound the size of a
--- result.
-abbrev pub HasNoMoreTurns : IpSet → IpSet → IpSet → Type 0
-HasNoMoreTurns s a b = (f : Family) → length (turns_of s f) ≤ length (turns_of a f) + length (turns_of b f)
 
 -- The sets have the same addresses. Example: the set of 10.0.0.0/30, 10.0.0.4/31 and the set a.
 abbrev pub HaveSameAddresses : IpSet → IpSet → Type 0
@@ -76,6 +73,17 @@ IsMemberOf f s x = (x.family ≡ f) × IsMember s x
 -- The set has an address of the family.
 abbrev pub HasFamily : Family → IpSet → Type 0
 HasFamily f s = (x : Address) × IsMemberOf f s x
+
+-- The set `s` has at most as many ranges as `a` and `b` together. So the operands bound the size of a result.
+abbrev pub HasNoMoreRanges : IpSet → IpSet → IpSet → Type 0
+HasNoMoreRanges s a b = (ranges first second : List AddressRange) → AreRangesOf (IsMember s) ranges
+    → AreRangesOf (IsMember a) first → AreRangesOf (IsMember b) second
+    → length ranges ≤ length first + length second
+
+-- The set `s` has at most one range more than `a` in each family.
+abbrev pub HasOneMoreRange : IpSet → IpSet → Type 0
+HasOneMoreRange s a = (f : Family) (ranges first : List AddressRange) → AreRangesOf (IsMemberOf f s) ranges
+    → AreRangesOf (IsMemberOf f a) first → length ranges ≤ length first + 1
 
 -- The set has `n` addresses: a list of length `n` has each of them once, and no other. Example: 10.0.0.0/30 has 4.
 pub record IsCountOf (InSet : Address → Type 0) (n : ℕ) : Type 0 where

@@ -26,5 +26,5 @@ pub record AreRangesOf (InSet : Address → Type 0) (ranges : List AddressRange)
 
 -- no list of ranges that have together the addresses of the set is shorter
 abbrev pub AreFewestRangesOf : (Address → Type 0) → List AddressRange → Type 0
-AreFewestRangesOf InSet ranges = (other : List AddressRange) → ((x : Address) → InSet x ↔ Any (λ r. IsInRange r x) other)
-    → length ranges ≤ length other
+AreFewestRangesOf InSet ranges = (other : List AddressRange)
+    → ((x : Address) → InSet x ↔ Any (λ r. IsInRange r x) other) → length ranges ≤ length other

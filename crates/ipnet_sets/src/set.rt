@@ -65,7 +65,8 @@ fn push_walk(networks: &mut Vec<IpNet>, walk: IpSubnets) -> Result<(), AllocErro
 
 impl IpSet {
     ghost use Rattle.ipnet_sets.specs.RangesLeft.{ranges_left};
-    ghost use Rattle.ipnet_sets.specs.Members.{is_member, IsMember, IsMemberOf, IsCountOf, HasNoMoreTurns, HasFamily};
+    ghost use Rattle.ipnet_sets.specs.Members.{is_member, IsMember, IsMemberOf, IsCountOf, HasFamily};
+    ghost use Rattle.ipnet_sets.specs.Members.{HasNoMoreRanges, HasOneMoreRange};
     ghost use Rattle.ipnet_sets.specs.Members.{HasNoAddress, IsSubset, IsUnion, IsIntersection, IsDifference};
     ghost use Rattle.ipnet_sets.specs.Members.{IsSymmetricDifference, IsComplement, HasAddressesOf};
     ghost use Rattle.ipnet_sets.specs.Members.{IsFirstOf, IsLastOf, IsFromTo};
@@ -142,7 +143,7 @@ impl IpSet {
     ) -> Result<IpSet, AllocError>
         ensures members { IfOk result (λ s. (x : Address)
             → is_member s x ≡ combined operation (is_member self.now x) (is_member other.now x)) }
-        ensures turns { IfOk result (λ s. HasNoMoreTurns s self.now other.now) }
+        ensures ranges { IfOk result (λ s. HasNoMoreRanges s self.now other.now) }
     {
         let ipv4 = turns::combine(
             alloc,
@@ -166,7 +167,7 @@ impl IpSet {
     /// ```
     pub fn union(&self, alloc: Global, other: &IpSet) -> Result<IpSet, AllocError>
         ensures members { IfOk result (λ s. IsUnion s self.now other.now) }
-        ensures turns { IfOk result (λ s. HasNoMoreTurns s self.now other.now) }
+        ensures ranges { IfOk result (λ s. HasNoMoreRanges s self.now other.now) }
     {
         self.combined(alloc, Operation::Union, other)
     }
@@ -178,7 +179,7 @@ impl IpSet {
     /// ```
     pub fn intersection(&self, alloc: Global, other: &IpSet) -> Result<IpSet, AllocError>
         ensures members { IfOk result (λ s. IsIntersection s self.now other.now) }
-        ensures turns { IfOk result (λ s. HasNoMoreTurns s self.now other.now) }
+        ensures ranges { IfOk result (λ s. HasNoMoreRanges s self.now other.now) }
     {
         self.combined(alloc, Operation::Intersection, other)
     }
@@ -190,7 +191,7 @@ impl IpSet {
     /// ```
     pub fn difference(&self, alloc: Global, other: &IpSet) -> Result<IpSet, AllocError>
         ensures members { IfOk result (λ s. IsDifference s self.now other.now) }
-        ensures turns { IfOk result (λ s. HasNoMoreTurns s self.now other.now) }
+        ensures ranges { IfOk result (λ s. HasNoMoreRanges s self.now other.now) }
     {
         self.combined(alloc, Operation::Difference, other)
     }
@@ -202,7 +203,7 @@ impl IpSet {
     /// ```
     pub fn symmetric_difference(&self, alloc: Global, other: &IpSet) -> Result<IpSet, AllocError>
         ensures members { IfOk result (λ s. IsSymmetricDifference s self.now other.now) }
-        ensures turns { IfOk result (λ s. HasNoMoreTurns s self.now other.now) }
+        ensures ranges { IfOk result (λ s. HasNoMoreRanges s self.now other.now) }
     {
         self.combined(alloc, Operation::SymmetricDifference, other)
     }
@@ -213,7 +214,8 @@ impl IpSet {
     /// of no address: 0.0.0.0-255.255.255.255 and ::-ffff:ffff:ffff:ffff:ffff:ffff:ffff:ffff
     /// ```
     pub fn complement(&self, alloc: Global) -> Result<IpSet, AllocError>
-        ensures { IfOk result (λ s. IsComplement s self.now) }
+        ensures members { IfOk result (λ s. IsComplement s self.now) }
+        ensures ranges { IfOk result (λ s. HasOneMoreRange s self.now) }
     {
         // One turn, at 0, is the set of all numbers: what is in that or in this set alone is not in this set.
         let not_both = Operation::SymmetricDifference;

@@ -3,26 +3,28 @@
 //!
 //! The laws of the operations speak of any sets that are a union, a complement and so on, as the contracts of the calls
 //! say that their answers are.
-ghost use Rattle.std.specs.Prelude.{◌≡◌, ℕ, ◌+◌, ◌^◌, ◌↔◌, IsTrue, List};
+ghost use Rattle.std.specs.Prelude.{◌≡◌, ℕ, ◌+◌, ◌^◌, ◌⊎◌, ◌↔◌, IsTrue, List, map, sum};
 ghost use Rattle.std.specs.declared.cmp.Ordering.TheVariants.{Equal};
-ghost use Rattle.ipnet_base.specs.Address.{Family, width};
+ghost use Rattle.ipnet_base.specs.Address.{Family, IPv4, IPv6, Address, width};
 ghost use Rattle.ipnet_base.specs.Network.{Network};
 ghost use Rattle.ipnet_base.specs.Blocks.{AreMaximalBlocks, IsAggregateOf};
+ghost use Rattle.ipnet_base.specs.Ranges.{AddressRange, address_count};
 ghost use Rattle.ipnet_sets.specs.declared.set.IpSet.{IpSet};
+ghost use Rattle.ipnet_sets.specs.SetRanges.{AreRangesOf};
 ghost use Rattle.ipnet_sets.specs.Members.{IsMember, IsMemberOf, IsCountOf, HaveSameAddresses, HasAddressesOf};
 ghost use Rattle.ipnet_sets.specs.Members.{HasNoAddress, IsSubset, IsUnion, IsIntersection, IsDifference, IsComplement};
 
 use super::IpSet;
 use std::hash::Hash;
 
-/// Sets are equal, and one in the order, exactly where they have the same addresses; then they are hashed alike. A set
-/// is a clone of another exactly where the two have the same addresses.
+/// Sets are equal, and equal in the order, if and only if they have the same addresses. Sets feed a hasher the same if
+/// and only if they have the same addresses. A set is a clone of another if and only if both have the same addresses.
 pub fn sets_follow_addresses()
     ensures equality { (a b : IpSet) → IsTrue (⟦<IpSet as PartialEq>⟧.eq a b) ↔ HaveSameAddresses a b }
     ensures order { (a b : IpSet) → (⟦<IpSet as Ord>⟧.cmp a b ≡ Equal) ↔ HaveSameAddresses a b }
     ensures partial_order { (a b : IpSet) → ⟦<IpSet as PartialOrd>⟧.partial_cmp a b ≡ Some (⟦<IpSet as Ord>⟧.cmp a b) }
-    ensures hash { (a b : IpSet) → HaveSameAddresses a b
-        → ⟦<IpSet as Hash>⟧.hash_input a ≡ ⟦<IpSet as Hash>⟧.hash_input b }
+    ensures hash { (a b : IpSet)
+        → (⟦<IpSet as Hash>⟧.hash_input a ≡ ⟦<IpSet as Hash>⟧.hash_input b) ↔ HaveSameAddresses a b }
     ensures clone { (a b : IpSet) → ⟦<IpSet as Clone>⟧.is_clone a b ↔ HaveSameAddresses b a }
 {}
 
@@ -58,4 +60,39 @@ pub fn difference_of_a_subset_is_empty()
 pub fn counts_of_complements_add_up()
     ensures { (f : Family) (s not_s : IpSet) (m n : ℕ) → IsComplement not_s s
         → IsCountOf (IsMemberOf f s) m → IsCountOf (IsMemberOf f not_s) n → m + n ≡ 2 ^ width f }
+{}
+
+/// An address is in a set or it is not.
+pub fn an_address_is_a_member_or_not()
+    ensures { (s : IpSet) (x : Address) → IsMember s x ⊎ ¬ (IsMember s x) }
+{}
+
+/// A set has one count in each family.
+pub fn a_set_has_one_count()
+    ensures { (f : Family) (s : IpSet) (m n : ℕ) → IsCountOf (IsMemberOf f s) m → IsCountOf (IsMemberOf f s) n → m ≡ n }
+{}
+
+/// The count of the union of two sets that share no address is the sum of their counts.
+pub fn counts_of_disjoint_sets_add_up()
+    ensures { (f : Family) (a b s : IpSet) (m n k : ℕ) → IsUnion s a b
+        → ((x : Address) → IsMember a x → ¬ (IsMember b x))
+        → IsCountOf (IsMemberOf f a) m → IsCountOf (IsMemberOf f b) n → IsCountOf (IsMemberOf f s) k → k ≡ m + n }
+{}
+
+/// If a subset is taken from a set, the counts of the subset and of the rest add up to the count of the set.
+pub fn counts_of_a_subset_and_the_rest_add_up()
+    ensures { (f : Family) (a b rest : IpSet) (m n k : ℕ) → IsDifference rest a b → IsSubset b a
+        → IsCountOf (IsMemberOf f a) m → IsCountOf (IsMemberOf f b) n → IsCountOf (IsMemberOf f rest) k → n + k ≡ m }
+{}
+
+/// The number of addresses of a set is the sum of the numbers of addresses of its ranges.
+pub fn the_count_is_the_sum_of_the_ranges()
+    ensures { (s : IpSet) (ranges : List AddressRange) (n : ℕ) → AreRangesOf (IsMember s) ranges
+        → IsCountOf (IsMember s) n → n ≡ sum (map address_count ranges) }
+{}
+
+/// The number of addresses of a set is the sum of its IPv4 and its IPv6 count.
+pub fn the_counts_of_the_families_add_up()
+    ensures { (s : IpSet) (m n k : ℕ) → IsCountOf (IsMemberOf IPv4 s) m → IsCountOf (IsMemberOf IPv6 s) n
+        → IsCountOf (IsMember s) k → k ≡ m + n }
 {}

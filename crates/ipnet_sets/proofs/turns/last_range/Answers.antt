@@ -19,7 +19,8 @@ returns-then-last-eq0-clause-some g c =
     let size = length-map words number in
     let place : before_last words ≡ length words - 1 = omega (arith, some, c.if-last-eq0.true) in
     let ranges = last_open f (map number words) (length words - 1) s c.if-last-eq0.true (omega (arith, size, some))
-    (number_at number words (length words - 1) s c.index-turns-last.result (omega (arith, some)) c.index-turns-last.is) in
+    (number_at number words (length words - 1) s c.index-turns-last.result (omega (arith, some))
+    c.index-turns-last.is) in
     ranges
     ∙ ap (λ z. ranges_of f (take (length words - 1) (map number words)) ++ range_of f s z ∷ []) (sym c.last.ensures)
     ∙ ap (λ z. ranges_of f z ++ range_of f s (number c.last.result) ∷ []) (take-map number (length words - 1) words)
