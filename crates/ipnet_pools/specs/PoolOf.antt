@@ -1,35 +1,45 @@
--- The addresses of a pool, the free ones, and the ones in use: everything that contracts say about a pool.
-use Rattle.std.specs.Prelude.{◌↔◌, ◌⊎◌}
+-- The addresses of a pool, its free addresses and its leases: everything that contracts say about a pool.
+use Rattle.std.specs.Prelude.{◌≡◌, ◌↔◌, ◌⊎◌, List, Contains}
 use Rattle.ipnet_base.specs.Address.{Address}
 use Rattle.ipnet_base.specs.Network.{Network, InBlock}
+use Rattle.ipnet.specs.declared.net.IpNet.{IpNet}
+use Rattle.ipnet.specs.NetworkOf.{ip_network}
 use Rattle.ipnet_sets.specs.Members.{IsMember}
+use Rattle.ipnet_pools.specs.FreeOf.{IsIn}
 use Rattle.ipnet_pools.specs.declared.pool.IpPool.{IpPool}
 
 -- the address belongs to the pool
-abbrev pub IsOfPool : IpPool → Address → Type 0
+abbrev pub IsOfPool : {V : Type 0} → IpPool V → Address → Type 0
 IsOfPool pool = IsMember pool.whole
 
 -- the address is free
-abbrev pub IsFree : IpPool → Address → Type 0
-IsFree pool = IsMember pool.free
+abbrev pub IsFree : {V : Type 0} → IpPool V → Address → Type 0
+IsFree pool = IsIn pool.free
 
--- the address is in use: it belongs to the pool, and is not free
-abbrev pub IsInUse : IpPool → Address → Type 0
-IsInUse pool x = IsOfPool pool x × ¬ (IsFree pool x)
+-- the leases: networks with a value each, in the order of the networks
+abbrev pub leases_of : {V : Type 0} → IpPool V → List (IpNet × V)
+leases_of pool = pool.leases.entries
 
--- both pools have the same addresses and the same free addresses
-pub record IsSamePool (old new : IpPool) : Type 0 where
+-- the network is leased with the value
+abbrev pub IsLeased : {V : Type 0} → IpPool V → Network → V → Type 0
+IsLeased pool n v = (k : IpNet) × (ip_network k ≡ n) × Contains (leases_of pool) (k, v)
+
+-- both pools have the same addresses, the same free addresses and the same leases
+pub record IsSamePool {V : Type 0} (old new : IpPool V) : Type 0 where
   pub whole : (x : Address) → IsOfPool new x ↔ IsOfPool old x
   pub free : (x : Address) → IsFree new x ↔ IsFree old x
+  pub leases : (n : Network) (v : V) → IsLeased new n v ↔ IsLeased old n v
 
--- the network's addresses were free and are in use now; all others are as they were
-pub record IsTaken (old new : IpPool) (n : Network) : Type 0 where
+-- the network's addresses were free, and now it is leased with the value; everything else is as it was
+pub record IsTaken {V : Type 0} (old new : IpPool V) (n : Network) (v : V) : Type 0 where
   pub was_free : (x : Address) → InBlock n x → IsFree old x
   pub whole : (x : Address) → IsOfPool new x ↔ IsOfPool old x
   pub free : (x : Address) → IsFree new x ↔ (IsFree old x × ¬ (InBlock n x))
+  pub leases : (m : Network) (w : V) → IsLeased new m w ↔ (IsLeased old m w ⊎ ((m ≡ n) × (w ≡ v)))
 
--- the network's addresses were in use and are free now; all others are as they were
-pub record IsGivenBack (old new : IpPool) (n : Network) : Type 0 where
-  pub was_in_use : (x : Address) → InBlock n x → IsInUse old x
+-- the network was leased with the value, and now its addresses are free; everything else is as it was
+pub record IsReleased {V : Type 0} (old new : IpPool V) (n : Network) (v : V) : Type 0 where
+  pub was_leased : IsLeased old n v
   pub whole : (x : Address) → IsOfPool new x ↔ IsOfPool old x
   pub free : (x : Address) → IsFree new x ↔ (IsFree old x ⊎ InBlock n x)
+  pub leases : (m : Network) (w : V) → IsLeased new m w ↔ (IsLeased old m w × ¬ (m ≡ n))

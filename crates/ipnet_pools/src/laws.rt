@@ -7,7 +7,7 @@ ghost use Rattle.ipnet_sets.specs.declared.set.IpSet.{IpSet};
 ghost use Rattle.ipnet_sets.specs.Members.{IsMember};
 ghost use Rattle.ipnet_pools.specs.Fits.{IsFit, HasRoom, Without, IsBestFit};
 ghost use Rattle.ipnet_pools.specs.Placements.{Request, request_of, CanPlace};
-ghost use Rattle.ipnet_pools.specs.PoolOf.{IsTaken, IsGivenBack, IsSamePool};
+ghost use Rattle.ipnet_pools.specs.PoolOf.{IsTaken, IsReleased, IsSamePool};
 ghost use Rattle.ipnet_pools.specs.declared.pool.IpPool.{IpPool};
 
 /// The best fit is optimal: if some choice for the first request leaves room for the other requests, then the best fit
@@ -37,6 +37,6 @@ pub fn disjoint_networks_are_a_placement()
 {}
 
 /// If a network is taken and then released, the pool is as it was before.
-pub fn taken_and_given_back()
-    ensures { (a b c : IpPool) (n : Network) → IsTaken a b n → IsGivenBack b c n → IsSamePool a c }
+pub fn taken_and_released<V>()
+    ensures { (a b c : IpPool V) (n : Network) (v w : V) → IsTaken a b n v → IsReleased b c n w → IsSamePool a c }
 {}

@@ -3,9 +3,13 @@
 //! The free addresses and the addresses in use share no address, and together they are the pool. Every call keeps this.
 #![tactic(auto)]
 
+pub mod error;
 mod fit;
+mod free;
+mod leases;
 pub mod laws;
 pub mod plan;
 pub mod pool;
 
-pub use pool::{IpPool, PoolError};
+pub use error::{PoolError, Refused};
+pub use pool::IpPool;

@@ -5,9 +5,10 @@ ghost use Rattle.ipnet.specs.NetworkOf.{ip_network};
 ghost use Rattle.ipnet_sets.specs.Members.{IsMember};
 ghost use Rattle.ipnet_pools.specs.Placements.{CanPlace};
 ghost use Rattle.ipnet_pools.specs.Plans.{requests_of, IsPlan};
-ghost use Rattle.ipnet_pools.specs.declared.pool.PoolError.TheVariants.{PrefixLen, Exhausted, Memory};
+ghost use Rattle.ipnet_pools.specs.declared.error.PoolError.TheVariants.{PrefixLen, Exhausted, Memory};
 
-use crate::pool::{IpPool, PoolError};
+use crate::error::PoolError;
+use crate::free::FreeBlocks;
 use ipnet::{IpAddr, IpNet, Ipv4Addr, Ipv6Addr};
 use ipnet_sets::IpSet;
 use std::alloc::Global;
@@ -34,11 +35,11 @@ fn plan(alloc: Global, set: &IpSet, family: IpNet, lengths: &[u8]) -> Result<Vec
     if has_too_long(lengths, &family) {
         return Err(PoolError::PrefixLen);
     }
-    let mut pool = IpPool::new(set)?;
+    let mut free = FreeBlocks::new(set)?;
     let mut networks = Vec::new(alloc);
     for index in 0..lengths.len() {
         let request = IpNet::new(family.addr(), lengths[index])?;
-        let network = pool.assign(alloc, request)?;
+        let network = free.assign(alloc, &request)?;
         networks.push(network)?;
     }
     Ok(networks)

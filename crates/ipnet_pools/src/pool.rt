@@ -1,221 +1,303 @@
 //! Pools of addresses.
-ghost use Rattle.std.specs.Prelude.{◌≡◌, ◌↔◌, ◌⊎◌, ◌<◌, ◌∷◌, List, Err, map, IfOk, OnOk, IsErr};
+ghost use Rattle.std.specs.Prelude.{◌≡◌, ◌↔◌, ◌⊎◌, ◌<◌, ◌∷◌, List, Err, map, length, IfOk, OnOk, IfErr, IsErr, IfSome, IfNone, IsTrue, Contains};
 ghost use Rattle.ipnet_base.specs.Address.{Address, IPv4, IPv6};
-ghost use Rattle.ipnet_base.specs.Network.{InBlock};
+ghost use Rattle.ipnet_base.specs.Network.{Network, InBlock, IsTruncated, truncation};
 ghost use Rattle.ipnet_base.specs.Blocks.{AreMaximalBlocks};
 ghost use Rattle.ipnet.specs.NetworkOf.{ip_network};
-ghost use Rattle.ipnet_sets.specs.Members.{IsMember, IsSubset};
+ghost use Rattle.ipnet_sets.specs.Members.{IsMember};
 ghost use Rattle.ipnet_pools.specs.Fits.{HasRoom, IsBestFit};
+ghost use Rattle.ipnet_pools.specs.FreeOf.{IsIn};
+ghost use Rattle.ipnet_pools.specs.Leases.{HasLeaseOf, AreLeases, LieIn, IsRest};
 ghost use Rattle.ipnet_pools.specs.Placements.{Request, CanPlace};
-ghost use Rattle.ipnet_pools.specs.declared.pool.PoolError.TheVariants.{PrefixLen, Exhausted, NotFree, NotInUse, Memory};
+ghost use Rattle.ipnet_pools.specs.declared.error.PoolError.TheVariants.{PrefixLen, Exhausted, NotFree, NotLeased, NotInPool, Memory};
 
-use crate::fit;
-use ipnet::{IpNet, Ipv4Addr, Ipv4Net, Ipv6Addr, Ipv6Net, PrefixLenError};
+use crate::error::{PoolError, Refused};
+use crate::free::FreeBlocks;
+use crate::leases;
+use ipnet::{IpNet, Ipv4Addr, Ipv4Net, Ipv6Addr, Ipv6Net};
 use ipnet_sets::IpSet;
-use std::alloc::{AllocError, AllocFailed, Global};
-use thiserror::Error;
+use std::alloc::{AllocError, Global};
+use std::collections::BTreeMap;
+use std::collections::btree_map::Iter;
 
-/// Why a call on a pool failed.
-#[derive(Debug, PartialEq, Eq, Drop, Error)]
-pub enum PoolError {
-    /// The prefix length is above 32 for IPv4, or above 128 for IPv6.
-    #[error("invalid IP prefix length")]
-    PrefixLen,
-    /// No network of this prefix length is free.
-    #[error("no free block is large enough")]
-    Exhausted,
-    /// Some address of the network is not free.
-    #[error("the network is not free")]
-    NotFree,
-    /// Some address of the network is not in use.
-    #[error("the network is not in use")]
-    NotInUse,
-    /// Memory ran out.
-    #[error("out of memory")]
-    Memory,
-}
-
-impl From<AllocError> for PoolError {
-    ghost from_gives = { λ _ result. result ≡ Memory };
-
-    fn from(_: AllocError) -> PoolError {
-        PoolError::Memory
-    }
-}
-
-impl<T: Drop> From<AllocFailed<T>> for PoolError {
-    ghost from_gives = { λ _ result. result ≡ Memory };
-
-    fn from(_: AllocFailed<T>) -> PoolError {
-        PoolError::Memory
-    }
-}
-
-impl From<PrefixLenError> for PoolError {
-    ghost from_gives = { λ _ result. result ≡ PrefixLen };
-
-    fn from(_: PrefixLenError) -> PoolError {
-        PoolError::PrefixLen
-    }
-}
-
-/// A set of addresses that are handed out as networks of any prefix length, and returned.
+/// A set of addresses, and leases: networks inside it, each with a value. The addresses outside all leases are free.
 ///
 /// ```text
 /// from 10.0.0.0/24: a /26 is 10.0.0.0/26, then a /25 is 10.0.0.128/25, then a /27 is 10.0.0.64/27
 /// ```
 #[derive(Drop)]
-pub struct IpPool {
+pub struct IpPool<V> {
     whole: IpSet,
-    free: IpSet,
-    ghost within: { IsSubset free whole },
+    free: FreeBlocks,
+    leases: BTreeMap<IpNet, V>,
+    ghost apart: { AreLeases leases.entries },
+    ghost within: { LieIn leases.entries (IsMember whole) },
+    ghost rest: { IsRest (IsIn free) leases.entries (IsMember whole) },
 }
 
-/// Returns the set of the network's addresses.
-fn block_set(alloc: Global, network: &IpNet) -> Result<IpSet, AllocError>
-    ensures { IfOk result (λ s. (x : Address) → IsMember s x ↔ InBlock (ip_network network.now) x) }
-{
-    let mut networks = Vec::new(alloc);
-    networks.push(*network)?;
-    IpSet::from_networks(alloc, &networks)
-}
-
-impl IpPool {
-    ghost use Rattle.ipnet_pools.specs.PoolOf.{IsOfPool, IsFree, IsInUse, IsSamePool, IsTaken, IsGivenBack};
+impl<V: Drop> IpPool<V> {
+    ghost use Rattle.ipnet_pools.specs.PoolOf.{IsOfPool, IsFree, leases_of, IsLeased, IsSamePool, IsTaken, IsReleased};
+    ghost use Rattle.ipnet_pools.specs.Refusals.{IsErrorOf};
 
     /// Returns the pool of the set's addresses, all of them free. Fails only if memory runs out.
-    pub fn new(set: &IpSet) -> Result<IpPool, AllocError>
+    ///
+    /// ```text
+    /// from 10.0.0.0/24: 10.0.0.0/24 is free, and there is no lease
+    /// ```
+    pub fn new(alloc: Global, set: &IpSet) -> Result<IpPool<V>, AllocError>
         ensures whole { IfOk result (λ pool. (x : Address) → IsOfPool pool x ↔ IsMember set.now x) }
         ensures free { IfOk result (λ pool. (x : Address) → IsFree pool x ↔ IsMember set.now x) }
+        ensures leases { IfOk result (λ pool. (n : Network) (v : V) → ¬ (IsLeased pool n v)) }
     {
         let whole = set.clone()?;
-        let free = set.clone()?;
-        Ok(IpPool { whole, free })
+        let free = FreeBlocks::new(set)?;
+        let leases = BTreeMap::new(alloc);
+        Ok(IpPool {
+            whole,
+            free,
+            leases,
+        })
     }
 
-    /// Takes the network. Every address of it must be free, else the error is `NotFree`. After an error the pool is as it
-    /// was.
+    /// Leases the network, which is free and has no host bits.
+    fn lease(&mut self, alloc: Global, network: IpNet, value: V) -> Result<(), Refused<V>>
+        requires truncated { IsTruncated (ip_network network) }
+        requires free { (x : Address) → InBlock (ip_network network) x → IsFree self.old x }
+        ensures taken { OnOk result (IsTaken self.old self.new (ip_network network) value) }
+        ensures unchanged { IsErr result → IsSamePool self.old self.new }
+        ensures value { IfErr result (λ refused. refused.value ≡ value) }
+        ensures error { IfErr result (λ refused. refused.error ≡ Memory) }
+    {
+        if let Err(value) = leases::insert(&mut self.leases, network, value) {
+            return Err(Refused {
+                error: PoolError::Memory,
+                value,
+            });
+        }
+        match self.free.cut(alloc, &network) {
+            Ok(()) => Ok(()),
+            Err(_) => match leases::remove(&mut self.leases, &network) {
+                Some(value) => Err(Refused {
+                    error: PoolError::Memory,
+                    value,
+                }),
+                None => unreachable!(),
+            },
+        }
+    }
+
+    /// Ends the lease of the network, and returns its value.
+    fn end(&mut self, alloc: Global, network: &IpNet) -> Result<V, PoolError>
+        requires { HasLeaseOf self.old.leases.entries network.now }
+        ensures released { IfOk result (λ v. IsReleased self.old self.new (ip_network network.now) v) }
+        ensures unchanged { IsErr result → IsSamePool self.old self.new }
+        ensures error { IsErr result → result ≡ Err Memory }
+    {
+        self.free.add(alloc, network)?;
+        match leases::remove(&mut self.leases, network) {
+            Some(value) => Ok(value),
+            None => unreachable!(),
+        }
+    }
+
+    /// Leases the network with the value. The network's host bits do not count.
+    ///
+    /// The error is `NotInPool` if some address of the network does not belong to the pool, and otherwise `NotFree` if
+    /// some address of it is leased. An error hands the value back, and the pool is as it was.
     ///
     /// ```text
     /// take 10.0.0.64/26 from 10.0.0.0/24: then 10.0.0.0/26 and 10.0.0.128/25 are free
     /// ```
-    pub fn take(&mut self, alloc: Global, network: &IpNet) -> Result<(), PoolError>
-        ensures taken { OnOk result (IsTaken self.old self.new (ip_network network.now)) }
-        ensures not_free { (result ≡ Err NotFree)
-            ↔ ¬ ((x : Address) → InBlock (ip_network network.now) x → IsFree self.old x) }
-        ensures unchanged { IsErr result → self.new ≡ self.old }
-        ensures errors { IsErr result → (result ≡ Err NotFree) ⊎ (result ≡ Err Memory) }
+    pub fn take(&mut self, alloc: Global, network: &IpNet, value: V) -> Result<(), Refused<V>>
+        ensures taken { OnOk result (IsTaken self.old self.new (truncation (ip_network network.now)) value) }
+        ensures not_in_pool { IsErrorOf result NotInPool
+            ↔ ¬ ((x : Address) → InBlock (ip_network network.now) x → IsOfPool self.old x) }
+        ensures not_free { IsErrorOf result NotFree
+            ↔ (((x : Address) → InBlock (ip_network network.now) x → IsOfPool self.old x)
+            × ¬ ((x : Address) → InBlock (ip_network network.now) x → IsFree self.old x)) }
+        ensures unchanged { IsErr result → IsSamePool self.old self.new }
+        ensures value { IfErr result (λ refused. refused.value ≡ value) }
+        ensures errors { IfErr result (λ refused.
+            (refused.error ≡ NotInPool) ⊎ ((refused.error ≡ NotFree) ⊎ (refused.error ≡ Memory))) }
     {
-        if !self.free.covers(network) {
-            return Err(PoolError::NotFree);
+        if !self.whole.covers(network) {
+            return Err(Refused {
+                error: PoolError::NotInPool,
+                value,
+            });
         }
-        let block = block_set(alloc, network)?;
-        let free = self.free.difference(alloc, &block)?;
-        self.free = free;
-        Ok(())
+        if !self.free.covers(network) {
+            return Err(Refused {
+                error: PoolError::NotFree,
+                value,
+            });
+        }
+        self.lease(alloc, network.trunc(), value)
     }
 
-    /// Returns the network to the pool. Every address of it must be in use, else the error is `NotInUse`. After an error
+    /// Ends the lease of the network, and returns its value. The network's host bits do not count.
+    ///
+    /// The error is `NotLeased` if the network is not exactly a lease: a part of a lease is not enough. After an error
     /// the pool is as it was.
     ///
     /// ```text
-    /// give back 10.0.0.64/26 to 10.0.0.0/24, all in use: then 10.0.0.64/26 is free
+    /// after take 10.0.0.64/26: release 10.0.0.64/27 is NotLeased, and release 10.0.0.64/26 returns the value
     /// ```
-    pub fn give_back(&mut self, alloc: Global, network: &IpNet) -> Result<(), PoolError>
-        ensures given_back { OnOk result (IsGivenBack self.old self.new (ip_network network.now)) }
-        ensures not_in_use { result ≡ Err NotInUse
-            → ¬ ((x : Address) → InBlock (ip_network network.now) x → IsInUse self.old x) }
-        ensures unchanged { IsErr result → self.new ≡ self.old }
-        ensures errors { IsErr result → (result ≡ Err NotInUse) ⊎ (result ≡ Err Memory) }
+    pub fn release(&mut self, alloc: Global, network: &IpNet) -> Result<V, PoolError>
+        ensures released { IfOk result (λ v. IsReleased self.old self.new (truncation (ip_network network.now)) v) }
+        ensures not_leased { (result ≡ Err NotLeased)
+            ↔ ((v : V) → ¬ (IsLeased self.old (truncation (ip_network network.now)) v)) }
+        ensures unchanged { IsErr result → IsSamePool self.old self.new }
+        ensures errors { IsErr result → (result ≡ Err NotLeased) ⊎ (result ≡ Err Memory) }
     {
-        let block = block_set(alloc, network)?;
-        if !self.whole.covers(network) || !block.is_disjoint(&self.free) {
-            return Err(PoolError::NotInUse);
+        let network = network.trunc();
+        if !leases::contains(&self.leases, &network) {
+            return Err(PoolError::NotLeased);
         }
-        let free = self.free.union(alloc, &block)?;
-        self.free = free;
-        Ok(())
+        self.end(alloc, &network)
     }
 
-    /// Takes the best fit for the request. Only the family and the prefix length of `request` count.
-    pub(crate) fn assign(&mut self, alloc: Global, request: IpNet) -> Result<IpNet, PoolError>
-        ensures taken { IfOk result (λ n. IsTaken self.old self.new (ip_network n)) }
-        ensures best { IfOk result (λ n. IsBestFit (IsFree self.old) (ip_network request).family
-            (ip_network request).prefix_len (ip_network n)) }
-        ensures exhausted { result ≡ Err Exhausted
-            → ¬ (HasRoom (IsFree self.old) (ip_network request).family (ip_network request).prefix_len) }
-        ensures unchanged { IsErr result → self.new ≡ self.old }
-        ensures errors { IsErr result → (result ≡ Err Exhausted) ⊎ (result ≡ Err Memory) }
+    /// Leases the best fit for the request. Only the family and the prefix length of `request` count.
+    fn assign(&mut self, alloc: Global, request: &IpNet, value: V) -> Result<IpNet, Refused<V>>
+        ensures taken { IfOk result (λ n. IsTaken self.old self.new (ip_network n) value) }
+        ensures best { IfOk result (λ n. IsBestFit (IsFree self.old) (ip_network request.now).family
+            (ip_network request.now).prefix_len (ip_network n)) }
+        ensures exhausted { IsErrorOf result Exhausted → ¬ (HasRoom (IsFree self.old) (ip_network request.now).family
+            (ip_network request.now).prefix_len) }
+        ensures unchanged { IsErr result → IsSamePool self.old self.new }
+        ensures value { IfErr result (λ refused. refused.value ≡ value) }
+        ensures errors { IfErr result (λ refused. (refused.error ≡ Exhausted) ⊎ (refused.error ≡ Memory)) }
     {
-        let blocks = self.free.networks(alloc)?;
-        let Some(block) = fit::best(blocks.as_slice(), &request) else {
-            return Err(PoolError::Exhausted);
+        let Ok(best) = self.free.best(alloc, request) else {
+            return Err(Refused {
+                error: PoolError::Memory,
+                value,
+            });
         };
-        let network = fit::at_start(&block, &request);
-        let taken = block_set(alloc, &network)?;
-        let free = self.free.difference(alloc, &taken)?;
-        self.free = free;
-        Ok(network)
+        let Some(network) = best else {
+            return Err(Refused {
+                error: PoolError::Exhausted,
+                value,
+            });
+        };
+        match self.lease(alloc, network, value) {
+            Ok(()) => Ok(network),
+            Err(refused) => Err(refused),
+        }
     }
 
-    /// Takes and returns the best fit for an IPv4 prefix length: the first network in the smallest free block that is
-    /// large enough. The error is `PrefixLen` above 32, and `Exhausted` if no such network is free. After an error the
-    /// pool is as it was.
+    /// Leases the best fit for an IPv4 prefix length with the value, and returns it: the first network in the smallest
+    /// free block that is large enough.
+    ///
+    /// The error is `PrefixLen` above 32, and `Exhausted` if no network of this length is free. An error hands the value
+    /// back, and the pool is as it was.
     ///
     /// ```text
     /// from 10.0.0.0/25 and 10.0.0.192/26: a /27 is 10.0.0.192/27, and then a /25 is 10.0.0.0/25
     /// ```
-    pub fn assign_ipv4(&mut self, alloc: Global, prefix_len: u8) -> Result<IpNet, PoolError>
-        ensures taken { IfOk result (λ n. IsTaken self.old self.new (ip_network n)) }
+    pub fn assign_ipv4(&mut self, alloc: Global, prefix_len: u8, value: V) -> Result<IpNet, Refused<V>>
+        ensures taken { IfOk result (λ n. IsTaken self.old self.new (ip_network n) value) }
         ensures best { IfOk result (λ n. IsBestFit (IsFree self.old) IPv4 prefix_len (ip_network n)) }
         ensures keeps { IfOk result (λ n. (requests : List Request)
             → CanPlace (IsFree self.old) ((IPv4, prefix_len) ∷ requests) → CanPlace (IsFree self.new) requests) }
-        ensures prefix_len { (result ≡ Err PrefixLen) ↔ (32 < prefix_len) }
-        ensures exhausted { result ≡ Err Exhausted → ¬ (HasRoom (IsFree self.old) IPv4 prefix_len) }
-        ensures unchanged { IsErr result → self.new ≡ self.old }
+        ensures prefix_len { IsErrorOf result PrefixLen ↔ (32 < prefix_len) }
+        ensures exhausted { IsErrorOf result Exhausted → ¬ (HasRoom (IsFree self.old) IPv4 prefix_len) }
+        ensures unchanged { IsErr result → IsSamePool self.old self.new }
+        ensures value { IfErr result (λ refused. refused.value ≡ value) }
+        ensures errors { IfErr result (λ refused.
+            (refused.error ≡ PrefixLen) ⊎ ((refused.error ≡ Exhausted) ⊎ (refused.error ≡ Memory))) }
     {
-        let request = Ipv4Net::new(Ipv4Addr::new(0, 0, 0, 0), prefix_len)?;
-        self.assign(alloc, IpNet::V4(request))
+        match Ipv4Net::new(Ipv4Addr::new(0, 0, 0, 0), prefix_len) {
+            Ok(request) => self.assign(alloc, &IpNet::V4(request), value),
+            Err(_) => Err(Refused {
+                error: PoolError::PrefixLen,
+                value,
+            }),
+        }
     }
 
-    /// Takes and returns the best fit for an IPv6 prefix length, as `assign_ipv4` does. The error is `PrefixLen` above
-    /// 128.
+    /// Leases the best fit for an IPv6 prefix length with the value, and returns it, as `assign_ipv4` does. The error is
+    /// `PrefixLen` above 128.
     ///
     /// ```text
     /// from 2001:db8::/32: a /48 is 2001:db8::/48
     /// ```
-    pub fn assign_ipv6(&mut self, alloc: Global, prefix_len: u8) -> Result<IpNet, PoolError>
-        ensures taken { IfOk result (λ n. IsTaken self.old self.new (ip_network n)) }
+    pub fn assign_ipv6(&mut self, alloc: Global, prefix_len: u8, value: V) -> Result<IpNet, Refused<V>>
+        ensures taken { IfOk result (λ n. IsTaken self.old self.new (ip_network n) value) }
         ensures best { IfOk result (λ n. IsBestFit (IsFree self.old) IPv6 prefix_len (ip_network n)) }
         ensures keeps { IfOk result (λ n. (requests : List Request)
             → CanPlace (IsFree self.old) ((IPv6, prefix_len) ∷ requests) → CanPlace (IsFree self.new) requests) }
-        ensures prefix_len { (result ≡ Err PrefixLen) ↔ (128 < prefix_len) }
-        ensures exhausted { result ≡ Err Exhausted → ¬ (HasRoom (IsFree self.old) IPv6 prefix_len) }
-        ensures unchanged { IsErr result → self.new ≡ self.old }
+        ensures prefix_len { IsErrorOf result PrefixLen ↔ (128 < prefix_len) }
+        ensures exhausted { IsErrorOf result Exhausted → ¬ (HasRoom (IsFree self.old) IPv6 prefix_len) }
+        ensures unchanged { IsErr result → IsSamePool self.old self.new }
+        ensures value { IfErr result (λ refused. refused.value ≡ value) }
+        ensures errors { IfErr result (λ refused.
+            (refused.error ≡ PrefixLen) ⊎ ((refused.error ≡ Exhausted) ⊎ (refused.error ≡ Memory))) }
     {
-        let request = Ipv6Net::new(Ipv6Addr::new(0, 0, 0, 0, 0, 0, 0, 0), prefix_len)?;
-        self.assign(alloc, IpNet::V6(request))
+        match Ipv6Net::new(Ipv6Addr::new(0, 0, 0, 0, 0, 0, 0, 0), prefix_len) {
+            Ok(request) => self.assign(alloc, &IpNet::V6(request), value),
+            Err(_) => Err(Refused {
+                error: PoolError::PrefixLen,
+                value,
+            }),
+        }
+    }
+
+    /// Returns the value of the network's lease, or `None` if the network is not exactly a lease. The network's host
+    /// bits do not count.
+    ///
+    /// ```text
+    /// after take 10.0.0.64/26: get 10.0.0.64/26 is the value, and get 10.0.0.64/27 is None
+    /// ```
+    pub fn get(&self, network: &IpNet) -> Option<&V>
+        ensures found { IfSome result (λ v. IsLeased self.now (truncation (ip_network network.now)) v.now) }
+        ensures none { IfNone result ((v : V) → ¬ (IsLeased self.now (truncation (ip_network network.now)) v)) }
+    {
+        let network = network.trunc();
+        leases::get(&self.leases, &network)
+    }
+
+    /// Returns the leases with their values, in the order of their networks.
+    ///
+    /// ```text
+    /// after take 10.0.0.64/26 and assign_ipv4(26): 10.0.0.0/26, 10.0.0.64/26
+    /// ```
+    pub fn leases(&self) -> Iter<'_, IpNet, V>
+        ensures { result ≡ leases_of self.now }
+    {
+        self.leases.iter()
+    }
+
+    /// Returns the number of leases.
+    ///
+    /// ```text
+    /// after take 10.0.0.64/26: 1
+    /// ```
+    pub fn lease_count(&self) -> usize
+        ensures { result ≡ length (leases_of self.now) }
+    {
+        self.leases.len()
+    }
+
+    /// Whether every address of the network is free.
+    ///
+    /// ```text
+    /// after take 10.0.0.64/26: 10.0.0.128/25 is free, and 10.0.0.0/25 is not
+    /// ```
+    pub fn is_free(&self, network: &IpNet) -> bool
+        ensures { IsTrue result ↔ ((x : Address) → InBlock (ip_network network.now) x → IsFree self.now x) }
+    {
+        self.free.covers(network)
     }
 
     /// Returns the free addresses as the fewest networks. Fails only if memory runs out.
     ///
     /// ```text
-    /// 10.0.0.0/24 without 10.0.0.64/26: 10.0.0.0/26, 10.0.0.128/25
+    /// 10.0.0.0/24 after take 10.0.0.64/26: 10.0.0.0/26, 10.0.0.128/25
     /// ```
     pub fn free_networks(&self, alloc: Global) -> Result<Vec<IpNet>, AllocError>
         ensures { IfOk result (λ list. AreMaximalBlocks (IsFree self.now) 0 (map ip_network list.items)) }
     {
         self.free.networks(alloc)
-    }
-
-    /// Returns the set of the addresses in use. Fails only if memory runs out.
-    ///
-    /// ```text
-    /// after assign_ipv4(26) from 10.0.0.0/24: 10.0.0.0-10.0.0.63
-    /// ```
-    pub fn in_use(&self, alloc: Global) -> Result<IpSet, AllocError>
-        ensures { IfOk result (λ s. (x : Address) → IsMember s x ↔ IsInUse self.now x) }
-    {
-        self.whole.difference(alloc, &self.free)
     }
 }

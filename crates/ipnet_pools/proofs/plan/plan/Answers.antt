@@ -9,7 +9,7 @@ use Rattle.ipnet_sets.specs.Members.{IsMember}
 use Rattle.ipnet_sets.proofs.SetEqualLaws.{member_or_not}
 use Rattle.ipnet_pools.specs.Fits.{HasRoom, IsBestFit, Without}
 use Rattle.ipnet_pools.specs.PlanSteps.{IsPlannedSoFar}
-use Rattle.ipnet_pools.specs.PoolOf.{IsFree}
+use Rattle.ipnet_pools.specs.FreeOf.{IsIn}
 use Rattle.ipnet_pools.proofs.PlacementLaws.{best_fit_keeps_placements, CanPlace-more}
 use Rattle.ipnet_pools.proofs.PlanLaws.{planned_start, planned_more, planned_none, planned_end}
 use Rattle.ipnet_pools.proofs.plan.plan.Goals as goal
@@ -17,10 +17,10 @@ use Rattle.ipnet_pools.proofs.plan.plan.Goals as goal
 pub loop-index-init : goal.loop-index-init
 loop-index-init c =
     let lengths = c.args.lengths.now in
-    subst (λ z. IsPlannedSoFar (IsMember c.args.set.now) (IsFree c.in_ok-pool.pool) (ip_network c.args.family).family
+    subst (λ z. IsPlannedSoFar (IsMember c.args.set.now) (IsIn c.in_ok-free.free) (ip_network c.args.family).family
     lengths 0 (map ip_network z)) (sym c.new-networks.ensures.items)
-    (planned_start (IsMember c.args.set.now) (IsFree c.in_ok-pool.pool) (ip_network c.args.family).family lengths
-    (λ x h. (c.in_ok-pool.ensures.free x).0 h) (λ x h. (c.in_ok-pool.ensures.free x).1 h))
+    (planned_start (IsMember c.args.set.now) (IsIn c.in_ok-free.free) (ip_network c.args.family).family lengths
+    (λ x h. (c.in_ok-free.ensures x).0 h) (λ x h. (c.in_ok-free.ensures x).1 h))
 
 pub returns-in_err-network-clause-prefix_len : goal.returns-in_err-network-clause-prefix_len
 returns-in_err-network-clause-prefix_len c =
@@ -44,10 +44,10 @@ returns-in_err-network-clause-exhausted c e =
     let result = c.from_residual-in_err-network.result in
     let (y, is, same) = err_from_is_err_and result c.from_residual-in_err-network.ensures.1 in
     let was : c.assign.result ≡ Err c.in_err-network.field-0.0 = c.in_err-network.was in
-    planned_none (IsMember c.args.set.now) (IsFree c.loop-index.pool) (IsFree c.loop-index.pool) f lengths i request.prefix_len
+    planned_none (IsMember c.args.set.now) (IsIn c.loop-index.free) (IsIn c.loop-index.free) f lengths i request.prefix_len
     (map ip_network c.loop-index.networks.items) (drop_more lengths i 0 (omega (arith, c.loop-index-test.true))
     ∙ ap (λ z. z ∷ drop (i + 1) lengths) (sym (ap (λ z. z.prefix_len) c.in_ok-request.ensures.made))) c.loop-index.invariant
-    (subst (λ z. ¬ (HasRoom (IsFree c.loop-index.pool) z request.prefix_len)) (ap (λ z. z.family) c.in_ok-request.ensures.made ∙ ap (λ z. z.family) c.addr.ensures) (c.assign.ensures.exhausted (cc)))
+    (subst (λ z. ¬ (HasRoom (IsIn c.loop-index.free) z request.prefix_len)) (ap (λ z. z.family) c.in_ok-request.ensures.made ∙ ap (λ z. z.family) c.addr.ensures) (c.assign.ensures.exhausted (cc)))
 
 pub returns-in_err-push-clause-prefix_len : goal.returns-in_err-push-clause-prefix_len
 returns-in_err-push-clause-prefix_len c =
@@ -61,8 +61,8 @@ loop-index-preserved c =
     let lengths = c.args.lengths.now in
     let i = c.loop-index.index in
     let S = IsMember c.args.set.now in
-    let Old = IsFree c.loop-index.pool in
-    let New = IsFree c.assign.new.self in
+    let Old = IsIn c.loop-index.free in
+    let New = IsIn c.assign.new.self in
     let f = (ip_network c.args.family).family in
     let request = ip_network c.in_ok-request.request in
     let n = ip_network c.in_ok-network.network in
@@ -73,15 +73,15 @@ loop-index-preserved c =
     (sym (ap (map ip_network) c.in_ok-push.ensures.items ∙ map-append ip_network xs (c.in_ok-network.network ∷ [])))
     (planned_more S Old New f lengths i request.prefix_len (map ip_network xs) (drop_more lengths i 0 (omega (arith, c.loop-index-test.true))
     ∙ ap (λ z. z ∷ drop (i + 1) lengths) (sym (ap (λ z. z.prefix_len) c.in_ok-request.ensures.made))) c.loop-index.invariant n best
-    (λ x h. (c.in_ok-network.ensures.taken.free x).0 h)
-    (λ requests place. CanPlace-more requests (Without Old n) New (λ x h. (c.in_ok-network.ensures.taken.free x).1 h)
-    (best_fit_keeps_placements Old (member_or_not c.loop-index.pool.free) f request.prefix_len n best requests place)))
+    (λ x h. (c.in_ok-network.ensures.cut.free x).0 h)
+    (λ requests place. CanPlace-more requests (Without Old n) New (λ x h. (c.in_ok-network.ensures.cut.free x).1 h)
+    (best_fit_keeps_placements Old (member_or_not c.loop-index.free.set) f request.prefix_len n best requests place)))
 
 pub returns-clause-plan : goal.returns-clause-plan
 returns-clause-plan c =
     let lengths = c.args.lengths.now in
-    planned_end (IsMember c.args.set.now) (IsFree c.loop-index.pool) (ip_network c.args.family).family lengths
+    planned_end (IsMember c.args.set.now) (IsIn c.loop-index.free) (ip_network c.args.family).family lengths
     (map ip_network c.loop-index.networks.items)
-    (subst (λ z. IsPlannedSoFar (IsMember c.args.set.now) (IsFree c.loop-index.pool) (ip_network c.args.family).family
+    (subst (λ z. IsPlannedSoFar (IsMember c.args.set.now) (IsIn c.loop-index.free) (ip_network c.args.family).family
     lengths z (map ip_network c.loop-index.networks.items))
     (omega (arith, c.loop-index-test.false, c.loop-index.auto.index-end)) c.loop-index.invariant)

@@ -1,0 +1,136 @@
+-- What the map of the leases has after an insertion and after a removal, in terms of its list.
+use Rattle.std.proofs.Common.{◌≡◌, ◌⊎◌, ◌↔◌, Bool, true, false, Option, Some, None, List, Contains, inl, inr, refl, sym, ap}
+use Rattle.std.proofs.Common.{◌∙◌, subst, Ordering, Less, Equal, Greater, cond, [], ◌∷◌, Bor, option_copied, IfSome, IfNone}
+use Rattle.std.specs.Cmp.{IsTotalOrder, strict}
+use Rattle.std.specs.Ordering.{MatchOrdering, is_eq}
+use Rattle.std.specs.BTreeMap.{BTreeMap, IsOrdered, Updates, UpdatesBy, get, is_at}
+use Rattle.std.proofs.lemmas.Cmp.{by_ranked}
+use Rattle.std.proofs.lemmas.Map.Lookups.{CmpEqualImpliesEq}
+use Rattle.std.proofs.lemmas.Map.Views.{btree_map_get_iff, IfSome-get}
+use Rattle.std.specs.Map.{lookup}
+use Rattle.ipnet_base.proofs.ListLaws.{contains_nil, contains_cases}
+use Rattle.ipnet_base.specs.Network.{IsBefore}
+use Rattle.ipnet_base.proofs.OrderLaws.{IsBefore-asymmetric, IsBefore-transitive}
+use Rattle.ipnet.specs.declared.net.IpNet.{IpNet}
+use Rattle.ipnet.specs.NetworkOf.{ip_network}
+use Rattle.ipnet.specs.NetLaws.{ip_one_to_one}
+use Rattle.ipnet_pools.specs.Leases.{HasLeaseOf}
+
+-- the order of networks
+abbrev Before : IpNet → IpNet → Type 0
+Before a b = IsBefore (ip_network a) (ip_network b)
+
+-- the comparison says how the networks are ordered
+abbrev pub IsRanking : (IpNet → IpNet → Ordering) → Type 0
+IsRanking cmp = (a b : IpNet) → MatchOrdering (cmp a b) (Before a b) (ip_network a ≡ ip_network b) (Before b a)
+
+same_value : (r : Ordering) (a b : IpNet) → MatchOrdering r (Before a b) (ip_network a ≡ ip_network b) (Before b a)
+    → MatchOrdering r (Before a b) (a ≡ b) (Before b a)
+same_value Less a b h = h
+same_value Equal a b h = ip_one_to_one a b h
+same_value Greater a b h = h
+
+module _ (cmp : IpNet → IpNet → Ordering) (ranking : IsRanking cmp) where
+  ranks : (a b : IpNet) → MatchOrdering (cmp a b) (Before a b) (a ≡ b) (Before b a)
+  ranks a b = same_value (cmp a b) a b (ranking a b)
+
+  never_before : (a : IpNet) → ¬ (Before a a)
+  never_before a h = IsBefore-asymmetric (ip_network a) (ip_network a) h h
+
+  pub total : IsTotalOrder cmp
+  total = strict Before never_before (λ a b d. IsBefore-transitive (ip_network a) (ip_network b) (ip_network d)) cmp ranks
+
+  pub exact : CmpEqualImpliesEq cmp
+  exact a b e = by_ranked (Before a b) (a ≡ b) (Before b a) (cmp a b) (ranks a b) (λ f _. absurd (cc)) (λ _ same. same)
+      (λ f _. absurd (cc))
+
+  -- a network is found by itself
+  pub at_itself : (k q : IpNet) → k ≡ q → is_at (cmp k) q ≡ true
+  at_itself k q same = by_ranked (Before k q) (k ≡ q) (Before q k) (cmp k q) (ranks k q)
+      (λ _ h. absurd (never_before q (subst (λ z. Before z q) same h))) (λ e _. ap is_eq e)
+      (λ _ h. absurd (never_before q (subst (λ z. Before q z) same h)))
+
+  found_at : (k q : IpNet) → is_at (cmp k) q ≡ true → k ≡ q
+  found_at k q e = by_ranked (Before k q) (k ≡ q) (Before q k) (cmp k q) (ranks k q)
+      (λ f _. absurd (let no : is_eq Less ≡ true = ap is_eq (sym f) ∙ e in cc)) (λ _ same. same)
+      (λ f _. absurd (let no : is_eq Greater ≡ true = ap is_eq (sym f) ∙ e in cc))
+
+  module _ {V : Type 0} (m n : BTreeMap IpNet V) (k : IpNet) (old : IsOrdered cmp m) (new : IsOrdered cmp n) where
+    inserted_forth : (v : V) (q : IpNet) (w : V) (b : Bool) → is_at (cmp k) q ≡ b → get cmp n q ≡ Some w
+        → get cmp n q ≡ cond b (Some v) (get cmp m q) → Contains m.entries (q, w) ⊎ ((q ≡ k) × (w ≡ v))
+    inserted_forth v q w true at is e =
+        let same : Some w ≡ Some v = sym is ∙ e in inr (sym (found_at k q at), cc)
+    inserted_forth v q w false at is e = inl ((btree_map_get_iff total exact m old q w).0 (sym e ∙ is))
+
+    inserted_back : (v : V) (q : IpNet) (w : V) (b : Bool) → is_at (cmp k) q ≡ b → ¬ (HasLeaseOf m.entries k)
+        → get cmp n q ≡ cond b (Some v) (get cmp m q) → Contains m.entries (q, w) → get cmp n q ≡ Some w
+    inserted_back v q w true at none e c = absurd (none (w, subst (λ z. Contains m.entries (z, w)) (sym (found_at k q at)) c))
+    inserted_back v q w false at none e c = e ∙ (btree_map_get_iff total exact m old q w).1 c
+
+    inserted_here : (v : V) (q : IpNet) → get cmp n q ≡ cond (is_at (cmp k) q) (Some v) (get cmp m q) → q ≡ k
+        → get cmp n q ≡ Some v
+    inserted_here v q e same = e ∙ ap (λ b. cond b (Some v) (get cmp m q)) (at_itself k q (sym same))
+
+    pub inserted : (v : V) → Updates cmp m n k (Some v) → ¬ (HasLeaseOf m.entries k) → (q : IpNet) (w : V)
+        → Contains n.entries (q, w) ↔ (Contains m.entries (q, w) ⊎ ((q ≡ k) × (w ≡ v)))
+    inserted v u none q w = (
+      λ c. inserted_forth v q w (is_at (cmp k) q) refl ((btree_map_get_iff total exact n new q w).1 c) (u.0 q),
+      λ h. (btree_map_get_iff total exact n new q w).0 (elim h [
+        | inl c ↦ inserted_back v q w (is_at (cmp k) q) refl none (u.0 q) c
+        | inr here ↦ inserted_here v q (u.0 q) here.0 ∙ ap Some (sym here.1)
+      ]),
+    )
+
+    removed_forth : (q : IpNet) (w : V) (b : Bool) → is_at (cmp k) q ≡ b → get cmp n q ≡ Some w
+        → get cmp n q ≡ cond b None (get cmp m q) → Contains m.entries (q, w) × ¬ (q ≡ k)
+    removed_forth q w true at is e = let none : Some w ≡ None = sym is ∙ e in absurd (cc)
+    removed_forth q w false at is e = (
+      (btree_map_get_iff total exact m old q w).0 (sym e ∙ is),
+      λ same. let yes : is_at (cmp k) q ≡ true = at_itself k q (sym same) in cc,
+    )
+
+    removed_back : (q : IpNet) (w : V) (b : Bool) → is_at (cmp k) q ≡ b → ¬ (q ≡ k)
+        → get cmp n q ≡ cond b None (get cmp m q) → Contains m.entries (q, w) → get cmp n q ≡ Some w
+    removed_back q w true at other e c = absurd (other (sym (found_at k q at)))
+    removed_back q w false at other e c = e ∙ (btree_map_get_iff total exact m old q w).1 c
+
+    pub removed : UpdatesBy cmp (cmp k) m n None → (q : IpNet) (w : V)
+        → Contains n.entries (q, w) ↔ (Contains m.entries (q, w) × ¬ (q ≡ k))
+    removed u q w = (
+      λ c. removed_forth q w (is_at (cmp k) q) refl ((btree_map_get_iff total exact n new q w).1 c) (u.0 q),
+      λ h. (btree_map_get_iff total exact n new q w).0 (removed_back q w (is_at (cmp k) q) refl h.1 (u.0 q) h.0),
+    )
+
+  not_missing : {V : Type 0} (e : IpNet × V) (es : List (IpNet × V)) (k : IpNet) (v : V) (b : Bool)
+      → is_at (cmp k) e.0 ≡ b → ((e ≡ (k, v)) ⊎ ¬ (lookup (is_at (cmp k)) es ≡ None))
+      → cond b (Some e.1) (lookup (is_at (cmp k)) es) ≡ None → ⊥
+  not_missing e es k v true at h none = absurd (cc)
+  not_missing e es k v false at (inl same) none =
+      let yes : is_at (cmp k) e.0 ≡ true = at_itself k e.0 (sym (ap (λ z. z.0) same)) in cc
+  not_missing e es k v false at (inr rest) none = rest none
+
+  -- a lease is found by its network
+  pub found_lease : {V : Type 0} (es : List (IpNet × V)) (k : IpNet) (v : V) → Contains es (k, v)
+      → lookup (is_at (cmp k)) es ≡ None → ⊥
+  found_lease [] k v c none = contains_nil (k, v) c
+  found_lease (e ∷ es) k v c none = not_missing e es k v (is_at (cmp k) e.0) refl (elim (contains_cases e es (k, v) c) [
+    | inl same ↦ inl same
+    | inr rest ↦ inr (found_lease es k v rest)
+  ]) none
+
+  module _ {V : Type 0} (m : BTreeMap IpNet V) (k : IpNet) where
+    pub value_found : (r : Option V) → r ≡ get cmp m k → IfSome r (λ v. Contains m.entries (k, v))
+    value_found r e = subst (λ z. IfSome z (λ v. Contains m.entries (k, v))) (sym e) (IfSome-get total exact m k)
+
+    pub value_missing : (r : Option V) → r ≡ get cmp m k → IfNone r (¬ (HasLeaseOf m.entries k))
+    value_missing (Some v) e = tt
+    value_missing None e = λ h. found_lease m.entries k h.0 h.1 (sym e)
+
+    pub borrowed_found : (r : Option (Bor V)) → option_copied r ≡ get cmp m k
+        → IfSome r (λ v. Contains m.entries (k, v.now))
+    borrowed_found (Some b) e = value_found (Some b.now) e
+    borrowed_found None e = tt
+
+    pub borrowed_missing : (r : Option (Bor V)) → option_copied r ≡ get cmp m k → IfNone r (¬ (HasLeaseOf m.entries k))
+    borrowed_missing (Some b) e = tt
+    borrowed_missing None e = value_missing None e

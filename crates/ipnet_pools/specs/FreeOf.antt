@@ -1,0 +1,20 @@
+-- The free addresses of a pool, as its private steps see them. Private contracts alone cite these.
+use Rattle.std.specs.Prelude.{◌↔◌, ◌⊎◌}
+use Rattle.ipnet_base.specs.Address.{Address}
+use Rattle.ipnet_base.specs.Network.{Network, InBlock}
+use Rattle.ipnet_sets.specs.Members.{IsMember}
+use Rattle.ipnet_pools.specs.Fits.{Without}
+use Rattle.ipnet_pools.specs.declared.free.FreeBlocks.{FreeBlocks}
+
+-- the address is free
+abbrev pub IsIn : FreeBlocks → Address → Type 0
+IsIn blocks = IsMember blocks.set
+
+-- the network's addresses were free, and are not free now; all others are as they were
+pub record IsCut (old new : FreeBlocks) (n : Network) : Type 0 where
+  pub was_free : (x : Address) → InBlock n x → IsIn old x
+  pub free : (x : Address) → IsIn new x ↔ Without (IsIn old) n x
+
+-- the network's addresses are free now; all others are as they were
+abbrev pub IsAdded : FreeBlocks → FreeBlocks → Network → Type 0
+IsAdded old new n = (x : Address) → IsIn new x ↔ (IsIn old x ⊎ InBlock n x)

@@ -1,0 +1,29 @@
+-- Leases: networks with a value each, as a list. The invariants of a pool cite these.
+-- Private contracts alone cite these.
+use Rattle.std.specs.Prelude.{◌≡◌, ◌↔◌, List, Contains}
+use Rattle.ipnet_base.specs.Address.{Address}
+use Rattle.ipnet_base.specs.Network.{InBlock, IsTruncated, AreDisjoint}
+use Rattle.ipnet.specs.declared.net.IpNet.{IpNet}
+use Rattle.ipnet.specs.NetworkOf.{ip_network}
+
+-- the list has a lease of the network
+abbrev pub HasLeaseOf : {V : Type 0} → List (IpNet × V) → IpNet → Type 0
+HasLeaseOf {V} leases n = (v : V) × Contains leases (n, v)
+
+-- the address lies in the network of a lease
+abbrev pub IsInLease : {V : Type 0} → List (IpNet × V) → Address → Type 0
+IsInLease leases x = (n : IpNet) × HasLeaseOf leases n × InBlock (ip_network n) x
+
+-- the networks of the leases have no host bits, and no two of them share an address
+pub record AreLeases {V : Type 0} (leases : List (IpNet × V)) : Type 0 where
+  pub truncated : (n : IpNet) → HasLeaseOf leases n → IsTruncated (ip_network n)
+  pub apart : (n m : IpNet) → HasLeaseOf leases n → HasLeaseOf leases m → ¬ (n ≡ m)
+      → AreDisjoint (ip_network n) (ip_network m)
+
+-- the leases lie in the set
+abbrev pub LieIn : {V : Type 0} → List (IpNet × V) → (Address → Type 0) → Type 0
+LieIn leases InSet = (x : Address) → IsInLease leases x → InSet x
+
+-- the free addresses are those of the set that lie in no lease
+abbrev pub IsRest : {V : Type 0} → (Address → Type 0) → List (IpNet × V) → (Address → Type 0) → Type 0
+IsRest Free leases InSet = (x : Address) → Free x ↔ (InSet x × ¬ (IsInLease leases x))
