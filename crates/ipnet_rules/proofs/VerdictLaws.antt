@@ -1,5 +1,5 @@
 -- Lists of which the first entry that matches decides: one entry in front, two lists in a row, and the default.
-use Rattle.std.proofs.Common.{◌≡◌, ◌⊎◌, ◌↔◌, List, [], ◌∷◌, ◌++◌, Any, refl, sym, subst, inl, inr}
+use Rattle.std.proofs.Common.{◌≡◌, ◌⊎◌, ◌↔◌, List, [], ◌∷◌, ◌++◌, Any, refl, sym, subst, ◌∙◌, inl, inr}
 use Rattle.ipnet_base.proofs.ListLaws.{contains_nil, contains_here, contains_there, contains_cases, any_from_contains}
 use Rattle.ipnet_rules.specs.declared.rules.Action.{Action}
 use Rattle.ipnet_rules.specs.declared.rules.Action.TheVariants.{Permit, Deny}
@@ -43,12 +43,39 @@ any_append P (e ∷ es) fs = (
   ]),
 )
 
+-- a value has one verdict
+pub one_verdict : {E X : Type 0} (Matches : E → X → Type 0) (action_of : E → Action) (default : Action) (es : List E)
+    (x : X) (a b : Action) → HasVerdict Matches action_of default es x a → HasVerdict Matches action_of default es x b
+    → a ≡ b
+one_verdict Matches action_of default [] x a b v w = v ∙ sym w
+one_verdict Matches action_of default (e ∷ es) x a b v w =
+    elim v [
+      | inl here ↦ elim w [ inl too ↦ here.1 ∙ sym too.1 | inr later ↦ absurd (later.0 here.0) ]
+      | inr later ↦ elim w [
+        | inl here ↦ absurd (later.0 here.0)
+        | inr too ↦ one_verdict Matches action_of default es x a b later.1 too.1
+      ]
+    ]
+
+-- one element at the end
+pub any_push : {E : Type 0} (P : E → Type 0) (es : List E) (e : E) → Any P (es ++ e ∷ []) ↔ (Any P es ⊎ P e)
+any_push P es e = (
+  λ a. elim ((any_append P es (e ∷ [])).0 a) [
+    | inl first ↦ inl first
+    | inr last ↦ elim ((any_cons P e []).0 last) [ inl here ↦ inr here | inr none ↦ absurd (any_nil P none) ]
+  ],
+  λ h. (any_append P es (e ∷ [])).1 (elim h [
+    | inl first ↦ inl first
+    | inr here ↦ inr ((any_cons P e []).1 (inl here))
+  ]),
+)
+
 -- the two actions differ
 pub not_both : Permit ≡ Deny → ⊥
 not_both e = absurd (cc)
 
--- Where the default is to deny, two lists in a row permit what the first permits, and what the second permits of that
--- which the first does not match.
+-- If the default is to deny, two lists in a row permit what the first permits, and what the second permits and the
+-- first does not match.
 pub permit_append : {E X : Type 0} (Matches : E → X → Type 0) (action_of : E → Action) (es fs : List E) (x : X)
     → HasVerdict Matches action_of Deny (es ++ fs) x Permit
     ↔ (HasVerdict Matches action_of Deny es x Permit

@@ -1,6 +1,10 @@
 //! Ordered rules for addresses, and prefix lists for routes: the first match decides.
 #![tactic(auto)]
 
+pub mod prefix_list;
 pub mod rules;
+pub mod unreached;
 
+pub use prefix_list::{PrefixList, PrefixRule, PrefixRuleError};
 pub use rules::{Action, Addresses, Rule, Rules};
+pub use unreached::Unreached;
