@@ -2,3 +2,4 @@
 pub mod VerdictLaws
 pub mod FirstLaws
 pub mod UnreachedLaws
+pub mod RouteLaws

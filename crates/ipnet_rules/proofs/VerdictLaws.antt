@@ -6,7 +6,7 @@ use Rattle.ipnet_rules.specs.declared.rules.Action.TheVariants.{Permit, Deny}
 use Rattle.ipnet_rules.specs.Verdicts.{HasVerdict}
 
 -- no element of the empty list has the property
-any_nil : {E : Type 0} (P : E → Type 0) → Any P [] → ⊥
+pub any_nil : {E : Type 0} (P : E → Type 0) → Any P [] → ⊥
 any_nil P a = contains_nil a.1 (a.0, a.2, a.3)
 
 -- one element in front
@@ -110,6 +110,35 @@ permit_append Matches action_of (e ∷ es) fs x = (
     )
   ],
 )
+
+-- one entry at the end
+pub permit_push : {E X : Type 0} (Matches : E → X → Type 0) (action_of : E → Action) (es : List E) (e : E) (x : X)
+    → HasVerdict Matches action_of Deny (es ++ e ∷ []) x Permit
+    ↔ (HasVerdict Matches action_of Deny es x Permit
+    ⊎ ((¬ (Any (λ f. Matches f x) es)) × Matches e x × (Permit ≡ action_of e)))
+permit_push Matches action_of es e x = (
+  λ v. elim ((permit_append Matches action_of es (e ∷ []) x).0 v) [
+    | inl first ↦ inl first
+    | inr second ↦ elim second.1 [
+      | inl here ↦ inr (second.0, here.0, here.1)
+      | inr none ↦ absurd (not_both none.1)
+    ]
+  ],
+  λ h. (permit_append Matches action_of es (e ∷ []) x).1 (elim h [
+    | inl first ↦ inl first
+    | inr last ↦ inr (last.0, inl (last.1, last.2))
+  ]),
+)
+
+-- a list that permits a value while its default is to deny matches it
+pub permit_matched : {E X : Type 0} (Matches : E → X → Type 0) (action_of : E → Action) (es : List E) (x : X)
+    → HasVerdict Matches action_of Deny es x Permit → Any (λ e. Matches e x) es
+permit_matched Matches action_of [] x v = absurd (not_both v)
+permit_matched Matches action_of (e ∷ es) x v =
+    (any_cons (λ f. Matches f x) e es).1 (elim v [
+      | inl here ↦ inl here.0
+      | inr later ↦ inr (permit_matched Matches action_of es x later.1)
+    ])
 
 -- A list whose default is to permit permits also what it does not match.
 pub permit_by_default : {E X : Type 0} (Matches : E → X → Type 0) (action_of : E → Action) (es : List E) (x : X)

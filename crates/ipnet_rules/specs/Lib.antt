@@ -3,3 +3,4 @@ pub mod Verdicts
 pub mod Rules
 pub mod UnreachedRules
 pub mod PrefixLists
+pub mod RoutesOfLength

@@ -1,7 +1,7 @@
 -- Prefix lists: rules for routes, by their network and their prefix length.
-use Rattle.std.specs.Prelude.{◌≡◌, ℕ, ◌<◌, ◌≤◌, Option, Some, None, List, ⊤}
+use Rattle.std.specs.Prelude.{◌≡◌, ℕ, ◌<◌, ◌≤◌, ◌⊎◌, ◌↔◌, Option, Some, None, List, ⊤}
 use Rattle.ipnet_base.specs.Address.{width}
-use Rattle.ipnet_base.specs.Network.{Network, IsSubnetOf}
+use Rattle.ipnet_base.specs.Network.{Network, IsNetwork, IsSubnetOf}
 use Rattle.ipnet.specs.NetworkOf.{ip_network}
 use Rattle.ipnet_rules.specs.declared.rules.Action.{Action}
 use Rattle.ipnet_rules.specs.declared.rules.Action.TheVariants.{Permit, Deny}
@@ -45,3 +45,13 @@ pub record IsPrefixRule (action : Action) (k : Network) (ge le : Option ℕ) (ru
   pub of_network : ip_network rule.network ≡ k
   pub of_ge : rule.ge ≡ ge
   pub of_le : rule.le ≡ le
+
+-- the two lists permit the same networks
+abbrev pub PermitSameRoutes : List PrefixRule → List PrefixRule → Type 0
+PermitSameRoutes rules others = (n : Network) → IsNetwork n → IsRoutePermitted rules n ↔ IsRoutePermitted others n
+
+-- one of the two lists permits the network, and the other does not
+pub record IsPermittedByOne (rules others : List PrefixRule) (n : Network) : Type 0 where
+  pub network : IsNetwork n
+  pub differ : (IsRoutePermitted rules n × ¬ (IsRoutePermitted others n))
+      ⊎ (IsRoutePermitted others n × ¬ (IsRoutePermitted rules n))

@@ -2,6 +2,7 @@
 #![tactic(auto)]
 
 pub mod prefix_list;
+mod route_sets;
 pub mod rules;
 pub mod unreached;
 

@@ -1,12 +1,17 @@
 //! Prefix lists, as routers filter routes by them.
-ghost use Rattle.std.specs.Prelude.{◌≡◌, ◌↔◌, IsTrue, IfOk, IsErrOf};
+ghost use Rattle.std.specs.Prelude.{◌≡◌, ◌≤◌, ◌↔◌, IsTrue, IfOk, IsErrOf, IsNone, IfSome};
+ghost use Rattle.ipnet_base.specs.Address.{Address, width};
+ghost use Rattle.ipnet_base.specs.Network.{InBlock};
 ghost use Rattle.ipnet.specs.NetworkOf.{ip_network};
 ghost use Rattle.ipnet_rules.specs.declared.prefix_list.PrefixRuleError.TheVariants as PrefixRuleError;
 ghost use Rattle.ipnet_rules.specs.PrefixLists.{IsLengthAsked, MatchesRoute, IsRouteVerdict, IsRoutePermitted};
-ghost use Rattle.ipnet_rules.specs.PrefixLists.{IsPrefixRule, IsBound, IsAbove};
+ghost use Rattle.ipnet_rules.specs.Rules.{Matches};
+ghost use Rattle.ipnet_rules.specs.PrefixLists.{PermitSameRoutes, IsPermittedByOne, IsPrefixRule, IsBound, IsAbove};
 
-use crate::rules::Action;
+use crate::route_sets;
+use crate::rules::{Action, Addresses, Rule};
 use ipnet::IpNet;
+use std::alloc::{AllocError, Global};
 use thiserror::Error;
 
 /// Why `ge` and `le` are refused.
@@ -128,6 +133,28 @@ impl PrefixRule {
         }
     }
 
+    /// Returns whether a network of this length at some address of the rule's network is one that the rule matches.
+    pub(crate) fn can_match(&self, prefix_len: u8) -> bool
+        ensures { IsTrue result ↔ (((ip_network self.now.network).prefix_len ≤ prefix_len)
+            × (prefix_len ≤ width (ip_network self.now.network).family)
+            × IsLengthAsked (ip_network self.now.network) self.now.ge self.now.le prefix_len) }
+    {
+        self.network.prefix_len() <= prefix_len
+            && prefix_len <= self.network.max_prefix_len()
+            && self.asks_for(prefix_len)
+    }
+
+    /// Returns the rule of the same action for the addresses of the network.
+    pub(crate) fn for_addresses(&self) -> Rule
+        ensures action { result.action ≡ self.now.action }
+        ensures addresses { (x : Address) → Matches result x ↔ InBlock (ip_network self.now.network) x }
+    {
+        Rule {
+            action: self.action,
+            addresses: Addresses::Network(self.network),
+        }
+    }
+
     /// Returns whether the rule matches the network: it lies in the rule's network, and the rule asks for its length.
     /// Allocates nothing.
     ///
@@ -172,5 +199,33 @@ impl PrefixList {
             Action::Permit => true,
             Action::Deny => false,
         }
+    }
+
+    /// Returns a network that one of the two lists permits and the other does not, or `None` if the lists permit the
+    /// same networks. Fails only if memory runs out.
+    ///
+    /// ```text
+    /// permit 10.0.0.0/8 ge 16, against permit 10.0.0.0/8 ge 16 le 24: Some(10.0.0.0/25)
+    /// ```
+    pub fn first_difference(
+        &self,
+        alloc: Global,
+        other: &PrefixList,
+    ) -> Result<Option<IpNet>, AllocError>
+        ensures none { IfOk result (λ found. IsNone found
+            ↔ PermitSameRoutes self.now.list.items other.now.list.items) }
+        ensures some { IfOk result (λ found. IfSome found (λ n.
+            IsPermittedByOne self.now.list.items other.now.list.items (ip_network n))) }
+    {
+        let ours = self.list.as_slice();
+        let theirs = other.list.as_slice();
+        for prefix_len in 0..129 {
+            if let Some(network) = route_sets::difference_of_length(
+                alloc, ours, theirs, prefix_len,
+            )? {
+                return Ok(Some(network));
+            }
+        }
+        Ok(None)
     }
 }

@@ -63,9 +63,9 @@ pub struct Rules {
 
 /// The addresses that some rule of a list matches, and those that the list permits if its default is to deny.
 #[derive(Drop)]
-struct Compiled {
-    matched: IpSet,
-    permitted: IpSet,
+pub(crate) struct Compiled {
+    pub(crate) matched: IpSet,
+    pub(crate) permitted: IpSet,
 }
 
 impl Addresses {
@@ -137,7 +137,7 @@ fn compile_rule(alloc: Global, rule: &Rule) -> Result<Compiled, AllocError>
 }
 
 /// Compiles a list of rules by halves: the second half decides what no rule of the first half matches.
-fn compile(alloc: Global, rules: &[Rule]) -> Result<Compiled, AllocError>
+pub(crate) fn compile(alloc: Global, rules: &[Rule]) -> Result<Compiled, AllocError>
     ensures matched { IfOk result (λ c. (x : Address) → IsMember c.matched x ↔ Any (λ r. Matches r x) rules.now) }
     ensures permitted { IfOk result (λ c. (x : Address) → IsMember c.permitted x
         ↔ HasRuleVerdict rules.now Deny x Permit) }
