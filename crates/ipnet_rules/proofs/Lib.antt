@@ -1,2 +1,5 @@
 -- Lemmas that the proofs of this crate share.
 pub mod VerdictLaws
+pub mod FirstLaws
+pub mod UnreachedLaws
+pub mod RouteLaws

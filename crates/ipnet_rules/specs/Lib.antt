@@ -1,3 +1,6 @@
--- What the contracts of this crate cite.
+-- The definitions that the contracts of this crate cite.
 pub mod Verdicts
 pub mod Rules
+pub mod UnreachedRules
+pub mod PrefixLists
+pub mod RoutesOfLength

@@ -1,6 +1,6 @@
 -- Ordered rules for addresses.
-use Rattle.std.specs.Prelude.{List}
-use Rattle.ipnet_base.specs.Address.{Address, ip_address}
+use Rattle.std.specs.Prelude.{◌⊎◌, ◌↔◌, List}
+use Rattle.ipnet_base.specs.Address.{Address, IsAddress, ip_address}
 use Rattle.ipnet_base.specs.Network.{InBlock}
 use Rattle.ipnet.specs.NetworkOf.{ip_network}
 use Rattle.ipnet_sets.specs.Members.{IsMember, IsFromTo}
@@ -33,3 +33,12 @@ IsVerdict rules = HasRuleVerdict rules.list.items rules.default
 -- the rules permit the address
 abbrev pub IsPermitted : Rules → Address → Type 0
 IsPermitted rules x = IsVerdict rules x Permit
+
+-- the two have one verdict on each address
+abbrev pub HaveSameVerdicts : Rules → Rules → Type 0
+HaveSameVerdicts rules others = (x : Address) → IsAddress x → IsPermitted rules x ↔ IsPermitted others x
+
+-- one of the two permits the address, and the other does not
+pub record HaveOtherVerdicts (rules others : Rules) (x : Address) : Type 0 where
+  pub address : IsAddress x
+  pub differ : (IsPermitted rules x × ¬ (IsPermitted others x)) ⊎ (IsPermitted others x × ¬ (IsPermitted rules x))

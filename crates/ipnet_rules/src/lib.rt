@@ -1,6 +1,11 @@
 //! Ordered rules for addresses, and prefix lists for routes: the first match decides.
 #![tactic(auto)]
 
+pub mod prefix_list;
+mod route_sets;
 pub mod rules;
+pub mod unreached;
 
+pub use prefix_list::{PrefixList, PrefixRule, PrefixRuleError};
 pub use rules::{Action, Addresses, Rule, Rules};
+pub use unreached::Unreached;

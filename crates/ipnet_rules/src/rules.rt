@@ -1,17 +1,20 @@
 //! Ordered rules for addresses, and the set of addresses that they permit.
-ghost use Rattle.std.specs.Prelude.{◌≡◌, ◌↔◌, IsTrue, IfOk, Any};
+ghost use Rattle.std.specs.Prelude.{◌≡◌, ◌⊎◌, ◌↔◌, IsTrue, IfOk, IsNone, IfSome, Any};
 ghost use Rattle.ipnet_base.specs.Address.{Address, IsAddress, ip_address};
 ghost use Rattle.ipnet_base.specs.Network.{InBlock};
 ghost use Rattle.ipnet.specs.NetworkOf.{ip_network};
-ghost use Rattle.ipnet_sets.specs.Members.{IsMember, IsFromTo};
+ghost use Rattle.ipnet_sets.specs.Members.{IsMember, IsFromTo, HaveSameAddresses, IsFirstOf};
 ghost use Rattle.ipnet_rules.specs.declared.rules.Action.TheVariants.{Permit, Deny};
 ghost use Rattle.ipnet_rules.specs.Rules.{IsOneOf, Matches, HasRuleVerdict, IsVerdict, IsPermitted};
+ghost use Rattle.ipnet_rules.specs.Rules.{HaveSameVerdicts, HaveOtherVerdicts};
+ghost use Rattle.ipnet_rules.specs.UnreachedRules.{AreUnreached};
 
+use crate::unreached::{self, Unreached};
 use ipnet::{IpAddr, IpNet};
 use ipnet_sets::IpSet;
 use std::alloc::{AllocError, Global};
 
-/// What a rule does with the addresses or routes that it matches.
+/// The action of a rule on the addresses or routes that it matches.
 #[derive(Clone, Copy, PartialEq, Eq, Debug)]
 pub enum Action {
     /// Let them through.
@@ -60,9 +63,9 @@ pub struct Rules {
 
 /// The addresses that some rule of a list matches, and those that the list permits if its default is to deny.
 #[derive(Drop)]
-struct Compiled {
-    matched: IpSet,
-    permitted: IpSet,
+pub(crate) struct Compiled {
+    pub(crate) matched: IpSet,
+    pub(crate) permitted: IpSet,
 }
 
 impl Addresses {
@@ -134,7 +137,7 @@ fn compile_rule(alloc: Global, rule: &Rule) -> Result<Compiled, AllocError>
 }
 
 /// Compiles a list of rules by halves: the second half decides what no rule of the first half matches.
-fn compile(alloc: Global, rules: &[Rule]) -> Result<Compiled, AllocError>
+pub(crate) fn compile(alloc: Global, rules: &[Rule]) -> Result<Compiled, AllocError>
     ensures matched { IfOk result (λ c. (x : Address) → IsMember c.matched x ↔ Any (λ r. Matches r x) rules.now) }
     ensures permitted { IfOk result (λ c. (x : Address) → IsMember c.permitted x
         ↔ HasRuleVerdict rules.now Deny x Permit) }
@@ -154,6 +157,21 @@ fn compile(alloc: Global, rules: &[Rule]) -> Result<Compiled, AllocError>
     let left = second.permitted.difference(alloc, &first.matched)?;
     let permitted = first.permitted.union(alloc, &left)?;
     Ok(Compiled { matched, permitted })
+}
+
+/// Returns the first address that is in one of the two sets only, or `None` if the sets are equal.
+pub(crate) fn first_apart(
+    alloc: Global,
+    set: &IpSet,
+    other: &IpSet,
+) -> Result<Option<IpAddr>, AllocError>
+    ensures none { IfOk result (λ found. IsNone found ↔ HaveSameAddresses set.now other.now) }
+    ensures some { IfOk result (λ found. IfSome found (λ ip. IsFirstOf
+        (λ x. (IsMember set.now x × ¬ (IsMember other.now x)) ⊎ (IsMember other.now x × ¬ (IsMember set.now x)))
+        (ip_address ip))) }
+{
+    let apart = set.symmetric_difference(alloc, other)?;
+    Ok(apart.first())
 }
 
 impl Rules {
@@ -194,5 +212,38 @@ impl Rules {
                 unmatched.union(alloc, &compiled.permitted)
             }
         }
+    }
+
+    /// Returns the first address that one of the two lists permits and the other denies, IPv4 before IPv6, or `None` if
+    /// the lists have the same verdict on every address. Fails only if memory runs out.
+    ///
+    /// ```text
+    /// permit 10.0.0.0/8, against deny 10.1.0.0/16 and permit 10.0.0.0/8: Some(10.1.0.0)
+    /// ```
+    pub fn first_difference(
+        &self,
+        alloc: Global,
+        other: &Rules,
+    ) -> Result<Option<IpAddr>, AllocError>
+        ensures none { IfOk result (λ found. IsNone found ↔ HaveSameVerdicts self.now other.now) }
+        ensures some { IfOk result (λ found. IfSome found (λ ip.
+            IsFirstOf (HaveOtherVerdicts self.now other.now) (ip_address ip))) }
+    {
+        let ours = self.permitted(alloc)?;
+        let theirs = other.permitted(alloc)?;
+        first_apart(alloc, &ours, &theirs)
+    }
+
+    /// Returns the rules that decide on no address, in order, because earlier rules match all of their addresses. Each
+    /// has the earlier rules that decide in its place. Fails only if memory runs out. The time grows with the square of
+    /// the number of rules.
+    ///
+    /// ```text
+    /// deny 10.0.0.0/9, permit 10.128.0.0/9, permit 10.0.0.0/8: rule 2, for which 0 and 1 decide
+    /// ```
+    pub fn unreached(&self, alloc: Global) -> Result<Vec<Unreached>, AllocError>
+        ensures { IfOk result (λ found. AreUnreached self.now.list.items found.items) }
+    {
+        unreached::unreached_rules(alloc, self.list.as_slice())
     }
 }

@@ -1,4 +1,4 @@
--- No rule so far matches the address, so the verdict of the others is that of all.
+-- No rule so far matches the address, so the verdict of the whole list is the verdict of the remaining rules.
 use Rattle.std.proofs.Common.{drop}
 use Rattle.ipnet_base.specs.Address.{ip_address}
 use Rattle.ipnet_rules.specs.declared.rules.Action.{Action}

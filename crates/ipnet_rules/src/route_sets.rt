@@ -1,0 +1,68 @@
+//! The networks of one prefix length that a prefix list permits, as a set of their addresses.
+ghost use Rattle.std.specs.Prelude.{◌≤◌, ◌↔◌, IfOk, IsNone, IfSome};
+ghost use Rattle.ipnet_base.specs.Address.{Address, IsAddress, width};
+ghost use Rattle.ipnet.specs.NetworkOf.{ip_network};
+ghost use Rattle.ipnet.specs.NetworkParts.{network_at};
+ghost use Rattle.ipnet_sets.specs.Members.{IsMember};
+ghost use Rattle.ipnet_rules.specs.PrefixLists.{IsRoutePermitted, IsPermittedByOne};
+ghost use Rattle.ipnet_rules.specs.RoutesOfLength.{AreRulesOfLength};
+
+use crate::prefix_list::PrefixRule;
+use crate::rules::{self, Rule};
+use ipnet::IpNet;
+use ipnet_sets::IpSet;
+use std::alloc::{AllocError, Global};
+
+/// Returns the rules for addresses that the prefix rules are for networks of this length.
+fn rules_of_length(
+    alloc: Global,
+    rules: &[PrefixRule],
+    prefix_len: u8,
+) -> Result<Vec<Rule>, AllocError>
+    ensures { IfOk result (λ list. AreRulesOfLength rules.now prefix_len list.items) }
+{
+    let mut list = Vec::new(alloc);
+    for rule in rules {
+        if rule.can_match(prefix_len) {
+            list.push(rule.for_addresses())?;
+        }
+    }
+    Ok(list)
+}
+
+/// Returns the set of the addresses whose networks of this length the prefix rules permit.
+fn permitted_of_length(
+    alloc: Global,
+    rules: &[PrefixRule],
+    prefix_len: u8,
+) -> Result<IpSet, AllocError>
+    ensures members { IfOk result (λ s. (x : Address) → IsAddress x → prefix_len ≤ width x.family
+        → IsMember s x ↔ IsRoutePermitted rules.now (network_at x prefix_len)) }
+    ensures fits { IfOk result (λ s. (x : Address) → IsMember s x → prefix_len ≤ width x.family) }
+{
+    let list = rules_of_length(alloc, rules, prefix_len)?;
+    let compiled = rules::compile(alloc, list.as_slice())?;
+    Ok(compiled.permitted)
+}
+
+/// Returns a network of this length that one of the two lists permits and the other does not, or `None` if there is no
+/// such network.
+pub(crate) fn difference_of_length(
+    alloc: Global,
+    rules: &[PrefixRule],
+    others: &[PrefixRule],
+    prefix_len: u8,
+) -> Result<Option<IpNet>, AllocError>
+    ensures none { IfOk result (λ found. IsNone found → (x : Address) → IsAddress x → prefix_len ≤ width x.family
+        → IsRoutePermitted rules.now (network_at x prefix_len)
+        ↔ IsRoutePermitted others.now (network_at x prefix_len)) }
+    ensures some { IfOk result (λ found. IfSome found (λ n.
+        IsPermittedByOne rules.now others.now (ip_network n))) }
+{
+    let ours = permitted_of_length(alloc, rules, prefix_len)?;
+    let theirs = permitted_of_length(alloc, others, prefix_len)?;
+    match rules::first_apart(alloc, &ours, &theirs)? {
+        Some(ip) => Ok(Some(IpNet::new_assert(ip, prefix_len))),
+        None => Ok(None),
+    }
+}
