@@ -120,6 +120,10 @@ find_products() {
     work=$top
     ! is_built || return 0
     if ! mkdir -p "$work/$folder" 2>/dev/null || [ ! -w "$work/$folder" ]; then
+        if [ -z "${XDG_CACHE_HOME-}${HOME-}" ]; then
+            complain "$top cannot be written, and HOME is not set"
+            return 1
+        fi
         work=${XDG_CACHE_HOME:-$HOME/.cache}/dewikonu/$(printf %s "$top" | sha256sum | head -c 16)
         mkdir -p "$work/$folder" || return 1
         ! is_current_copy || ! is_built || return 0
@@ -153,8 +157,8 @@ build_products() {
         return 1
     fi
     for product in "${products[@]}"; do
-        if [ ! -s "$work/$product" ]; then
-            complain "$product was not written: is the disk full?"
+        if [ ! -s "$work/$product" ] || { [ -x "$work/$product" ] && ! is_whole "$work/$product"; }; then
+            complain "$product was not written to its end: is the disk full?"
             return 1
         fi
     done

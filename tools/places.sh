@@ -1,4 +1,5 @@
-# What ./install and ./uninstall share: `. "$top/tools/places.sh"`. `read_places ARGUMENT..` parses the arguments and sets
+# What ./install and ./uninstall share: `. "$top/tools/places.sh"`. `read_places ARGUMENT..` parses the arguments. It
+# prints the usage and ends with status 2 if they are wrong, and else sets
 #
 #   prefix     the folder that programs will know, /usr/local by default
 #   place      where its files go now: the prefix, below $DESTDIR
