@@ -102,10 +102,11 @@ is_current_copy() {
     done
 }
 
-# copy_sources: copies the sources of a clone that is read-only to `work`. What was proved there is kept.
+# copy_sources: copies the sources of all crates of a clone that is read-only to `work`, since rt wants the folder of
+# each crate in crates.txt. It keeps what was proved there.
 copy_sources() {
     local part
-    for part in "${sources[@]}"; do
+    for part in crates.txt bindings/link $(cd "$top" && ls -d crates/*/{src,specs,proofs} 2>/dev/null); do
         rm -rf "${work:?}/$part" && mkdir -p "$work/$(dirname "$part")" && cp -a "$top/$part" "$work/$part" &&
             chmod -R u+w "$work/$part" || return 1
     done
@@ -115,8 +116,9 @@ copy_sources() {
 # and sets `work` to the folder that has them, at the same paths. If they are not built, the command builds them, in the
 # crate's folder in `work`; what it prints is shown only if it fails.
 find_products() {
-    local folder lock status
+    local folder lock file status
     folder=$(dirname "$products")
+    file=$folder/.lock
     work=$top
     ! is_built || return 0
     if ! mkdir -p "$work/$folder" 2>/dev/null || [ ! -w "$work/$folder" ]; then
@@ -127,8 +129,9 @@ find_products() {
         work=${XDG_CACHE_HOME:-$HOME/.cache}/dewikonu/$(printf %s "$top" | sha256sum | head -c 16)
         mkdir -p "$work/$folder" || return 1
         ! is_current_copy || ! is_built || return 0
+        file=.lock
     fi
-    exec {lock}>"$work/$folder/.lock" || return 1
+    exec {lock}>"$work/$file" || return 1
     if ! flock -n "$lock"; then
         complain "waiting for another build"
         flock "$lock" || return 1
