@@ -65,9 +65,9 @@ is_whole() {
     [ -n "$table" ] && [ -n "$count" ] && [ "$count" -gt 0 ] && [ "$size" -ge $((table + each * count)) ]
 }
 
-# is_newest: whether no source is newer than the first product. A date in the future says nothing.
+# is_newest: whether no source is newer than the first product
 is_newest() {
-    (cd "$work" && [ -z "$(find "${sources[@]}" -newer "${products[0]}" ! -newermt now -print -quit)" ])
+    (cd "$work" && [ -z "$(find "${sources[@]}" -newer "${products[0]}" -print -quit)" ])
 }
 
 # is_built: whether the products were built from these sources, and are as they were then. FIRST_PRODUCT.built has the
