@@ -65,9 +65,9 @@ is_whole() {
     [ -n "$table" ] && [ -n "$count" ] && [ "$count" -gt 0 ] && [ "$size" -ge $((table + each * count)) ]
 }
 
-# is_newest: whether no source is newer than the first product. A date in the future says nothing.
+# is_newest: whether no source is newer than the first product
 is_newest() {
-    (cd "$work" && [ -z "$(find "${sources[@]}" -newer "${products[0]}" ! -newermt now -print -quit)" ])
+    (cd "$work" && [ -z "$(find "${sources[@]}" -newer "${products[0]}" -print -quit)" ])
 }
 
 # is_built: whether the products were built from these sources, and are as they were then. FIRST_PRODUCT.built has the
@@ -102,10 +102,11 @@ is_current_copy() {
     done
 }
 
-# copy_sources: copies the sources of a clone that is read-only to `work`. What was proved there is kept.
+# copy_sources: copies the sources of all crates of a clone that is read-only to `work`, since rt wants the folder of
+# each crate in crates.txt. It keeps what was proved there.
 copy_sources() {
     local part
-    for part in "${sources[@]}"; do
+    for part in crates.txt bindings/link $(cd "$top" && ls -d crates/*/{src,specs,proofs} 2>/dev/null); do
         rm -rf "${work:?}/$part" && mkdir -p "$work/$(dirname "$part")" && cp -a "$top/$part" "$work/$part" &&
             chmod -R u+w "$work/$part" || return 1
     done
@@ -115,16 +116,22 @@ copy_sources() {
 # and sets `work` to the folder that has them, at the same paths. If they are not built, the command builds them, in the
 # crate's folder in `work`; what it prints is shown only if it fails.
 find_products() {
-    local folder lock status
+    local folder lock file status
     folder=$(dirname "$products")
+    file=$folder/.lock
     work=$top
     ! is_built || return 0
     if ! mkdir -p "$work/$folder" 2>/dev/null || [ ! -w "$work/$folder" ]; then
+        if [ -z "${XDG_CACHE_HOME-}${HOME-}" ]; then
+            complain "$top cannot be written, and HOME is not set"
+            return 1
+        fi
         work=${XDG_CACHE_HOME:-$HOME/.cache}/dewikonu/$(printf %s "$top" | sha256sum | head -c 16)
         mkdir -p "$work/$folder" || return 1
         ! is_current_copy || ! is_built || return 0
+        file=.lock
     fi
-    exec {lock}>"$work/$folder/.lock" || return 1
+    exec {lock}>"$work/$file" || return 1
     if ! flock -n "$lock"; then
         complain "waiting for another build"
         flock "$lock" || return 1
@@ -153,8 +160,8 @@ build_products() {
         return 1
     fi
     for product in "${products[@]}"; do
-        if [ ! -s "$work/$product" ]; then
-            complain "$product was not written: is the disk full?"
+        if [ ! -s "$work/$product" ] || { [ -x "$work/$product" ] && ! is_whole "$work/$product"; }; then
+            complain "$product was not written to its end: is the disk full?"
             return 1
         fi
     done

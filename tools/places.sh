@@ -1,4 +1,5 @@
-# What ./install and ./uninstall share: `. "$top/tools/places.sh"`. `read_places ARGUMENT..` parses the arguments and sets
+# What ./install and ./uninstall share: `. "$top/tools/places.sh"`. `read_places ARGUMENT..` parses the arguments. It
+# ends the script with the usage if they ask for it or are wrong, and else sets
 #
 #   prefix     the folder that programs will know, /usr/local by default
 #   place      where its files go now: the prefix, below $DESTDIR
@@ -7,9 +8,14 @@
 # `list` is the file, from the prefix, that names each installed file and each folder that was made for it.
 list=share/dewikonu/installed
 
-# usage: prints the head of the script, and ends with status 2
+# usage: prints the head of the script
 usage() {
-    sed -n '2,/^[^#]/s/^# \{0,1\}//p' "$top/$script" >&2
+    sed -n '2,/^[^#]/s/^# \{0,1\}//p' "$top/$script"
+}
+
+# refuse: prints the usage, and ends with status 2
+refuse() {
+    usage >&2
     exit 2
 }
 
@@ -18,11 +24,15 @@ read_places() {
     package=no
     while [ $# -gt 0 ]; do
         case $1 in
-            --prefix) [ $# -gt 1 ] && [ -n "$2" ] && prefix=$2 && shift || usage ;;
+            --prefix) [ $# -gt 1 ] && [ -n "$2" ] && prefix=$2 && shift || refuse ;;
             --prefix=?*) prefix=${1#--prefix=} ;;
-            --user) [ -n "${HOME-}" ] && prefix=$HOME/.local || usage ;;
-            --deb) [ "$script" = install ] && package=yes || usage ;;
-            *) usage ;;
+            --user) [ -n "${HOME-}" ] && prefix=$HOME/.local || refuse ;;
+            --deb) [ "$script" = install ] && package=yes || refuse ;;
+            -h | --help)
+                usage
+                exit 0
+                ;;
+            *) refuse ;;
         esac
         shift
     done
