@@ -1,10 +1,10 @@
-"""How the tables are written, and what is found while they are."""
+"""Formats the cells of the tables, and records missed bounds and differing answers."""
 
 MIB = 1 << 20
 
 
 class Bench:
-    """The programs, how often each is run, and what was found: bounds held and missed, answers that differ."""
+    """The programs, how often each runs, and the findings: bounds held, bounds missed, answers that differ."""
 
     def __init__(self, programs, rounds, only):
         self.programs, self.rounds, self.only = programs, rounds, only
@@ -12,13 +12,13 @@ class Bench:
         self.is_any_wanted = False
 
     def wants(self, *names):
-        """Whether the row with these names is one of those that were asked for."""
+        """Whether the row with these names was requested."""
         wanted = any(self.only in name for name in names if name)
         self.is_any_wanted |= wanted
         return wanted
 
     def judged(self, row, value, bound, goal=None):
-        """The cell of a bound: the bound, its goal in brackets, and whether the value as it is shown is within it."""
+        """The cell of a bound: the bound, its goal in brackets, and whether the rounded value is within the bound."""
         if bound is None:
             return "-"
         cell = "%g (%g)" % (bound, goal) if goal else "%g" % bound
@@ -31,7 +31,7 @@ class Bench:
         return cell + " **missed**"
 
     def compared(self, row, answers):
-        """The cell that says whether all programs gave one answer."""
+        """The cell that says whether all programs gave the same answer."""
         if len(answers) < 2:
             return "-"
         if len(set(answers)) == 1:

@@ -1,11 +1,12 @@
-/* Runs a program and tells what it took: launch REPORT PROGRAM [ARGUMENT..]
+/* Runs a program and reports its time and memory: launch REPORT PROGRAM [ARGUMENT..]
  *
- * Standard input and output are the program's. REPORT gets one line: nanoseconds of wall time, microseconds of
- * processor time (user and system), and the peak of resident memory in KiB. The status is the program's.
+ * The program has the standard input and output of this process. This process writes one line to REPORT: nanoseconds of
+ * wall time, microseconds of processor time (user and system), and the peak of resident memory in KiB. It exits with
+ * the status of the program.
  *
- * Linux counts into a program's peak what the process held that started it, so a peak that a large process takes (an
- * interpreter, say) has that process's size as its floor. This process is as small as a C program gets. With no
- * argument it ends at once: run under itself it tells the floor.
+ * Linux includes the memory of the starting process in a program's peak. If a large process (such as an interpreter)
+ * starts the program, no peak below the size of that process can be measured. This process is as small as a C program
+ * can be. Without arguments it ends at once, so that running it under itself reports the lowest measurable peak.
  */
 #define _DEFAULT_SOURCE
 #include <stdio.h>

@@ -1,9 +1,10 @@
 #!/usr/bin/env python3
-"""Makes the lists of networks that the bench goes over: bench/lists.py [NAME..]
+"""Makes the lists of networks for the bench: bench/lists.py [NAME..]
 
-With no name all of them are made; each is printed with its path, its lines and its digest. They are the same on every
-machine: the generated ones come from fixed seeds, the real ones from the tables of Debian's package tor-geoipdb, which
-change with the package's version. They stand in the folder that IPNET_BENCH_CACHE names, else in ~/.cache/ipnet-bench.
+Without a name it makes all lists. It prints the path, the number of lines and the digest of each. Generated lists come
+from fixed seeds, so they are the same on every machine. Real lists come from the tables of Debian's package
+tor-geoipdb, and change with the version of the package. The lists are in the folder IPNET_BENCH_CACHE, or in
+~/.cache/ipnet-bench if that is not set.
 """
 import bisect
 import hashlib
@@ -21,15 +22,15 @@ MILLION = 1_000_000
 GEOIP_IPV4, GEOIP_IPV6 = "/usr/share/tor/geoip", "/usr/share/tor/geoip6"
 COUNTRIES = 40
 
-# How many of 100,000 IPv4 routes have which prefix length: about as in the Internet's routing table.
+# The number of routes with each prefix length, of 100,000 IPv4 routes: about as in the Internet's routing table.
 ROUTES = {8: 2, 9: 1, 10: 4, 11: 10, 12: 30, 13: 60, 14: 120, 15: 210, 16: 1_400, 17: 850, 18: 1_400, 19: 2_550,
           20: 4_500, 21: 5_200, 22: 11_000, 23: 10_200, 24: 62_463}
-# The same of 100 IPv6 routes.
+# The number of routes with each prefix length, of 100 IPv6 routes.
 ROUTES_IPV6 = {29: 5, 32: 13, 33: 4, 34: 3, 36: 5, 38: 2, 40: 9, 42: 2, 44: 10, 45: 1, 46: 2, 47: 1, 48: 43}
 
 
 class Missing(Exception):
-    """What a list is made from isn't on this machine."""
+    """The source of a list is not on this machine."""
 
 
 class Numbers:
@@ -49,17 +50,17 @@ class Numbers:
         return self.bits() % bound
 
     def percent(self, chance):
-        """True in that many cases of a hundred."""
+        """True with this probability in percent."""
         return self.below(100) < chance
 
     def shuffle(self, items):
-        """Puts the list in any order."""
+        """Shuffles the list."""
         for index in range(len(items) - 1, 0, -1):
             other = self.below(index + 1)
             items[index], items[other] = items[other], items[index]
 
     def any_of(self, weights):
-        """Endless: keys of the table, each as often as its weight says."""
+        """Random keys of the table, without end. The weights are the probabilities."""
         keys, sums = list(weights), list(itertools.accumulate(weights.values()))
         while True:
             yield keys[bisect.bisect(sums, self.below(sums[-1]))]
@@ -73,10 +74,10 @@ def ipv6(address, prefix_len):
     return "%s/%d" % (socket.inet_ntop(socket.AF_INET6, address.to_bytes(16, "big")), prefix_len)
 
 
-# Generated lists: each is endless or long, and as much of it is taken as a row wants.
+# Generated lists: each is endless or long, and a row uses as much of it as it needs.
 
 def random_ipv4(seed=1):
-    """Any address, prefix lengths 20 to 32."""
+    """Random addresses, with prefix lengths 20 to 32."""
     numbers = Numbers(seed)
     while True:
         bits = numbers.bits()
@@ -84,7 +85,7 @@ def random_ipv4(seed=1):
 
 
 def random_ipv6(seed=2):
-    """Any address of 2000::/3, prefix lengths 32 to 128."""
+    """Random addresses of 2000::/3, with prefix lengths 32 to 128."""
     numbers = Numbers(seed)
     while True:
         address = 1 << 125 | numbers.bits() >> 3 << 64 | numbers.bits()
@@ -92,14 +93,14 @@ def random_ipv6(seed=2):
 
 
 def random_both():
-    """The two in turn."""
+    """Networks of both families in turn."""
     for pair in zip(random_ipv4(3), random_ipv6(4)):
         yield from pair
 
 
 def routing_table():
-    """Routes of both families, one in five of them IPv6, in any order. A quarter of them is followed by the network's
-    sibling, as of a block that is announced in two parts, and a tenth by itself once more."""
+    """Routes of both families in random order; one in five is IPv6. A quarter of them is followed by its sibling, as if
+    a block were announced in two parts. A tenth is repeated."""
     numbers = Numbers(5)
     lengths, lengths_ipv6 = numbers.any_of(ROUTES), numbers.any_of(ROUTES_IPV6)
     while True:
@@ -115,7 +116,7 @@ def routing_table():
 
 
 def consecutive_hosts():
-    """/32 side by side, descending: all of them join."""
+    """Adjacent /32, descending: all of them join."""
     for address in range(0x0AFFFFFF, -1, -1):
         yield ipv4(address, 32)
 
@@ -127,13 +128,13 @@ def aggregated_ipv4():
 
 
 def aggregated_ipv6():
-    """Every other /49 from 2000:: on: no two join."""
+    """Every other /49, starting at 2000::. No two join."""
     for address in range(0x2000 << 112, 0x4000 << 112, 1 << 80):
         yield ipv6(address, 49)
 
 
 def routes_ipv4():
-    """IPv4 prefixes with the lengths of a routing table, each a network of 1.0.0.0 to 223.255.255.255."""
+    """IPv4 networks between 1.0.0.0 and 223.255.255.255, with the prefix lengths of a routing table."""
     numbers = Numbers(6)
     for prefix_len in numbers.any_of(ROUTES):
         address = (1 << 24) + numbers.below(223 << 24)
@@ -141,7 +142,7 @@ def routes_ipv4():
 
 
 def descending_hosts():
-    """/32, descending; about one address in five is left out."""
+    """/32, descending, with about one address in five left out."""
     numbers = Numbers(7)
     for address in range(0x0AFFFFFF, -1, -1):
         if not numbers.percent(20):
@@ -149,7 +150,7 @@ def descending_hosts():
 
 
 def sites_ipv6():
-    """Different /48 inside forty /32, in any order."""
+    """Different /48 inside forty /32, in random order."""
     numbers = Numbers(8)
     parents = [0x20010000 + numbers.below(0x0FFF0000) for _ in range(40)]
     seen = set()
@@ -161,7 +162,7 @@ def sites_ipv6():
 
 
 def addresses_ipv4():
-    """Any addresses, without a length."""
+    """Random addresses, without a prefix length."""
     numbers = Numbers(13)
     while True:
         yield ipv4(numbers.bits() >> 32, 32)[:-3]
@@ -188,12 +189,12 @@ def ranges_of_ipv6():
 
 
 def ranges_ipv4():
-    """Every IPv4 range, cut into networks, in the table's order, which ascends."""
+    """Every IPv4 range, split into networks, in the order of the table, which is ascending."""
     return (ipv4(*network) for networks, _ in ranges_of_ipv4() for network in networks)
 
 
 def ranges_ipv6():
-    """The same of IPv6."""
+    """Every IPv6 range, split into networks, in the order of the table."""
     return (ipv6(*network) for networks, _ in ranges_of_ipv6() for network in networks)
 
 
@@ -205,14 +206,14 @@ def spans_ipv4():
 
 
 def ranges_both():
-    """Both, in any order."""
+    """The networks of both families, in random order."""
     lines = list(ranges_ipv4()) + list(ranges_ipv6())
     Numbers(9).shuffle(lines)
     return lines
 
 
 def by_country(table):
-    """The networks of each country, and how many ranges it has. "??" is no country."""
+    """The networks of each country, and its number of ranges. "??" is not a country."""
     networks, counts = {}, {}
     for found, country in table:
         if country != "??":
@@ -222,7 +223,7 @@ def by_country(table):
 
 
 def untidy(networks, width, numbers):
-    """Every network, one in five of them twice, three in ten of these with an address that isn't the network's."""
+    """Every network; one in five occurs twice, and three in ten of these have host bits."""
     for address, prefix_len in networks:
         for _ in range(2 if numbers.percent(20) else 1):
             hosts = (1 << width - prefix_len) - 1
@@ -230,7 +231,7 @@ def untidy(networks, width, numbers):
 
 
 def countries(with_ipv6, seed, more=0):
-    """The forty countries that have most IPv4 ranges, but for so many that have more, untidy and in any order."""
+    """The forty countries with the most IPv4 ranges, after the first `more`; untidy and in random order."""
     numbers = Numbers(seed)
     networks, counts = by_country(ranges_of_ipv4())
     chosen = sorted(counts, key=lambda country: (-counts[country], country))[more:more + COUNTRIES]
@@ -258,14 +259,14 @@ def next_countries_ipv4():
 GENERATED = {make.__name__: make for make in (
     random_ipv4, random_ipv6, random_both, routing_table, consecutive_hosts, aggregated_ipv4, aggregated_ipv6,
     routes_ipv4, descending_hosts, sites_ipv6, addresses_ipv4)}
-# The lists that are at most so long.
+# The maximum lengths of lists.
 MOST = {"sites_ipv6": MILLION, "consecutive_hosts": 10 * MILLION, "descending_hosts": 10 * MILLION}
 REAL = {make.__name__: make for make in (
     ranges_ipv4, ranges_ipv6, ranges_both, spans_ipv4, countries_ipv4, countries_both, next_countries_ipv4)}
 
 
 def path_of(name, count=MILLION):
-    """The path of a list, which is made where it isn't there yet. A real list has its own length."""
+    """The path of a list, which is made if it does not exist. Real lists have a fixed length."""
     file = name + ".txt" if name in REAL else "%s.%d.txt" % (name, count)
     path = os.path.join(CACHE, "lists", file)
     if not os.path.exists(path):

@@ -1,9 +1,8 @@
 #!/usr/bin/env python3
 """Measures the sets of Python's netaddr: bench/netaddr_sets.py TASK < NETWORKS
 
-The tasks, the line that is printed and the number made from the answers are those of ipnet_bench, so that the two can
-be put side by side. A task is done once, and its time is that of the processor, on which other work on the machine has
-least effect.
+The tasks, the output and the checksum of the answers are the same as in ipnet_bench, so that the two can be compared. A
+task runs once. The processor time is measured, because other work on the machine affects it least.
 """
 import json
 import sys
@@ -15,7 +14,7 @@ MASK = (1 << 64) - 1
 
 
 def mixed(before, number):
-    """The number of what went before and of one thing more (FNV-1a, of 64 bits at a time)."""
+    """Adds a value to the checksum (FNV-1a, 64 bits at a time)."""
     return (before ^ number) * 0x0000_0100_0000_01B3 & MASK
 
 
@@ -27,7 +26,7 @@ def listed(networks):
 
 
 def combined(operation, first, second):
-    """From networks to networks."""
+    """A set operation, from networks to networks."""
     one, other = netaddr.IPSet(first), netaddr.IPSet(second)
     return list(operation(one, other).iter_cidrs())
 

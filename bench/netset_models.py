@@ -1,6 +1,6 @@
-"""Plain models of calls of netset, to compare its answers with: each gives the lines of an answer, as bytes.
+"""Plain models of netset, to compare its output with. Each model returns the lines of the output, as bytes.
 
-They read networks, addresses and ranges, a line each, of both families, and none of the rest that netset reads.
+The models read networks, addresses and ranges of both families, one per line. They read no comments or blanks.
 """
 import bisect
 import ipaddress
@@ -14,7 +14,7 @@ TEXT = {socket.AF_INET: ipv4, socket.AF_INET6: ipv6}
 
 
 class Entry(NamedTuple):
-    """A line: its text, and the first and the last of its addresses."""
+    """A line: its text, and its first and last address."""
     text: str
     family: int
     first: int
@@ -43,7 +43,7 @@ def entries(path):
 
 
 class Spans:
-    """The fewest ranges of the entries of a family."""
+    """The fewest ranges with the addresses of the entries of a family."""
 
     def __init__(self, listed, family):
         self.starts, self.ends = [], []
@@ -67,7 +67,7 @@ class Spans:
 
 
 def shortest(lines):
-    """The shortest list of networks of the addresses of IPv4 lines. iprange's differences of two lists are not that."""
+    """The shortest list of networks with the addresses of IPv4 lines. Differences by iprange are not the shortest."""
     spans = Spans([entry(line.decode().strip()) for line in lines], socket.AF_INET)
     for ends in zip(spans.starts, spans.ends):
         for network in ipaddress.summarize_address_range(*map(ipaddress.IPv4Address, ends)):
@@ -106,7 +106,7 @@ def outside(set_path, path):
 
 
 def route(table_path, path):
-    """The table has networks alone."""
+    """The table contains only networks."""
     table = {family: {} for family in WIDTH}
     for e in entries(table_path):
         hosts = (e.last - e.first).bit_length()

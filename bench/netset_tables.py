@@ -1,4 +1,4 @@
-"""The table of the program netset. README.md says what a figure is."""
+"""The table of the program netset. README.md explains the figures."""
 import tempfile
 from typing import Callable, NamedTuple
 
@@ -10,17 +10,17 @@ from turns import Command, digest, measured, with_lengths
 
 
 def as_ranges(lines):
-    """The ranges of iprange, which writes a single address alone, as ranges."""
+    """The output of iprange with single addresses as ranges. iprange prints them without a range."""
     return (line if b"-" in line else line.rstrip(b"\n") + b"-" + line for line in lines)
 
 
 def as_counts(lines):
-    """How many entries and how many addresses iprange counted, as netset says it."""
+    """The numbers of entries and addresses that iprange counted, in the format of netset."""
     return (b"IPv4 %d, IPv6 0\n" % int(line.split(b",")[1]) for line in lines)
 
 
 class Call(NamedTuple):
-    """A row: a call of netset on lists, whose paths stand for {0} and {1} in the words, and iprange's for the same."""
+    """A row: the words of a netset command and of its iprange command. {0} and {1} are the paths of the lists."""
     label: str
     lists: list
     words: str
@@ -47,7 +47,7 @@ CALLS = [
          "difference {0} {1}", "{0} --except {1}"),
     Call("symmetric difference: countries 1 to 40, and 21 to 60", [FIRST, SECOND],
          "symmetric-difference {0} {1}", "{0} --diff {1}", models.shortest, iprange_status=1),
-    # iprange is given all addresses on its standard input
+    # iprange reads all addresses from standard input
     Call("complement: countries 1 to 40", [FIRST], "complement {0}", "- --except {0}"),
     Call("count: countries 1 to 40", [FIRST], "count {0}", "-C {0}", as_counts, models.count),
     Call("count: countries 1 to 40, both families", ["countries_both"], "count {0}", model=models.count),

@@ -1,4 +1,4 @@
-"""The programs that are measured: found, built where they are missing or old, and run under the launcher."""
+"""Finds the measured programs, builds them if they are missing or old, and runs them under the launcher."""
 import functools
 import glob
 import json
@@ -21,7 +21,7 @@ NETSET_CRATE = "netset"
 
 
 class Took(NamedTuple):
-    """What one run of a program took."""
+    """The time and memory of one run of a program."""
     wall: int       # nanoseconds
     processor: int  # nanoseconds, user and system
     peak: int       # the most bytes that were resident
@@ -57,7 +57,7 @@ def is_older(built, sources):
 
 
 def ours(crate, *words):
-    """The program of a crate of this repository. With these words it ends with status 0 where it has no input."""
+    """The program of a crate of this repository. With these words and no input, its status is 0."""
     program = os.path.join(TOP, "crates", crate, "out", crate)
     sources = [path for name in libraries(crate)
                for path in glob.glob(os.path.join(TOP, "crates", name, "src/**/*.rt"), recursive=True)]
@@ -104,7 +104,7 @@ def launcher():
 
 
 def netaddr_sets():
-    """The command of netaddr_sets.py, by the first Python that has netaddr: Debian's, which isn't always this one."""
+    """The command of netaddr_sets.py, by the first Python with netaddr. Debian's has it, but is not always this one."""
     for python in filter(os.path.exists, (sys.executable, "/usr/bin/python3")):
         if subprocess.run([python, "-c", "import netaddr"], capture_output=True).returncode == 0:
             return [python, os.path.join(BENCH, "netaddr_sets.py")]
@@ -113,7 +113,7 @@ def netaddr_sets():
 
 
 class Programs:
-    """The paths of the programs, each built or looked for when it is first asked for. None: it isn't to be had, and
+    """The paths of the programs, each built or searched when it is first used. None: it is not available, and
     its columns stay empty."""
 
     def __init__(self):
@@ -130,7 +130,7 @@ class Programs:
 
     @functools.cached_property
     def our_netset(self):
-        """None: this repository doesn't have the crate."""
+        """None if this repository does not have the crate."""
         return ours(NETSET_CRATE, "--version") if NETSET_CRATE in crates() else None
 
     @functools.cached_property
@@ -159,7 +159,7 @@ class Programs:
 
 
 def run(command, source=os.devnull, sink=subprocess.PIPE, status=0):
-    """(what the run took, what it wrote to a pipe) of one run of a program, which has to end with this status."""
+    """(time and memory, output to a pipe) of one run of a program, which must end with this status."""
     with open(source, "rb") as given, tempfile.NamedTemporaryFile("r") as report:
         launched = [os.path.join(CACHE, "launch"), report.name] + command
         errors = subprocess.DEVNULL if status else None
@@ -171,11 +171,11 @@ def run(command, source=os.devnull, sink=subprocess.PIPE, status=0):
 
 
 def figure(program, task, source=os.devnull):
-    """(the object that a program of calls prints, its peak) of one task. The program is a path, or a command."""
+    """(the printed JSON object, the memory peak) of one task. The program is a path or a command."""
     took, told = run([*([program] if isinstance(program, str) else program), *task], source)
     return json.loads(told), took.peak
 
 
 def floor():
-    """The peak that any program is told at least: that of a program that does nothing."""
+    """The lowest memory peak that can be measured: the peak of a program that does nothing."""
     return run([os.path.join(CACHE, "launch")])[0].peak

@@ -1,10 +1,10 @@
-"""The tables of sets of addresses and of routes. README.md says what a figure is."""
+"""The tables of sets of addresses and of routes. README.md explains the figures."""
 from cells import head, mebibytes, milliseconds, ratio, row, shown
 from lists import path_of
 from programs import figure
 from turns import in_turns
 
-# The operations on sets, and the lists whose two halves they are done on: twice 10^5 networks.
+# The set operations, and the lists whose two halves are the operands: twice 10^5 networks.
 SET_OPERATIONS = ["union", "intersection", "difference"]
 SET_LISTS = ["random_ipv4", "routing_table"]
 SET_LENGTH = 200_000
@@ -22,7 +22,7 @@ def sets(bench):
 
 
 def set_row(bench, name, task):
-    """A set operation beside the program over the original's aggregate, and beside netaddr, which is run once."""
+    """A set operation, compared with the program over the original's aggregate, and with netaddr, which runs once."""
     label, source = "%s, %s" % (task, name), path_of(name, SET_LENGTH)
     ours, theirs, answers = in_turns(bench, [task], [task], source)
     python = None
@@ -37,7 +37,7 @@ def set_row(bench, name, task):
 
 
 def asked(bench):
-    """One question of a set, or of a table, of 10^5 networks."""
+    """One query of a set or a table of 10^5 networks."""
     wanted = [(name, task) for name in SET_LISTS for task in ("set_contains", "longest_match")
               if bench.wants(name, task)]
     if wanted:
@@ -51,7 +51,7 @@ def asked(bench):
 
 
 def beside_sets(bench):
-    """What sets, and tables of routes, take beside the lists that they are made from."""
+    """The memory of sets and tables of routes, compared with the lists that they are made from."""
     tasks = [(task, "hold_halves") for task in SET_OPERATIONS] + [("routes", "hold_routes")]
     wanted = [(name, task, held) for name in SET_LISTS for task, held in tasks if bench.wants(name, task)]
     if wanted:

@@ -1,4 +1,4 @@
-"""The tables of the bench. README.md says what a figure is."""
+"""The tables of the bench. README.md explains the figures."""
 import os
 import tempfile
 from typing import NamedTuple
@@ -12,7 +12,7 @@ from turns import Command, in_turns, measured, with_lengths
 
 
 class Call(NamedTuple):
-    """A row of the table of calls: a task of ipnet_bench on a list, beside the original's."""
+    """A row of the table of calls: a task of ipnet_bench on a list, compared with the original crate."""
     label: str
     task: list
     list_name: str | None
@@ -22,7 +22,7 @@ class Call(NamedTuple):
 
 
 class Program(NamedTuple):
-    """A row of the table of the program. Times are of the original's, peaks in MiB."""
+    """A row of the table of the program. Times are relative to the original, peaks in MiB."""
     label: str
     list_name: str
     iprange: bool  # whether iprange can read the list
@@ -145,7 +145,7 @@ def memory(bench):
 
 
 def beside_list(program, name):
-    """(the bytes of a list of networks, the bytes that aggregating it takes beside it)"""
+    """(the bytes of a list of networks, the additional bytes for aggregating it)"""
     held, peak_held = figure(program, ["hold"], path_of(name))
     _, peak_aggregated = figure(program, ["aggregate"], path_of(name))
     return held["check"], peak_aggregated - peak_held
@@ -207,7 +207,7 @@ def lengths(bench):
 
 
 def length_row(bench, name, length, found, a_line, part):
-    """The row of a length, whose lines take so many nanoseconds each, which is that part of a line of a million."""
+    """The row of a length: nanoseconds per line, and that time relative to a list of a million lines."""
     processor, peak = found.least("ours", "processor"), found.peak("ours")
     label = "%s, %d lines" % (name, length)
     row(name, format(length, ","), milliseconds(processor), "%.1f" % a_line, "%.2f" % part,
@@ -217,7 +217,7 @@ def length_row(bench, name, length, found, a_line, part):
 
 
 def unbroken(bench):
-    """A line that never ends is bad, and is not kept."""
+    """A line that never ends is bad, and is not kept in memory."""
     head("One line of 10^7 digits, refused", "program", "processor ms", "peak MiB", "bound")
     with tempfile.NamedTemporaryFile() as text:
         text.write(b"1" * 10 * MILLION)

@@ -1,4 +1,4 @@
-"""How programs are put side by side: each is run in turn, so that other work on the machine meets all of them."""
+"""Compares programs: runs each in turn, so that other work on the machine affects all of them."""
 import hashlib
 import os
 import tempfile
@@ -13,7 +13,7 @@ def unchanged(lines):
 
 
 class Command(NamedTuple):
-    """How one of the programs is called."""
+    """How to call one of the programs."""
     words: list
     status: int = 0                       # which it ends with
     as_ours: Callable | None = unchanged  # the lines of its output as our program writes them. None: not compared
@@ -25,11 +25,11 @@ class Measured(NamedTuple):
     outputs: list
 
     def least(self, who, field):
-        """The least time of a program: wall or processor. None: it was not run."""
+        """The shortest time of a program: wall or processor time. None if it did not run."""
         return least([getattr(took, field) for took in self.runs.get(who, [])])
 
     def peak(self, who):
-        """The greatest peak of a program. None: it was not run."""
+        """The highest memory peak of a program. None if it did not run."""
         return max((took.peak for took in self.runs.get(who, [])), default=None)
 
 
@@ -42,8 +42,8 @@ def digest(lines):
 
 
 def measured(bench, commands, source=os.devnull, times=1):
-    """What the programs take, so many times in each round. The first run of each is not measured, and its output is
-    kept."""
+    """Measures the programs, the given number of times in each round. The first run of each is not measured; its output
+    is kept."""
     outputs = []
     with tempfile.NamedTemporaryFile() as answer, open(os.devnull, "wb") as nowhere:
         for command in commands.values():
@@ -61,12 +61,12 @@ def measured(bench, commands, source=os.devnull, times=1):
 
 
 def with_lengths(lines):
-    """The lines of iprange, which leaves out the length of a single address, with that length."""
+    """The output of iprange, with prefix lengths for single addresses. iprange leaves them out."""
     return (line if b"/" in line else line.rstrip(b"\n") + b"/32\n" for line in lines)
 
 
 def in_turns(bench, task, original_task, source):
-    """(the least time of ours, that of the original's, all answers) of a task of the programs of calls."""
+    """(our shortest time, the shortest time of the original, all answers) of a task of the programs of calls."""
     ours, theirs, answers = [], [], []
     sides = [(bench.programs.our_calls, task, ours), (bench.programs.original_calls, original_task, theirs)]
     for _ in range(bench.rounds):

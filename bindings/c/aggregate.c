@@ -1,4 +1,4 @@
-/* Reads a list of networks from standard input, one a line, and writes the shortest list of the same addresses.
+/* Reads a list of networks from standard input, one per line, and prints the shortest list with the same addresses.
  *
  *     cc -Iinclude bindings/c/aggregate.c bindings/out/libipnet.a -o aggregate && ./aggregate < examples/routes.txt
  */
@@ -7,7 +7,7 @@
 #include <stdio.h>
 #include <stdlib.h>
 
-/* The whole of a file, and its length; NULL where reading fails or memory is short. */
+/* Reads a file to its end, and returns its contents and length. Returns NULL if reading or an allocation fails. */
 static uint8_t *read_all(FILE *file, size_t *len)
 {
     size_t room = 1 << 16;
@@ -32,8 +32,8 @@ static uint8_t *read_all(FILE *file, size_t *len)
     return NULL;
 }
 
-/* The answer is mostly shorter than the text. Where it is longer, as ::ffff:0.0.0.0/96 of ::ffff:0:0/96, the first call
- * tells the length that it needs. */
+/* The result is usually not longer than the text. If it is longer, as ::ffff:0.0.0.0/96 for ::ffff:0:0/96, the first
+ * call reports the length that it needs. */
 static uint8_t aggregate(const uint8_t *text, size_t text_len, uint8_t **answer, size_t *count)
 {
     size_t room = text_len + 1;

@@ -1,8 +1,11 @@
-/* Makes each call that allocates with its requests refused: first all of them, then all but the first, and so on.
- * Each must report that memory ran out, leave its buffers as they were, and keep no block, until all are granted.
- * Calls that need no memory are made with all requests refused: each must make none, and give its status.
+/* Tests all calls with failing allocations.
  *
- * The linker puts the functions below in the place of malloc, realloc and free (--wrap).
+ * Each call that allocates runs several times: first all its allocations fail, then all except the first, and so on,
+ * until all succeed. While any fails, the call must report that memory ran out, leave its buffers unchanged, and free
+ * all its blocks. Calls that need no memory run with all allocations failing: each must allocate nothing and return
+ * its status.
+ *
+ * The linker replaces malloc, realloc and free by the functions below (--wrap).
  */
 #include "ipnet.h"
 
@@ -14,7 +17,7 @@ void *__real_malloc(size_t len);
 void *__real_realloc(void *block, size_t len);
 void __real_free(void *block);
 
-/* How many growths are granted, how many blocks are held, and how many requests were made. */
+/* How many allocations may succeed, how many blocks are in use, and how many allocations were requested. */
 static long granted = -1, held, requests;
 
 static int is_refused(void)
@@ -55,7 +58,7 @@ static const char whole[] = "10.0.0.0/23\nfd00::/32\n";
 static const char rest[] = "10.0.1.0/24\nfd00:0:8000::/33\n";
 static const uint8_t *const text = (const uint8_t *)list;
 
-/* What a call is lent. */
+/* The memory that is passed to a call. */
 struct lent {
     uint8_t buffer[64], yes;
     size_t number;
@@ -103,7 +106,7 @@ static uint8_t is_covered(struct lent *lent)
     return ipnet_is_covered(text, strlen(list), network, sizeof network, &lent->yes, &lent->number);
 }
 
-/* Each call, and the text that it answers; none where it answers yes. */
+/* Each call, and the text that it writes; NULL if its result is yes. */
 static const struct {
     const char *name;
     uint8_t (*call)(struct lent *);
@@ -123,7 +126,7 @@ static int is_answered(const struct lent *lent, const char *answer)
     return lent->yes == 1;
 }
 
-/* How many growths had to be granted; -1 where a call did what it must not. */
+/* How many allocations the call needed; -1 if the call broke a rule above. */
 static long least_growths(uint8_t (*call)(struct lent *), const char *answer)
 {
     for (long growths = 0; growths < 100; growths++) {
@@ -147,13 +150,13 @@ static long least_growths(uint8_t (*call)(struct lent *), const char *answer)
     return -1;
 }
 
-/* Functions with a text or bytes as their argument, and with two of them, that write into a buffer. */
+/* Functions that write into a buffer, with one or two texts or byte forms as input. */
 typedef uint8_t of_one(const uint8_t *, size_t, uint8_t *, size_t, size_t *);
 typedef uint8_t of_two(const uint8_t *, size_t, const uint8_t *, size_t, uint8_t *, size_t, size_t *);
-/* Functions that answer yes or no. */
+/* Functions whose result is yes or no. */
 typedef uint8_t yes_or_no(const uint8_t *, size_t, const uint8_t *, size_t, uint8_t *, size_t *);
 
-/* Calls that need no memory, and their statuses. */
+/* The calls that need no memory, and their statuses. */
 static const struct {
     const char *name;
     of_one *one;
@@ -193,7 +196,7 @@ static const struct {
     {"print", ipnet_print, NULL, NULL, TEXT("\0\12\0\0\0\27"), TEXT(""), IPNET_OK},
 };
 
-/* How many of the calls above do what they must not. */
+/* How many of the calls above break a rule. */
 static int free_faults(void)
 {
     int faults = 0;

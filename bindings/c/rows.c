@@ -1,4 +1,4 @@
-/* Makes every call of bindings/rows.txt, and compares. Its argument is that file. */
+/* Runs every call of bindings/rows.txt, and compares the results. The argument is the path of that file. */
 #include "ipnet.h"
 
 #include <stdbool.h>
@@ -9,7 +9,7 @@
 #define UNTOUCHED 0xa5
 #define MOST 256
 
-/* Bytes of a row, in memory of just that length, so that a sanitizer sees a read past their end. */
+/* The bytes of a row, in a block of exactly their length, so that a sanitizer detects a read past the end. */
 struct bytes {
     uint8_t *at;
     size_t len;
@@ -69,7 +69,7 @@ static void *exactly(size_t len)
     return at;
 }
 
-/* The bytes of a field in quotes, and where it ends. */
+/* The bytes of a quoted field, and a pointer to its end. */
 static const char *unquoted(const char *field, struct bytes *bytes)
 {
     uint8_t buffer[MOST];
@@ -128,7 +128,7 @@ static uint8_t called(const struct row *row, const struct function *function, ui
     return function->of_one(row->first.at, row->first.len, buffer, buffer_len, count);
 }
 
-/* One call with a buffer of this length: what it must answer follows from the row and the length. */
+/* Runs a call with a buffer of this length. The row and the length determine the expected result. */
 static void call_into_buffer(const struct row *row, const struct function *function, size_t buffer_len)
 {
     bool ok = strcmp(row->status, "OK") == 0, fits = row->answer.len <= buffer_len;

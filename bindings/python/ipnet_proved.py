@@ -1,13 +1,13 @@
-"""Lists of IP networks aggregated, combined and compared, by a library whose answers are proved.
+"""Aggregates, combines and compares lists of IP networks, with a library whose results are proved correct.
 
-The work is done by the shared library libipnet.so, made of code in Rattle, which is Rust with contracts: each of its
-functions is proved to answer as its contract says. What is proved there and what is trusted, this module among it,
-stands in docs/C.md of the repository. `bindings/build` makes the library; the environment variable IPNET_LIB names the
-folder that has it, where it is not bindings/out.
+This module calls the shared library libipnet.so, which is written in Rattle (Rust with contracts). Each function of the
+library is proved to satisfy its contract. docs/C.md in the repository lists what is proved and what is trusted; this
+module is trusted. `bindings/build` builds the library in bindings/out. To use a library in another folder, set the
+environment variable IPNET_LIB to that folder.
 
-A list is a text with one network a line, or any iterable of networks; a network is a text, as "10.1.1.0/24", or an
-object of the standard module ipaddress: a network, an interface (an address with its host bits and a prefix length),
-or an address, which stands for the network of its full length.
+A list is a text with one network per line, or any iterable of networks. A network is a text, such as "10.1.1.0/24", or
+an object of the standard module ipaddress: a network, an interface (an address with host bits and a prefix length), or
+an address, which is a network of full length.
 
 >>> aggregate_text("10.0.1.0/24\\n10.0.0.0/24\\n")
 '10.0.0.0/23\\n'
@@ -50,8 +50,8 @@ MAX_TEXT = 43
 
 
 class BadLine(ValueError):
-    """A line is neither empty nor a network: `line` is its number, counted from 1 with the empty ones, and `other`
-    tells whether it stands in the second of two lists."""
+    """A line is neither empty nor a network. `line` is its number: lines count from 1, including empty ones. `other` is
+    True if the line is in the second of two lists."""
 
     def __init__(self, line, other=False):
         super().__init__(f"line {line}{' of the other list' if other else ''}: invalid IP address syntax")
@@ -60,11 +60,11 @@ class BadLine(ValueError):
 
 
 class NotANetwork(ValueError):
-    """The text, or the bytes, are those of no network."""
+    """The text or the bytes are not a network."""
 
 
 def _load():
-    """The library, its functions declared as in include/ipnet.h."""
+    """Loads the library, and declares its functions as in include/ipnet.h."""
     here = os.path.dirname(os.path.abspath(__file__))
     folder = os.environ.get("IPNET_LIB", os.path.join(here, "..", "out"))
     library = ctypes.CDLL(os.path.join(folder, "libipnet.so"))
@@ -94,7 +94,7 @@ _library = _load()
 
 
 def _refuse(status, line):
-    """Raises what stands for a status."""
+    """Raises the exception for a status."""
     if status == BAD_LINE:
         raise BadLine(line)
     if status == BAD_LINE_IN_OTHER:
@@ -109,7 +109,7 @@ def _refuse(status, line):
 
 
 def _into_buffer(function, room, *texts):
-    """What the call, of these texts or bytes, writes into a buffer of at least this room."""
+    """Calls the function with the texts or bytes and a buffer of at least `room` bytes, and returns what it writes."""
     given = [each for data in texts for each in (data, len(data))]
     count = ctypes.c_size_t(0)
     while True:
@@ -123,7 +123,7 @@ def _into_buffer(function, room, *texts):
 
 
 def _yes_or_no(function, data, more):
-    """The answer of a call that tells yes or no."""
+    """Calls a function whose result is yes or no, and returns a bool."""
     answer, line = ctypes.c_uint8(0), ctypes.c_size_t(0)
     status = function(data, len(data), more, len(more), ctypes.byref(answer), ctypes.byref(line))
     if status != OK:
@@ -132,14 +132,14 @@ def _yes_or_no(function, data, more):
 
 
 def _line(network):
-    """A network as text."""
+    """The text of a network."""
     if isinstance(network, (ipaddress.IPv4Address, ipaddress.IPv6Address)) and not hasattr(network, "network"):
         return f"{network}/{network.max_prefixlen}"
     return str(network)
 
 
 def _text(networks):
-    """A list as text, in bytes: a surrogate, which no text in UTF-8 has, is refused by the library and not here."""
+    """The text of a list, encoded. The library rejects surrogates, which are not valid in UTF-8."""
     if isinstance(networks, bytes):
         return networks
     if not isinstance(networks, str):
@@ -152,7 +152,7 @@ def _text(networks):
 
 
 def _bytes(network):
-    """A network's bytes: a byte for the family, the octets, the prefix length."""
+    """The byte form of a network: a byte for the family, the octets, the prefix length."""
     if isinstance(network, (str, bytes)):
         return _into_buffer(_library.ipnet_parse, MAX_BYTES, _text(network))
     if isinstance(network, (ipaddress.IPv4Network, ipaddress.IPv6Network)):
@@ -165,8 +165,9 @@ def _bytes(network):
 
 
 def aggregate_text(text, legacy=False):
-    """The shortest list of networks over exactly the addresses of the text's networks, as text, one a line: truncated,
-    IPv4 first, ascending, each once. With `legacy`, numbers may have leading zeros.
+    """Aggregates a list: returns the shortest list of networks with exactly the same addresses, as text with one
+    network per line. The networks have no host bits and no repeats, and are in ascending order, IPv4 first. If `legacy`
+    is true, numbers may have leading zeros.
 
     >>> aggregate_text("10.0.0.0/24\\n10.0.01.0/24\\n", legacy=True)
     '10.0.0.0/23\\n'
@@ -177,24 +178,24 @@ def aggregate_text(text, legacy=False):
 
 
 def aggregate(networks):
-    """The same of any list, as networks of ipaddress."""
+    """Like aggregate_text, for any list. Returns networks of ipaddress."""
     return _networks(aggregate_text(networks))
 
 
 def _networks(text):
-    """The networks of an answer."""
+    """Parses the networks of a result."""
     return [ipaddress.ip_network(line) for line in text.splitlines()]
 
 
 def _combined(function, networks, others):
-    """What the function makes of two lists."""
+    """Calls the function with two lists, and returns its result as text."""
     data, more = _text(networks), _text(others)
     return _into_buffer(function, len(data) + len(more) + 1, data, more).decode("ascii")
 
 
 def union_text(networks, others):
-    """The shortest list of networks over exactly the addresses of the one list or of the other, as text, in the form of
-    the answer of aggregate_text.
+    """The union of two lists: the shortest list of networks with exactly the addresses that are in either list or in
+    both. The result is text, in the form of the result of aggregate_text.
 
     >>> union_text("10.0.0.0/25\\n", "10.0.0.128/25\\n")
     '10.0.0.0/24\\n'
@@ -203,7 +204,7 @@ def union_text(networks, others):
 
 
 def intersection_text(networks, others):
-    """The same over exactly the addresses of both lists.
+    """Like union_text, for the intersection: exactly the addresses that are in both lists.
 
     >>> intersection_text("10.0.0.0/24\\n", "10.0.0.128/25\\n10.0.1.0/24\\n")
     '10.0.0.128/25\\n'
@@ -212,7 +213,7 @@ def intersection_text(networks, others):
 
 
 def difference_text(networks, others):
-    """The same over exactly the addresses of the first list that are none of the other's.
+    """Like union_text, for the difference: exactly the addresses that are in the first list and not in the second.
 
     >>> difference_text("10.0.0.0/24\\n", "10.0.0.0/26\\n")
     '10.0.0.64/26\\n10.0.0.128/25\\n'
@@ -249,7 +250,7 @@ def same_addresses(networks, others):
 
 
 def is_covered(networks, network):
-    """Whether the list covers every address of the network, also where no one network of the list has them all.
+    """Whether the list covers every address of the network. Several networks of the list may cover it together.
 
     >>> is_covered("10.0.0.0/25\\n", ipaddress.ip_address("10.0.0.200"))
     False
@@ -258,7 +259,7 @@ def is_covered(networks, network):
 
 
 def parse(text, legacy=False):
-    """The network that a text writes, as an interface of ipaddress, which keeps the host bits.
+    """Parses a network. Returns an interface of ipaddress, which keeps the host bits.
 
     >>> parse("010.0.0.1/08", legacy=True)
     IPv4Interface('10.0.0.1/8')
@@ -270,7 +271,8 @@ def parse(text, legacy=False):
 
 
 def canonical_text(network):
-    """The canonical text of a network: its address by RFC 5952 with the host bits, "/", and the prefix length.
+    """The canonical text of a network: its address with the host bits (IPv6 as in RFC 5952), "/", and the prefix
+    length.
 
     >>> canonical_text("FD00:0::9/32")
     'fd00::9/32'

@@ -1,4 +1,4 @@
-"""Times ipnet_proved beside the standard module ipaddress, text to text: python3 speed.py LIST.."""
+"""Compares the times of ipnet_proved and the standard module ipaddress, from text to text: python3 speed.py LIST.."""
 import ipaddress
 import sys
 import time

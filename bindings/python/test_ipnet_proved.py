@@ -1,4 +1,4 @@
-"""Tests of ipnet_proved: its examples, the rows of bindings/rows.txt, and random lists beside the module ipaddress."""
+"""Tests of ipnet_proved: its doctests, the rows of bindings/rows.txt, and random lists compared with ipaddress."""
 import ast
 import doctest
 import ipaddress
@@ -35,13 +35,13 @@ def rows():
 
 
 def interface(data):
-    """The network of its bytes, as ipaddress has it."""
+    """The network with this byte form, as an object of ipaddress."""
     kind = ipaddress.IPv6Interface if data[0] else ipaddress.IPv4Interface
     return kind((data[1:-1], data[-1]))
 
 
 def called(function, first, second):
-    """What the row's call gives, in the form of the row's answer."""
+    """Runs the row's call, and returns its result in the form of the row's answer."""
     if function.startswith("aggregate_text"):
         return ipnet_proved.aggregate_text(first, legacy=function.endswith("legacy")).encode()
     if function in ("union_text", "intersection_text", "difference_text"):
@@ -78,7 +78,7 @@ class Rows(unittest.TestCase):
 
 
 def random_network(rng, version):
-    """An interface with host bits. Few numbers are in play, so that networks nest, join and repeat."""
+    """An interface with host bits. It comes from few numbers, so that networks nest, join and repeat."""
     if version == 4:
         number = 0x0A000000 | rng.getrandbits(12) << rng.randrange(13)
         return ipaddress.IPv4Interface((number & 0xFFFFFFFF, rng.randint(4, 32)))
@@ -91,7 +91,7 @@ def random_list(rng):
 
 
 def collapsed(interfaces):
-    """The aggregate by ipaddress."""
+    """The aggregate, computed by ipaddress."""
     return collapsed_networks([each.network for each in interfaces])
 
 
@@ -101,7 +101,7 @@ def collapsed_networks(networks):
 
 
 def without(networks, others):
-    """The networks without the addresses of the others, by ipaddress."""
+    """The difference of the two lists, computed by ipaddress."""
     for other in others:
         networks = [rest for network in networks for rest in left(network, other)]
     return networks

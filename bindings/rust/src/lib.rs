@@ -1,9 +1,9 @@
-//! Lists of IP networks aggregated, combined and compared, by a library whose answers are proved.
+//! Aggregates, combines and compares lists of IP networks, with a library whose results are proved correct.
 //!
-//! The work is done by the static library `libipnet.a`, written in Rattle, which is Rust with contracts: each of its
-//! functions is proved to answer as its contract says. What is proved there and what is trusted, this crate among it,
-//! stands in `docs/C.md` of the repository. This crate lends it texts and buffers, and hands on its answers and its
-//! refusals. Nothing here panics, and no memory of the library outlives a call.
+//! This crate calls the static library `libipnet.a`, which is written in Rattle (Rust with contracts). Each function of
+//! the library is proved to satisfy its contract. `docs/C.md` in the repository lists what is proved and what is
+//! trusted; this crate is trusted. It passes texts and buffers to the library, and returns its results and errors.
+//! Nothing here panics. The library frees all its memory before a call returns.
 //!
 //! ```
 //! use ipnet_proved::{aggregate_text, is_covered_text, Error};
@@ -22,18 +22,18 @@ use std::fmt;
 use std::net::{IpAddr, Ipv4Addr, Ipv6Addr};
 use std::str::FromStr;
 
-/// Why there is no answer.
+/// The reasons why a call fails.
 #[derive(Clone, Copy, Debug, PartialEq, Eq, Hash)]
 pub enum Error {
-    /// The line of this number, counted from 1 with the empty ones, is the first that is neither empty nor a network.
+    /// The number of the first line that is neither empty nor a network. Lines count from 1, including empty ones.
     BadLine(usize),
-    /// The same, in the second of two texts; the first has no such line.
+    /// The number of the first bad line of the second text. The first text has no bad line.
     BadLineInOther(usize),
-    /// The text of one network writes none.
+    /// The text is not a network.
     NotANetwork,
-    /// The prefix length is above the width of the address: 32, or 128.
+    /// The prefix length is above 32 (IPv4) or 128 (IPv6).
     PrefixTooLong,
-    /// `malloc` or `realloc` gave no memory.
+    /// `malloc` or `realloc` failed.
     OutOfMemory,
 }
 
@@ -53,7 +53,7 @@ impl fmt::Display for Error {
 
 impl std::error::Error for Error {}
 
-/// An IP network: an address, host bits and all, and a prefix length within its width.
+/// An IP network: an address, including its host bits, and a prefix length of at most 32 (IPv4) or 128 (IPv6).
 ///
 /// ```
 /// use ipnet_proved::{Error, Network};
@@ -71,8 +71,8 @@ pub struct Network {
 }
 
 impl Network {
-    /// The network of the address, which keeps its host bits, and the prefix length. [`Error::PrefixTooLong`] where the
-    /// length is above 32, or 128.
+    /// The network with this address, including its host bits, and this prefix length. Fails with
+    /// [`Error::PrefixTooLong`] if the length is above 32 (IPv4) or 128 (IPv6).
     pub fn new(address: IpAddr, prefix_len: u8) -> Result<Network, Error> {
         let width = if address.is_ipv4() { 32 } else { 128 };
         if prefix_len > width {
@@ -81,8 +81,8 @@ impl Network {
         Ok(Network { address, prefix_len })
     }
 
-    /// The network that the text writes in the legacy grammar, which takes leading zeros, as `010.0.0.1/08`, and reads
-    /// them as decimal. [`FromStr`] reads the strict grammar.
+    /// Parses a network in the legacy grammar. It allows leading zeros, as in `010.0.0.1/08`, and reads such numbers as
+    /// decimal. [`FromStr`] parses the strict grammar.
     pub fn parse_legacy(text: &str) -> Result<Network, Error> {
         raw::parse(text, raw::ipnet_parse_legacy).and_then(|bytes| Network::from_bytes(bytes.as_slice()))
     }
@@ -125,7 +125,7 @@ impl Network {
     }
 }
 
-/// The network of one address, at full length.
+/// The network that contains only this address.
 impl From<IpAddr> for Network {
     fn from(address: IpAddr) -> Network {
         let prefix_len = if address.is_ipv4() { 32 } else { 128 };
@@ -145,7 +145,7 @@ impl From<Ipv6Addr> for Network {
     }
 }
 
-/// Reads the strict grammar: an address, "/" and a prefix length, with no leading zero in a decimal number.
+/// Parses the strict grammar: an address, "/" and a prefix length, without leading zeros in decimal numbers.
 impl FromStr for Network {
     type Err = Error;
 
@@ -154,17 +154,17 @@ impl FromStr for Network {
     }
 }
 
-/// Writes the canonical text: the address by RFC 5952, "/", and the prefix length.
+/// Prints the canonical text: the address (IPv6 as in RFC 5952), "/", and the prefix length.
 impl fmt::Display for Network {
     fn fmt(&self, f: &mut fmt::Formatter<'_>) -> fmt::Result {
         raw::print(self.to_bytes().as_slice(), |text| f.pad(text))
     }
 }
 
-/// The shortest list of networks over exactly the addresses of the text's networks, one network a line.
+/// Aggregates a list: returns the shortest list of networks with exactly the same addresses.
 ///
-/// The text has one network a line, in the strict grammar; empty lines are skipped. The answer is truncated, IPv4
-/// first, ascending, each network once, each followed by `\n`.
+/// The text has one network per line, in the strict grammar; empty lines are skipped. The networks of the result have
+/// no host bits and no repeats, and are in ascending order, IPv4 first. Each ends with `\n`.
 ///
 /// ```
 /// use ipnet_proved::{aggregate_text, Error};
@@ -176,7 +176,7 @@ pub fn aggregate_text(text: &str) -> Result<String, Error> {
     raw::aggregate(text, raw::ipnet_aggregate_text)
 }
 
-/// The same for a text in the legacy grammar. The answer is strict text.
+/// Like [`aggregate_text`], for a text in the legacy grammar. The result is in the strict grammar.
 ///
 /// ```
 /// use ipnet_proved::{aggregate_text_legacy, Error};
@@ -188,8 +188,8 @@ pub fn aggregate_text_legacy(text: &str) -> Result<String, Error> {
     raw::aggregate(text, raw::ipnet_aggregate_text_legacy)
 }
 
-/// The union of two texts, in the strict grammar: the shortest list of networks over exactly the addresses of the one
-/// or of the other, in the form of the answer of [`aggregate_text`].
+/// The union of two lists, in the strict grammar: the shortest list of networks with exactly the addresses that are in
+/// either list or in both. The result has the form of the result of [`aggregate_text`].
 ///
 /// ```
 /// use ipnet_proved::{union_text, Error};
@@ -202,7 +202,7 @@ pub fn union_text(text: &str, other: &str) -> Result<String, Error> {
     raw::combine(text, other, raw::ipnet_union_text)
 }
 
-/// The same over exactly the addresses of both texts.
+/// Like [`union_text`], for the intersection: exactly the addresses that are in both lists.
 ///
 /// ```
 /// use ipnet_proved::{intersection_text, Error};
@@ -214,8 +214,8 @@ pub fn intersection_text(text: &str, other: &str) -> Result<String, Error> {
     raw::combine(text, other, raw::ipnet_intersection_text)
 }
 
-/// The same over exactly the addresses of the first text that are none of the other's. The answer can have many more
-/// networks than the texts.
+/// Like [`union_text`], for the difference: exactly the addresses that are in `text` and not in `other`. The result can
+/// have many more networks than the two lists.
 ///
 /// ```
 /// use ipnet_proved::{difference_text, Error};
@@ -227,7 +227,7 @@ pub fn difference_text(text: &str, other: &str) -> Result<String, Error> {
     raw::combine(text, other, raw::ipnet_difference_text)
 }
 
-/// Whether the two texts, in the strict grammar, cover the same addresses.
+/// Whether the two lists, in the strict grammar, cover the same addresses.
 ///
 /// ```
 /// use ipnet_proved::{same_addresses_text, Error};
@@ -240,8 +240,8 @@ pub fn same_addresses_text(text: &str, other: &str) -> Result<bool, Error> {
     raw::same_addresses(text, other)
 }
 
-/// Whether the text, in the strict grammar, covers every address of the network: also where no one network of the text
-/// has them all. An address is asked as the network of its full length.
+/// Whether the list, in the strict grammar, covers every address of the network. Several networks of the list may cover
+/// it together. `network` can also be a single address.
 ///
 /// ```
 /// use ipnet_proved::{is_covered_text, Error, Network};
@@ -256,17 +256,17 @@ pub fn is_covered_text(text: &str, network: impl Into<Network>) -> Result<bool, 
     raw::is_covered(text, network.into().to_bytes().as_slice())
 }
 
-/// The networks as text, one a line.
+/// The text of the networks, one per line.
 fn lines(networks: &[Network]) -> String {
     networks.iter().map(|network| format!("{network}\n")).collect()
 }
 
-/// The networks of an answer.
+/// Parses the networks of a result.
 fn parsed(text: &str) -> Result<Vec<Network>, Error> {
     text.lines().map(str::parse).collect()
 }
 
-/// [`aggregate_text`] of networks.
+/// Like [`aggregate_text`], for a list of [`Network`] values.
 ///
 /// ```
 /// use ipnet_proved::{aggregate, Error, Network};
@@ -280,7 +280,7 @@ pub fn aggregate(networks: &[Network]) -> Result<Vec<Network>, Error> {
     parsed(&aggregate_text(&lines(networks))?)
 }
 
-/// [`union_text`] of networks.
+/// Like [`union_text`], for lists of [`Network`] values.
 ///
 /// ```
 /// use ipnet_proved::{union, Error, Network};
@@ -293,22 +293,22 @@ pub fn union(networks: &[Network], others: &[Network]) -> Result<Vec<Network>, E
     parsed(&union_text(&lines(networks), &lines(others))?)
 }
 
-/// [`intersection_text`] of networks.
+/// Like [`intersection_text`], for lists of [`Network`] values.
 pub fn intersection(networks: &[Network], others: &[Network]) -> Result<Vec<Network>, Error> {
     parsed(&intersection_text(&lines(networks), &lines(others))?)
 }
 
-/// [`difference_text`] of networks.
+/// Like [`difference_text`], for lists of [`Network`] values.
 pub fn difference(networks: &[Network], others: &[Network]) -> Result<Vec<Network>, Error> {
     parsed(&difference_text(&lines(networks), &lines(others))?)
 }
 
-/// [`same_addresses_text`] of networks.
+/// Like [`same_addresses_text`], for lists of [`Network`] values.
 pub fn same_addresses(networks: &[Network], others: &[Network]) -> Result<bool, Error> {
     same_addresses_text(&lines(networks), &lines(others))
 }
 
-/// [`is_covered_text`] of networks.
+/// Like [`is_covered_text`], for a list of [`Network`] values.
 pub fn is_covered(networks: &[Network], network: impl Into<Network>) -> Result<bool, Error> {
     is_covered_text(&lines(networks), network)
 }

@@ -1,4 +1,4 @@
-//! The functions of `include/ipnet.h`, and safe calls of them. All `unsafe` of this crate stands here.
+//! The functions of `include/ipnet.h`, and safe wrappers for them. All `unsafe` code of this crate is in this file.
 use crate::Error;
 use std::{fmt, str};
 
@@ -10,14 +10,14 @@ const NOT_A_NETWORK: u8 = 5;
 const PREFIX_TOO_LONG: u8 = 8;
 const BAD_LINE_IN_OTHER: u8 = 9;
 
-/// The most bytes of one network, and of its text.
+/// The maximum number of bytes in the byte form of a network, and in its text.
 const MAX_BYTES: usize = 18;
 const MAX_TEXT: usize = 43;
 
-/// A text, its length, a buffer, its length, and where the number goes.
+/// A function that takes a text and its length, a buffer and its length, and a pointer to a count or line number.
 type IntoBuffer = unsafe extern "C" fn(*const u8, usize, *mut u8, usize, *mut usize) -> u8;
 
-/// The same of two texts.
+/// Like [`IntoBuffer`], with two texts.
 type BothIntoBuffer = unsafe extern "C" fn(*const u8, usize, *const u8, usize, *mut u8, usize, *mut usize) -> u8;
 
 extern "C" {
@@ -101,7 +101,7 @@ extern "C" {
     ) -> u8;
 }
 
-/// The bytes of one network.
+/// The byte form of a network.
 #[derive(Default)]
 pub struct Bytes {
     bytes: [u8; MAX_BYTES],
@@ -113,7 +113,7 @@ impl Bytes {
         self.extend(&[byte]);
     }
 
-    /// At most 18 bytes are ever put in: a byte for the family, 4 or 16 octets, and a prefix length.
+    /// Callers add at most 18 bytes in total: a byte for the family, 4 or 16 octets, and a prefix length.
     pub fn extend(&mut self, more: &[u8]) {
         self.bytes[self.len..self.len + more.len()].copy_from_slice(more);
         self.len += more.len();
@@ -124,8 +124,8 @@ impl Bytes {
     }
 }
 
-/// The error of a status, with the line that is told beside it. Statuses of texts that are not UTF-8 never come from a
-/// `str`, and those of bytes that are no network's never from a [`crate::Network`].
+/// The error for a status and the line number reported with it. The statuses for invalid UTF-8 cannot occur for a
+/// `str`, and the statuses for invalid bytes cannot occur for a [`crate::Network`].
 fn error_of(status: u8, line: usize) -> Error {
     match status {
         BAD_LINE => Error::BadLine(line),
@@ -136,18 +136,18 @@ fn error_of(status: u8, line: usize) -> Error {
     }
 }
 
-/// The status, and the number beside it.
+/// Calls the function, and returns the status and the count or line number.
 fn call(into_buffer: IntoBuffer, text: &[u8], buffer: &mut [u8]) -> (u8, usize) {
     let mut count = 0;
-    // SAFETY: the pointers and lengths are those of two slices and a variable that live through the call and, since two
-    // of them are borrowed mutably, do not overlap. A pointer of a slice or a variable is never null.
+    // SAFETY: the pointers and lengths belong to two slices and a variable. They live through the call. They do not
+    // overlap, because two of them are borrowed mutably. A pointer to a slice or a variable is never null.
     let status =
         unsafe { into_buffer(text.as_ptr(), text.len(), buffer.as_mut_ptr(), buffer.len(), &mut count) };
     (status, count)
 }
 
-/// The text that a call writes, which has mostly no more bytes than those that it is given. Where it has more, as
-/// `::ffff:0.0.0.0/96` for `::ffff:0:0/96`, the first call tells the length that it needs.
+/// The text that `call` writes. It is usually not longer than its input of `given_len` bytes. If it is longer, as
+/// `::ffff:0.0.0.0/96` for `::ffff:0:0/96`, the first call reports the length and a second one writes the text.
 fn answer(given_len: usize, call: impl Fn(&mut [u8]) -> (u8, usize)) -> Result<String, Error> {
     let mut buffer = Vec::new();
     grow(&mut buffer, given_len.saturating_add(1))?;
@@ -165,16 +165,16 @@ fn answer(given_len: usize, call: impl Fn(&mut [u8]) -> (u8, usize)) -> Result<S
     }
 }
 
-/// A list aggregated.
+/// Aggregates a list.
 pub fn aggregate(text: &str, into_buffer: IntoBuffer) -> Result<String, Error> {
     answer(text.len(), |buffer| call(into_buffer, text.as_bytes(), buffer))
 }
 
-/// A set made of two lists.
+/// Computes a union, intersection or difference of two lists.
 pub fn combine(text: &str, other: &str, into_buffer: BothIntoBuffer) -> Result<String, Error> {
     answer(text.len().saturating_add(other.len()), |buffer| {
         let mut count = 0;
-        // SAFETY: as in `call`; the two texts are read alone, and may be one.
+        // SAFETY: as in `call`. The two texts are only read, so they may overlap.
         let status = unsafe {
             into_buffer(
                 text.as_ptr(),
@@ -190,14 +190,14 @@ pub fn combine(text: &str, other: &str, into_buffer: BothIntoBuffer) -> Result<S
     })
 }
 
-/// Makes the buffer this long.
+/// Extends the buffer to `len` bytes.
 fn grow(buffer: &mut Vec<u8>, len: usize) -> Result<(), Error> {
     buffer.try_reserve_exact(len - buffer.len()).map_err(|_| Error::OutOfMemory)?;
     buffer.resize(len, 0);
     Ok(())
 }
 
-/// The bytes of the network that the text writes.
+/// Parses the text of a network and returns its byte form.
 pub fn parse(text: &str, into_buffer: IntoBuffer) -> Result<Bytes, Error> {
     let mut bytes = Bytes::default();
     let (status, count) = call(into_buffer, text.as_bytes(), &mut bytes.bytes);
@@ -211,7 +211,7 @@ pub fn parse(text: &str, into_buffer: IntoBuffer) -> Result<Bytes, Error> {
     }
 }
 
-/// Hands the network's text to `write`.
+/// Prints a network in byte form, and passes the text to `write`.
 pub fn print(network: &[u8], write: impl FnOnce(&str) -> fmt::Result) -> fmt::Result {
     let mut buffer = [0; MAX_TEXT];
     let (status, count) = call(ipnet_print, network, &mut buffer);
@@ -225,7 +225,7 @@ pub fn print(network: &[u8], write: impl FnOnce(&str) -> fmt::Result) -> fmt::Re
 /// Whether two lists cover the same addresses.
 pub fn same_addresses(text: &str, other: &str) -> Result<bool, Error> {
     let (mut same, mut line) = (0, 0);
-    // SAFETY: as in `call`; the two texts are read alone, and may be one.
+    // SAFETY: as in `call`. The two texts are only read, so they may overlap.
     let status = unsafe {
         ipnet_same_addresses(text.as_ptr(), text.len(), other.as_ptr(), other.len(), &mut same, &mut line)
     };

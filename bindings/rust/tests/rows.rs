@@ -6,7 +6,7 @@ use ipnet_proved::{
 use std::net::{Ipv4Addr, Ipv6Addr};
 use std::fs;
 
-/// What a row wants, or what a call gave.
+/// The expected result of a row, or the actual result of a call.
 #[derive(Debug, PartialEq)]
 enum Answer {
     Text(String),
@@ -22,7 +22,7 @@ struct Row {
     answer: String,
 }
 
-/// The bytes of a field in quotes, and what stands after it.
+/// The bytes of a quoted field, and the rest of the line.
 fn unquoted(field: &str) -> (Vec<u8>, &str) {
     let mut bytes = Vec::new();
     let mut rest = field.strip_prefix('"').expect("a quote");
@@ -54,7 +54,7 @@ fn row(line: &str) -> Row {
     }
 }
 
-/// The network of its bytes, where it can be one.
+/// The network with this byte form; an error if the bytes are not a network.
 fn network(bytes: &[u8]) -> Result<Network, Error> {
     match bytes {
         [0, a, b, c, d, len] => Network::new(Ipv4Addr::new(*a, *b, *c, *d).into(), *len),
@@ -81,7 +81,7 @@ fn wanted(row: &Row) -> Result<Answer, Error> {
     }
 }
 
-/// What the call gives, where both of its texts are texts.
+/// The result of the call; `None` if one of its texts is not UTF-8.
 fn given(row: &Row) -> Option<Result<Answer, Error>> {
     let first = std::str::from_utf8(&row.first);
     let second = std::str::from_utf8(&row.second);
@@ -147,7 +147,7 @@ fn an_answer_longer_than_its_texts() {
     assert_eq!(rest, wanted);
 }
 
-/// The block of length i + 1 beside the last address: i ones, then zeros.
+/// The address of the expected network of length i + 1: i ones, then zeros.
 fn wanted_block(i: u32) -> Ipv4Addr {
     Ipv4Addr::from(!(u64::from(u32::MAX) >> i) as u32)
 }

@@ -1,4 +1,5 @@
-//! Answers which addresses an access list allows: lines `allow NETWORK`, `deny NETWORK` and `ask ADDRESS`.
+//! Reports which addresses an access list allows. The input has lines `allow NETWORK`, `deny NETWORK` and `ask
+//! ADDRESS`.
 #![tactic(auto)]
 
 use anyhow::{Result, bail};

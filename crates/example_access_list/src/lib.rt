@@ -1,4 +1,4 @@
-//! An access list: networks that are allowed, networks that are denied, and addresses asked of both.
+//! An access list: networks that are allowed, networks that are denied, and queries for addresses.
 #![tactic(auto)]
 
 ghost use Rattle.std.specs.Prelude.{◌↔◌, map, IsTrue, IfOk};
@@ -10,7 +10,7 @@ use ipnet::{IpAddr, IpNet};
 use ipnet_sets::IpSet;
 use std::alloc::{AllocError, Global};
 
-/// The addresses that are allowed and not denied: a denial stands before an allowance.
+/// The addresses that are allowed and not denied. A denial takes precedence over an allowance.
 ///
 /// ```text
 /// allow 10.0.0.0/24, 10.0.1.0/24; deny 10.0.1.128/25: 10.0.1.5 is let in, 10.0.1.200 and 8.8.8.8 are not
@@ -34,18 +34,18 @@ impl AccessList {
         Ok(AccessList { open })
     }
 
-    /// Whether the list lets the address in: it is allowed, and not denied. The time grows with the logarithm of the
-    /// length of the lists.
+    /// Whether the list admits the address: it is allowed and not denied. Takes time logarithmic in the length of the
+    /// lists.
     pub fn allows(&self, address: &IpAddr) -> bool
         ensures { IsTrue result ↔ IsLetIn self.now (ip_address address.now) }
     {
         self.open.contains(address)
     }
 
-    /// What the list lets in, as the shortest list of networks. Fails only when memory runs out.
+    /// The admitted addresses, as the shortest list of networks. Fails only when memory runs out.
     ///
     /// ```text
-    /// of the list above: 10.0.0.0/24, 10.0.1.0/25
+    /// the list above: 10.0.0.0/24, 10.0.1.0/25
     /// ```
     pub fn networks(&self, alloc: Global) -> Result<Vec<IpNet>, AllocError>
         ensures { IfOk result (λ networks. AreMaximalBlocks (IsLetIn self.now) 0 (map ip_network networks.items)) }

@@ -1,4 +1,4 @@
-//! The access list of the module's head, and the calls that the README and docs/SETS.md show.
+//! Tests of the access list in the module documentation, and of the calls that the README and docs/SETS.md show.
 use crate::AccessList;
 use ipnet::{IpAddr, IpNet, Ipv4Addr, Ipv4Net, same_addresses};
 use ipnet_sets::{IpSet, RouteTable};

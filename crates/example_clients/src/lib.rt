@@ -1,4 +1,4 @@
-//! Functions of users of `ipnet`, with what they promise: none of them needs a proof file.
+//! Functions that users of `ipnet` might write, with their contracts. None of them needs a proof file.
 //!
 //! Some call a law of `ipnet::value_laws` on the values in question. A law does nothing at run time.
 #![tactic(auto)]

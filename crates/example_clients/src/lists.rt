@@ -10,14 +10,14 @@ use ipnet::{IpAddr, IpNet, is_aggregated, same_addresses};
 use ipnet_sets::IpSet;
 use std::alloc::{AllocError, Global};
 
-/// Those networks of the list that lie in the block.
+/// The networks of the list that lie in the block.
 pub fn inside(alloc: Global, block: IpNet, list: &[IpNet]) -> Result<Vec<IpNet>, AllocError>
     ensures { IfOk result (λ kept. All (λ n. IsSubnetOf (ip_network n) (ip_network block)) kept.items) }
 {
     list.iter().filter(|n| block.contains(*n)).copied().collect(alloc)
 }
 
-/// The shortest list over the same addresses, with what a router wants to know of it.
+/// The shortest list with the same addresses, with the properties that a router relies on.
 pub fn shortest(alloc: Global, list: &Vec<IpNet>) -> Result<Vec<IpNet>, AllocError>
     ensures cover { IfOk result (λ answer. HaveSameCover (map ip_network answer.items) (map ip_network list.now.items)) }
     ensures disjoint { IfOk result (λ answer. ArePairwiseDisjoint (map ip_network answer.items)) }
@@ -27,7 +27,7 @@ pub fn shortest(alloc: Global, list: &Vec<IpNet>) -> Result<Vec<IpNet>, AllocErr
     IpNet::aggregate(alloc, list)
 }
 
-/// Whether the list is sorted, without host bits, without overlaps and with nothing left to join.
+/// Whether the list is sorted and has no host bits, no overlaps and no networks that can be joined.
 pub fn is_tidy(list: &[IpNet]) -> bool
     ensures neighbours { IsTrue result ↔ AreAggregatedNeighbours (map ip_network list.now) }
     ensures aggregate { IsTrue result ↔ IsAggregateOf (map ip_network list.now) (map ip_network list.now) }
@@ -45,7 +45,7 @@ pub fn shortest_for(alloc: Global, list: &Vec<IpNet>, address: &IpAddr) -> Resul
     Ok(answer)
 }
 
-/// Whether the lists have the same addresses, which then holds of the address, too.
+/// Whether the lists have the same addresses. If so, they agree on the given address.
 pub fn same_for(alloc: Global, list: &Vec<IpNet>, other: &Vec<IpNet>, address: &IpAddr) -> Result<bool, AllocError>
     ensures { IfOk result (λ same. IsTrue same → IsCoveredBy (map ip_network list.now.items) (ip_address address.now)
         → IsCoveredBy (map ip_network other.now.items) (ip_address address.now)) }

@@ -47,7 +47,7 @@ pub fn common_supernet(a: &IpNet, b: &IpNet) -> Option<IpNet>
     common_supernet(&supernet, b)
 }
 
-/// The network without host bits, sentence by sentence.
+/// The network without host bits. Each property has its own clause.
 pub fn without_host_bits(net: &IpNet) -> IpNet
     ensures block { HaveSameBlock (ip_network result) (ip_network net.now) }
     ensures truncated { IsTruncated (ip_network result) }

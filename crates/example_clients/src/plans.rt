@@ -22,7 +22,7 @@ pub fn subnets(alloc: Global, net: &Ipv4Net, prefix_len: u8) -> Result<Vec<Ipv4N
     }
 }
 
-/// The subnet of the length at this place, counted from 0.
+/// The subnet of this length with this index, counted from 0.
 pub fn nth_subnet(net: &Ipv4Net, prefix_len: u8, place: usize) -> Option<Ipv4Net>
     ensures { IfSome result (λ n. IsSubnetOfLength (ipv4_network net.now) prefix_len (ipv4_network n)) }
 {
@@ -78,7 +78,7 @@ pub fn next_network_c(net: &Ipv4Net) -> Option<Ipv4Net>
     Some(Ipv4Net::new_assert(next, len))
 }
 
-/// The next one, or `None`.
+/// The next network, or `None`.
 pub fn free_after(net: &Ipv4Net) -> Option<Ipv4Net>
     ensures truncated { IfSome result (λ n. IsTruncated (ipv4_network n)) }
     ensures apart { IfSome result (λ n. AreDisjoint (ipv4_network net.now) (ipv4_network n)) }

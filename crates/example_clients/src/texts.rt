@@ -9,7 +9,7 @@ ghost use Rattle.ipnet.specs.Bytes.{network_bytes};
 
 use ipnet::{IpNet, Ipv4Net};
 
-/// The network that the text writes, if it writes one.
+/// Parses a network; `None` if the text is not a network.
 pub fn read(text: &str) -> Option<IpNet>
     ensures some { IfSome result (λ n. IsNetworkText Strict text.now (ip_network n)) }
     ensures complete { (n : IpNet) → IsNetworkText Strict text.now (ip_network n) → result ≡ Some n }
@@ -21,7 +21,7 @@ pub fn read(text: &str) -> Option<IpNet>
     }
 }
 
-/// Whether the text writes no network.
+/// Whether the text is not a network.
 pub fn is_bad(text: &str) -> bool
     ensures { IsTrue result ↔ WritesNone (IsNetworkText Strict) text.now }
 {
@@ -31,7 +31,7 @@ pub fn is_bad(text: &str) -> bool
     }
 }
 
-/// The network of the five bytes, if they are those of one.
+/// The network with this byte form of five bytes; `None` if the bytes are not a network.
 pub fn from_bytes(bytes: &[u8]) -> Option<Ipv4Net>
     ensures { IfSome result (λ n. network_bytes (ipv4_network n) ≡ bytes.now) }
 {

@@ -1,11 +1,11 @@
-//! Loops that write to what a caller lends, or go over what a value holds.
+//! Loops that write to borrowed values, or iterate over the fields of a value.
 use ipnet::{
     IpAddrRange, IpNet, IpSubnets, Ipv4Addr, Ipv4AddrRange, Ipv4Net, Ipv4Subnets, Ipv6Net,
     Ipv6Subnets,
 };
 use std::alloc::{AllocError, Global};
 
-/// Puts what the walk still gives after the list's own networks. Fails only when memory runs out.
+/// Appends the remaining networks of the walk to the list. Fails only when memory runs out.
 pub fn ipv4_push_all(walk: Ipv4Subnets, list: &mut Vec<Ipv4Net>) -> Result<(), AllocError> {
     for subnet in walk {
         list.push(subnet)?;
@@ -13,7 +13,7 @@ pub fn ipv4_push_all(walk: Ipv4Subnets, list: &mut Vec<Ipv4Net>) -> Result<(), A
     Ok(())
 }
 
-/// The same of IPv6 networks.
+/// Appends the remaining networks of an IPv6 walk.
 pub fn ipv6_push_all(walk: Ipv6Subnets, list: &mut Vec<Ipv6Net>) -> Result<(), AllocError> {
     for subnet in walk {
         list.push(subnet)?;
@@ -21,7 +21,7 @@ pub fn ipv6_push_all(walk: Ipv6Subnets, list: &mut Vec<Ipv6Net>) -> Result<(), A
     Ok(())
 }
 
-/// The same of networks of either family.
+/// Appends the remaining networks of a walk of either family.
 pub fn ip_push_all(walk: IpSubnets, list: &mut Vec<IpNet>) -> Result<(), AllocError> {
     for subnet in walk {
         list.push(subnet)?;
@@ -29,8 +29,8 @@ pub fn ip_push_all(walk: IpSubnets, list: &mut Vec<IpNet>) -> Result<(), AllocEr
     Ok(())
 }
 
-/// The subnets of four addresses, of prefix length 30 in IPv4 and 126 in IPv6, and beside them the range of the hosts
-/// of each. A network with a longer prefix has none. Fails only when memory runs out.
+/// The subnets of four addresses (prefix length 30 in IPv4, 126 in IPv6), each with the range of its hosts. A network
+/// with a longer prefix has none. Fails only when memory runs out.
 pub fn links_with_hosts(
     alloc: Global,
     network: &IpNet,
@@ -50,8 +50,8 @@ pub fn links_with_hosts(
     Ok(links)
 }
 
-/// Takes networks from the walk up to the first that is longer than 30, which is taken too, and answers the length
-/// of the one before it; what comes after them is left to the caller, since the loop goes over `by_ref`.
+/// Takes networks from the walk, up to and including the first with a prefix length above 30. Returns the prefix length
+/// of the network before it. The caller can use the rest of the walk, because the loop iterates over `by_ref`.
 pub fn last_length_up_to_30(walk: &mut Ipv4Subnets) -> u8 {
     let mut last = 0;
     for subnet in walk.by_ref() {
@@ -72,8 +72,8 @@ pub struct Span {
 }
 
 impl Span {
-    /// The longest prefix among the networks that tile the span, under minimum prefix length 24: a loop over fields of
-    /// `self`.
+    /// The longest prefix length in the walk over the span with minimum prefix length 24. The loop iterates over fields
+    /// of `self`.
     pub fn longest_prefix(&self) -> u8 {
         let mut longest = 0;
         for subnet in Ipv4Subnets::new(self.first, self.last, 24) {
@@ -83,9 +83,9 @@ impl Span {
     }
 }
 
-/// What has addresses to give to hosts.
+/// Types that have addresses for hosts.
 pub trait Pool {
-    /// How many addresses hosts can be given; `u32::MAX` where there are more.
+    /// The number of addresses for hosts; `u32::MAX` if there are more.
     fn host_count(&self) -> u32;
 }
 

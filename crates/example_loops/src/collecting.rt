@@ -1,4 +1,4 @@
-//! Walks and ranges as lists: what `collect` gives is exactly the list of the walk or the range.
+//! Walks and ranges as lists: `collect` returns exactly the list of the walk or range.
 //!
 //! Each function fails only when memory runs out.
 ghost use Rattle.std.specs.Prelude.{◌≡◌, ◌≤◌, length, map, reverse, IfOk};
@@ -15,28 +15,28 @@ use ipnet::{
 };
 use std::alloc::{AllocError, Global};
 
-/// All networks that the walk still gives, in its order.
+/// All remaining networks of the walk, in order.
 pub fn ipv4_networks(alloc: Global, walk: Ipv4Subnets) -> Result<Vec<Ipv4Net>, AllocError>
     ensures all { IfOk result (λ list. map ipv4_network list.items ≡ ipv4_subnets_left walk) }
 {
     walk.collect(alloc)
 }
 
-/// The same of IPv6.
+/// All remaining networks of an IPv6 walk, in order.
 pub fn ipv6_networks(alloc: Global, walk: Ipv6Subnets) -> Result<Vec<Ipv6Net>, AllocError>
     ensures all { IfOk result (λ list. map ipv6_network list.items ≡ ipv6_subnets_left walk) }
 {
     walk.collect(alloc)
 }
 
-/// The same of either family.
+/// All remaining networks of a walk of either family, in order.
 pub fn ip_networks(alloc: Global, walk: IpSubnets) -> Result<Vec<IpNet>, AllocError>
     ensures all { IfOk result (λ list. map ip_network list.items ≡ ip_subnets_left walk) }
 {
     walk.collect(alloc)
 }
 
-/// The first networks of the walk, at most as many as are asked for.
+/// The first networks of the walk, at most the requested number.
 pub fn ipv4_first_networks(
     alloc: Global,
     walk: Ipv4Subnets,
@@ -47,7 +47,7 @@ pub fn ipv4_first_networks(
     walk.take(count).collect(alloc)
 }
 
-/// The prefix lengths of the networks that the walk still gives, by `map`.
+/// The prefix lengths of the remaining networks of the walk, by `map`.
 pub fn ipv4_prefix_lengths(alloc: Global, walk: Ipv4Subnets) -> Result<Vec<u8>, AllocError>
     ensures one_for_each { IfOk result (λ list. length list.items ≡ length (ipv4_subnets_left walk)) }
 {
@@ -56,7 +56,7 @@ pub fn ipv4_prefix_lengths(alloc: Global, walk: Ipv4Subnets) -> Result<Vec<u8>, 
 
 /// All subnets of this length of the network, ascending.
 ///
-/// The caller sees to it that the length is no less than the network's own, and at most 32.
+/// The caller must ensure that the length is at least the network's prefix length, and at most 32.
 pub fn ipv4_subnets(
     alloc: Global,
     network: &Ipv4Net,
@@ -83,7 +83,7 @@ pub fn ipv4_range_addresses(
     range.collect(alloc)
 }
 
-/// The same of IPv6.
+/// All addresses of an IPv6 range, ascending.
 pub fn ipv6_range_addresses(
     alloc: Global,
     range: Ipv6AddrRange,
@@ -93,7 +93,7 @@ pub fn ipv6_range_addresses(
     range.collect(alloc)
 }
 
-/// The same of either family.
+/// All addresses of a range of either family, ascending.
 pub fn ip_range_addresses(alloc: Global, range: IpAddrRange) -> Result<Vec<IpAddr>, AllocError>
     ensures all { IfOk result (λ list. map ip_address list.items ≡ ip_addresses range) }
 {

@@ -1,4 +1,4 @@
-//! Loops that go over all items: counts, sums and the greatest of a property.
+//! Loops over all items: counts, sums and maxima.
 ghost use Rattle.std.specs.Prelude.{◌≡◌, ◌<◌, ◌⊎◌, ◌↔◌, IsErr};
 ghost use Rattle.ipnet.specs.Address.{width};
 ghost use Rattle.ipnet.specs.NetworkOf.{ipv4_network, ipv6_network, ip_network};
@@ -8,9 +8,9 @@ use ipnet::{
     Ipv6AddrRange, Ipv6Net, Ipv6Subnets, PrefixLenError,
 };
 
-/// How many subnets of this length the network has, counted one by one; `u32::MAX` where there are more.
+/// The number of subnets of this length, counted one by one; `u32::MAX` if there are more.
 ///
-/// An error where the length is below the network's own, or above 32.
+/// Fails if the length is below the network's prefix length, or above 32.
 ///
 /// ```text
 /// 10.1.0.0/16 has 256 subnets of length 24
@@ -25,7 +25,7 @@ pub fn ipv4_subnet_count(network: Ipv4Net, prefix_len: u8) -> Result<u32, Prefix
     Ok(count)
 }
 
-/// The same of an IPv6 network; the length is at most 128.
+/// The number of subnets of an IPv6 network. Fails if the length is below the network's prefix length, or above 128.
 ///
 /// ```text
 /// fd00:1::/48 has 65536 subnets of length 64
@@ -40,7 +40,8 @@ pub fn ipv6_subnet_count(network: Ipv6Net, prefix_len: u8) -> Result<u32, Prefix
     Ok(count)
 }
 
-/// The same of a network of either family; the length is at most the width of its addresses.
+/// The number of subnets of a network of either family. Fails if the length is below the network's prefix length, or
+/// above the width of its addresses.
 pub fn ip_subnet_count(network: IpNet, prefix_len: u8) -> Result<u32, PrefixLenError>
     ensures refused { let n = ip_network network in
         IsErr result ↔ ((prefix_len < n.prefix_len) ⊎ (width n.family < prefix_len)) }
@@ -52,7 +53,7 @@ pub fn ip_subnet_count(network: IpNet, prefix_len: u8) -> Result<u32, PrefixLenE
     Ok(count)
 }
 
-/// The longest prefix among the networks that tile the range from the first address to the last; 0 for no address.
+/// The longest prefix length in the walk from the first address to the last; 0 if the range is empty.
 ///
 /// ```text
 /// 10.0.0.0 to 10.0.0.239: 10.0.0.0/25, 10.0.0.128/26, 10.0.0.192/27, 10.0.0.224/28, so 28
@@ -65,7 +66,7 @@ pub fn ipv4_longest_prefix(first: Ipv4Addr, last: Ipv4Addr) -> u8 {
     longest
 }
 
-/// The same over a range of IPv6 addresses.
+/// The longest prefix length in a walk over IPv6 addresses; 0 if the range is empty.
 pub fn ipv6_longest_prefix(first: Ipv6Addr, last: Ipv6Addr) -> u8 {
     let mut longest = 0;
     for subnet in Ipv6Subnets::new(first, last, 0) {
@@ -74,7 +75,7 @@ pub fn ipv6_longest_prefix(first: Ipv6Addr, last: Ipv6Addr) -> u8 {
     longest
 }
 
-/// The longest prefix among the networks that a walk of either family still gives.
+/// The longest prefix length of the remaining networks of a walk of either family.
 pub fn ip_longest_prefix(walk: IpSubnets) -> u8 {
     let mut longest = 0;
     for subnet in walk {
@@ -85,7 +86,7 @@ pub fn ip_longest_prefix(walk: IpSubnets) -> u8 {
     longest
 }
 
-/// How many hosts the network has, counted one by one; `u32::MAX` where there are more.
+/// The number of hosts of the network, counted one by one; `u32::MAX` if there are more.
 ///
 /// ```text
 /// 10.0.0.0/24 has 254
@@ -107,7 +108,7 @@ pub fn ipv6_host_sum(network: Ipv6Net) -> u128 {
     sum
 }
 
-/// How many hosts of the network are IPv4 addresses: all of them, or none.
+/// The number of hosts that are IPv4 addresses: all of them, or none.
 pub fn ip_ipv4_host_count(network: IpNet) -> u32 {
     let mut count: u32 = 0;
     for host in network.hosts() {
@@ -118,7 +119,7 @@ pub fn ip_ipv4_host_count(network: IpNet) -> u32 {
     count
 }
 
-/// How many hosts all subnets of this length have together: a loop over the hosts in a loop over the subnets.
+/// The total number of hosts in all subnets of this length: a loop over subnets, with a loop over hosts inside.
 ///
 /// ```text
 /// 10.0.0.0/24 at 26: four times 62, so 248
@@ -135,8 +136,8 @@ pub fn ipv4_host_count_by_subnets(network: Ipv4Net, prefix_len: u8) -> Result<u3
     Ok(count)
 }
 
-/// How many pairs of a network of the one walk and a network of the other have one prefix length. The inner loop
-/// begins anew each time, since a walk is `Copy`.
+/// The number of pairs of a network of each walk with equal prefix lengths. The inner loop starts from the beginning
+/// each time, because a walk is `Copy`.
 pub fn pairs_of_one_length(walk: IpSubnets, other: Ipv6Subnets) -> u32 {
     let mut count: u32 = 0;
     for subnet in walk {
@@ -149,7 +150,7 @@ pub fn pairs_of_one_length(walk: IpSubnets, other: Ipv6Subnets) -> u32 {
     count
 }
 
-/// The number of the last address of the range that a loop comes to; 0 for no address.
+/// The number of the last address that a loop over the range reaches; 0 if the range is empty.
 pub fn ipv4_last_number(range: Ipv4AddrRange) -> u32 {
     let mut last = 0;
     for address in range {
@@ -158,7 +159,7 @@ pub fn ipv4_last_number(range: Ipv4AddrRange) -> u32 {
     last
 }
 
-/// The number of the first address, which a loop from the back comes to last; 0 for no address.
+/// The number of the first address, which a loop from the back reaches last; 0 if the range is empty.
 pub fn ipv4_first_number(range: Ipv4AddrRange) -> u32 {
     let mut first = 0;
     for address in range.rev() {
@@ -167,7 +168,7 @@ pub fn ipv4_first_number(range: Ipv4AddrRange) -> u32 {
     first
 }
 
-/// The number of the last of the range's first addresses, as many as the limit says; 0 for no address.
+/// The number of the last of the first `limit` addresses of the range; 0 if there is none.
 pub fn ipv6_last_number_within(range: Ipv6AddrRange, limit: u32) -> u128 {
     let mut last = 0;
     let mut left = limit;

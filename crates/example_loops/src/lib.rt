@@ -1,7 +1,7 @@
-//! Plain loops over the walks and ranges of `ipnet`, as its users write them: none of them needs a proof file.
+//! Plain loops over the walks and ranges of `ipnet`, as its users write them. None of them needs a proof file.
 //!
-//! A caller who wants a loop of one of these forms can copy it. Where a function has no contract of its own it is
-//! proved safe all the same: no sum wraps, and the loop ends.
+//! Copy the loop that has the form you need. A function without a contract is still proved safe: no sum overflows, and
+//! the loop ends.
 #![tactic(auto)]
 
 pub mod borrowing;

@@ -1,8 +1,8 @@
-//! Loops that end at what they look for: `break`, `continue`, and `return` from inside.
+//! Loops that search and stop early: `break`, `continue`, and `return` inside the loop.
 //!
-//! That what a `return` gives is of the walk, and passed the test before it, is proved with no proof file. What a loop
-//! keeps in a variable from turn to turn is known after it only by an invariant, so the one with `break` promises
-//! nothing.
+//! If a loop ends by `return`, it is proved without a proof file that the returned item comes from the walk and passed
+//! the test. Values that a loop keeps in a variable are known after the loop only by an invariant, so the function with
+//! `break` has no contract.
 ghost use Rattle.std.specs.Prelude.{◌<◌, Contains, IfSome};
 ghost use Rattle.ipnet.specs.Address.{ipv4_address, ipv6_address};
 ghost use Rattle.ipnet.specs.NetworkOf.{ipv4_network, ipv6_network, ip_network};
@@ -14,7 +14,7 @@ use ipnet::{
     Ipv6Net, Ipv6Subnets,
 };
 
-/// The first network of the walk whose prefix is longer than this; the loop ends by `break`.
+/// The first network of the walk with a prefix length above this one. The loop ends by `break`.
 pub fn ipv4_first_longer(walk: Ipv4Subnets, prefix_len: u8) -> Option<Ipv4Net> {
     let mut found = None;
     for subnet in walk {
@@ -26,7 +26,7 @@ pub fn ipv4_first_longer(walk: Ipv4Subnets, prefix_len: u8) -> Option<Ipv4Net> {
     found
 }
 
-/// The same in a walk of IPv6 networks; those that are too short are passed by `continue`.
+/// The first network of an IPv6 walk with a prefix length above this one. The loop skips the others by `continue`.
 pub fn ipv6_first_longer(walk: Ipv6Subnets, prefix_len: u8) -> Option<Ipv6Net>
     ensures member { IfSome result (λ n. Contains (ipv6_subnets_left walk) (ipv6_network n)) }
     ensures longer { IfSome result (λ n. prefix_len < (ipv6_network n).prefix_len) }
@@ -40,7 +40,7 @@ pub fn ipv6_first_longer(walk: Ipv6Subnets, prefix_len: u8) -> Option<Ipv6Net>
     None
 }
 
-/// The same in a walk of either family, by `return`.
+/// The first network of a walk of either family with a prefix length above this one, by `return`.
 pub fn ip_first_longer(walk: IpSubnets, prefix_len: u8) -> Option<IpNet>
     ensures member { IfSome result (λ n. Contains (ip_subnets_left walk) (ip_network n)) }
     ensures longer { IfSome result (λ n. prefix_len < (ip_network n).prefix_len) }
@@ -53,13 +53,13 @@ pub fn ip_first_longer(walk: IpSubnets, prefix_len: u8) -> Option<IpNet>
     None
 }
 
-/// Whether the walk gives a network whose prefix is longer than this, by `any`.
+/// Whether the walk has a network with a prefix length above this one, by `any`.
 pub fn ip_has_longer(walk: IpSubnets, prefix_len: u8) -> bool {
     let mut walk = walk;
     walk.any(|subnet| subnet.prefix_len() > prefix_len)
 }
 
-/// The first network of the walk that is not in use, if there is one.
+/// The first network of the walk that is not in use, if any.
 pub fn ipv4_free_subnet(walk: Ipv4Subnets, used: &[Ipv4Net]) -> Option<Ipv4Net>
     ensures member { IfSome result (λ n. Contains (ipv4_subnets_left walk) (ipv4_network n)) }
     ensures free { IfSome result (λ n. ¬ (Contains used.now n)) }
@@ -72,7 +72,7 @@ pub fn ipv4_free_subnet(walk: Ipv4Subnets, used: &[Ipv4Net]) -> Option<Ipv4Net>
     None
 }
 
-/// The least address of the range that no lease names, if there is one.
+/// The lowest address of the range that is not leased, if any.
 pub fn ipv6_free_address(range: Ipv6AddrRange, leases: &[Ipv6Addr]) -> Option<Ipv6Addr>
     ensures member { IfSome result (λ a. Contains (ipv6_addresses range) (ipv6_address a)) }
     ensures free { IfSome result (λ a. ¬ (Contains leases.now a)) }
@@ -85,7 +85,7 @@ pub fn ipv6_free_address(range: Ipv6AddrRange, leases: &[Ipv6Addr]) -> Option<Ip
     None
 }
 
-/// The greatest address of the range that no lease names, if there is one: a loop from the back.
+/// The highest address of the range that is not leased, if any: a loop from the back.
 pub fn ipv4_free_address_from_the_back(
     range: Ipv4AddrRange,
     leases: &[Ipv4Addr],
@@ -101,7 +101,7 @@ pub fn ipv4_free_address_from_the_back(
     None
 }
 
-/// The least host of the network that no lease names, if there is one; the leases are gone over by a loop, too.
+/// The lowest host of the network that is not leased, if any. An inner loop searches the leases.
 pub fn ipv6_free_host(network: Ipv6Net, leases: &[Ipv6Addr]) -> Option<Ipv6Addr> {
     for host in network.hosts() {
         let mut leased = false;

@@ -1,6 +1,6 @@
-//! Single calls of `next`, with all that they promise, and code over any iterator.
+//! Single calls of `next` with full contracts, and code that is generic over iterators.
 //!
-//! A fact that no call carries is a law, a function that does nothing: who needs it calls it.
+//! Facts that are in no call's contract are laws: functions that do nothing. Call a law to use its fact.
 ghost use Rattle.std.specs.Prelude.{◌≡◌, ◌<◌, ◌↔◌, ◌+◌, length, IfSome, IfNone, IsNone, option_map};
 ghost use Rattle.std.specs.Iterator.{YieldsFirstBy, IsFinite};
 ghost use Rattle.ipnet.specs.Address.{Address, IPv4, ipv4_address, ip_address};
@@ -15,7 +15,8 @@ ghost use Rattle.ipnet.specs.SubnetsLeft.{ip_subnet_range, ip_subnets_left};
 use ipnet::subnets::walk_laws::{ip_walk_is_of_its_range, ipv4_walk_is_of_its_range};
 use ipnet::{IpAddr, IpAddrRange, IpNet, IpSubnets, Ipv4Addr, Ipv4AddrRange, Ipv4Net, Ipv4Subnets};
 
-/// The next network of a walk: the first of its list, the largest at its start, and what is left after it.
+/// The next network of a walk: the first of its list and the largest at its start. The contract also gives the rest of
+/// the walk.
 pub fn ipv4_next_network(walk: &mut Ipv4Subnets) -> Option<Ipv4Net>
     ensures steps { YieldsFirstBy ipv4_network ipv4_subnets_left walk.old result walk.new }
     ensures largest { let range = ipv4_subnet_range walk.old in
@@ -42,7 +43,7 @@ pub fn ip_next_network(walk: &mut IpSubnets) -> Option<IpNet>
     walk.next()
 }
 
-/// The next network, by the name of the trait's method.
+/// The next network, by the method's path in the trait.
 pub fn ipv4_next_by_trait_name(walk: &mut Ipv4Subnets) -> Option<Ipv4Net>
     ensures steps { YieldsFirstBy ipv4_network ipv4_subnets_left walk.old result walk.new }
     ensures unchanged { IfNone result (walk.new ≡ walk.old) }
@@ -50,7 +51,7 @@ pub fn ipv4_next_by_trait_name(walk: &mut Ipv4Subnets) -> Option<Ipv4Net>
     Iterator::next(walk)
 }
 
-/// The network after the next one; where both are there, the walk has two fewer left.
+/// The network after the next one. If both exist, the walk has two fewer networks left.
 pub fn ipv4_second_network(walk: &mut Ipv4Subnets) -> Option<Ipv4Net>
     ensures two { IfSome result (λ _.
         length (ipv4_subnets_left walk.old) ≡ length (ipv4_subnets_left walk.new) + 2) }
@@ -73,7 +74,7 @@ pub fn ip_next_address_from_the_back(range: &mut IpAddrRange) -> Option<IpAddr>
     range.next_back()
 }
 
-/// The next item of any iterator over networks: all that is known of it is what the iterator says of `next`.
+/// The next item of any iterator over networks. All that is known about it is the iterator's contract of `next`.
 pub fn next_of<I: Iterator<Item = Ipv4Net>>(networks: &mut I) -> Option<Ipv4Net>
     requires { I.can_next networks.old }
     ensures { I.next_gives networks.old result networks.new }
@@ -81,14 +82,14 @@ pub fn next_of<I: Iterator<Item = Ipv4Net>>(networks: &mut I) -> Option<Ipv4Net>
     networks.next()
 }
 
-/// The next network of a walk by code over any iterator: the first of its list.
+/// The next network of a walk, by code that is generic over iterators: the first of the walk's list.
 pub fn ipv4_next_by_bound(walk: &mut Ipv4Subnets) -> Option<Ipv4Net>
     ensures steps { YieldsFirstBy ipv4_network ipv4_subnets_left walk.old result walk.new }
 {
     next_of(walk)
 }
 
-/// The longest prefix of all that the iterator gives: a loop over any iterator that ends.
+/// The longest prefix length of all items of an iterator: a loop over any iterator that ends.
 pub fn longest_prefix_of<I: Iterator<Item = Ipv4Net>>(networks: I) -> u8
     requires can { I.can_next networks }
     requires ends { IsFinite (I.remaining networks) }
@@ -100,7 +101,7 @@ pub fn longest_prefix_of<I: Iterator<Item = Ipv4Net>>(networks: I) -> u8
     longest
 }
 
-/// The longest prefix of a walk by code over any iterator.
+/// The longest prefix length in a walk, by code that is generic over iterators.
 pub fn ipv4_longest_prefix_by_bound(walk: Ipv4Subnets) -> u8 {
     longest_prefix_of(walk)
 }

@@ -1,6 +1,6 @@
-//! Address pools: a block of addresses that is handed out in subnets of one length.
+//! Address pools: a block of addresses that is divided into subnets of one length.
 //!
-//! That every subnet lies in the block, and that no two share an address, is proved for every caller.
+//! For every caller it is proved that each subnet lies in the block and that no two subnets share an address.
 #![tactic(auto)]
 
 ghost use Rattle.std.specs.Prelude.{◌≡◌, ◌-◌, ◌^◌, ◌<◌, ◌⊎◌, ◌↔◌, length, map, take, All, Err, IfOk, IsErr};
@@ -17,16 +17,16 @@ pub use pool::Pool;
 use std::alloc::{AllocError, Global};
 use thiserror::Error;
 
-/// Why there is no plan.
+/// The reasons why there is no plan.
 #[derive(Debug, PartialEq, Eq, Drop, Error)]
 pub enum PlanError {
-    /// The subnets' length is below the block's own, or above 32.
+    /// The prefix length of the subnets is below the prefix length of the block, or above 32.
     #[error("the block has no subnets of this length")]
     PrefixLen,
     /// The block has fewer subnets of this length than there are sites.
     #[error("the block has too few subnets of this length")]
     TooFew,
-    /// Memory is short.
+    /// Memory ran out.
     #[error("out of memory")]
     Memory,
 }
@@ -47,7 +47,7 @@ impl From<AllocError> for PlanError {
     }
 }
 
-/// The first networks that the walk gives: as many as are asked for, or all where there are fewer.
+/// The first networks of the walk: the requested number, or all if there are fewer.
 pub fn first_networks(
     alloc: Global,
     walk: Ipv4Subnets,
@@ -65,7 +65,7 @@ pub fn first_networks(
     Ok(list)
 }
 
-/// A subnet of the block for each site: the first of this length, ascending, as many as there are sites.
+/// A subnet of the block for each site: the first subnets of this length, in ascending order.
 ///
 /// ```text
 /// 10.1.0.0/24 in subnets of length 26 for three sites: 10.1.0.0/26, 10.1.0.64/26, 10.1.0.128/26

@@ -1,4 +1,4 @@
-//! A pool that hands out the subnets of a block one by one.
+//! A pool that assigns the subnets of a block one by one.
 ghost use Rattle.std.specs.Prelude.{◌≡◌, ◌<◌, ◌≤◌, ◌⊎◌, ◌↔◌, ◌++◌, [], ◌∷◌, map, All, IfOk, IsErr, MatchOption};
 ghost use Rattle.ipnet.specs.Blocks.{ArePairwiseDisjoint};
 ghost use Rattle.ipnet.specs.NetworkOf.{ipv4_network};
@@ -8,10 +8,10 @@ ghost use Rattle.ipnet.specs.SubnetsLeft.{ipv4_subnets_left};
 use ipnet::{Ipv4Net, Ipv4Subnets, PrefixLenError};
 use std::alloc::{AllocError, Global};
 
-/// A block whose subnets of one length are handed out, each once, ascending.
+/// A block whose subnets of one length are assigned in ascending order, each once.
 ///
-/// Of every pool it is known that what it has handed out are subnets of the block of this length, no two of which share
-/// an address, whatever calls were made.
+/// In every pool, whatever calls were made, the assigned networks are subnets of the block with this length, and no two
+/// of them share an address.
 ///
 /// ```text
 /// 10.1.0.0/24 in subnets of length 26: 10.1.0.0/26, 10.1.0.64/26, 10.1.0.128/26, 10.1.0.192/26, and then none
@@ -30,9 +30,9 @@ pub struct Pool {
 impl Pool {
     ghost use Rattle.example_pools.specs.Pools.{block_of, length_of, assigned_of, free_of};
 
-    /// The pool of all subnets of this length, none of them handed out.
+    /// The pool of all subnets of this length. None of them is assigned yet.
     ///
-    /// An error where the length is below the block's own, or above 32.
+    /// Fails if the length is below the prefix length of the block, or above 32.
     pub fn new(alloc: Global, block: Ipv4Net, prefix_len: u8) -> Result<Pool, PrefixLenError>
         ensures block { IfOk result (λ pool. (block_of pool ≡ ipv4_network block) × (length_of pool ≡ prefix_len)) }
         ensures free { IfOk result (λ pool. AreSubnetsOfLength (ipv4_network block) prefix_len (free_of pool)) }
@@ -48,9 +48,9 @@ impl Pool {
         })
     }
 
-    /// The next free subnet, which is handed out with that; `None` where all are.
+    /// Assigns and returns the next free subnet; `None` if all are assigned.
     ///
-    /// Fails only when memory runs out, and leaves the pool as it was then.
+    /// Fails only when memory runs out. Then the pool is unchanged.
     pub fn assign(&mut self) -> Result<Option<Ipv4Net>, AllocError>
         ensures next { IfOk result (λ answer. MatchOption answer
             ((free_of self.old ≡ []) × (free_of self.new ≡ []) × (assigned_of self.new ≡ assigned_of self.old))
@@ -69,7 +69,7 @@ impl Pool {
         Ok(Some(subnet))
     }
 
-    /// What was handed out so far, in the order of the calls.
+    /// The subnets assigned so far, in the order of the calls.
     pub fn assigned(&self) -> &[Ipv4Net]
         ensures all { map ipv4_network result.now ≡ assigned_of self.now }
         ensures subnets { All (IsSubnetOfLength (block_of self.now) (length_of self.now))

@@ -1,4 +1,4 @@
-//! Plans and pools on their happy path, and the refusals.
+//! Tests of plans and pools that succeed, and of the errors.
 use crate::{PlanError, Pool, site_plan};
 use ipnet::Ipv4Net;
 use std::test::Fail;

@@ -1,4 +1,5 @@
-//! Plans a subnet for each site: the first line has the block and the subnets' length, each further one a site.
+//! Plans a subnet for each site. The first line of the input has the block and the prefix length of the subnets; each
+//! further line has a site.
 #![tactic(auto)]
 
 use anyhow::{Result, bail};

@@ -1,7 +1,7 @@
 //! Measures calls of the Rust crate `ipnet`: `original_calls TASK [ARGUMENT..] < NETWORKS`.
 //!
-//! The tasks, their arguments, the line that is printed and the number made from the answers are those of this
-//! repository's `ipnet_bench`, so that the two can be put side by side.
+//! The tasks, their arguments, the output and the checksum of the answers are the same as in this repository's
+//! `ipnet_bench`, so that the two can be compared.
 
 use std::collections::{BTreeMap, HashMap};
 use std::error::Error;
@@ -18,10 +18,10 @@ use ipnet::{IpAdd, IpNet, IpSub, IpSubnets, Ipv4AddrRange, Ipv4Net, Ipv4Subnets,
 
 type Outcome = Result<(), Box<dyn Error>>;
 
-/// How often a work is done.
+/// The number of measured runs.
 const RUNS: usize = 11;
 
-/// Does the work once unmeasured and then `RUNS` times, and prints the figures.
+/// Runs the work once without measuring it and then `RUNS` times, and prints the figures.
 fn report(task: &str, items: usize, mut work: impl FnMut() -> u64) -> Outcome {
     let check = work();
     let mut times = Vec::new();
@@ -36,7 +36,7 @@ fn report(task: &str, items: usize, mut work: impl FnMut() -> u64) -> Outcome {
     Ok(())
 }
 
-/// A number made from an address of either family.
+/// The checksum of an address of either family.
 fn folded(addr: IpAddr) -> u64 {
     match addr {
         IpAddr::V4(addr) => u32::from(addr).into(),
@@ -47,7 +47,7 @@ fn folded(addr: IpAddr) -> u64 {
     }
 }
 
-/// The number of what went before and of one thing more (FNV-1a, of 64 bits at a time).
+/// Adds a value to the checksum (FNV-1a, 64 bits at a time).
 fn mixed(before: u64, number: u64) -> u64 {
     (before ^ number).wrapping_mul(0x0000_0100_0000_01b3)
 }
@@ -64,8 +64,8 @@ impl SplitMix {
     }
 }
 
-/// For each network one beside it to ask `contains` of: about half of them are any network of the list, and the
-/// others lie in the network itself.
+/// For each network, an argument for `contains`. About half of them are random networks of the list; the others lie in
+/// the network itself.
 fn inner_networks(networks: &[IpNet]) -> Result<Vec<IpNet>, Box<dyn Error>> {
     let mut numbers = SplitMix(7);
     let mut inner = Vec::with_capacity(networks.len());
@@ -82,15 +82,15 @@ fn inner_networks(networks: &[IpNet]) -> Result<Vec<IpNet>, Box<dyn Error>> {
     Ok(inner)
 }
 
-/// The number of the addresses before and of one more.
+/// Adds an address to the checksum.
 fn with_address(check: u64, addr: impl Into<IpAddr>) -> u64 {
     check.wrapping_add(folded(addr.into())) ^ 1
 }
 
-// Each walk's `next` is called in one place alone, so that the compiler takes it into the loop; called in two places it
-// takes half as long again.
+// The `next` of each walk is called in only one place, so that the compiler inlines it into the loop. Called in two
+// places, it takes 50% more time.
 
-/// How many networks a walk has, and a number made from them.
+/// The number of networks of a walk, and their checksum.
 #[inline(never)]
 fn ipv4_walked(walk: Ipv4Subnets) -> (usize, u64) {
     let (mut items, mut check) = (0, 0_u64);
@@ -101,7 +101,7 @@ fn ipv4_walked(walk: Ipv4Subnets) -> (usize, u64) {
     (items, check)
 }
 
-/// The same of an IPv6 walk.
+/// The number of networks of an IPv6 walk, and their checksum.
 #[inline(never)]
 fn ipv6_walked(walk: Ipv6Subnets) -> (usize, u64) {
     let (mut items, mut check) = (0, 0_u64);
@@ -143,7 +143,7 @@ fn read(texts: &[String]) -> u64 {
     })
 }
 
-/// The two addresses that the arguments tell.
+/// Parses the two addresses in the arguments.
 fn addresses<A: FromStr>(arguments: &[String]) -> Result<(A, A), Box<dyn Error>> {
     match arguments {
         [start, end] => match (start.parse(), end.parse()) {
@@ -182,22 +182,22 @@ fn ipv6_networks(networks: &[IpNet]) -> Vec<Ipv6Net> {
     networks.iter().filter_map(|network| if let IpNet::V6(network) = network { Some(*network) } else { None }).collect()
 }
 
-/// A number made from a list of networks.
+/// The checksum of a list of networks.
 fn listed(networks: &[IpNet], start: u64) -> u64 {
     networks.iter().fold(start, |check, network| {
         mixed(mixed(check, folded(network.addr())), u64::from(network.prefix_len()))
     })
 }
 
-/// Every second network, the first among them, and the others.
+/// Every second network starting with the first, and the others.
 fn halves(networks: &[IpNet]) -> (Vec<IpNet>, Vec<IpNet>) {
     let every_second = |from: usize| networks.iter().skip(from).step_by(2).copied().collect();
     (every_second(0), every_second(1))
 }
 
-// The crate has no sets. These are the plainest programs over its aggregate that are fast: two aggregates are gone
-// through side by side, since of two of their networks one lies in the other or they are apart. Each gives the
-// maximal blocks with no second aggregate.
+// The crate has no sets. These are the simplest fast programs over its aggregate. They merge two aggregates: a network
+// of one and a network of the other are nested or disjoint. Each program produces the maximal blocks without
+// aggregating again.
 
 fn union(first: &[IpNet], second: &[IpNet]) -> Vec<IpNet> {
     IpNet::aggregate(&[first, second].concat())
@@ -245,7 +245,7 @@ fn after(addr: IpAddr) -> IpAddr {
     }
 }
 
-/// What is left of the network without those that lie in it, which ascend.
+/// The rest of the network without the given networks, which lie in it and ascend.
 fn without(network: IpNet, inner: &[IpNet], found: &mut Vec<IpNet>) {
     let mut start = network.network();
     for gone in inner {
@@ -283,14 +283,14 @@ fn difference(first: &Vec<IpNet>, second: &Vec<IpNet>) -> Vec<IpNet> {
     found
 }
 
-/// Whether one of the networks, an aggregate, has the address.
+/// Whether a network of the aggregate contains the address.
 fn is_member(networks: &[IpNet], address: &IpAddr) -> bool {
     let place = networks.partition_point(|network| network.network() <= *address);
     place > 0 && networks[place - 1].contains(address)
 }
 
-/// The place of the last of the longest networks that hold the address, counted from 1, or 0: asked of a map, one
-/// prefix length after the other.
+/// The position, counted from 1, of the longest network that contains the address; the last one if it is repeated, and 0
+/// if there is none. Looks up one prefix length after the other in a map.
 fn longest_match(places: &HashMap<IpNet, u64>, address: IpAddr) -> u64 {
     let host = IpNet::from(address);
     (0..=host.prefix_len())
@@ -300,7 +300,7 @@ fn longest_match(places: &HashMap<IpNet, u64>, address: IpAddr) -> u64 {
         .unwrap_or(0)
 }
 
-/// The routes to the networks, each with its place, in order and of equal networks the last.
+/// The routes to the networks in order, each with its position as value. Of equal networks only the last is kept.
 fn routes(networks: &[IpNet]) -> u64 {
     let places = networks.iter().zip(0..).map(|(network, place)| (network.trunc(), place));
     let table = places.collect::<BTreeMap<IpNet, u64>>();
@@ -309,7 +309,7 @@ fn routes(networks: &[IpNet]) -> u64 {
     })
 }
 
-/// The tasks over two halves of the networks, or over a half and an address of each network.
+/// The tasks over the two halves of the networks, or over one half and an address of each network.
 fn over_halves(task: &str, networks: &[IpNet]) -> Outcome {
     let (first, second) = halves(networks);
     let combined = |found: Vec<IpNet>| listed(&found, found.len() as u64);
@@ -332,7 +332,7 @@ fn over_halves(task: &str, networks: &[IpNet]) -> Outcome {
     }
 }
 
-/// The tasks over the lines that are read, the empty ones left out.
+/// The tasks over the non-empty lines.
 fn over_lines(task: &str) -> Outcome {
     let lines = io::stdin().lock().lines().filter(|line| line.as_ref().map_or(true, |line| !line.is_empty()));
     let texts = lines.collect::<Result<Vec<String>, _>>()?;

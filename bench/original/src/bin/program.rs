@@ -1,9 +1,8 @@
-//! The text program over the Rust crate `ipnet`: networks on standard input, one a line, and the shortest list of the
-//! same addresses on standard output.
+//! The text program over the Rust crate `ipnet`. It reads networks from standard input, one per line, and prints the
+//! shortest list with the same addresses.
 //!
-//! It has the statuses and messages of this repository's program, and like it writes nothing before it has read to the
-//! input's end. Its grammar is the crate's own, which also takes leading zeros, and where memory runs out it ends as
-//! any Rust program does.
+//! It has the statuses and messages of this repository's program, and also prints nothing before the end of the input.
+//! There are two differences: it uses the crate's grammar, which allows leading zeros, and it aborts if memory runs out.
 
 use std::fmt;
 use std::io::{self, BufRead, BufReader, BufWriter, Write};
@@ -11,10 +10,10 @@ use std::process::ExitCode;
 
 use ipnet::IpNet;
 
-/// How many bytes a read asks for, and how many a write hands on.
+/// The number of bytes of a read and of a write.
 const PIECE: usize = 65536;
 
-/// Why there is no answer, or not the whole of it.
+/// The reasons why there is no result, or only a part of it.
 enum Failure {
     Arguments,
     Unreadable,
@@ -45,8 +44,8 @@ impl fmt::Display for Failure {
     }
 }
 
-/// The networks that the lines tell. The number of the first bad line is told only once all is read, since a failed
-/// read and input that is not UTF-8 come before it.
+/// Reads the networks of the lines. A bad line is reported only after the end of the input, because a failed read and
+/// invalid UTF-8 take precedence.
 fn read_networks(mut input: impl BufRead) -> Result<Vec<IpNet>, Failure> {
     let mut networks = Vec::new();
     let mut line = String::new();
@@ -74,7 +73,7 @@ fn read_networks(mut input: impl BufRead) -> Result<Vec<IpNet>, Failure> {
     }
 }
 
-/// Writes the networks, one a line.
+/// Prints the networks, one per line.
 fn write_networks(networks: &[IpNet], out: impl Write) -> io::Result<()> {
     let mut out = BufWriter::with_capacity(PIECE, out);
     for network in networks {
@@ -95,7 +94,7 @@ fn main() -> ExitCode {
     match run() {
         Ok(()) => ExitCode::SUCCESS,
         Err(failure) => {
-            // Where standard error cannot be written either, the status alone tells.
+            // If this also cannot be written, only the status reports the error.
             let _ = writeln!(io::stderr(), "{failure}");
             ExitCode::from(failure.status())
         }
