@@ -202,7 +202,7 @@ fn with_queries<'a>(alloc: Global, command: Command<'a>) -> Result<Command<'a>, 
 /// The command line of the program.
 fn command<'a>(alloc: Global) -> Result<Command<'a>, AllocError> {
     let command = Command::new(alloc, "netset")
-        .version("0.1.0")
+        .version("1.0.0")
         .about("Combines and compares lists of networks, addresses and ranges")
         .subcommand_required(true)
         .arg_required_else_help(true);
