@@ -95,6 +95,10 @@ fn make(alloc: Global, inputs: &Inputs) -> Result<IpSet, AllocError> {
         "complement" => inputs.first.complement(alloc),
         "clone" => inputs.first.clone(),
         "from_networks" => IpSet::from_networks(alloc, inputs.list.as_slice()),
+        "from_network" => match inputs.list.as_slice().first() {
+            Some(network) => IpSet::from_network(alloc, network),
+            None => Ok(IpSet::new(alloc)),
+        },
         "from_range" => match (inputs.first.first(), inputs.first.last()) {
             (Some(start), Some(end)) => IpSet::from_range(alloc, start, end),
             _ => Ok(IpSet::new(alloc)),
@@ -134,7 +138,7 @@ const ONE: &str = "10.0.0.0/24 10.0.2.0/24 10.0.4.0/24 fd00::/32";
 const OTHER: &str = "10.0.1.0/24 10.0.4.0/25 fd00::/33 fd00:2::/32";
 
 /// Calls that allocate.
-const ALLOCATING: [Row; 11] = [
+const ALLOCATING: [Row; 13] = [
     (
         "union",
         ONE,
@@ -163,6 +167,8 @@ const ALLOCATING: [Row; 11] = [
     ("clone", ONE, "", ONE),
     ("from_networks", ONE, "", ONE),
     ("networks", ONE, "", ONE),
+    ("from_network", "10.0.0.7/24", "", "10.0.0.0/24"),
+    ("from_network", "fd00::/32", "", "fd00::/32"),
     ("from_range", "10.0.0.0/24", "", "10.0.0.0/24"),
     ("from_range", "fd00::/32", "", "fd00::/32"),
     (
@@ -212,7 +218,12 @@ fn ask_set(set: &IpSet, part: &IpSet, ip: &IpAddr, network: &IpNet) -> bool {
         && set.last().is_some()
         && set.ipv4_count() == 512
         && set.ipv6_count() == Some(4)
+        && set.has_ipv4()
+        && set.has_ipv6()
+        && set.covers_range(*ip, *ip)
         && set.ranges().next().is_some()
+        && set.ranges().next_back().is_some()
+        && set.ranges().len() == 3
 }
 
 /// Whether the questions about a table of 10.0.0.0/8, 10.0.2.0/24 and fd00::/8 have the right answers.
@@ -221,6 +232,7 @@ fn ask_table(table: &RouteTable<usize>, ip: &IpAddr, network: &IpNet) -> bool {
         return false;
     };
     *place == 1
+        && table.covering(network).is_some()
         && table.get(network).is_none()
         && table.routes().len() == 3
         && table.len() == 3

@@ -26,5 +26,10 @@ fn values_that_are_not_copy(rt: HostRuntime) -> Result<(), Fail> {
         None => 0,
     };
     assert!(rt; value == 2, "the value of the longest match");
+    let routes = table.into_routes();
+    assert!(rt;
+        routes.len() == 1 && routes[0].1.number == 2,
+        "the routes with their values"
+    );
     Ok(())
 }
