@@ -1,10 +1,11 @@
-//! Functions that users of `ipnet` might write, with their contracts. None of them needs a proof file.
+//! Functions as users of `ipnet` write them, each with what it promises.
 //!
-//! Some call a law of `ipnet::value_laws` on the values in question. A law does nothing at run time.
+//! Only `common_supernet` has a proof file: it calls itself, so the file says why that ends, and proves its last clause.
+//! If the contracts of the calls are not enough, the body calls one law of `ipnet::value_laws` on its values. A law does
+//! nothing at run time.
 #![tactic(auto)]
 
 pub mod lists;
 pub mod networks;
 pub mod plans;
 pub mod texts;
-pub mod scratch;

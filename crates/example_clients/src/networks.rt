@@ -2,10 +2,10 @@
 ghost use Rattle.std.specs.Prelude.{◌≡◌, ◌↔◌, IsTrue, IfSome, IsNone};
 ghost use Rattle.ipnet.specs.Address.{Address};
 ghost use Rattle.ipnet.specs.Network.{Network, IsNetwork, InBlock, IsSubnetOf, AreDisjoint, IsTruncated, HaveSameBlock};
-ghost use Rattle.ipnet.specs.NetworkOf.{ip_network, ipv4_network};
+ghost use Rattle.ipnet.specs.NetworkOf.{ip_network};
 
+use ipnet::IpNet;
 use ipnet::value_laws::ip;
-use ipnet::{IpNet, Ipv4Net};
 
 /// Whether the networks share an address.
 pub fn overlap(a: &IpNet, b: &IpNet) -> bool
@@ -15,7 +15,7 @@ pub fn overlap(a: &IpNet, b: &IpNet) -> bool
     a.contains(b) || b.contains(a)
 }
 
-/// The addresses of both networks, as a network, if there are any.
+/// The addresses of both networks, as a network; `None` if they share none.
 pub fn intersection(a: &IpNet, b: &IpNet) -> Option<IpNet>
     ensures some { IfSome result (λ n. (x : Address) → InBlock (ip_network n) x
         ↔ (InBlock (ip_network a.now) x × InBlock (ip_network b.now) x)) }
@@ -31,7 +31,7 @@ pub fn intersection(a: &IpNet, b: &IpNet) -> Option<IpNet>
     }
 }
 
-/// The longest prefix that both networks lie in, or `None` if they are of two families.
+/// The smallest network that contains both, without host bits; `None` if they are of two families.
 pub fn common_supernet(a: &IpNet, b: &IpNet) -> Option<IpNet>
     ensures truncated { IfSome result (λ n. IsTruncated (ip_network n)) }
     ensures first { IfSome result (λ n. IsSubnetOf (ip_network a.now) (ip_network n)) }
@@ -44,10 +44,11 @@ pub fn common_supernet(a: &IpNet, b: &IpNet) -> Option<IpNet>
     }
     let supernet = a.supernet()?;
     ip::supernet_is_the_next_wider(a, &supernet);
-    common_supernet(&supernet, b)
+    let smallest = common_supernet(&supernet, b)?;
+    Some(smallest)
 }
 
-/// The network without host bits. Each property has its own clause.
+/// The network without host bits: what `trunc` promises, one fact in each clause.
 pub fn without_host_bits(net: &IpNet) -> IpNet
     ensures block { HaveSameBlock (ip_network result) (ip_network net.now) }
     ensures truncated { IsTruncated (ip_network result) }

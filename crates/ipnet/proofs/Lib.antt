@@ -25,6 +25,7 @@ pub mod LineLaws
 pub mod CompactLaws
 pub mod JsonLaws
 pub mod ValueFacts
+pub mod DisjointLaws
 pub use Rattle.ipnet_base.proofs.ListLaws
 pub use Rattle.ipnet_base.proofs.CoverLaws
 pub use Rattle.ipnet_base.proofs.AggregateLaws

@@ -9,10 +9,10 @@ use Rattle.std.proofs.lemmas.Option.{slice_get_past, slice_get_within, get_or_fr
 use Rattle.std.specs.Iterator.{YieldsFirstBy, Yields, SkipsThenYields}
 use Rattle.ipnet_base.specs.Address.{Family, Address, IPv4, IPv6, IsBetween, width}
 use Rattle.ipnet_base.specs.Network.{Network, IsNetwork, InBlock, IsSubnetOf, AreDisjoint, IsTruncated, IsSupernetOf}
-use Rattle.ipnet_base.specs.Network.{IsLeastOf, IsGreatestOf, host_bits, first_of, last_of}
+use Rattle.ipnet_base.specs.Network.{IsLeastOf, IsGreatestOf, host_bits}
 use Rattle.ipnet_base.specs.Blocks.{IsCoveredBy, IsAggregateOf}
 use Rattle.ipnet_base.specs.Ranges.{AddressRange, addresses_of}
-use Rattle.ipnet_base.proofs.BlockLaws.{own, own_in, first_from_least, last_from_greatest, between_from_block}
+use Rattle.ipnet_base.proofs.BlockLaws.{own, own_in, first_from_least, last_from_greatest}
 use Rattle.ipnet_base.proofs.NestingLaws.{nested, nested_or_disjoint, longer_from_subnet, subnet_from_own}
 use Rattle.ipnet_base.proofs.NetworkLaws.{truncated_from_number}
 use Rattle.ipnet_base.proofs.SupernetLaws.{supernet_below}

@@ -3,6 +3,7 @@
 
 pub mod aggregate;
 pub mod compact;
+pub mod disjoint;
 pub mod json;
 pub mod net;
 pub mod parser;
@@ -13,6 +14,7 @@ pub mod value_laws;
 
 pub use aggregate::{is_aggregated, same_addresses};
 pub use compact::CompactError;
+pub use disjoint::are_disjoint;
 pub use ipnet_base::{
     IpAdd, IpAddr, IpAddrRange, IpBitAnd, IpBitOr, IpSub, Ipv4Addr, Ipv4AddrRange, Ipv6Addr,
     Ipv6AddrRange, PrefixLenError, addr, ip_mask_to_prefix, ipext, ipv4_mask_to_prefix,

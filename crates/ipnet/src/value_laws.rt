@@ -1,10 +1,11 @@
-//! Laws of values. Each takes the values that it speaks of, so a caller that has called it knows the fact of these
-//! values, and needs no proof. The functions do nothing at run time; the contract is the law.
+//! Laws of values. A law takes the values that it is about: after the call, the check knows the fact for these values,
+//! and `search` uses it without a proof file. Laws do nothing at run time.
 //!
-//! The three modules have the same laws, one module for each type.
+//! The three modules have the same laws, one module for each type; `address_has_its_number` is only in `ipv4` and
+//! `ipv6`.
 //!
 //! ```text
-//! ip::nested_or_disjoint(a, b); a.contains(b) || b.contains(a)     is true if and only if a and b share an address
+//! ip::nested_or_disjoint(a, b)     then a.contains(b) || b.contains(a) is true if and only if a and b share an address
 //! ```
 
 pub mod ip;

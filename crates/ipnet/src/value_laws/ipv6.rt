@@ -1,6 +1,7 @@
 //! Laws of given IPv6 networks: a caller passes the values, and knows the fact of them afterwards.
 ghost use Rattle.std.specs.Prelude.{◌≡◌, ◌+◌, ◌<◌, ◌≤◌, ◌⊎◌, ◌↔◌, ℕ, map, drop, slice_get, option_map, Contains, IfSome};
 ghost use Rattle.std.specs.Iterator.{SkipsThenYields};
+ghost use Rattle.std.specs.Net.Addr.{ipv6_bits, IsIpv6OfBits};
 ghost use Rattle.ipnet_base.specs.Address.{Address, IsBetween, ipv6_address};
 ghost use Rattle.ipnet_base.specs.Network.{Network, IsNetwork, InBlock, IsSubnetOf, AreDisjoint, IsTruncated};
 ghost use Rattle.ipnet_base.specs.Network.{IsLeastOf, IsGreatestOf, IsSupernetOf};
@@ -146,4 +147,10 @@ pub fn same_cover_has_the_same_addresses(
     ensures { HaveSameCover (map ipv6_network networks.now.items) (map ipv6_network others.now.items)
         → IsCoveredBy (map ipv6_network networks.now.items) (ipv6_address address.now)
         ↔ IsCoveredBy (map ipv6_network others.now.items) (ipv6_address address.now) }
+{}
+
+/// `from_bits` and `to_bits` go both ways: the address is the one that `from_bits` makes of the number if and only if
+/// `to_bits` gives that number.
+pub fn address_has_its_number(address: Ipv6Addr, number: u128)
+    ensures { IsIpv6OfBits address number ↔ (ipv6_bits address ≡ number) }
 {}
