@@ -2,7 +2,11 @@
 use Rattle.std.proofs.Common.{◌≡◌, ◌⊎◌, ◌↔◌, Bool, true, false, Option, Some, None, List, Contains, inl, inr, refl, sym, ap}
 use Rattle.std.proofs.Common.{◌∙◌, subst, Ordering, Less, Equal, Greater, cond, [], ◌∷◌, Bor, option_copied, IfSome, IfNone}
 use Rattle.std.specs.Cmp.{IsTotalOrder, strict}
-use Rattle.std.specs.Ordering.{MatchOrdering, is_eq}
+use Rattle.std.specs.Ordering.{MatchOrdering, is_eq, is_gt, is_lt}
+use Rattle.std.specs.Option.{IsSome}
+use Rattle.std.specs.BTreeMap.Range.{IsRangeOf}
+use Rattle.std.specs.Map.Iter.{TakesLast, deref_pair}
+use Rattle.std.specs.declared.ops.Bound.TheVariants.{Included, Unbounded}
 use Rattle.std.specs.BTreeMap.{BTreeMap, IsOrdered, Updates, UpdatesBy, get, is_at}
 use Rattle.std.proofs.lemmas.Cmp.{by_ranked}
 use Rattle.std.proofs.lemmas.Map.Lookups.{CmpEqualImpliesEq}
@@ -14,7 +18,7 @@ use Rattle.ipnet_base.proofs.OrderLaws.{IsBefore-asymmetric, IsBefore-transitive
 use Rattle.ipnet.specs.declared.net.IpNet.{IpNet}
 use Rattle.ipnet.specs.NetworkOf.{ip_network}
 use Rattle.ipnet.specs.NetLaws.{ip_one_to_one}
-use Rattle.ipnet_pools.specs.Leases.{HasLeaseOf}
+use Rattle.ipnet_pools.specs.Leases.{HasLeaseOf, IsLastNotAfter}
 
 -- the order of networks
 abbrev Before : IpNet → IpNet → Type 0
@@ -134,3 +138,55 @@ module _ (cmp : IpNet → IpNet → Ordering) (ranking : IsRanking cmp) where
     pub borrowed_missing : (r : Option (Bor V)) → option_copied r ≡ get cmp m k → IfNone r (¬ (HasLeaseOf m.entries k))
     borrowed_missing (Some b) e = tt
     borrowed_missing None e = value_missing None e
+
+  not_greater : (a b : IpNet) → is_gt (cmp a b) ≡ false → ¬ (Before b a)
+  not_greater a b e h = by_ranked (Before a b) (a ≡ b) (Before b a) (cmp a b) (ranks a b)
+      (λ _ before. IsBefore-asymmetric (ip_network a) (ip_network b) before h)
+      (λ _ same. never_before b (subst (λ z. Before b z) same h))
+      (λ f _. let no : is_gt Greater ≡ false = ap is_gt (sym f) ∙ e in absurd (cc))
+
+  not_less : (a b : IpNet) → is_lt (cmp a b) ≡ false → ¬ (Before a b)
+  not_less a b e h = by_ranked (Before a b) (a ≡ b) (Before b a) (cmp a b) (ranks a b)
+      (λ f _. let no : is_lt Less ≡ false = ap is_lt (sym f) ∙ e in absurd (cc))
+      (λ _ same. never_before b (subst (λ z. Before z b) same h))
+      (λ _ after. IsBefore-asymmetric (ip_network a) (ip_network b) h after)
+
+  up_to : (a b : IpNet) → ¬ (Before b a) → is_gt (cmp a b) ≡ false
+  up_to a b h = by_ranked (Before a b) (a ≡ b) (Before b a) (cmp a b) (ranks a b)
+      (λ f _. ap is_gt f) (λ f _. ap is_gt f) (λ _ after. absurd (h after))
+
+  before_or_not : (a b : IpNet) → Before b a ⊎ ¬ (Before b a)
+  before_or_not a b = by_ranked (Before a b) (a ≡ b) (Before b a) (cmp a b) (ranks a b)
+      (λ _ before. inr (λ h. IsBefore-asymmetric (ip_network a) (ip_network b) before h))
+      (λ _ same. inr (λ h. never_before b (subst (λ z. Before b z) same h)))
+      (λ _ after. inl after)
+
+  is_some_from : {V : Type 0} (o : Option V) (v : V) → o ≡ Some v → IsSome o
+  is_some_from o v e = subst IsSome (sym e) refl
+
+  module _ {V : Type 0} (m : BTreeMap IpNet V) (at : IpNet) (ordered : IsOrdered cmp m) (r : List (IpNet × V))
+      (range : IsRangeOf cmp Unbounded (Included at) m r) where
+    pub last_found : (o : Option (Bor IpNet × Bor V)) (t : List (IpNet × V)) → TakesLast deref_pair r o t
+        → IfSome o (λ p. Contains m.entries (p.0.now, p.1.now) × IsLastNotAfter m.entries at p.0.now)
+    last_found (Some p) t e =
+        let here = range.3 (p.0.now, p.1.now) t e in (
+          (btree_map_get_iff total exact m ordered p.0.now p.1.now).0 here.1,
+          record {
+            not_after = not_greater p.0.now at here.0.1;
+            last = λ q h up. not_less p.0.now q (range.4 (p.0.now, p.1.now) t e q (tt, up_to q at up)
+                (is_some_from (get cmp m q) h.0 ((btree_map_get_iff total exact m ordered q h.0).1 h.1)));
+          },
+        )
+    last_found None t e = tt
+
+    pub last_missing : (o : Option (Bor IpNet × Bor V)) (t : List (IpNet × V)) → TakesLast deref_pair r o t
+        → IfNone o ((k : IpNet) → HasLeaseOf m.entries k → Before at k)
+    last_missing (Some p) t e = tt
+    last_missing None t e = λ k h. elim (before_or_not k at) [
+      | inl after ↦ after
+      | inr up ↦
+          let none : get cmp m k ≡ None = range.5 e.0 k (tt, up_to k at up) in
+          let some : get cmp m k ≡ Some h.0 = (btree_map_get_iff total exact m ordered k h.0).1 h.1 in
+          let wrong : Some h.0 ≡ None = sym some ∙ none in
+          absurd (cc)
+    ]

@@ -37,7 +37,6 @@ planned_start S Left f lengths left back = record {
 
 module _ (S Old New : Address → Type 0) (f : Family) (lengths : List ℕ) (done p : ℕ) (networks : List Network)
     (here : drop done lengths ≡ p ∷ drop (done + 1) lengths) (so_far : IsPlannedSoFar S Old f lengths done networks) where
-
   pub planned_more : (n : Network) → IsBestFit Old f p n → ((x : Address) → New x → Without Old n x)
       → ((requests : List Request) → CanPlace Old ((f, p) ∷ requests) → CanPlace New requests)
       → IsPlannedSoFar S New f lengths (done + 1) (networks ++ n ∷ [])

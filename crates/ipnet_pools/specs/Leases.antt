@@ -2,7 +2,7 @@
 -- Private contracts alone cite these.
 use Rattle.std.specs.Prelude.{◌≡◌, ◌↔◌, List, Contains}
 use Rattle.ipnet_base.specs.Address.{Address}
-use Rattle.ipnet_base.specs.Network.{InBlock, IsTruncated, AreDisjoint}
+use Rattle.ipnet_base.specs.Network.{InBlock, IsTruncated, AreDisjoint, IsBefore}
 use Rattle.ipnet.specs.declared.net.IpNet.{IpNet}
 use Rattle.ipnet.specs.NetworkOf.{ip_network}
 
@@ -27,3 +27,9 @@ LieIn leases InSet = (x : Address) → IsInLease leases x → InSet x
 -- the free addresses are those of the set that lie in no lease
 abbrev pub IsRest : {V : Type 0} → (Address → Type 0) → List (IpNet × V) → (Address → Type 0) → Type 0
 IsRest Free leases InSet = (x : Address) → Free x ↔ (InSet x × ¬ (IsInLease leases x))
+
+-- the lease stands no later than the network `at`, and no other such lease stands after it
+pub record IsLastNotAfter {V : Type 0} (leases : List (IpNet × V)) (at k : IpNet) : Type 0 where
+  pub not_after : ¬ (IsBefore (ip_network at) (ip_network k))
+  pub last : (q : IpNet) → HasLeaseOf leases q → ¬ (IsBefore (ip_network at) (ip_network q))
+      → ¬ (IsBefore (ip_network k) (ip_network q))

@@ -24,6 +24,10 @@ leases_of pool = pool.leases.entries
 abbrev pub IsLeased : {V : Type 0} → IpPool V → Network → V → Type 0
 IsLeased pool n v = (k : IpNet) × (ip_network k ≡ n) × Contains (leases_of pool) (k, v)
 
+-- the network is leased
+abbrev pub IsLeaseOf : {V : Type 0} → IpPool V → IpNet → Type 0
+IsLeaseOf {V} pool k = (v : V) × Contains (leases_of pool) (k, v)
+
 -- both pools have the same addresses, the same free addresses and the same leases
 pub record IsSamePool {V : Type 0} (old new : IpPool V) : Type 0 where
   pub whole : (x : Address) → IsOfPool new x ↔ IsOfPool old x

@@ -2,7 +2,7 @@
 ghost use Rattle.std.specs.Prelude.{◌≡◌};
 ghost use Rattle.ipnet_pools.specs.declared.error.PoolError.TheVariants.{PrefixLen, Memory};
 
-use ipnet::PrefixLenError;
+use ipnet::{IpNet, PrefixLenError};
 use std::alloc::{AllocError, AllocFailed};
 use thiserror::Error;
 
@@ -15,9 +15,9 @@ pub enum PoolError {
     /// No network of this prefix length is free.
     #[error("no free block is large enough")]
     Exhausted,
-    /// Some address of the network is leased.
+    /// The network is not free: it shares an address with this lease.
     #[error("the network is not free")]
-    NotFree,
+    NotFree(IpNet),
     /// The network is not a lease.
     #[error("the network is not leased")]
     NotLeased,

@@ -1,8 +1,11 @@
 //! Leases: networks with a value each, in the order of their networks.
 ghost use Rattle.std.specs.Prelude.{◌≡◌, ◌↔◌, ◌⊎◌, Contains, IfOk, IfErr, OnOk, OnErr, IfSome, IfNone, IsTrue};
 ghost use Rattle.std.specs.BTreeMap.{IsUnchanged};
+ghost use Rattle.ipnet_base.specs.Network.{InBlock, AreDisjoint, IsBefore};
+ghost use Rattle.ipnet_base.specs.Address.{Address};
+ghost use Rattle.ipnet.specs.NetworkOf.{ip_network};
 ghost use Rattle.ipnet.specs.declared.net.IpNet.{IpNet as Net};
-ghost use Rattle.ipnet_pools.specs.Leases.{HasLeaseOf};
+ghost use Rattle.ipnet_pools.specs.Leases.{HasLeaseOf, IsInLease, AreLeases, IsLastNotAfter};
 
 use ipnet::IpNet;
 use ipnet::net::laws::ip_nets_compare_by_network;
@@ -10,7 +13,11 @@ use std::alloc::AllocFailed;
 use std::collections::BTreeMap;
 
 /// Adds a lease of the network, which has none.
-pub(crate) fn insert<V: Drop>(leases: &mut BTreeMap<IpNet, V>, network: IpNet, value: V) -> Result<(), V>
+pub(crate) fn insert<V: Drop>(
+    leases: &mut BTreeMap<IpNet, V>,
+    network: IpNet,
+    value: V,
+) -> Result<(), V>
     requires { ¬ (HasLeaseOf leases.old.entries network) }
     ensures added { OnOk result ((n : Net) (v : V) → Contains leases.new.entries (n, v)
         ↔ (Contains leases.old.entries (n, v) ⊎ ((n ≡ network) × (v ≡ value)))) }
@@ -58,4 +65,34 @@ pub(crate) fn contains<V>(leases: &BTreeMap<IpNet, V>, network: &IpNet) -> bool
         Some(_) => true,
         None => false,
     }
+}
+
+/// Returns the last lease that does not stand after the network `at` in the order of networks.
+fn last_not_after<'a, V>(leases: &'a BTreeMap<IpNet, V>, at: &IpNet) -> Option<(&'a IpNet, &'a V)>
+    ensures found { IfSome result (λ r. Contains leases.now.entries (r.0.now, r.1.now)
+        × IsLastNotAfter leases.now.entries at.now r.0.now) }
+    ensures none { IfNone result ((k : Net) → HasLeaseOf leases.now.entries k
+        → IsBefore (ip_network at.now) (ip_network k)) }
+{
+    ip_nets_compare_by_network();
+    leases.range(..=*at).next_back()
+}
+
+/// Returns a lease that shares an address with the network, or `None` if there is no such lease.
+pub(crate) fn touching<'a, V>(
+    leases: &'a BTreeMap<IpNet, V>,
+    network: &IpNet,
+) -> Option<(&'a IpNet, &'a V)>
+    requires { AreLeases leases.now.entries }
+    ensures found { IfSome result (λ r. Contains leases.now.entries (r.0.now, r.1.now)
+        × ¬ (AreDisjoint (ip_network r.0.now) (ip_network network.now))) }
+    ensures none { IfNone result ((x : Address) → InBlock (ip_network network.now) x
+        → ¬ (IsInLease leases.now.entries x)) }
+{
+    let last = IpNet::new_assert(network.broadcast(), network.max_prefix_len());
+    let (lease, value) = last_not_after(leases, &last)?;
+    if network.contains(lease) || lease.contains(network) {
+        return Some((lease, value));
+    }
+    None
 }

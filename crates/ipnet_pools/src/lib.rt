@@ -6,8 +6,8 @@
 pub mod error;
 mod fit;
 mod free;
-mod leases;
 pub mod laws;
+mod leases;
 pub mod plan;
 pub mod pool;
 

@@ -1,7 +1,7 @@
 //! Pools of addresses.
 ghost use Rattle.std.specs.Prelude.{◌≡◌, ◌↔◌, ◌⊎◌, ◌<◌, ◌∷◌, List, Err, map, length, IfOk, OnOk, IfErr, IsErr, IfSome, IfNone, IsTrue, Contains};
-ghost use Rattle.ipnet_base.specs.Address.{Address, IPv4, IPv6};
-ghost use Rattle.ipnet_base.specs.Network.{Network, InBlock, IsTruncated, truncation};
+ghost use Rattle.ipnet_base.specs.Address.{Address, IPv4, IPv6, ip_address};
+ghost use Rattle.ipnet_base.specs.Network.{Network, InBlock, AreDisjoint, IsTruncated, truncation};
 ghost use Rattle.ipnet_base.specs.Blocks.{AreMaximalBlocks};
 ghost use Rattle.ipnet.specs.NetworkOf.{ip_network};
 ghost use Rattle.ipnet_sets.specs.Members.{IsMember};
@@ -9,12 +9,12 @@ ghost use Rattle.ipnet_pools.specs.Fits.{HasRoom, IsBestFit};
 ghost use Rattle.ipnet_pools.specs.FreeOf.{IsIn};
 ghost use Rattle.ipnet_pools.specs.Leases.{HasLeaseOf, AreLeases, LieIn, IsRest};
 ghost use Rattle.ipnet_pools.specs.Placements.{Request, CanPlace};
-ghost use Rattle.ipnet_pools.specs.declared.error.PoolError.TheVariants.{PrefixLen, Exhausted, NotFree, NotLeased, NotInPool, Memory};
+ghost use Rattle.ipnet_pools.specs.declared.error.PoolError.TheVariants.{PrefixLen, Exhausted, NotLeased, NotInPool, Memory};
 
 use crate::error::{PoolError, Refused};
 use crate::free::FreeBlocks;
 use crate::leases;
-use ipnet::{IpNet, Ipv4Addr, Ipv4Net, Ipv6Addr, Ipv6Net};
+use ipnet::{IpAddr, IpNet, Ipv4Addr, Ipv4Net, Ipv6Addr, Ipv6Net};
 use ipnet_sets::IpSet;
 use std::alloc::{AllocError, Global};
 use std::collections::BTreeMap;
@@ -36,8 +36,8 @@ pub struct IpPool<V> {
 }
 
 impl<V: Drop> IpPool<V> {
-    ghost use Rattle.ipnet_pools.specs.PoolOf.{IsOfPool, IsFree, leases_of, IsLeased, IsSamePool, IsTaken, IsReleased};
-    ghost use Rattle.ipnet_pools.specs.Refusals.{IsErrorOf};
+    ghost use Rattle.ipnet_pools.specs.PoolOf.{IsOfPool, IsFree, leases_of, IsLeased, IsLeaseOf, IsSamePool, IsTaken, IsReleased};
+    ghost use Rattle.ipnet_pools.specs.Refusals.{IsErrorOf, IsNotFree, IfNotFree};
 
     /// Returns the pool of the set's addresses, all of them free. Fails only if memory runs out.
     ///
@@ -102,8 +102,8 @@ impl<V: Drop> IpPool<V> {
 
     /// Leases the network with the value. The network's host bits do not count.
     ///
-    /// The error is `NotInPool` if some address of the network does not belong to the pool, and otherwise `NotFree` if
-    /// some address of it is leased. An error hands the value back, and the pool is as it was.
+    /// The error is `NotInPool` if some address of the network does not belong to the pool, and otherwise `NotFree`, with
+    /// a lease in the way, if some address of it is leased. An error hands the value back, and the pool is as it was.
     ///
     /// ```text
     /// take 10.0.0.64/26 from 10.0.0.0/24: then 10.0.0.0/26 and 10.0.0.128/25 are free
@@ -112,13 +112,15 @@ impl<V: Drop> IpPool<V> {
         ensures taken { OnOk result (IsTaken self.old self.new (truncation (ip_network network.now)) value) }
         ensures not_in_pool { IsErrorOf result NotInPool
             ↔ ¬ ((x : Address) → InBlock (ip_network network.now) x → IsOfPool self.old x) }
-        ensures not_free { IsErrorOf result NotFree
+        ensures not_free { IsNotFree result
             ↔ (((x : Address) → InBlock (ip_network network.now) x → IsOfPool self.old x)
             × ¬ ((x : Address) → InBlock (ip_network network.now) x → IsFree self.old x)) }
+        ensures in_the_way { IfNotFree result (λ lease. IsLeaseOf self.old lease
+            × ¬ (AreDisjoint (ip_network lease) (ip_network network.now))) }
         ensures unchanged { IsErr result → IsSamePool self.old self.new }
         ensures value { IfErr result (λ refused. refused.value ≡ value) }
-        ensures errors { IfErr result (λ refused.
-            (refused.error ≡ NotInPool) ⊎ ((refused.error ≡ NotFree) ⊎ (refused.error ≡ Memory))) }
+        ensures errors { IsErr result
+            → IsErrorOf result NotInPool ⊎ (IsNotFree result ⊎ IsErrorOf result Memory) }
     {
         if !self.whole.covers(network) {
             return Err(Refused {
@@ -126,9 +128,9 @@ impl<V: Drop> IpPool<V> {
                 value,
             });
         }
-        if !self.free.covers(network) {
+        if let Some((lease, _)) = leases::touching(&self.leases, network) {
             return Err(Refused {
-                error: PoolError::NotFree,
+                error: PoolError::NotFree(*lease),
                 value,
             });
         }
@@ -195,7 +197,12 @@ impl<V: Drop> IpPool<V> {
     /// ```text
     /// from 10.0.0.0/25 and 10.0.0.192/26: a /27 is 10.0.0.192/27, and then a /25 is 10.0.0.0/25
     /// ```
-    pub fn assign_ipv4(&mut self, alloc: Global, prefix_len: u8, value: V) -> Result<IpNet, Refused<V>>
+    pub fn assign_ipv4(
+        &mut self,
+        alloc: Global,
+        prefix_len: u8,
+        value: V,
+    ) -> Result<IpNet, Refused<V>>
         ensures taken { IfOk result (λ n. IsTaken self.old self.new (ip_network n) value) }
         ensures best { IfOk result (λ n. IsBestFit (IsFree self.old) IPv4 prefix_len (ip_network n)) }
         ensures keeps { IfOk result (λ n. (requests : List Request)
@@ -222,7 +229,12 @@ impl<V: Drop> IpPool<V> {
     /// ```text
     /// from 2001:db8::/32: a /48 is 2001:db8::/48
     /// ```
-    pub fn assign_ipv6(&mut self, alloc: Global, prefix_len: u8, value: V) -> Result<IpNet, Refused<V>>
+    pub fn assign_ipv6(
+        &mut self,
+        alloc: Global,
+        prefix_len: u8,
+        value: V,
+    ) -> Result<IpNet, Refused<V>>
         ensures taken { IfOk result (λ n. IsTaken self.old self.new (ip_network n) value) }
         ensures best { IfOk result (λ n. IsBestFit (IsFree self.old) IPv6 prefix_len (ip_network n)) }
         ensures keeps { IfOk result (λ n. (requests : List Request)
@@ -255,6 +267,21 @@ impl<V: Drop> IpPool<V> {
     {
         let network = network.trunc();
         leases::get(&self.leases, &network)
+    }
+
+    /// Returns the lease that contains the address, with its value, or `None` if the address is not leased.
+    ///
+    /// ```text
+    /// after take 10.0.0.64/26: lease_of 10.0.0.70 is 10.0.0.64/26, and lease_of 10.0.0.1 is None
+    /// ```
+    pub fn lease_of(&self, address: IpAddr) -> Option<(&IpNet, &V)>
+        ensures found { IfSome result (λ r. IsLeased self.now (ip_network r.0.now) r.1.now
+            × InBlock (ip_network r.0.now) (ip_address address)) }
+        ensures none { IfNone result ((n : Network) (v : V) → IsLeased self.now n v
+            → ¬ (InBlock n (ip_address address))) }
+    {
+        let host = IpNet::from(address);
+        leases::touching(&self.leases, &host)
     }
 
     /// Returns the leases with their values, in the order of their networks.

@@ -26,8 +26,7 @@ pub returns-in_err-network-clause-prefix_len : goal.returns-in_err-network-claus
 returns-in_err-network-clause-prefix_len c =
     let result = c.from_residual-in_err-network.result in
     let (y, is, same) = err_from_is_err_and result c.from_residual-in_err-network.ensures.1 in
-    let was : c.assign.result ≡ Err c.in_err-network.field-0.0 = c.in_err-network.was in
-    (
+    let was : c.assign.result ≡ Err c.in_err-network.field-0.0 = c.in_err-network.was in (
       λ e. elim (c.assign.ensures.errors (cc)) [
         | inl exhausted ↦ absurd (cc)
         | inr memory ↦ absurd (cc)
