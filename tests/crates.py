@@ -1,4 +1,4 @@
-"""The crates of the repository, as crates.txt lists them: which there are, and which stand on which."""
+"""The crates of the repository, as crates.txt lists them: which there are, and which crates each one uses."""
 import os
 
 TOP = os.path.dirname(os.path.dirname(os.path.realpath(__file__)))

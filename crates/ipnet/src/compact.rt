@@ -71,7 +71,7 @@ impl Ipv4Net {
 
     /// The network of which these are the bytes.
     ///
-    /// `Length` where there are not five bytes, and else `Prefix` where the last is above 32.
+    /// `Length` if there are not five bytes; otherwise `Prefix` if the last byte is above 32.
     ///
     /// ```text
     /// 10, 1, 1, 0, 24 is 10.1.1.0/24; 10, 1, 1, 0, 33 gives Prefix, and 10, 1, 1, 0, 33, 0 Length
@@ -107,7 +107,7 @@ impl Ipv6Net {
 
     /// The network of which these are the bytes.
     ///
-    /// `Length` where there are not seventeen bytes, and else `Prefix` where the last is above 128.
+    /// `Length` if there are not seventeen bytes; otherwise `Prefix` if the last byte is above 128.
     ///
     /// ```text
     /// 253, fifteen bytes 0 and 32 are fd00::/32; with 129 for 32 they give Prefix

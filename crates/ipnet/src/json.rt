@@ -40,7 +40,7 @@ fn json_string(alloc: Global, text: &str) -> Result<Value, AllocError>
 impl Ipv4Net {
     /// The JSON string of the canonical text, the one that `to_text` gives.
     ///
-    /// An error where there is no memory for the string.
+    /// Fails if memory runs out.
     ///
     /// ```text
     /// 10.1.1.0/24 is "10.1.1.0/24"
@@ -53,7 +53,7 @@ impl Ipv4Net {
 
     /// The IPv4 network that the JSON string writes in the strict grammar, as `from_str` reads it.
     ///
-    /// `NotString` where the value is no string, and else `Syntax` where the string writes no IPv4 network.
+    /// `NotString` if the value is not a string; otherwise `Syntax` if the string is not the text of an IPv4 network.
     ///
     /// ```text
     /// "10.1.1.0/24" is 10.1.1.0/24; 7 gives NotString, and "x" and "fd00::/32" Syntax
@@ -73,7 +73,7 @@ impl Ipv4Net {
 impl Ipv6Net {
     /// The JSON string of the canonical text, the one that `to_text` gives.
     ///
-    /// An error where there is no memory for the string.
+    /// Fails if memory runs out.
     ///
     /// ```text
     /// fd00::/32 is "fd00::/32"
@@ -86,7 +86,7 @@ impl Ipv6Net {
 
     /// The IPv6 network that the JSON string writes in the strict grammar, as `from_str` reads it.
     ///
-    /// `NotString` where the value is no string, and else `Syntax` where the string writes no IPv6 network.
+    /// `NotString` if the value is not a string; otherwise `Syntax` if the string is not the text of an IPv6 network.
     ///
     /// ```text
     /// "fd00::/32" is fd00::/32; null gives NotString, and "" and "10.1.1.0/24" Syntax
@@ -106,7 +106,7 @@ impl Ipv6Net {
 impl IpNet {
     /// The JSON string of the canonical text, the one that `to_text` gives.
     ///
-    /// An error where there is no memory for the string.
+    /// Fails if memory runs out.
     ///
     /// ```text
     /// 10.1.1.0/24 is "10.1.1.0/24"
@@ -119,7 +119,7 @@ impl IpNet {
 
     /// The network that the JSON string writes in the strict grammar, as `from_str` reads it.
     ///
-    /// `NotString` where the value is no string, and else `Syntax` where the string writes no network.
+    /// `NotString` if the value is not a string; otherwise `Syntax` if the string is not the text of a network.
     ///
     /// ```text
     /// "10.1.1.0/24" is 10.1.1.0/24; 7 gives NotString, and "x" Syntax

@@ -93,7 +93,7 @@ impl IpNet {
 
     /// The network of the address and the prefix length; the address keeps its host bits.
     ///
-    /// An error where the prefix length is above the width of the address: 32 or 128.
+    /// Fails if the prefix length is above the width of the address: 32 or 128.
     ///
     /// ```text
     /// IpNet::new(10.1.1.7, 24) is 10.1.1.7/24, and IpNet::new(10.1.1.7, 33) an error
@@ -307,7 +307,7 @@ impl IpNet {
     /// The walk over all networks of this prefix length in the block, ascending; there are 2^(new - own prefix length)
     /// of them.
     ///
-    /// An error where the new prefix length is below this network's own, or above the width, 32 or 128.
+    /// Fails if the new prefix length is below this network's own, or above the width, 32 or 128.
     ///
     /// ```text
     /// 10.0.0.0/24 at 26: 10.0.0.0/26, 10.0.0.64/26, 10.0.0.128/26, 10.0.0.192/26; at 23 an error

@@ -29,7 +29,7 @@ pub trait IpAdd<RHS> {
     /// The output is the sum of the two.
     ghost is_sum: { Self → RHS → Self.Output → Type 0 };
 
-    /// The sum of the two, or the greatest address where the sum lies above it.
+    /// The sum of the two, or the greatest address if the sum is above it.
     fn saturating_add(self, rhs: RHS) -> Self::Output
         ensures { is_sum self rhs result };
 }
@@ -48,7 +48,7 @@ pub trait IpSub<RHS> {
     /// The output is what is left of the first without the second.
     ghost is_difference: { Self → RHS → Self.Output → Type 0 };
 
-    /// The difference of the two, or 0 where the second is greater.
+    /// The difference of the two, or 0 if the second is greater.
     fn saturating_sub(self, rhs: RHS) -> Self::Output
         ensures { is_difference self rhs result };
 }

@@ -1,4 +1,4 @@
-//! What the tasks work on: texts and networks that are read, and what is made from them.
+//! The inputs of the tasks: texts and networks that are read, and data derived from them.
 
 use crate::error::BenchError;
 use ipnet::{IpAddr, IpNet, Ipv4Net, Ipv6Net};
@@ -6,7 +6,7 @@ use ipnet_sets::RouteTable;
 use std::alloc::{AllocError, Global};
 use std::io::{BufRead, BufReader};
 
-/// The lines that are read, the empty ones left out.
+/// The non-empty lines of the input.
 pub fn lines(rt: &impl Input, alloc: Global) -> Result<Vec<String>, BenchError> {
     let mut texts = Vec::new(alloc);
     let reader = BufReader::new(alloc, rt.reader()).map_err(BenchError::Input)?;
@@ -19,7 +19,7 @@ pub fn lines(rt: &impl Input, alloc: Global) -> Result<Vec<String>, BenchError> 
     Ok(texts)
 }
 
-/// The networks that the texts tell.
+/// Parses the networks in the texts.
 pub fn networks(alloc: Global, texts: &Vec<String>) -> Result<Vec<IpNet>, BenchError> {
     let mut networks = Vec::with_capacity(alloc, texts.len())?;
     for text in texts {
@@ -63,8 +63,8 @@ impl SplitMix {
     }
 }
 
-/// For each network one beside it to ask `contains` of: about half of them are any network of the list, and the
-/// others lie in the network itself.
+/// For each network, an argument for `contains`. About half of them are random networks of the list; the others lie in
+/// the network itself.
 pub fn inner_networks(alloc: Global, networks: &[IpNet]) -> Result<Vec<IpNet>, AllocError> {
     let count = networks.len() as u64;
     let mut numbers = SplitMix(7);
@@ -83,7 +83,7 @@ pub fn inner_networks(alloc: Global, networks: &[IpNet]) -> Result<Vec<IpNet>, A
     Ok(inner)
 }
 
-/// Every second network, the first among them, and the others.
+/// Every second network starting with the first, and the others.
 pub fn halves(alloc: Global, networks: &[IpNet]) -> Result<(Vec<IpNet>, Vec<IpNet>), AllocError> {
     let mut first = Vec::new(alloc);
     let mut second = Vec::new(alloc);
@@ -106,7 +106,7 @@ pub fn last_addresses(alloc: Global, networks: &[IpNet]) -> Result<Vec<IpAddr>, 
     Ok(addresses)
 }
 
-/// A route to each network, with its place as its value.
+/// A route to each network, with its position as value.
 pub fn routes(alloc: Global, networks: &[IpNet]) -> Result<Vec<(IpNet, u64)>, AllocError> {
     let mut routes = Vec::with_capacity(alloc, networks.len())?;
     let mut place: u64 = 0;
@@ -122,7 +122,7 @@ pub fn route_table(alloc: Global, networks: &[IpNet]) -> Result<RouteTable<u64>,
     RouteTable::from_routes(alloc, routes(alloc, networks)?)
 }
 
-/// Ten texts that repeat a piece this many times: more than one, so that no call stands for another.
+/// Ten texts that each repeat the piece `length` times. There are ten, so that no result of a call is reused.
 pub fn long_texts(alloc: Global, piece: &str, length: u32) -> Result<Vec<String>, AllocError> {
     let mut texts = Vec::new(alloc);
     for _ in 0..10 {

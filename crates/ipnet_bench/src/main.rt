@@ -1,8 +1,8 @@
 //! Measures the public calls of this repository: `ipnet_bench TASK [ARGUMENT..] < NETWORKS`.
 //!
-//! A task does its work several times over and prints one line, a JSON object: the nanoseconds of the fastest
-//! time and of the middle one, and a number made from the answers, to be compared with another program's.
-//! `bench/README.md` tells the tasks, and `bench/run` puts their figures beside those of the original.
+//! A task runs several times and prints a JSON object on one line: the shortest and the median time in nanoseconds, and
+//! a checksum of the answers, to compare with another program. `bench/README.md` lists the tasks, and `bench/run`
+//! compares their figures with the original crate.
 #![tactic(auto)]
 
 mod error;
@@ -22,21 +22,21 @@ use std::rt::Clock;
 
 const USAGE: &str = "usage: ipnet_bench TASK [ARGUMENT..] < NETWORKS";
 
-/// The IPv4 address at this place of the arguments.
+/// The IPv4 address in the argument with this index.
 fn ipv4_address(arguments: &[String], index: usize) -> Result<Ipv4Addr, BenchError> {
     let text = arguments.get(index).ok_or(BenchError::Addresses)?;
     let address = text.as_str().parse::<Ipv4Addr>();
     address.map_err(|_| BenchError::Addresses)
 }
 
-/// The IPv6 address at this place of the arguments.
+/// The IPv6 address in the argument with this index.
 fn ipv6_address(arguments: &[String], index: usize) -> Result<Ipv6Addr, BenchError> {
     let text = arguments.get(index).ok_or(BenchError::Addresses)?;
     let address = text.as_str().parse::<Ipv6Addr>();
     address.map_err(|_| BenchError::Addresses)
 }
 
-/// The tasks over the arguments alone.
+/// The tasks that only use the arguments.
 fn without_input(
     rt: &(impl Print + Clock),
     alloc: Global,
@@ -77,8 +77,8 @@ fn without_input(
     Ok(true)
 }
 
-/// The tasks over sets, and over tables of routes. Of sets, every second network is the first and the others are the
-/// second; an address is asked of each network, of a set or table that has every second.
+/// The tasks over sets and tables of routes. Set operations have every second network as the first set and the others
+/// as the second. Queries look up an address of each network in a set or table of every second network.
 fn over_sets(
     rt: &(impl Print + Clock),
     alloc: Global,
@@ -121,7 +121,7 @@ fn over_sets(
     measure::report(rt, alloc, task, work)
 }
 
-/// The tasks over the networks that are read.
+/// The tasks over the networks of the input.
 fn over_networks(
     rt: &(impl Print + Clock + Input),
     alloc: Global,
@@ -168,7 +168,7 @@ fn over_networks(
     }
 }
 
-/// Does the task that the arguments name, or prints the usage where there are none.
+/// Runs the task in the arguments; prints the usage if there are none.
 fn run(rt: &HostRuntime) -> Result<(), BenchError> {
     let arguments = env::args(rt).map_err(BenchError::Arguments)?;
     let arguments = arguments.skip(1).collect::<Vec<String>>(rt.alloc())?;
@@ -185,7 +185,7 @@ fn main(rt: HostRuntime) -> ExitCode {
     match run(&rt) {
         Ok(()) => ExitCode::SUCCESS,
         Err(error) => {
-            // Where standard error cannot be written either, the status alone tells.
+            // If this also cannot be written, only the status reports the error.
             let _ = eprintln!(rt; "ipnet_bench: {error}");
             ExitCode::FAILURE
         }

@@ -1,23 +1,23 @@
-//! How the time of a work is taken and printed.
+//! Measures and prints the time of a task.
 
 use crate::error::BenchError;
 use std::alloc::{AllocError, Global};
 use std::rt::Clock;
 use std::time::Instant;
 
-/// How often a work is done.
+/// The number of measured runs.
 const RUNS: usize = 11;
 
-/// A work whose time is taken.
+/// A task whose time is measured.
 pub trait Work: Drop {
-    /// How many items one run of the work goes over.
+    /// The number of items of one run.
     fn items(&self) -> usize;
 
-    /// Does the work once, and answers a number made from what it did.
+    /// Runs the task once, and returns a checksum of its results.
     fn run(&mut self) -> Result<u64, AllocError>;
 }
 
-/// Nanoseconds of one run, and the number that it answered.
+/// The time of one run in nanoseconds, and its checksum.
 fn timed<W: Work>(rt: &impl Clock, work: &mut W) -> Result<(u64, u64), BenchError> {
     let start = Instant::now(rt).map_err(BenchError::Clock)?;
     let check = work.run()?;
@@ -25,7 +25,7 @@ fn timed<W: Work>(rt: &impl Clock, work: &mut W) -> Result<(u64, u64), BenchErro
     Ok((u64::try_from(elapsed).unwrap_or(u64::MAX), check))
 }
 
-/// Does the work once unmeasured and then `RUNS` times, and prints the figures.
+/// Runs the task once without measuring it and then `RUNS` times, and prints the figures.
 pub fn report<W: Work>(
     rt: &(impl Print + Clock),
     alloc: Global,

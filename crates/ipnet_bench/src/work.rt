@@ -1,4 +1,4 @@
-//! The works whose time is taken, each over public calls of this repository.
+//! The measured tasks, each over public calls of this repository.
 
 use crate::input;
 use crate::measure::Work;
@@ -8,7 +8,7 @@ use ipnet_sets::{IpSet, RouteTable};
 use std::alloc::{AllocError, Global};
 use std::fmt::Write;
 
-/// A number made from an address of either family.
+/// The checksum of an address of either family.
 fn folded(addr: IpAddr) -> u64 {
     match addr {
         IpAddr::V4(addr) => u64::from(addr.to_bits()),
@@ -19,12 +19,12 @@ fn folded(addr: IpAddr) -> u64 {
     }
 }
 
-/// The number of what went before and of one thing more (FNV-1a, of 64 bits at a time).
+/// Adds a value to the checksum (FNV-1a, 64 bits at a time).
 fn mixed(before: u64, number: u64) -> u64 {
     (before ^ number).wrapping_mul(0x0000_0100_0000_01b3)
 }
 
-/// Every address of an IPv4 range, from its start.
+/// All addresses of an IPv4 range, from its start.
 #[derive(Drop)]
 pub struct RangeNextIpv4 {
     pub start: Ipv4Addr,
@@ -45,7 +45,7 @@ impl Work for RangeNextIpv4 {
     }
 }
 
-/// Every address of an IPv6 range, from its start.
+/// All addresses of an IPv6 range, from its start.
 #[derive(Drop)]
 pub struct RangeNextIpv6 {
     pub start: Ipv6Addr,
@@ -118,7 +118,8 @@ impl Work for WalkIpv6 {
     }
 }
 
-/// Nothing but to hold the list, to tell its memory from that of another work. Its number is the list's bytes.
+/// Holds the list and does nothing else: the baseline for memory figures. The checksum is the size of the list in
+/// bytes.
 #[derive(Drop)]
 pub struct Hold {
     pub networks: Vec<IpNet>,
@@ -156,7 +157,7 @@ impl Work for Sort {
     }
 }
 
-/// Whether each network contains the one beside it.
+/// Whether each network contains its argument.
 #[derive(Drop)]
 pub struct Contains {
     pub outer: Vec<IpNet>,
@@ -201,7 +202,7 @@ impl Work for Aggregate {
     }
 }
 
-/// The aggregate of a list of IPv4 networks: its number is how long it is.
+/// The aggregate of a list of IPv4 networks. The checksum is its length.
 #[derive(Drop)]
 pub struct AggregateIpv4 {
     pub alloc: Global,
@@ -218,7 +219,7 @@ impl Work for AggregateIpv4 {
     }
 }
 
-/// The aggregate of a list of IPv6 networks: its number is how long it is.
+/// The aggregate of a list of IPv6 networks. The checksum is its length.
 #[derive(Drop)]
 pub struct AggregateIpv6 {
     pub alloc: Global,
@@ -235,7 +236,7 @@ impl Work for AggregateIpv6 {
     }
 }
 
-/// Every network printed by `Display`, into one buffer.
+/// Prints every network with `Display`, into one buffer.
 #[derive(Drop)]
 pub struct Print {
     pub networks: Vec<IpNet>,
@@ -256,7 +257,7 @@ impl Work for Print {
     }
 }
 
-/// Every network printed by `to_text`, into one buffer.
+/// Prints every network with `to_text`, into one buffer.
 #[derive(Drop)]
 pub struct ToText {
     pub networks: Vec<IpNet>,
@@ -277,7 +278,7 @@ impl Work for ToText {
     }
 }
 
-/// Every text read.
+/// Parses every text.
 #[derive(Drop)]
 pub struct Read {
     pub texts: Vec<String>,
@@ -301,7 +302,7 @@ impl Work for Read {
     }
 }
 
-/// 100,000 calls of the reader on texts that it refuses.
+/// Parses invalid texts, 100,000 times.
 #[derive(Drop)]
 pub struct Refuse {
     pub texts: Vec<String>,
@@ -325,7 +326,7 @@ impl Work for Refuse {
     }
 }
 
-/// What is made of two sets.
+/// The set operations.
 #[derive(Clone, Copy)]
 pub enum SetOperation {
     Union,
@@ -333,7 +334,8 @@ pub enum SetOperation {
     Difference,
 }
 
-/// Nothing but to hold two lists, to tell their memory from that of what is made of them. Its number is their bytes.
+/// Holds two lists and does nothing else: the baseline for memory figures of set operations. The checksum is their size
+/// in bytes.
 #[derive(Drop)]
 pub struct HoldHalves {
     pub first: Vec<IpNet>,
@@ -405,7 +407,7 @@ impl Work for SetContains {
     }
 }
 
-/// The table of the routes to the networks, each with its place as its value.
+/// The table of routes to the networks, each with its position as value.
 #[derive(Drop)]
 pub struct Routes {
     pub alloc: Global,
@@ -429,8 +431,8 @@ impl Work for Routes {
     }
 }
 
-/// Nothing but to hold the list and that of its routes, to tell their memory from that of a table. Its number is the
-/// bytes of the routes.
+/// Holds the list and the list of its routes, and does nothing else: the baseline for memory figures of tables. The
+/// checksum is the size of the routes in bytes.
 #[derive(Drop)]
 pub struct HoldRoutes {
     pub networks: Vec<IpNet>,

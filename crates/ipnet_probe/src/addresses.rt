@@ -6,7 +6,7 @@ use ipnet::{
 };
 use std::alloc::Global;
 
-/// The answer of a call on an address, and another or a number.
+/// The result of a call on an address, and another address or a number.
 macro_rules! arithmetic {
     ($address:ty, $number:ty, $left:expr, $alloc:expr, $question:expr) => {{
         if let Ok(right) = $question.second.parse::<$address>() {
@@ -30,17 +30,17 @@ macro_rules! arithmetic {
     }};
 }
 
-/// Asks an IPv4 address, and another or a number.
+/// Calls on an IPv4 address, and another address or a number.
 fn two_ipv4(alloc: Global, question: Question<'_>, left: Ipv4Addr) -> Answer {
     arithmetic!(Ipv4Addr, u32, left, alloc, question)
 }
 
-/// Asks an IPv6 address, and another or a number.
+/// Calls on an IPv6 address, and another address or a number.
 fn two_ipv6(alloc: Global, question: Question<'_>, left: Ipv6Addr) -> Answer {
     arithmetic!(Ipv6Addr, u128, left, alloc, question)
 }
 
-/// Asks an IPv4 address.
+/// Calls on an IPv4 address.
 pub fn ask_ipv4(alloc: Global, question: Question<'_>) -> Answer {
     let Ok(ip) = question.first.parse::<Ipv4Addr>() else {
         return Ok(None);
@@ -52,7 +52,7 @@ pub fn ask_ipv4(alloc: Global, question: Question<'_>) -> Answer {
     }
 }
 
-/// Asks an IPv6 address.
+/// Calls on an IPv6 address.
 pub fn ask_ipv6(alloc: Global, question: Question<'_>) -> Answer {
     let Ok(ip) = question.first.parse::<Ipv6Addr>() else {
         return Ok(None);
@@ -64,7 +64,7 @@ pub fn ask_ipv6(alloc: Global, question: Question<'_>) -> Answer {
     }
 }
 
-/// Asks an address of either family.
+/// Calls on an address of either family.
 pub fn ask_ip(alloc: Global, question: Question<'_>) -> Answer {
     match question.first.parse::<IpAddr>() {
         Ok(ip) => show(alloc, ip_mask_to_prefix(ip)).map(Some),

@@ -3,7 +3,7 @@ use crate::{Answer, Question, lists, show};
 use ipnet::{IpNet, Ipv4Net, Ipv6Net};
 use std::alloc::Global;
 
-/// Reads bytes as an IPv4 network.
+/// Reads the byte form of an IPv4 network.
 pub fn ask_ipv4(alloc: Global, question: Question<'_>) -> Answer {
     match lists::items::<u8>(alloc, question.first)? {
         Some(bytes) => show(alloc, Ipv4Net::from_bytes(bytes.as_slice())).map(Some),
@@ -11,7 +11,7 @@ pub fn ask_ipv4(alloc: Global, question: Question<'_>) -> Answer {
     }
 }
 
-/// Reads bytes as an IPv6 network.
+/// Reads the byte form of an IPv6 network.
 pub fn ask_ipv6(alloc: Global, question: Question<'_>) -> Answer {
     match lists::items::<u8>(alloc, question.first)? {
         Some(bytes) => show(alloc, Ipv6Net::from_bytes(bytes.as_slice())).map(Some),
@@ -19,7 +19,7 @@ pub fn ask_ipv6(alloc: Global, question: Question<'_>) -> Answer {
     }
 }
 
-/// Reads bytes as a network of either family.
+/// Reads the byte form of a network of either family.
 pub fn ask_ip(alloc: Global, question: Question<'_>) -> Answer {
     match lists::items::<u8>(alloc, question.first)? {
         Some(bytes) => show(alloc, IpNet::from_bytes(bytes.as_slice())).map(Some),

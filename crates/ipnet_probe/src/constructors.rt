@@ -1,10 +1,10 @@
-//! Questions about the calls that make a network: of an address and a prefix length or a netmask, of an address, of
-//! a network of one family, and the default.
+//! Questions about constructors of networks: from an address and a prefix length or a netmask, from an address, from a
+//! network of one family, and the default.
 use crate::{Answer, Question, show};
 use ipnet::{IpAddr, IpNet, Ipv4Addr, Ipv4Net, Ipv6Addr, Ipv6Net};
 use std::alloc::Global;
 
-/// Asks the constructors of `Ipv4Net`.
+/// Calls the constructors of `Ipv4Net`.
 pub fn ask_ipv4(alloc: Global, question: Question<'_>) -> Answer {
     if question.call == "default" {
         return show(alloc, Ipv4Net::default()).map(Some);
@@ -30,7 +30,7 @@ pub fn ask_ipv4(alloc: Global, question: Question<'_>) -> Answer {
     show(alloc, Ipv4Net::new_assert(ip, len)).map(Some)
 }
 
-/// Asks the constructors of `Ipv6Net`.
+/// Calls the constructors of `Ipv6Net`.
 pub fn ask_ipv6(alloc: Global, question: Question<'_>) -> Answer {
     if question.call == "default" {
         return show(alloc, Ipv6Net::default()).map(Some);
@@ -56,7 +56,7 @@ pub fn ask_ipv6(alloc: Global, question: Question<'_>) -> Answer {
     show(alloc, Ipv6Net::new_assert(ip, len)).map(Some)
 }
 
-/// The network of the address and the prefix length, by `IpNet::new_assert`; none if the length is too great.
+/// The network with the address and the prefix length, by `IpNet::new_assert`; `None` if the length is too large.
 fn asserted(ip: IpAddr, len: u8) -> Option<IpNet> {
     match ip {
         IpAddr::V4(ip) if len <= 32 => Some(IpNet::new_assert(IpAddr::V4(ip), len)),
@@ -65,7 +65,7 @@ fn asserted(ip: IpAddr, len: u8) -> Option<IpNet> {
     }
 }
 
-/// The network of either family that is the same as the network of one family in the text.
+/// The network of one family in the text, converted to the type of either family.
 fn from_network(text: &str) -> Option<IpNet> {
     if let Ok(net) = text.parse::<Ipv4Net>() {
         return Some(IpNet::from(net));
@@ -74,7 +74,7 @@ fn from_network(text: &str) -> Option<IpNet> {
     Some(IpNet::from(net))
 }
 
-/// Asks the constructors of `IpNet`.
+/// Calls the constructors of `IpNet`.
 pub fn ask_ip(alloc: Global, question: Question<'_>) -> Answer {
     if question.call == "default" {
         return show(alloc, IpNet::default()).map(Some);

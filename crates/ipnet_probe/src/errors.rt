@@ -3,7 +3,7 @@ use crate::{Answer, Question};
 use ipnet::{CompactError, IpNet, JsonError, PrefixLenError};
 use std::alloc::Global;
 
-/// Asks what the error of this name prints.
+/// Prints the error with this name.
 pub fn ask(alloc: Global, question: Question<'_>) -> Answer {
     let text = match question.call {
         "PrefixLenError" => PrefixLenError.to_string(alloc),

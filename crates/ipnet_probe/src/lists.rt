@@ -4,7 +4,7 @@ use ipnet::{IpNet, Ipv4Net, Ipv6Net, is_aggregated, same_addresses};
 use std::alloc::{AllocError, Global};
 use std::str::FromStr;
 
-/// The items of a list; none if one is not of its type. The empty text is the empty list.
+/// Parses the items of a list; `None` if an item is not of its type. The empty text is the empty list.
 pub fn items<T: FromStr + Drop>(alloc: Global, text: &str) -> Result<Option<Vec<T>>, AllocError>
 where
     T::Err: Drop,

@@ -1,6 +1,6 @@
-//! Answers questions about the library, one a line: a type, the name of a call, and at most three arguments.
+//! Answers questions about the library, one per line: a type, the name of a call, and at most three arguments.
 //!
-//! Words are separated by one blank. A text is percent-encoded, and a list joins its items by commas.
+//! Words are separated by one blank. Texts are percent-encoded, and the items of a list are joined by commas.
 //!
 //! ```text
 //! Ipv4Net supernet 10.1.0.0/16                Some(10.0.0.0/15)
@@ -28,18 +28,18 @@ use std::fmt::Debug;
 use std::io;
 use std::io::{BufRead, BufReader, BufWriter, Write};
 
-/// An answer; none if there is no such question.
+/// An answer; `None` if the question is unknown.
 pub type Answer = Result<Option<String>, AllocError>;
 
-/// What `{:?}` writes of the value.
+/// The text that `{:?}` prints for the value.
 pub fn show<T: Debug + Drop>(alloc: Global, value: T) -> Result<String, AllocError> {
     format!(in alloc; "{value:?}")
 }
 
-/// A question; an argument that it does not have is the empty text.
+/// A question. A missing argument is the empty text.
 #[derive(Clone, Copy)]
 pub struct Question<'a> {
-    /// The type that is asked.
+    /// The type of the call.
     pub kind: &'a str,
     /// The name of the call.
     pub call: &'a str,
@@ -51,7 +51,7 @@ pub struct Question<'a> {
     pub third: &'a str,
 }
 
-/// The question that the line writes.
+/// Parses a line as a question.
 fn read(line: &str) -> Question<'_> {
     let mut words = line.split(' ');
     Question {

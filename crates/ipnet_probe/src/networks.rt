@@ -1,9 +1,9 @@
-//! Questions about one network, and which module answers the others about networks.
+//! Questions about one network. Other questions about networks go to the module for them.
 use crate::{Answer, Question, bytes, constructors, json, lists, pairs, show, texts, walks};
 use ipnet::{IpNet, Ipv4Net, Ipv6Net};
 use std::alloc::Global;
 
-/// The answer of a call that takes only a network.
+/// The result of a call on a network without arguments.
 macro_rules! one {
     ($network:ty, $alloc:expr, $question:expr) => {{
         let Ok(net) = $question.first.parse::<$network>() else {
@@ -29,22 +29,22 @@ macro_rules! one {
     }};
 }
 
-/// Asks an IPv4 network only.
+/// Calls without arguments on an IPv4 network.
 fn one_ipv4(alloc: Global, question: Question<'_>) -> Answer {
     one!(Ipv4Net, alloc, question)
 }
 
-/// Asks an IPv6 network only.
+/// Calls without arguments on an IPv6 network.
 fn one_ipv6(alloc: Global, question: Question<'_>) -> Answer {
     one!(Ipv6Net, alloc, question)
 }
 
-/// Asks a network of either family only.
+/// Calls without arguments on a network of either family.
 fn one_ip(alloc: Global, question: Question<'_>) -> Answer {
     one!(IpNet, alloc, question)
 }
 
-/// Asks the modules in turn; the first answer counts.
+/// Passes the question to the modules in turn; the first answer counts.
 macro_rules! ask {
     ($one:path, $ask:ident, $alloc:expr, $question:expr) => {
         match $question.call {
@@ -62,17 +62,17 @@ macro_rules! ask {
     };
 }
 
-/// Asks an IPv4 network.
+/// Calls on an IPv4 network.
 pub fn ask_ipv4(alloc: Global, question: Question<'_>) -> Answer {
     ask!(one_ipv4, ask_ipv4, alloc, question)
 }
 
-/// Asks an IPv6 network.
+/// Calls on an IPv6 network.
 pub fn ask_ipv6(alloc: Global, question: Question<'_>) -> Answer {
     ask!(one_ipv6, ask_ipv6, alloc, question)
 }
 
-/// Asks a network of either family.
+/// Calls on a network of either family.
 pub fn ask_ip(alloc: Global, question: Question<'_>) -> Answer {
     ask!(one_ip, ask_ip, alloc, question)
 }

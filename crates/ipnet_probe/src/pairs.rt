@@ -1,17 +1,17 @@
-//! Questions about a network and another, or an address; and comparisons of two values of one type.
+//! Questions about a network and another network or an address, and comparisons of two values of one type.
 use crate::{Answer, Question, show};
 use ipnet::{IpAddr, IpNet, Ipv4Addr, Ipv4Net, Ipv6Addr, Ipv6Net};
 use std::alloc::Global;
 use std::hash::{DefaultHasher, Hash, Hasher};
 
-/// What a hasher makes of the value.
+/// The hash of the value.
 fn hash_of<T: Hash>(value: &T) -> u64 {
     let mut hasher = DefaultHasher::new();
     value.hash(&mut hasher);
     hasher.finish()
 }
 
-/// Whether the two values are equal, which comes first, and whether a hasher makes the same of both.
+/// Whether the two values are equal, which comes first, and whether their hashes are equal.
 pub fn compare<T: Ord + Hash + Drop>(alloc: Global, left: Option<T>, right: Option<T>) -> Answer {
     let (Some(left), Some(right)) = (left, right) else {
         return Ok(None);
@@ -20,7 +20,7 @@ pub fn compare<T: Ord + Hash + Drop>(alloc: Global, left: Option<T>, right: Opti
     show(alloc, (left == right, left.cmp(&right), is_same_hash)).map(Some)
 }
 
-/// The answer of a call that takes a network, and another or an address.
+/// The result of a call on a network, and another network or an address.
 macro_rules! ask {
     ($network:ty, $address:ty, $alloc:expr, $question:expr) => {{
         let Ok(net) = $question.first.parse::<$network>() else {
@@ -41,17 +41,17 @@ macro_rules! ask {
     }};
 }
 
-/// Asks an IPv4 network about another, or an address.
+/// Calls on an IPv4 network, and another network or an address.
 pub fn ask_ipv4(alloc: Global, question: Question<'_>) -> Answer {
     ask!(Ipv4Net, Ipv4Addr, alloc, question)
 }
 
-/// Asks an IPv6 network about another, or an address.
+/// Calls on an IPv6 network, and another network or an address.
 pub fn ask_ipv6(alloc: Global, question: Question<'_>) -> Answer {
     ask!(Ipv6Net, Ipv6Addr, alloc, question)
 }
 
-/// Asks a network of either family about another, or an address.
+/// Calls on a network of either family, and another network or an address.
 pub fn ask_ip(alloc: Global, question: Question<'_>) -> Answer {
     ask!(IpNet, IpAddr, alloc, question)
 }

@@ -1,25 +1,25 @@
-//! Questions about ranges of addresses: calls in turn, and the stored ends after them.
+//! Questions about ranges of addresses: a sequence of calls, and the stored ends after them.
 use crate::pairs::compare;
 use crate::{Answer, Question, show};
 use ipnet::{IpAddrRange, Ipv4Addr, Ipv4AddrRange, Ipv6Addr, Ipv6AddrRange};
 use std::alloc::Global;
 use std::fmt::Debug;
 
-/// The range that the text is, as `10.0.0.0-10.0.0.3`.
+/// Parses a range, such as `10.0.0.0-10.0.0.3`.
 fn ipv4_range(text: &str) -> Option<Ipv4AddrRange> {
     let (start, end) = text.split_once('-')?;
     let start = start.parse::<Ipv4Addr>().ok()?;
     Some(Ipv4AddrRange::new(start, end.parse::<Ipv4Addr>().ok()?))
 }
 
-/// The range that the text is, as `fd00::-fd00::3`.
+/// Parses a range, such as `fd00::-fd00::3`.
 fn ipv6_range(text: &str) -> Option<Ipv6AddrRange> {
     let (start, end) = text.split_once('-')?;
     let start = start.parse::<Ipv6Addr>().ok()?;
     Some(Ipv6AddrRange::new(start, end.parse::<Ipv6Addr>().ok()?))
 }
 
-/// The range of either family that the text is.
+/// Parses a range of either family.
 fn ip_range(text: &str) -> Option<IpAddrRange> {
     if let Some(range) = ipv4_range(text) {
         return Some(IpAddrRange::from(range));
@@ -27,13 +27,13 @@ fn ip_range(text: &str) -> Option<IpAddrRange> {
     Some(IpAddrRange::from(ipv6_range(text)?))
 }
 
-/// A range that is asked one call after another.
+/// A range type for a sequence of calls.
 trait Asked: Debug + Drop {
-    /// What the call answers. The number is for `nth` and `nth_back`.
+    /// The result of the call. The number is for `nth` and `nth_back`.
     fn call(&mut self, alloc: Global, name: &str, n: usize) -> Answer;
 }
 
-/// The answer of a call on a range.
+/// The result of a call on a range.
 macro_rules! call {
     ($range:expr, $count:expr, $alloc:expr, $name:expr, $n:expr) => {{
         let now = *$range;
@@ -60,7 +60,7 @@ impl Asked for Ipv4AddrRange {
     }
 }
 
-/// The count, where it may be asked for: where `size_hint` has an upper bound.
+/// The count; `None` unless `size_hint` has an upper bound, because otherwise `count` must not be called.
 fn ipv6_count(range: Ipv6AddrRange) -> Option<usize> {
     match range.size_hint() {
         (_, Some(_)) => Some(range.count()),
@@ -74,7 +74,7 @@ impl Asked for Ipv6AddrRange {
     }
 }
 
-/// The count, where it may be asked for: where `size_hint` has an upper bound.
+/// The count; `None` unless `size_hint` has an upper bound, because otherwise `count` must not be called.
 fn ip_count(range: IpAddrRange) -> Option<usize> {
     match range.size_hint() {
         (_, Some(_)) => Some(range.count()),
@@ -88,7 +88,7 @@ impl Asked for IpAddrRange {
     }
 }
 
-/// Asks the calls in turn, and then what the range stores.
+/// The results of the calls in turn, and the stored ends after them.
 fn in_turn<R: Asked>(alloc: Global, range: Option<R>, calls: &str) -> Answer {
     let Some(mut range) = range else {
         return Ok(None);
@@ -105,7 +105,7 @@ fn in_turn<R: Asked>(alloc: Global, range: Option<R>, calls: &str) -> Answer {
     format!(in alloc; "{answers}{range:?}").map(Some)
 }
 
-/// Asks an IPv4 range.
+/// Calls on an IPv4 range.
 pub fn ask_ipv4(alloc: Global, question: Question<'_>) -> Answer {
     let range = ipv4_range(question.first);
     match question.call {
@@ -115,7 +115,7 @@ pub fn ask_ipv4(alloc: Global, question: Question<'_>) -> Answer {
     }
 }
 
-/// Asks an IPv6 range.
+/// Calls on an IPv6 range.
 pub fn ask_ipv6(alloc: Global, question: Question<'_>) -> Answer {
     let range = ipv6_range(question.first);
     match question.call {
@@ -125,7 +125,7 @@ pub fn ask_ipv6(alloc: Global, question: Question<'_>) -> Answer {
     }
 }
 
-/// Asks a range of either family.
+/// Calls on a range of either family.
 pub fn ask_ip(alloc: Global, question: Question<'_>) -> Answer {
     let range = ip_range(question.first);
     match question.call {

@@ -1,12 +1,12 @@
-//! Questions about tables of routes. The routes are networks with a value each, as `10.0.0.0/8=x`, with a comma between
-//! two, or `-` for none. A value is a text, so that it is not `Copy`.
+//! Questions about tables of routes. Routes are networks with a value each, such as `10.0.0.0/8=x`, separated by
+//! commas; `-` is the empty list. Values are texts, because texts are not `Copy`.
 use crate::show;
 use ipnet::{IpAddr, IpNet};
 use ipnet_sets::RouteTable;
 use std::alloc::{AllocError, Global};
 
-/// The answer of a call on the table of the routes; none if there is no such call, or its arguments cannot be read. A
-/// call with one argument takes `-` as the second.
+/// The result of a call on the table of the routes; `None` if the call is unknown or its arguments are invalid. A call
+/// with one argument has `-` as the second.
 pub fn ask(
     alloc: Global,
     call: &str,
@@ -26,7 +26,7 @@ pub fn ask(
     }
 }
 
-/// The routes in the order of the text; none if the text is no list of them.
+/// Parses routes, in the order of the text; `None` if the text is not a list of routes.
 fn read_routes(alloc: Global, text: &str) -> Result<Option<Vec<(IpNet, String)>>, AllocError> {
     let mut routes = Vec::new(alloc);
     if text == "-" {
@@ -44,7 +44,7 @@ fn read_routes(alloc: Global, text: &str) -> Result<Option<Vec<(IpNet, String)>>
     Ok(Some(routes))
 }
 
-/// The answer of a call that takes the table only; none if there is no such call.
+/// The result of a call without arguments on the table; `None` if the call is unknown.
 fn ask_table(
     alloc: Global,
     call: &str,
@@ -59,7 +59,7 @@ fn ask_table(
     Ok(Some(text))
 }
 
-/// The value of the network; none if the text is no network.
+/// The value of the network; `None` if the text is not a network.
 fn ask_get(
     alloc: Global,
     table: &RouteTable<String>,
@@ -71,7 +71,7 @@ fn ask_get(
     Ok(Some(show(alloc, table.get(&network))?))
 }
 
-/// The longest match of the address; none if the text is no address.
+/// The longest match of the address; `None` if the text is not an address.
 fn ask_longest_match(
     alloc: Global,
     table: &RouteTable<String>,

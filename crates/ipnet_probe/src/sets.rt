@@ -1,12 +1,13 @@
-//! Questions about sets of addresses. A set is a list of networks and ranges with a comma between two, or `-` for none.
+//! Questions about sets of addresses. A set is a list of networks and ranges, separated by commas; `-` is the empty
+//! set.
 use crate::show;
 use ipnet::{IpAddr, IpAddrRange, IpNet};
 use ipnet_sets::{IpSet, IpSetRanges};
 use std::alloc::{AllocError, Global};
 use std::hash::{DefaultHasher, Hash, Hasher};
 
-/// The answer of a call on a set; none if there is no such call, or its arguments cannot be read. A call with one
-/// argument takes `-` as the second.
+/// The result of a call on a set; `None` if the call is unknown or its arguments are invalid. A call with one argument
+/// has `-` as the second.
 pub fn ask(
     alloc: Global,
     call: &str,
@@ -37,7 +38,7 @@ pub fn ask(
     compare(alloc, call, &set, &other)
 }
 
-/// The set of the networks and ranges; none if the text is no list of them.
+/// The set of the networks and ranges; `None` if the text is not a list of them.
 fn read_set(alloc: Global, text: &str) -> Result<Option<IpSet>, AllocError> {
     let mut networks = Vec::new(alloc);
     let mut ranges = IpSet::new(alloc);
@@ -61,7 +62,7 @@ fn read_set(alloc: Global, text: &str) -> Result<Option<IpSet>, AllocError> {
     Ok(Some(ranges.union(alloc, &set)?))
 }
 
-/// The ends of the range; none if the text is no range.
+/// The ends of the range; `None` if the text is not a range.
 fn read_range(text: &str) -> Option<(IpAddr, IpAddr)> {
     let (start, end) = text.split_once('-')?;
     match (start.parse::<IpAddr>(), end.parse::<IpAddr>()) {
@@ -70,7 +71,7 @@ fn read_range(text: &str) -> Option<(IpAddr, IpAddr)> {
     }
 }
 
-/// The set of the range; none if one of the texts is no address.
+/// The set of the range; `None` if one of the texts is not an address.
 fn ask_range(alloc: Global, start: &str, end: &str) -> Result<Option<String>, AllocError> {
     let (Ok(start), Ok(end)) = (start.parse::<IpAddr>(), end.parse::<IpAddr>()) else {
         return Ok(None);
@@ -78,7 +79,7 @@ fn ask_range(alloc: Global, start: &str, end: &str) -> Result<Option<String>, Al
     Ok(Some(show(alloc, IpSet::from_range(alloc, start, end)?)?))
 }
 
-/// The set of the network; none if the text is no network.
+/// The set of the network; `None` if the text is not a network.
 fn ask_network(alloc: Global, network: &str) -> Result<Option<String>, AllocError> {
     let Ok(network) = network.parse::<IpNet>() else {
         return Ok(None);
@@ -86,7 +87,7 @@ fn ask_network(alloc: Global, network: &str) -> Result<Option<String>, AllocErro
     Ok(Some(show(alloc, IpSet::from_network(alloc, &network)?)?))
 }
 
-/// The answer of a call that takes the set only; none if there is no such call.
+/// The result of a call without arguments on the set; `None` if the call is unknown.
 fn ask_one(alloc: Global, call: &str, set: &IpSet) -> Result<Option<String>, AllocError> {
     let text = match call {
         "set" => format!(in alloc; "{set:?}")?,
@@ -111,14 +112,14 @@ fn ask_one(alloc: Global, call: &str, set: &IpSet) -> Result<Option<String>, All
     Ok(Some(text))
 }
 
-/// What a hasher says of the value.
+/// The hash of the value.
 fn hash_of<T: Hash>(value: &T) -> u64 {
     let mut state = DefaultHasher::new();
     value.hash(&mut state);
     state.finish()
 }
 
-/// The ranges that are left.
+/// The remaining ranges.
 fn list(alloc: Global, ranges: IpSetRanges<'_>) -> Result<Vec<IpAddrRange>, AllocError> {
     let mut list = Vec::new(alloc);
     for range in ranges {
@@ -145,8 +146,7 @@ fn list_back(alloc: Global, ranges: IpSetRanges<'_>) -> Result<Vec<IpAddrRange>,
     Ok(list)
 }
 
-/// The answer of a call that takes an address, a network, a range or a number beside the set; none if there is no such
-/// call.
+/// The result of a call on the set with an address, a network, a range or a number; `None` if the call is unknown.
 fn ask_part(
     alloc: Global,
     call: &str,
@@ -174,7 +174,7 @@ fn ask_part(
     }
 }
 
-/// The ranges that are left after these many calls of `next`: by the iterator, by its copy and by its clone.
+/// The remaining ranges after `steps` calls of `next`: from the iterator, from its copy and from its clone.
 fn ask_ranges_after(
     alloc: Global,
     set: &IpSet,
@@ -190,7 +190,7 @@ fn ask_ranges_after(
     Ok(Some(show(alloc, (left, list(alloc, copy)?, list(alloc, clone)?))?))
 }
 
-/// The set that the call makes of the two; none if there is no such call.
+/// The set that the call makes from the two sets; `None` if the call is unknown.
 fn combine(
     alloc: Global,
     call: &str,
@@ -207,7 +207,7 @@ fn combine(
     Ok(Some(show(alloc, made)?))
 }
 
-/// The answer of a call that compares the two; none if there is no such call.
+/// The result of a call that compares the two sets; `None` if the call is unknown.
 fn compare(
     alloc: Global,
     call: &str,

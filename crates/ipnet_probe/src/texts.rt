@@ -1,4 +1,4 @@
-//! Questions about the readers of texts, and about what the formatter writes of a network.
+//! Questions about the parsers of texts, and about formatted networks.
 use crate::{Answer, Question, show};
 use ipnet::{AddrParseError, IpNet, Ipv4Net, Ipv6Net};
 use percent_encoding::percent_decode_str;
@@ -6,20 +6,20 @@ use std::alloc::{AllocError, Global};
 use std::borrow::CowStr;
 use std::fmt::{Debug, Display};
 
-/// The text of which the word is the percent-encoded form; none if that is no UTF-8.
+/// Decodes a percent-encoded word; `None` if the result is not UTF-8.
 pub fn decoded<'a>(alloc: Global, word: &'a str) -> Option<CowStr<'a>> {
     percent_decode_str(word).decode_utf8(alloc).ok()
 }
 
-/// The network that the text is, as each of the three types.
+/// The results of parsing a text as each of the three types.
 type Readings = (Option<Ipv4Net>, Option<Ipv6Net>, Option<IpNet>);
 
-/// What the strict readers give.
+/// The results of the strict parsers.
 fn strict(text: &str) -> Readings {
     (text.parse().ok(), text.parse().ok(), text.parse().ok())
 }
 
-/// What the legacy readers give.
+/// The results of the legacy parsers.
 fn legacy(text: &str) -> Readings {
     (
         Ipv4Net::parse_legacy(text).ok(),
@@ -28,7 +28,7 @@ fn legacy(text: &str) -> Readings {
     )
 }
 
-/// Asks all six readers.
+/// Calls all six parsers.
 pub fn ask(alloc: Global, question: Question<'_>) -> Answer {
     let Some(text) = decoded(alloc, question.first) else {
         return Ok(None);
@@ -38,12 +38,12 @@ pub fn ask(alloc: Global, question: Question<'_>) -> Answer {
     format!(in alloc; "{strict:?} {legacy:?}").map(Some)
 }
 
-/// What the formatter writes of the network with a width, a fill and a flag.
+/// The network, formatted with a width, a fill and a flag.
 fn formats<N: Display + Debug + Drop>(alloc: Global, net: N) -> Result<String, AllocError> {
     format!(in alloc; "{net},{net:?},{net:>30},{net:*^30},{net:<30?},{net:#?}")
 }
 
-/// What both readers of a type give, or what the formatter writes.
+/// The results of both parsers of a type, or the formatted network.
 macro_rules! ask {
     ($network:ty, $alloc:expr, $question:expr) => {{
         let Some(text) = decoded($alloc, $question.first) else {

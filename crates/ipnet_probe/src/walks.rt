@@ -4,10 +4,10 @@ use crate::{Answer, Question, show};
 use ipnet::{IpNet, IpSubnets, Ipv4Addr, Ipv4Net, Ipv4Subnets, Ipv6Addr, Ipv6Net, Ipv6Subnets};
 use std::alloc::Global;
 
-/// The most items of a walk that are shown.
+/// The maximum number of items of a walk that are printed.
 const MOST_ITEMS: usize = 100_000;
 
-/// The walk that the text is, as `10.0.0.0-10.0.0.239-26`: the start, the end and the minimum prefix length.
+/// Parses a walk, such as `10.0.0.0-10.0.0.239-26`: the start, the end and the minimum prefix length.
 fn ipv4_walk(text: &str) -> Option<Ipv4Subnets> {
     let (range, min_prefix_len) = text.rsplit_once('-')?;
     let (start, end) = range.split_once('-')?;
@@ -20,7 +20,7 @@ fn ipv4_walk(text: &str) -> Option<Ipv4Subnets> {
     Some(Ipv4Subnets::new(start, end, min_prefix_len))
 }
 
-/// The walk that the text is, as `fd00::-fd00::ff-120`: the start, the end and the minimum prefix length.
+/// Parses a walk, such as `fd00::-fd00::ff-120`: the start, the end and the minimum prefix length.
 fn ipv6_walk(text: &str) -> Option<Ipv6Subnets> {
     let (range, min_prefix_len) = text.rsplit_once('-')?;
     let (start, end) = range.split_once('-')?;
@@ -33,7 +33,7 @@ fn ipv6_walk(text: &str) -> Option<Ipv6Subnets> {
     Some(Ipv6Subnets::new(start, end, min_prefix_len))
 }
 
-/// The walk of either family that the text is.
+/// Parses a walk of either family.
 fn ip_walk(text: &str) -> Option<IpSubnets> {
     if let Some(walk) = ipv4_walk(text) {
         return Some(IpSubnets::from(walk));
@@ -41,7 +41,7 @@ fn ip_walk(text: &str) -> Option<IpSubnets> {
     Some(IpSubnets::from(ipv6_walk(text)?))
 }
 
-/// All items of a walk, and what it stores after the last of them.
+/// All items of a walk, and its stored ends after the last item.
 macro_rules! items {
     ($alloc:expr, $walk:expr) => {{
         let mut walk = $walk;
@@ -90,17 +90,17 @@ macro_rules! ask {
     }};
 }
 
-/// Asks an IPv4 walk, or for the subnets of an IPv4 network.
+/// Answers questions about an IPv4 walk, or about the subnets of an IPv4 network.
 pub fn ask_ipv4(alloc: Global, question: Question<'_>) -> Answer {
     ask!(Ipv4Net, ipv4_walk, ipv4_items, alloc, question)
 }
 
-/// Asks an IPv6 walk, or for the subnets of an IPv6 network.
+/// Answers questions about an IPv6 walk, or about the subnets of an IPv6 network.
 pub fn ask_ipv6(alloc: Global, question: Question<'_>) -> Answer {
     ask!(Ipv6Net, ipv6_walk, ipv6_items, alloc, question)
 }
 
-/// Asks a walk of either family, or for the subnets of a network.
+/// Answers questions about a walk of either family, or about the subnets of a network.
 pub fn ask_ip(alloc: Global, question: Question<'_>) -> Answer {
     ask!(IpNet, ip_walk, ip_items, alloc, question)
 }

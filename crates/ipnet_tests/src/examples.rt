@@ -1,4 +1,4 @@
-//! Worked examples: a few calls of each kind, with answers that docs/EXAMPLES.md explains.
+//! Worked examples: a few calls of each kind. docs/EXAMPLES.md explains their results.
 use ipnet::{
     CompactError, IpAdd, IpAddr, IpAddrRange, IpBitAnd, IpNet, IpSub, IpSubnets, Ipv4Addr,
     Ipv4AddrRange, Ipv4Net, Ipv4Subnets, Ipv6Addr, Ipv6AddrRange, Ipv6Net, Ipv6Subnets, JsonError,
@@ -9,7 +9,7 @@ use std::alloc::{AllocError, Global};
 use std::process::Abort;
 use std::test::Fail;
 
-/// The networks of the texts between blanks.
+/// Parses networks separated by blanks.
 fn networks(rt: &impl Abort, alloc: Global, texts: &str) -> Result<Vec<IpNet>, AllocError> {
     let mut networks = Vec::new(alloc);
     for text in texts.split(' ') {
@@ -47,7 +47,7 @@ fn aggregates(rt: HostRuntime) -> Result<(), Fail> {
     Ok(())
 }
 
-/// The networks of a walk.
+/// All networks of a walk.
 fn walked(
     alloc: Global,
     start: Ipv4Addr,

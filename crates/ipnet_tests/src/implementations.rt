@@ -1,5 +1,5 @@
-//! Which implementations the traits of arithmetic have: each is called through its bound, so that its output is of the
-//! type that the row names.
+//! Tests which implementations the arithmetic traits have. Each is called through a trait bound, so that the compiler
+//! checks its output type.
 use ipnet::{IpAdd, IpBitAnd, IpBitOr, IpSub};
 use std::net::{Ipv4Addr, Ipv6Addr};
 use std::test::Fail;

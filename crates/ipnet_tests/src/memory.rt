@@ -1,7 +1,7 @@
-//! Memory that runs out: the calls that allocate are refused until there is room, and the others need none.
+//! Tests with limited memory. Calls that allocate fail until there is enough memory; the other calls need none.
 //!
-//! `aggregate` makes one growth and `same_addresses` two: the first run with an answer is the first that is granted
-//! lists of these lengths, and this run refuses one byte more. No test counts growths after memory is given back.
+//! `aggregate` allocates once and `same_addresses` twice. So the first run that succeeds is the first with memory for
+//! lists of these lengths, and one more byte makes this run fail. No test counts allocations after memory was freed.
 use ipnet::{
     IpAddr, IpNet, Ipv4Addr, Ipv4AddrRange, Ipv4Net, Ipv4Subnets, Ipv6Net, is_aggregated,
     same_addresses,
@@ -14,7 +14,7 @@ use test_support::memory::{
     Outcome, RUNS, grow_stack, is_refused_then_answered, needs_no_memory, outcomes,
 };
 
-/// A network type, by its own public calls.
+/// A network type, with its public calls.
 trait Listed: Copy + PartialEq {
     fn read(text: &str) -> Option<Self>;
 
@@ -51,7 +51,7 @@ impl Listed for IpNet {
     }
 }
 
-/// The networks of the texts between blanks, so many times over: a repeated list has the same addresses.
+/// Parses networks separated by blanks, and repeats the list. A repeated list has the same addresses.
 fn repeated<N: Listed>(
     rt: &impl Abort,
     alloc: Global,
@@ -67,7 +67,7 @@ fn repeated<N: Listed>(
     Ok(networks)
 }
 
-/// How `aggregate` of the list ended.
+/// The outcome of `aggregate` of the list.
 fn aggregated<N: Listed>(alloc: Global, lent: &Vec<N>, wanted: &Vec<N>) -> Outcome {
     match N::aggregate_of(alloc, lent) {
         Ok(answer) if answer == *wanted => Outcome::Answered,
@@ -76,7 +76,7 @@ fn aggregated<N: Listed>(alloc: Global, lent: &Vec<N>, wanted: &Vec<N>) -> Outco
     }
 }
 
-/// How `same_addresses` of the two lists ended.
+/// The outcome of `same_addresses` of the two lists.
 fn compared(alloc: Global, first: &Vec<IpNet>, second: &Vec<IpNet>, wanted: bool) -> Outcome {
     match same_addresses(alloc, first, second) {
         Ok(answer) if answer == wanted => Outcome::Answered,
@@ -85,8 +85,8 @@ fn compared(alloc: Global, first: &Vec<IpNet>, second: &Vec<IpNet>, wanted: bool
     }
 }
 
-/// Which runs are granted two lists of so many networks, the second while the first is held, and then so many bytes.
-/// An empty list needs no memory.
+/// The runs that can allocate two lists of these lengths, the second while the first is in use, and then this number of
+/// bytes. An empty list needs no memory.
 fn granted<N: Listed>(
     alloc: Global,
     len: usize,
@@ -105,7 +105,7 @@ fn granted<N: Listed>(
     })
 }
 
-/// Whether the first run of `room` with an answer is refused in `more`: there is a refused run, and an answered one.
+/// Whether the first run that succeeds in `room` fails in `more`. There must be a run that fails and one that succeeds.
 fn is_refused_at_first(room: &[Outcome; RUNS], more: &[Outcome; RUNS]) -> bool {
     for run in 1..RUNS {
         if room[run] == Outcome::Answered {
@@ -115,8 +115,8 @@ fn is_refused_at_first(room: &[Outcome; RUNS], more: &[Outcome; RUNS]) -> bool {
     false
 }
 
-/// Whether `aggregate` of the row's input, so many times over, is refused until there is room for a list of the input's
-/// length, and then gives the answer.
+/// Whether `aggregate` of the repeated input of the row fails until there is memory for a list of the input's length,
+/// and then returns the right result.
 fn makes_one_growth<N: Listed>(
     rt: &impl Abort,
     alloc: Global,
@@ -175,7 +175,8 @@ fn aggregate(rt: HostRuntime) -> Result<(), Fail> {
     Ok(())
 }
 
-// Lists of more than 1 KiB: blocks that the allocator does not keep for the next request of the same size.
+// Lists of more than 1 KiB. The allocator does not keep freed blocks of this size for the next request of the same
+// size.
 #[test]
 fn aggregate_makes_one_growth(rt: HostRuntime) -> Result<(), Fail> {
     grow_stack(rt.alloc())?;
@@ -230,7 +231,7 @@ fn same_addresses_makes_two_growths(rt: HostRuntime) -> Result<(), Fail> {
     Ok(())
 }
 
-/// How `to_json` ended.
+/// The outcome of `to_json`.
 fn written(alloc: Global, net: &IpNet, wanted: &str) -> Outcome {
     match net.to_json(alloc) {
         Ok(value) if value.as_str() == Some(wanted) => Outcome::Answered,
@@ -256,12 +257,12 @@ fn network() -> IpNet {
     IpNet::new_assert(IpAddr::V4(Ipv4Addr::new(10, 1, 1, 0)), 24)
 }
 
-/// Whether both readers read the text as that network.
+/// Whether both parsers accept the text as that network.
 fn is_read(text: &str) -> bool {
     text.parse::<IpNet>() == Ok(network()) && IpNet::parse_legacy(text) == Ok(network())
 }
 
-/// Whether a range of four addresses gives each once, from both ends in turn.
+/// Whether a range of four addresses yields each address once, from both ends in turn.
 fn is_range_walked() -> bool {
     let first = Ipv4Addr::new(10, 0, 0, 0);
     let last = Ipv4Addr::new(10, 0, 0, 3);
@@ -273,7 +274,7 @@ fn is_range_walked() -> bool {
         && range.next() == None
 }
 
-/// Whether a walk gives its two networks.
+/// Whether a walk yields its two networks.
 fn is_walk_walked() -> bool {
     let first = Ipv4Addr::new(10, 0, 0, 0);
     let mut walk = Ipv4Subnets::new(first, Ipv4Addr::new(10, 0, 0, 191), 0);

@@ -1,4 +1,4 @@
-//! The text tool, as another crate calls it.
+//! The text tool, called from another crate.
 ghost use Rattle.std.specs.Prelude.{IfSome, string_bytes};
 ghost use Rattle.ipnet.specs.declared.parser.Grammar.TheVariants.{Strict};
 ghost use Rattle.ipnet_tool.specs.Answers.{IsAnswerTo};
@@ -7,7 +7,7 @@ use ipnet_tool::{ToolError, aggregate_text, aggregate_text_legacy};
 use std::alloc::Global;
 use std::test::Fail;
 
-/// The shortest list of the text's networks, if there is one: what the tool promises is enough to prove it.
+/// The shortest list of the text's networks, if there is one. The contract of the tool is enough to prove this.
 fn shortest(alloc: Global, text: &str) -> Option<String>
     ensures { IfSome result (λ answer. IsAnswerTo Strict text.now (string_bytes answer)) }
 {

@@ -1,12 +1,12 @@
-//! What `read_entry` and `cause_of` give where the program netset does not show it: the kind of an entry, texts with
-//! blanks or comments, and texts that are entries and so have no cause.
+//! Tests of results of `read_entry` and `cause_of` that the program netset does not show: the kind of an entry, texts
+//! with blanks or comments, and texts that are entries and so have no cause.
 use ipnet::Grammar;
 use netset_lists::cause::cause_of;
 use netset_lists::entry::read_entry;
 use std::alloc::Global;
 use std::test::Fail;
 
-/// The entry that the text is, or `none`.
+/// Parses an entry; `none` if the text is not one.
 fn entry_text(alloc: Global, text: &str, grammar: Grammar) -> Result<String, Fail> {
     let mut room = String::from_str(alloc, "what the room had before")?;
     match read_entry(&mut room, text, grammar)? {
@@ -99,7 +99,7 @@ fn kinds(rt: HostRuntime) -> Result<(), Fail> {
 
 #[test]
 fn no_cause(rt: HostRuntime) -> Result<(), Fail> {
-    // label, text, whether the strict grammar reads it too
+    // label, text, whether it is also in the strict grammar
     let rows = [
         ("the last length of IPv4", "10.0.0.0/32", true),
         ("the last length of IPv6", "fd00::/128", true),

@@ -1,5 +1,5 @@
-//! Refused memory. Each call runs with ample memory, then with none, and then with more and more: the first run is
-//! refused, and each other run is refused or gives the right answer.
+//! Tests with limited memory. Each call runs with enough memory, then with none, and then with more and more. The first
+//! limited run fails, and each other run fails or returns the right result.
 use ipnet::Grammar;
 use netset_lists::answer::{Failure, Form, Request, answer};
 use netset_lists::program::{ReadFailure, read_whole, run, run_query};
@@ -19,7 +19,7 @@ fn lists_of(alloc: Global, text: &str) -> Result<Vec<Vec<u8>>, AllocError> {
     Ok(lists)
 }
 
-/// The outcome of the request over the lists, where this text is right.
+/// The outcome of the request over the lists, if this text is the right result.
 fn answer_outcome(alloc: Global, request: Request, lists: &[Vec<u8>], wanted: &str) -> Outcome {
     match &answer(alloc, request, lists) {
         Ok(text) if text.as_str() == wanted => Outcome::Answered,
@@ -93,7 +93,7 @@ fn answers(rt: HostRuntime) -> Result<(), Fail> {
     Ok(())
 }
 
-/// The outcome of a run, where these ends are right.
+/// The outcome of a run, if these outputs and this status are right.
 fn outcome(found: (u8, &[u8], &[u8]), wanted: (u8, &[u8], &[u8])) -> Outcome {
     if found == wanted {
         return Outcome::Answered;
@@ -104,7 +104,7 @@ fn outcome(found: (u8, &[u8], &[u8]), wanted: (u8, &[u8], &[u8])) -> Outcome {
     }
 }
 
-/// The outcome of the union of the lists, where these ends are right.
+/// The outcome of the union of the lists, if these outputs and this status are right.
 fn run_outcome(alloc: Global, lists: &[Vec<u8>], wanted: (u8, &[u8], &[u8])) -> Outcome {
     let mut out = ArrayWriter::whole();
     let mut faults = ArrayWriter::whole();
@@ -135,7 +135,7 @@ fn runs(rt: HostRuntime) -> Result<(), Fail> {
     Ok(())
 }
 
-/// The outcome of a query over two lists, where this status and standard output are right.
+/// The outcome of a query over two lists, if this status and standard output are right.
 fn query_outcome(alloc: Global, query: Query, lists: &[Vec<u8>], wanted: (u8, &[u8])) -> Outcome {
     let names = ["a", "b"].as_slice();
     let mut out = ArrayWriter::whole();
@@ -155,8 +155,8 @@ fn query_outcome(alloc: Global, query: Query, lists: &[Vec<u8>], wanted: (u8, &[
     )
 }
 
-/// The last run need not answer: a comparison makes more requests than what the runs give back can serve. The rows of
-/// queries have the answers with ample memory.
+/// The last run may fail: a comparison allocates more blocks than the runs free. The rows of queries test the results
+/// with enough memory.
 #[test]
 fn queries(rt: HostRuntime) -> Result<(), Fail> {
     grow_stack(rt.alloc())?;
@@ -192,7 +192,7 @@ fn queries(rt: HostRuntime) -> Result<(), Fail> {
     Ok(())
 }
 
-/// The outcome of reading the bytes, seven at most a read.
+/// The outcome of reading the bytes, at most seven in each read.
 fn read_outcome(alloc: Global, bytes: &[u8]) -> Outcome {
     let mut input = ByteReader::new(bytes, 7, NEVER, ErrorKind::Other);
     match &read_whole(alloc, &mut input) {

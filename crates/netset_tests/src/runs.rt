@@ -11,10 +11,10 @@ use test_support::devices::{ArrayWriter, ByteReader, NEVER, WHOLE};
 
 const NAMES: [&str; 4] = ["a", "b", "c", "d"];
 
-/// The report of another number of lists.
+/// The error message for a wrong number of lists.
 const COUNT: &[u8] = b"netset: another number of lists is wanted\n";
 
-/// The report of a writer that fails.
+/// The error message for a writer that fails.
 const UNWRITABLE: &[u8] = b"netset: output cannot be written\n";
 
 /// Standard output, standard error and the status of a run.

@@ -1,4 +1,4 @@
-//! What tests of several crates share: memory that runs out, and readers and writers that fail. Only tests use this
+//! Helpers for the tests of several crates: limited memory, and readers and writers that fail. Only tests use this
 //! crate.
 #![tactic(auto)]
 

@@ -1,23 +1,23 @@
 //! Memory that runs out, for the tests of calls that allocate.
 use std::alloc::{AllocError, Global};
 
-/// The number of runs of [`outcomes`]. With more runs, the part of the spare block that is held back would be a small
-/// block, which the allocator keeps in lists by size.
+/// The number of runs of [`outcomes`]. With more runs, the part of the spare block that is still withheld would be a
+/// small block, which the allocator keeps in lists by size.
 pub const RUNS: usize = 180;
 
-/// The size of the spare block, which [`outcomes`] gives back piece by piece. It is too large for these lists.
+/// The size of the spare block, which [`outcomes`] frees piece by piece. It is too large for these lists.
 const SPARE: usize = 4096;
 
-/// How many bytes more each run of [`outcomes`] finds than the run before it: the allocator's smallest block.
+/// How many bytes each run of [`outcomes`] has more than the previous run: the allocator's smallest block.
 const STEP: usize = 16;
 
-/// The greatest size of the allocator's small blocks. A free one of these serves no request of another size.
+/// The largest size of the allocator's small blocks. A free small block only serves requests of its own size.
 const GREATEST_SMALL: usize = 1040;
 
 /// More blocks than all memory has.
 const MOST_BLOCKS: usize = 100_000;
 
-/// How much of the stack a test takes, without its call.
+/// How much of the stack a test uses, without its call.
 const STACK: usize = 262_144;
 
 fn block(alloc: Global, len: usize) -> Result<Vec<u8>, AllocError> {
@@ -41,7 +41,7 @@ pub fn grow_stack(alloc: Global) -> Result<(), AllocError> {
     kept.extend_from_slice(&room[from..from + STEP])
 }
 
-/// Takes blocks of this size until one is refused.
+/// Allocates blocks of this size until an allocation fails.
 fn take(alloc: Global, len: usize, held: &mut Vec<Vec<u8>>) -> Result<(), AllocError> {
     for _ in 0..MOST_BLOCKS {
         if held.len() >= MOST_BLOCKS {
@@ -55,7 +55,7 @@ fn take(alloc: Global, len: usize, held: &mut Vec<Vec<u8>>) -> Result<(), AllocE
     Ok(())
 }
 
-/// Takes all memory, in blocks of smaller and smaller sizes, and then each free small block.
+/// Allocates all memory, in blocks of smaller and smaller sizes, and then each free small block.
 fn take_all(alloc: Global) -> Result<Vec<Vec<u8>>, AllocError> {
     let mut held = Vec::with_capacity(alloc, MOST_BLOCKS)?;
     let mut len = 1usize << 46;
@@ -70,12 +70,12 @@ fn take_all(alloc: Global) -> Result<Vec<Vec<u8>>, AllocError> {
 }
 
 /// The results of [`RUNS`] runs of the call, the first run with no memory and each later run with a little more; `None`
-/// if the allocator never refuses, as under a sanitizer.
+/// if allocations never fail, as under a sanitizer.
 ///
-/// The test has called [`grow_stack`] before. A call may take 200 KiB of the stack.
+/// The test has called [`grow_stack`] before. A call may use 200 KiB of the stack.
 ///
-/// A block that one run gave back may serve a later run. So a call that makes several requests may be answered in one
-/// run and refused in the next.
+/// A block that one run freed may serve a later run. So a call with several allocations may succeed in one run and fail
+/// in the next.
 ///
 /// ```text
 /// a call that requests 100 bytes once: refused in the first seven runs, answered in all others
@@ -103,19 +103,18 @@ pub fn outcomes<T: Copy, F: FnMut() -> T>(
     Ok(Some(answers))
 }
 
-/// How one run of a call ended.
+/// The outcome of one run of a call.
 #[derive(Clone, Copy, Debug, PartialEq, Eq, Drop)]
 pub enum Outcome {
     /// The call reported that memory ran out, and changed nothing.
     Refused,
-    /// The call gave the answer that is right with ample memory.
+    /// The call returned the result that is right with enough memory.
     Answered,
-    /// The call gave anything else.
+    /// The call returned anything else.
     Wrong,
 }
 
-/// Whether the first run of the call is refused, and each other run is refused or answered; true if the allocator
-/// never refuses.
+/// Whether the first run of the call fails, and each other run fails or succeeds; true if allocations never fail.
 ///
 /// The test has called [`grow_stack`] before.
 pub fn is_refused<F: FnMut() -> Outcome>(alloc: Global, call: F) -> Result<bool, AllocError>
@@ -127,8 +126,8 @@ pub fn is_refused<F: FnMut() -> Outcome>(alloc: Global, call: F) -> Result<bool,
     Ok(runs[0] == Outcome::Refused && has_no_wrong(&runs))
 }
 
-/// Whether the first run of the call is refused, the last run is answered, and each other run is refused or answered;
-/// true if the allocator never refuses.
+/// Whether the first run of the call fails, the last run succeeds, and each other run fails or succeeds; true if
+/// allocations never fail.
 ///
 /// The test has called [`grow_stack`] before.
 pub fn is_refused_and_answered<F: FnMut() -> Outcome>(
@@ -143,8 +142,8 @@ pub fn is_refused_and_answered<F: FnMut() -> Outcome>(
     Ok(has_both_ends(&runs) && has_no_wrong(&runs))
 }
 
-/// Whether the runs of the call are refused up to one run and answered from then on, the first run refused and the
-/// last answered; true if the allocator never refuses.
+/// Whether the runs of the call fail up to one run and succeed from then on, and the first run fails and the last
+/// succeeds; true if allocations never fail.
 ///
 /// The test has called [`grow_stack`] before.
 pub fn is_refused_then_answered<F: FnMut() -> Outcome>(
@@ -159,7 +158,7 @@ pub fn is_refused_then_answered<F: FnMut() -> Outcome>(
     Ok(has_both_ends(&runs) && has_no_wrong(&runs) && is_never_refused_again(&runs))
 }
 
-/// Whether the call is true in each run, also with no memory.
+/// Whether the call returns true in each run, even without memory.
 ///
 /// The test has called [`grow_stack`] before.
 pub fn needs_no_memory<F: FnMut() -> bool>(alloc: Global, call: F) -> Result<bool, AllocError>
@@ -171,12 +170,12 @@ pub fn needs_no_memory<F: FnMut() -> bool>(alloc: Global, call: F) -> Result<boo
     Ok(runs == [true; RUNS])
 }
 
-/// Whether the first run is refused and the last is answered.
+/// Whether the first run fails and the last succeeds.
 fn has_both_ends(runs: &[Outcome; RUNS]) -> bool {
     runs[0] == Outcome::Refused && runs[RUNS - 1] == Outcome::Answered
 }
 
-/// Whether each run is refused or answered.
+/// Whether each run fails or succeeds with the right result.
 fn has_no_wrong(runs: &[Outcome; RUNS]) -> bool {
     for run in 0..RUNS {
         if runs[run] == Outcome::Wrong {
@@ -186,7 +185,7 @@ fn has_no_wrong(runs: &[Outcome; RUNS]) -> bool {
     true
 }
 
-/// Whether no run is refused after an answer.
+/// Whether no run fails after a run that succeeded.
 fn is_never_refused_again(runs: &[Outcome; RUNS]) -> bool {
     let mut is_answered = false;
     for run in 0..RUNS {

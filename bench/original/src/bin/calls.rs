@@ -289,8 +289,8 @@ fn is_member(networks: &[IpNet], address: &IpAddr) -> bool {
     place > 0 && networks[place - 1].contains(address)
 }
 
-/// The position, counted from 1, of the longest network that contains the address; the last one if it is repeated, and 0
-/// if there is none. Looks up one prefix length after the other in a map.
+/// The position, counted from 1, of the longest network that contains the address, or 0 if there is none. If this
+/// network is repeated, the last position counts. Looks up one prefix length after the other in a map.
 fn longest_match(places: &HashMap<IpNet, u64>, address: IpAddr) -> u64 {
     let host = IpNet::from(address);
     (0..=host.prefix_len())

@@ -2,7 +2,7 @@
 //! shortest list with the same addresses.
 //!
 //! It has the statuses and messages of this repository's program, and also prints nothing before the end of the input.
-//! There are two differences: it uses the crate's grammar, which allows leading zeros, and it aborts if memory runs out.
+//! Two things differ: it uses the crate's grammar, which allows leading zeros, and it aborts if memory runs out.
 
 use std::fmt;
 use std::io::{self, BufRead, BufReader, BufWriter, Write};

@@ -10,7 +10,7 @@ use std::alloc::{AllocError, Global};
 
 /// The JSON value of an IPv4 network reads back as that network.
 ///
-/// An error where there is no memory for the value.
+/// Fails if memory runs out.
 pub fn ipv4_json_reads_back(
     network: &Ipv4Net,
     alloc: Global,
@@ -22,7 +22,7 @@ pub fn ipv4_json_reads_back(
 
 /// The JSON value of an IPv6 network reads back as that network.
 ///
-/// An error where there is no memory for the value.
+/// Fails if memory runs out.
 pub fn ipv6_json_reads_back(
     network: &Ipv6Net,
     alloc: Global,
@@ -34,7 +34,7 @@ pub fn ipv6_json_reads_back(
 
 /// The JSON value of a network of either family reads back as that network.
 ///
-/// An error where there is no memory for the value.
+/// Fails if memory runs out.
 pub fn ip_json_reads_back(
     network: &IpNet,
     alloc: Global,

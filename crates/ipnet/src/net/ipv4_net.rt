@@ -72,7 +72,7 @@ impl Ipv4Net {
 
     /// The network of the address and the prefix length; the address keeps its host bits.
     ///
-    /// An error where the prefix length is above 32.
+    /// Fails if the prefix length is above 32.
     ///
     /// ```text
     /// Ipv4Net::new(10.1.1.7, 24) is 10.1.1.7/24, and Ipv4Net::new(10.1.1.7, 33) an error
@@ -102,7 +102,7 @@ impl Ipv4Net {
 
     /// The network of the address and the prefix length that the netmask stands for; the address keeps its host bits.
     ///
-    /// An error where the mask is not ones followed by zeros.
+    /// Fails if the mask is not ones followed by zeros.
     ///
     /// ```text
     /// Ipv4Net::with_netmask(10.1.1.7, 255.255.0.0) is 10.1.1.7/16, with 255.0.255.0 an error
@@ -261,7 +261,7 @@ impl Ipv4Net {
     /// The walk over all networks of this prefix length in the block, ascending; there are 2^(new - own prefix length)
     /// of them.
     ///
-    /// An error where the new prefix length is below this network's own, or above 32.
+    /// Fails if the new prefix length is below this network's own, or above 32.
     ///
     /// ```text
     /// 10.0.0.0/24 at 26: 10.0.0.0/26, 10.0.0.64/26, 10.0.0.128/26, 10.0.0.192/26; at 23 an error

@@ -71,7 +71,7 @@ impl Ipv6Net {
 
     /// The network of the address and the prefix length; the address keeps its host bits.
     ///
-    /// An error where the prefix length is above 128.
+    /// Fails if the prefix length is above 128.
     ///
     /// ```text
     /// Ipv6Net::new(fd00::7, 24) is fd00::7/24, and Ipv6Net::new(fd00::7, 129) an error
@@ -101,7 +101,7 @@ impl Ipv6Net {
 
     /// The network of the address and the prefix length that the netmask stands for; the address keeps its host bits.
     ///
-    /// An error where the mask is not ones followed by zeros.
+    /// Fails if the mask is not ones followed by zeros.
     ///
     /// ```text
     /// Ipv6Net::with_netmask(fd00::7, ffff:ff00::) is fd00::7/24, with ff00:ff:: an error
@@ -252,7 +252,7 @@ impl Ipv6Net {
     /// The walk over all networks of this prefix length in the block, ascending; there are 2^(new - own prefix length)
     /// of them.
     ///
-    /// An error where the new prefix length is below this network's own, or above 128.
+    /// Fails if the new prefix length is below this network's own, or above 128.
     ///
     /// ```text
     /// fd00::/16 at 18: fd00::/18, fd00:4000::/18, fd00:8000::/18, fd00:c000::/18; at 15 an error

@@ -21,7 +21,7 @@ use ipnet_base::{PrefixLenError, ip_mask_to_prefix, ipv4_mask_to_prefix, ipv6_ma
 use std::hash::Hash;
 
 /// Each IPv4 network has a number of 32 bits and a prefix length of at most 32. Two are equal where they stand for the
-/// same network, are ordered as networks, and feed a hasher the same exactly where they are equal.
+/// same network, are ordered as networks, and feed a hasher the same if and only if they are equal.
 pub fn ipv4_nets_compare_by_network()
     ensures valid { (n : Ipv4Net) → IsNetwork (ipv4_network n) }
     ensures compare { (a b : Ipv4Net) → ComparesBy ipv4_network IsBefore ⟦<Ipv4Net as PartialEq>⟧.eq
@@ -30,7 +30,7 @@ pub fn ipv4_nets_compare_by_network()
 {}
 
 /// Each IPv6 network has a number of 128 bits and a prefix length of at most 128. Two are equal where they stand for
-/// the same network, are ordered as networks, and feed a hasher the same exactly where they are equal.
+/// the same network, are ordered as networks, and feed a hasher the same if and only if they are equal.
 pub fn ipv6_nets_compare_by_network()
     ensures valid { (n : Ipv6Net) → IsNetwork (ipv6_network n) }
     ensures compare { (a b : Ipv6Net) → ComparesBy ipv6_network IsBefore ⟦<Ipv6Net as PartialEq>⟧.eq
@@ -38,8 +38,8 @@ pub fn ipv6_nets_compare_by_network()
     ensures hash { (a b : Ipv6Net) → HashesBy ipv6_network ⟦<Ipv6Net as Hash>⟧.hash_input a b }
 {}
 
-/// Networks of either family have a number and a prefix length within its width. Two are equal where they stand for
-/// the same network, are ordered as networks, so IPv4 before IPv6, and feed a hasher the same exactly where they are
+/// Networks of either family have a number and a prefix length within its width. Two are equal where they stand for the
+/// same network, are ordered as networks, so IPv4 before IPv6, and feed a hasher the same if and only if they are
 /// equal.
 pub fn ip_nets_compare_by_network()
     ensures valid { (n : IpNet) → IsNetwork (ip_network n) }

@@ -19,7 +19,7 @@ use std::hash::Hash;
 use std::iter::FusedIterator;
 
 /// Each walk over an IPv4 range has a minimum prefix length of at most 32. Two are equal where their stored ends and
-/// minimum prefix lengths are, are ordered by these, and feed a hasher the same exactly where they are equal.
+/// minimum prefix lengths are, are ordered by these, and feed a hasher the same if and only if they are equal.
 pub fn ipv4_walks_compare_by_range()
     ensures valid { (s : Ipv4Subnets) → (ipv4_subnet_range s).min_prefix_len ≤ 32 }
     ensures compare { (a b : Ipv4Subnets) → ComparesBy ipv4_subnet_range IsWalkBefore ⟦<Ipv4Subnets as PartialEq>⟧.eq
@@ -28,7 +28,7 @@ pub fn ipv4_walks_compare_by_range()
 {}
 
 /// Each walk over an IPv6 range has a minimum prefix length of at most 128. Two are equal where their stored ends and
-/// minimum prefix lengths are, are ordered by these, and feed a hasher the same exactly where they are equal.
+/// minimum prefix lengths are, are ordered by these, and feed a hasher the same if and only if they are equal.
 pub fn ipv6_walks_compare_by_range()
     ensures valid { (s : Ipv6Subnets) → (ipv6_subnet_range s).min_prefix_len ≤ 128 }
     ensures compare { (a b : Ipv6Subnets) → ComparesBy ipv6_subnet_range IsWalkBefore ⟦<Ipv6Subnets as PartialEq>⟧.eq
@@ -37,8 +37,8 @@ pub fn ipv6_walks_compare_by_range()
 {}
 
 /// Walks of either family have a minimum prefix length within its width. Two are equal where their families, stored
-/// ends and minimum prefix lengths are, are ordered by these with IPv4 before IPv6, and feed a hasher the same exactly
-/// where they are equal.
+/// ends and minimum prefix lengths are, are ordered by these with IPv4 before IPv6, and feed a hasher the same if and
+/// only if they are equal.
 pub fn ip_walks_compare_by_range()
     ensures valid { (s : IpSubnets) → (ip_subnet_range s).min_prefix_len ≤ width (ip_subnet_range s).family }
     ensures compare { (a b : IpSubnets) → ComparesBy ip_subnet_range IsWalkBefore ⟦<IpSubnets as PartialEq>⟧.eq

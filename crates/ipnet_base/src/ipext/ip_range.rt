@@ -11,8 +11,8 @@ use std::iter::FusedIterator;
 /// The addresses of one family from a first to a last one, given in ascending order from the front and in
 /// descending order from the back.
 ///
-/// Two ranges are equal, and ordered, by their stored ends, and not by the addresses that they still give; an
-/// IPv4 range stands before every IPv6 range.
+/// Two ranges are equal, and ordered, by their stored ends, and not by the addresses that they still give; an IPv4
+/// range comes before every IPv6 range.
 ///
 /// ```text
 /// from 10.0.0.0 to 10.0.0.3:
@@ -59,7 +59,7 @@ impl IpAddrRange {
     /// How many addresses are left. The caller has shown that a `usize` holds the number: an IPv6 range may have 2^128
     /// of them.
     ///
-    /// `size_hint` is the test: it has an upper bound exactly where the number fits.
+    /// To test this, call `size_hint`: it has an upper bound if and only if the number fits.
     ///
     /// ```text
     /// from 10.0.0.0 to 10.0.0.3: 4; from fd00:: to fd00::3: 4; from 0.0.0.5 to 0.0.0.3: 0
@@ -119,10 +119,10 @@ impl IpAddrRange {
         }
     }
 
-    /// Passes over `n` addresses from the front and gives the next. Where there are no more than `n`, it answers
-    /// `None`, and nothing is left.
+    /// Skips `n` addresses from the front and returns the next one. If at most `n` are left, it returns `None` and
+    /// nothing is left.
     ///
-    /// Where nothing is left the stored ends are 1 and 0, also of a range that had other ends and no address.
+    /// If nothing is left, the stored ends are 1 and 0, even if the range was empty before and had other ends.
     ///
     /// ```text
     /// from 10.0.0.0 to 10.0.0.3:
@@ -141,10 +141,10 @@ impl IpAddrRange {
         }
     }
 
-    /// Passes over `n` addresses from the back and gives the next. Where there are no more than `n`, it answers
-    /// `None`, and nothing is left.
+    /// Skips `n` addresses from the back and returns the next one. If at most `n` are left, it returns `None` and
+    /// nothing is left.
     ///
-    /// Where nothing is left the stored ends are 1 and 0, also of a range that had other ends and no address.
+    /// If nothing is left, the stored ends are 1 and 0, even if the range was empty before and had other ends.
     ///
     /// ```text
     /// from 10.0.0.0 to 10.0.0.3:
@@ -192,8 +192,8 @@ impl Iterator for IpAddrRange {
         }
     }
 
-    /// The count of the addresses that are left, as both bounds, or `(usize::MAX, None)` where no `usize` holds
-    /// it.
+    /// The count of the addresses that are left, as both bounds, or `(usize::MAX, None)` if the count does not fit in a
+    /// `usize`.
     fn size_hint(&self) -> (usize, Option<usize>)
         ensures exact { IsExactHint result (address_count (ip_range self.now)) }
         ensures lower { IsWithinCount result.0 (at_most (address_count (ip_range self.now))) }

@@ -35,8 +35,8 @@ pub struct Ipv4AddrRange {
 impl Ipv4AddrRange {
     ghost use Rattle.ipnet_base.specs.RangeOf.{ipv4_range, ipv4_addresses};
 
-    /// The range from `start` to `end`, both of them in it. It has no address where `start` is above `end`; it
-    /// keeps both ends then too.
+    /// The range from `start` to `end`, both of them in it. If `start` is above `end`, the range has no address and
+    /// still stores both ends.
     ///
     /// ```text
     /// from 10.0.0.0 to 10.0.0.3: the addresses 10.0.0.0, 10.0.0.1, 10.0.0.2, 10.0.0.3; from 0.0.0.5 to 0.0.0.3: none
@@ -110,10 +110,10 @@ impl Ipv4AddrRange {
         self.max()
     }
 
-    /// Passes over `n` addresses from the front and gives the next. Where there are no more than `n`, it answers
-    /// `None`, and nothing is left.
+    /// Skips `n` addresses from the front and returns the next one. If at most `n` are left, it returns `None` and
+    /// nothing is left.
     ///
-    /// Where nothing is left the stored ends are 1 and 0, also of a range that had other ends and no address.
+    /// If nothing is left, the stored ends are 1 and 0, even if the range was empty before and had other ends.
     ///
     /// ```text
     /// from 10.0.0.0 to 10.0.0.3:
@@ -140,10 +140,10 @@ impl Ipv4AddrRange {
         Some(ipv4_from_number(item))
     }
 
-    /// Passes over `n` addresses from the back and gives the next. Where there are no more than `n`, it answers
-    /// `None`, and nothing is left.
+    /// Skips `n` addresses from the back and returns the next one. If at most `n` are left, it returns `None` and
+    /// nothing is left.
     ///
-    /// Where nothing is left the stored ends are 1 and 0, also of a range that had other ends and no address.
+    /// If nothing is left, the stored ends are 1 and 0, even if the range was empty before and had other ends.
     ///
     /// ```text
     /// from 10.0.0.0 to 10.0.0.3:

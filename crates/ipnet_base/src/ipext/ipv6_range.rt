@@ -35,8 +35,8 @@ pub struct Ipv6AddrRange {
 impl Ipv6AddrRange {
     ghost use Rattle.ipnet_base.specs.RangeOf.{ipv6_range, ipv6_addresses};
 
-    /// The range from `start` to `end`, both of them in it. It has no address where `start` is above `end`; it
-    /// keeps both ends then too.
+    /// The range from `start` to `end`, both of them in it. If `start` is above `end`, the range has no address and
+    /// still stores both ends.
     ///
     /// ```text
     /// from fd00:: to fd00::3: the addresses fd00::, fd00::1, fd00::2, fd00::3; from ::2 to ::1: none
@@ -54,7 +54,7 @@ impl Ipv6AddrRange {
     /// How many addresses are left. The caller has shown that a `usize` holds the number: a range may have 2^128 of
     /// them.
     ///
-    /// `size_hint` is the test: it has an upper bound exactly where the number fits.
+    /// To test this, call `size_hint`: it has an upper bound if and only if the number fits.
     ///
     /// ```text
     /// from fd00:: to fd00::3: 4; from ::2 to ::1: 0; from :: to ::ffff:ffff:ffff:fffe: 18446744073709551615
@@ -114,10 +114,10 @@ impl Ipv6AddrRange {
         self.max()
     }
 
-    /// Passes over `n` addresses from the front and gives the next. Where there are no more than `n`, it answers
-    /// `None`, and nothing is left.
+    /// Skips `n` addresses from the front and returns the next one. If at most `n` are left, it returns `None` and
+    /// nothing is left.
     ///
-    /// Where nothing is left the stored ends are 1 and 0, also of a range that had other ends and no address.
+    /// If nothing is left, the stored ends are 1 and 0, even if the range was empty before and had other ends.
     ///
     /// ```text
     /// from fd00:: to fd00::3:
@@ -144,10 +144,10 @@ impl Ipv6AddrRange {
         Some(ipv6_from_number(item))
     }
 
-    /// Passes over `n` addresses from the back and gives the next. Where there are no more than `n`, it answers
-    /// `None`, and nothing is left.
+    /// Skips `n` addresses from the back and returns the next one. If at most `n` are left, it returns `None` and
+    /// nothing is left.
     ///
-    /// Where nothing is left the stored ends are 1 and 0, also of a range that had other ends and no address.
+    /// If nothing is left, the stored ends are 1 and 0, even if the range was empty before and had other ends.
     ///
     /// ```text
     /// from fd00:: to fd00::3:
@@ -226,8 +226,8 @@ impl Iterator for Ipv6AddrRange {
         Some(ipv6_from_number(first))
     }
 
-    /// The count of the addresses that are left, as both bounds, or `(usize::MAX, None)` where no `usize` holds
-    /// it.
+    /// The count of the addresses that are left, as both bounds, or `(usize::MAX, None)` if the count does not fit in a
+    /// `usize`.
     fn size_hint(&self) -> (usize, Option<usize>)
         ensures exact { IsExactHint result (address_count (ipv6_range self.now)) }
         ensures lower { IsWithinCount result.0 (at_most (address_count (ipv6_range self.now))) }

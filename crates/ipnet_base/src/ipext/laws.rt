@@ -44,16 +44,16 @@ pub fn calls_give_each_address_once()
         AllPairs (λ step later. step.answer ≡ None → later.answer ≡ None) steps }
 {}
 
-/// Two IPv4 ranges are equal where their stored ends are, are ordered by these, and feed a hasher the same exactly
-/// where they are equal.
+/// Two IPv4 ranges are equal where their stored ends are, are ordered by these, and feed a hasher the same if and only
+/// if they are equal.
 pub fn ipv4_ranges_compare_by_ends()
     ensures compare { (a b : Ipv4AddrRange) → ComparesBy ipv4_range IsRangeBefore ⟦<Ipv4AddrRange as PartialEq>⟧.eq
         ⟦<Ipv4AddrRange as Ord>⟧.cmp ⟦<Ipv4AddrRange as PartialOrd>⟧.partial_cmp a b }
     ensures hash { (a b : Ipv4AddrRange) → HashesBy ipv4_range ⟦<Ipv4AddrRange as Hash>⟧.hash_input a b }
 {}
 
-/// Two IPv6 ranges are equal where their stored ends are, are ordered by these, and feed a hasher the same exactly
-/// where they are equal.
+/// Two IPv6 ranges are equal where their stored ends are, are ordered by these, and feed a hasher the same if and only
+/// if they are equal.
 pub fn ipv6_ranges_compare_by_ends()
     ensures compare { (a b : Ipv6AddrRange) → ComparesBy ipv6_range IsRangeBefore ⟦<Ipv6AddrRange as PartialEq>⟧.eq
         ⟦<Ipv6AddrRange as Ord>⟧.cmp ⟦<Ipv6AddrRange as PartialOrd>⟧.partial_cmp a b }
@@ -61,7 +61,7 @@ pub fn ipv6_ranges_compare_by_ends()
 {}
 
 /// Two ranges of either family are equal where their families and stored ends are, are ordered by these with IPv4
-/// before IPv6, and feed a hasher the same exactly where they are equal.
+/// before IPv6, and feed a hasher the same if and only if they are equal.
 pub fn ip_ranges_compare_by_ends()
     ensures compare { (a b : IpAddrRange) → ComparesBy ip_range IsRangeBefore ⟦<IpAddrRange as PartialEq>⟧.eq
         ⟦<IpAddrRange as Ord>⟧.cmp ⟦<IpAddrRange as PartialOrd>⟧.partial_cmp a b }
