@@ -7,7 +7,7 @@ ghost use Rattle.ipnet.specs.Blocks.{IsAggregateOf, AreAggregatedNeighbours};
 ghost use Rattle.ipnet.specs.NetworkOf.{ip_network};
 
 use ipnet::value_laws::ip;
-use ipnet::{IpAddr, IpNet, are_disjoint, is_aggregated};
+use ipnet::{IpAddr, IpNet, are_disjoint, is_aggregated, same_addresses};
 use ipnet_sets::IpSet;
 use std::alloc::{AllocError, Global};
 
@@ -63,6 +63,22 @@ pub fn shortest_for(
     let answer = IpNet::aggregate(alloc, list)?;
     ip::same_cover_has_the_same_addresses(&answer, list, address);
     Ok(answer)
+}
+
+/// Whether the lists have the same addresses; if so, an address of the first list is one of the second. Fails only if
+/// memory runs out.
+pub fn same_for(
+    alloc: Global,
+    list: &Vec<IpNet>,
+    other: &Vec<IpNet>,
+    address: &IpAddr,
+) -> Result<bool, AllocError>
+    ensures { IfOk result (λ same. IsTrue same → IsCoveredBy (map ip_network list.now.items) (ip_address address.now)
+        → IsCoveredBy (map ip_network other.now.items) (ip_address address.now)) }
+{
+    let same = same_addresses(alloc, list, other)?;
+    ip::same_addresses_agree(list, other, same, address);
+    Ok(same)
 }
 
 /// Whether the list allows the network: each address of the network lies in a network of the list. Fails only if memory

@@ -28,7 +28,7 @@ pub fn is_bad(text: &str) -> bool
     }
 }
 
-/// The network of the five bytes; `None` if they are not those of a network.
+/// The network of the five bytes; `None` if they are not the bytes of a network.
 pub fn from_bytes(bytes: &[u8]) -> Option<Ipv4Net>
     ensures { IfSome result (λ n. network_bytes (ipv4_network n) ≡ bytes.now) }
 {

@@ -1,8 +1,8 @@
 -- A list that is read from its front: what holds of each network read so far, and of each pair of them.
-use Rattle.std.proofs.Common.{◌≡◌, ℕ, ◌+◌, ◌<◌, ◌≤◌, List, [], ◌∷◌, ◌++◌, length, get_or, map, take, Contains, All, AllPairs}
+use Rattle.std.proofs.Common.{◌≡◌, ℕ, ◌+◌, ◌<◌, ◌≤◌, List, [], ◌∷◌, ◌++◌, length, get_or, map, take, Contains, All}
+use Rattle.std.proofs.Common.{AllPairs}
 use Rattle.std.proofs.Common.{sym, ap, ◌∙◌, subst, subst₂, arith, inl, inr}
 use Rattle.std.proofs.lemmas.List.{length-map, length-take-le, get_or-map, get_or-take, map_more}
-use Rattle.std.proofs.lemmas.List.Elements.{All-append, All-cons, All-nil}
 use Rattle.ipnet_base.specs.Network.{Network}
 use Rattle.ipnet_base.proofs.ListLaws.{pairs_append, pairs_cons, contains_nil, contains_cases, all_at}
 
@@ -10,12 +10,6 @@ use Rattle.ipnet_base.proofs.ListLaws.{pairs_append, pairs_cons, contains_nil, c
 front_more : {X : Type 0} (f : X → Network) (xs : List X) (i : ℕ) (x : X) → i < length xs → x ≡ get_or xs i x
     → map f (take (i + 1) xs) ≡ map f (take i xs) ++ f x ∷ []
 front_more f xs i x l e = map_more f xs i x l ∙ ap (λ z. map f (take i xs) ++ f z ∷ []) (sym e)
-
-pub all_more : {X : Type 0} (P : Network → Type 0) (f : X → Network) (xs : List X) (i : ℕ) (x : X) → i < length xs
-    → x ≡ get_or xs i x → All P (map f (take i xs)) → P (f x) → All P (map f (take (i + 1) xs))
-all_more P f xs i x l e all p =
-    subst (All P) (sym (front_more f xs i x l e))
-    (All-append P (map f (take i xs)) (f x ∷ []) all (All-cons P (f x) [] p (All-nil P)))
 
 pub pairs_more : {X : Type 0} (R : Network → Network → Type 0) (f : X → Network) (xs : List X) (i : ℕ) (x : X)
     → i < length xs → x ≡ get_or xs i x → AllPairs R (map f (take i xs))

@@ -1,6 +1,8 @@
 -- Facts of two or three networks, of a list and of a walk, for the laws that speak of values.
-use Rattle.std.proofs.Common.{◌≡◌, ℕ, zero, suc, ◌+◌, ◌-◌, ◌*◌, ◌/◌, ◌^◌, ◌<◌, ◌≤◌, ◌⊎◌, ◌↔◌, List, [], ◌∷◌, length, drop}
-use Rattle.std.proofs.Common.{Option, Some, None, option_map, slice_get, Contains, IfSome, ◌++◌, map, refl, sym, ap, ap₂, ◌∙◌}
+use Rattle.std.proofs.Common.{◌≡◌, ℕ, zero, suc, ◌+◌, ◌-◌, ◌*◌, ◌/◌, ◌^◌, ◌<◌, ◌≤◌, ◌⊎◌, ◌↔◌, List, [], ◌∷◌, length}
+use Rattle.std.proofs.Common.{drop}
+use Rattle.std.proofs.Common.{Option, Some, None, option_map, slice_get, Contains, IfSome, ◌++◌, map, refl, sym, ap}
+use Rattle.std.proofs.Common.{ap₂, ◌∙◌}
 use Rattle.std.proofs.Common.{arith, inl, inr, pow_pos, pow-add}
 use Rattle.std.proofs.Math.Nat.{mul_assoc, mul-div_cancel}
 use Rattle.std.proofs.lemmas.Bool.{cases_lt}
@@ -20,7 +22,7 @@ use Rattle.ipnet_base.proofs.RangeLaws.{contains_from_between}
 use Rattle.ipnet.specs.NetworkParts.{HasReservedEnds, IsHostRange, IsSubnetOfLength, AreSubnetsOfLength}
 use Rattle.ipnet.proofs.HostLaws.{inner_hosts, whole_hosts, whole_from_31, whole_ipv6}
 
--- two networks share an address exactly where one block lies in the other
+-- two networks share an address if and only if one block lies in the other
 pub overlap_iff_nested : (n k : Network) → ¬ (AreDisjoint n k) ↔ (IsSubnetOf n k ⊎ IsSubnetOf k n)
 overlap_iff_nested n k = (to, from)
   where
@@ -35,7 +37,7 @@ overlap_iff_nested n k = (to, from)
     from (inl s) d = d (own n) (own_in n) (s (own n) (own_in n))
     from (inr s) d = d (own k) (s (own k) (own_in k)) (own_in k)
 
--- a block lies in another exactly where its prefix is no shorter and its own address lies there
+-- a block lies in another if and only if its prefix has at least the other's length and its own address lies there
 pub subnet_iff_own : (n k : Network) → IsNetwork n → IsNetwork k
     → IsSubnetOf n k ↔ ((k.prefix_len ≤ n.prefix_len) × InBlock k (own n))
 subnet_iff_own n k u v = (
@@ -99,7 +101,7 @@ pub between_hosts_in_block : (n : Network) (hosts : AddressRange) (x : Address) 
     → IsBetween hosts.family hosts.start hosts.end x → InBlock n x
 between_hosts_in_block n hosts x h between = host_in_block n hosts x h (contains_from_between hosts x between)
 
--- from the address after a block on, a network whose prefix is no shorter has no host bit, and another block
+-- a network that begins after a block, with a prefix of at least its length, has no host bit and another block
 module _ (n k : Network) (last : Address) (u : IsNetwork n) (v : IsNetwork k) (greatest : IsGreatestOf n last)
     (family : k.family ≡ n.family) (next : k.number ≡ last.number + 1) (no_shorter : n.prefix_len ≤ k.prefix_len) where
   bits : host_bits n ≡ host_bits n - host_bits k + host_bits k
@@ -129,14 +131,14 @@ module _ (n k : Network) (last : Address) (u : IsNetwork n) (v : IsNetwork k) (g
   after_block_disjoint x a b =
       omega (arith, greatest.greatest x a, after_block_truncated x b, next)
 
--- a network of an aggregate has no host bit, and its addresses are those of the list
+-- a network of an aggregate has no host bit, and the list covers its addresses
 pub aggregate_member : (answer networks : List Network) (n : Network) → IsAggregateOf answer networks
     → Contains answer n → IsTruncated n × ((x : Address) → InBlock n x → IsCoveredBy networks x)
 aggregate_member answer networks n h c =
     let inside = ((h.members n).0 c).inside in
     (inside.truncated, inside.within)
 
--- the item after a front of a list, and what stands after it
+-- the item after a front of a list, and the rest after that item
 seam : {B : Type 0} (front : List B) (y : B) (rest : List B)
     → (slice_get (front ++ y ∷ rest) (length front) ≡ Some y) × (drop (suc (length front)) (front ++ y ∷ rest) ≡ rest)
 seam [] y rest = (refl, refl)
@@ -147,7 +149,7 @@ past_end [] n h = refl
 past_end (x ∷ list) zero h = absurd (omega arith)
 past_end (x ∷ list) (suc n) h = past_end list n (omega arith)
 
--- what `nth` gives and leaves, where each call gives the first of a list
+-- what `nth` gives and leaves if each call gives the first of a list
 module _ {S A : Type 0} (network : A → Network) (left : S → List Network) where
   walked : (s t : S) (xs : List A) → Yields (YieldsFirstBy network left) s xs t → left s ≡ map network xs ++ left t
   walked s t [] y = ap left y
@@ -174,7 +176,7 @@ module _ {S A : Type 0} (network : A → Network) (left : S → List Network) wh
       )
 
 -- the item at a place of a list is in it
-pub contains_from_get : (networks : List Network) (n : ℕ) (k : Network) → slice_get networks n ≡ Some k
+contains_from_get : (networks : List Network) (n : ℕ) (k : Network) → slice_get networks n ≡ Some k
     → Contains networks k
 contains_from_get networks n k e = (n, slice_get_within networks n k e, get_or_from_slice_get networks n k k e)
 

@@ -295,7 +295,7 @@ fn lies_before(first: &IpNet, second: &IpNet) -> bool
     }
 }
 
-/// Whether the list is its own aggregate: what `IpNet::aggregate` answers for it is the list as it stands.
+/// Whether the list is its own aggregate: `IpNet::aggregate` of the list returns the same list.
 ///
 /// This is the case if and only if four conditions hold: no network has a host bit; IPv4 comes before IPv6; within a
 /// family each network starts after the last address of the network before it; and no two neighbours are the two

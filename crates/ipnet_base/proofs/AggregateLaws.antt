@@ -80,7 +80,7 @@ pub aggregate_valid : (networks answer : List Network) → All IsNetwork network
     → All IsNetwork answer
 aggregate_valid networks answer valid h = (IsExactCover-of_aggregate networks answer valid h).valid
 
-pub aggregate_truncated : (networks answer : List Network) → IsAggregateOf answer networks → All IsTruncated answer
+aggregate_truncated : (networks answer : List Network) → IsAggregateOf answer networks → All IsTruncated answer
 aggregate_truncated networks answer h =
     all_from_members IsTruncated answer (λ n c. ((h.members n).0 c).inside.truncated)
 

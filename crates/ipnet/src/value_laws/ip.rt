@@ -1,5 +1,6 @@
 //! Laws of given networks of either family: a caller passes the values, and knows the fact of them afterwards.
-ghost use Rattle.std.specs.Prelude.{◌≡◌, ◌+◌, ◌<◌, ◌≤◌, ◌⊎◌, ◌↔◌, ℕ, map, drop, slice_get, option_map, Contains, IfSome};
+ghost use Rattle.std.specs.Prelude.{◌≡◌, ◌+◌, ◌<◌, ◌≤◌, ◌⊎◌, ◌↔◌, ℕ, map, drop, slice_get, option_map};
+ghost use Rattle.std.specs.Prelude.{Contains, IfSome, IsTrue};
 ghost use Rattle.std.specs.Iterator.{SkipsThenYields};
 ghost use Rattle.ipnet_base.specs.Address.{Address, IsBetween, ip_address};
 ghost use Rattle.ipnet_base.specs.Network.{Network, IsNetwork, InBlock, IsSubnetOf, AreDisjoint, IsTruncated};
@@ -27,7 +28,7 @@ pub fn own_address_lies_in_the_block(net: &IpNet)
     ensures { InBlock (ip_network net.now) (own_address (ip_network net.now)) }
 {}
 
-/// The other network lies in the network if and only if its prefix is no shorter and its own address lies there.
+/// The other network lies in `net` if and only if its prefix is at least as long and its own address lies there.
 pub fn subnets_are_found_by_their_own_address(net: &IpNet, other: &IpNet)
     ensures { let n = ip_network net.now in let k = ip_network other.now in
         IsSubnetOf k n ↔ ((n.prefix_len ≤ k.prefix_len) × InBlock n (own_address k)) }
@@ -106,7 +107,7 @@ pub fn nth_subnet_has_its_length(
         → IfSome answer.now (λ n. IsSubnetOfLength (ip_network net.now) prefix_len (ip_network n)) }
 {}
 
-/// A network that begins at the address after a block, with a prefix that is no shorter, has no host bit, and shares no
+/// A network that begins at the address after a block, with a prefix at least as long, has no host bit and shares no
 /// address with the block. The block has one last address (`last`).
 pub fn next_network_begins_a_block(net: &IpNet, last: &IpAddr, next: &IpNet)
     ensures last { IsGreatestOf (ip_network net.now) (ip_address last.now)
@@ -135,6 +136,20 @@ pub fn members_of_an_aggregate_are_covered(
         → Contains (map ip_network aggregate.now.items) (ip_network member.now)
         → IsTruncated (ip_network member.now)
         × ((x : Address) → InBlock (ip_network member.now) x → IsCoveredBy (map ip_network networks.now.items) x) }
+{}
+
+/// If `same` says whether two lists have the same addresses, as the result of `same_addresses` does, and is true, each
+/// list covers a given address if and only if the other does.
+pub fn same_addresses_agree(
+    networks: &Vec<IpNet>,
+    others: &Vec<IpNet>,
+    same: bool,
+    address: &IpAddr,
+)
+    ensures { (IsTrue same ↔ HaveSameCover (map ip_network networks.now.items) (map ip_network others.now.items))
+        → IsTrue same
+        → IsCoveredBy (map ip_network networks.now.items) (ip_address address.now)
+        ↔ IsCoveredBy (map ip_network others.now.items) (ip_address address.now) }
 {}
 
 /// If two lists have the same addresses, each covers a given address if and only if the other does.

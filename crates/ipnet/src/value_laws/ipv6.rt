@@ -1,5 +1,6 @@
 //! Laws of given IPv6 networks: a caller passes the values, and knows the fact of them afterwards.
-ghost use Rattle.std.specs.Prelude.{◌≡◌, ◌+◌, ◌<◌, ◌≤◌, ◌⊎◌, ◌↔◌, ℕ, map, drop, slice_get, option_map, Contains, IfSome};
+ghost use Rattle.std.specs.Prelude.{◌≡◌, ◌+◌, ◌<◌, ◌≤◌, ◌⊎◌, ◌↔◌, ℕ, map, drop, slice_get, option_map};
+ghost use Rattle.std.specs.Prelude.{Contains, IfSome};
 ghost use Rattle.std.specs.Iterator.{SkipsThenYields};
 ghost use Rattle.std.specs.Net.Addr.{ipv6_bits, IsIpv6OfBits};
 ghost use Rattle.ipnet_base.specs.Address.{Address, IsBetween, ipv6_address};
@@ -28,7 +29,7 @@ pub fn own_address_lies_in_the_block(net: &Ipv6Net)
     ensures { InBlock (ipv6_network net.now) (own_address (ipv6_network net.now)) }
 {}
 
-/// The other network lies in the network if and only if its prefix is no shorter and its own address lies there.
+/// The other network lies in `net` if and only if its prefix is at least as long and its own address lies there.
 pub fn subnets_are_found_by_their_own_address(net: &Ipv6Net, other: &Ipv6Net)
     ensures { let n = ipv6_network net.now in let k = ipv6_network other.now in
         IsSubnetOf k n ↔ ((n.prefix_len ≤ k.prefix_len) × InBlock n (own_address k)) }
@@ -107,7 +108,7 @@ pub fn nth_subnet_has_its_length(
         → IfSome answer.now (λ n. IsSubnetOfLength (ipv6_network net.now) prefix_len (ipv6_network n)) }
 {}
 
-/// A network that begins at the address after a block, with a prefix that is no shorter, has no host bit, and shares no
+/// A network that begins at the address after a block, with a prefix at least as long, has no host bit and shares no
 /// address with the block. The block has one last address (`last`).
 pub fn next_network_begins_a_block(net: &Ipv6Net, last: &Ipv6Addr, next: &Ipv6Net)
     ensures last { IsGreatestOf (ipv6_network net.now) (ipv6_address last.now)

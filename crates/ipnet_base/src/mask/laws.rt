@@ -1,4 +1,4 @@
-//! What holds of all values of `PrefixLenError`, and which masks are refused. Each law is a function with nothing to
+//! Laws of `PrefixLenError`, and which masks are refused. Each law is a function with nothing to
 //! run, whose contract is the law; the last two have no contract, and are compiled only for errors with `Eq`.
 ghost use Rattle.std.specs.Prelude.{◌↔◌, ℕ, IsErr};
 ghost use Rattle.ipnet_base.specs.Address.{Family};

@@ -23,7 +23,8 @@ loop-index-preserved c =
 
 pub returns : goal.returns
 returns c = (
-  λ h. subst (λ z. ArePairwiseDisjoint (map ip_network z)) (take_all c.loop-index.index c.args.networks.now (omega arith))
+  λ h. subst (λ z. ArePairwiseDisjoint (map ip_network z))
+      (take_all c.loop-index.index c.args.networks.now (omega arith))
       c.loop-index.invariant,
   λ pairs. refl,
 )

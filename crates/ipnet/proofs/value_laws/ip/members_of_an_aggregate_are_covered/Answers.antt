@@ -5,4 +5,5 @@ use Rattle.ipnet.proofs.value_laws.ip.members_of_an_aggregate_are_covered.Goals 
 
 pub returns : goal.returns
 returns c =
-    aggregate_member (map ip_network c.args.aggregate.now.items) (map ip_network c.args.networks.now.items) (ip_network c.args.member.now)
+    aggregate_member (map ip_network c.args.aggregate.now.items) (map ip_network c.args.networks.now.items)
+    (ip_network c.args.member.now)

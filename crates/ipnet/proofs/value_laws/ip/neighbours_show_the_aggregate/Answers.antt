@@ -8,4 +8,5 @@ use Rattle.ipnet.proofs.value_laws.ip.neighbours_show_the_aggregate.Goals as goa
 
 pub returns : goal.returns
 returns c =
-    neighbours_iff_own_aggregate (map ip_network c.args.networks.now) (All-read IsNetwork ip_network ip_valid c.args.networks.now)
+    neighbours_iff_own_aggregate (map ip_network c.args.networks.now)
+    (All-read IsNetwork ip_network ip_valid c.args.networks.now)

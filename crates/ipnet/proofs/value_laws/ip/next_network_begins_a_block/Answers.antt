@@ -11,8 +11,10 @@ returns-clause-last c last x h =
 
 pub returns-clause-truncated : goal.returns-clause-truncated
 returns-clause-truncated c greatest family next no_shorter =
-    after_block_truncated (ip_network c.args.net.now) (ip_network c.args.next.now) (ip_address c.args.last.now) (ip_valid c.args.net.now) (ip_valid c.args.next.now) greatest family next no_shorter
+    after_block_truncated (ip_network c.args.net.now) (ip_network c.args.next.now) (ip_address c.args.last.now)
+    (ip_valid c.args.net.now) (ip_valid c.args.next.now) greatest family next no_shorter
 
 pub returns-clause-apart : goal.returns-clause-apart
 returns-clause-apart c greatest family next no_shorter =
-    after_block_disjoint (ip_network c.args.net.now) (ip_network c.args.next.now) (ip_address c.args.last.now) (ip_valid c.args.net.now) (ip_valid c.args.next.now) greatest family next no_shorter
+    after_block_disjoint (ip_network c.args.net.now) (ip_network c.args.next.now) (ip_address c.args.last.now)
+    (ip_valid c.args.net.now) (ip_valid c.args.next.now) greatest family next no_shorter

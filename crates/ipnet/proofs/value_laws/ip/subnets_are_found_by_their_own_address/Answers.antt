@@ -5,4 +5,5 @@ use Rattle.ipnet.proofs.value_laws.ip.subnets_are_found_by_their_own_address.Goa
 
 pub returns : goal.returns
 returns c =
-    subnet_iff_own (ip_network c.args.other.now) (ip_network c.args.net.now) (ip_valid c.args.other.now) (ip_valid c.args.net.now)
+    subnet_iff_own (ip_network c.args.other.now) (ip_network c.args.net.now) (ip_valid c.args.other.now)
+    (ip_valid c.args.net.now)

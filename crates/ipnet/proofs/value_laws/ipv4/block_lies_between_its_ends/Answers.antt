@@ -5,4 +5,5 @@ use Rattle.ipnet.proofs.value_laws.ipv4.block_lies_between_its_ends.Goals as goa
 
 pub returns : goal.returns
 returns c first last x =
-    block_is_between (ipv4_network c.args.net.now) (ipv4_address c.args.first.now) (ipv4_address c.args.last.now) x first last
+    block_is_between (ipv4_network c.args.net.now) (ipv4_address c.args.first.now) (ipv4_address c.args.last.now) x
+    first last

@@ -8,4 +8,5 @@ use Rattle.ipnet.proofs.value_laws.ipv4.neighbours_show_the_aggregate.Goals as g
 
 pub returns : goal.returns
 returns c =
-    neighbours_iff_own_aggregate (map ipv4_network c.args.networks.now) (All-read IsNetwork ipv4_network ipv4_valid c.args.networks.now)
+    neighbours_iff_own_aggregate (map ipv4_network c.args.networks.now)
+    (All-read IsNetwork ipv4_network ipv4_valid c.args.networks.now)

@@ -11,8 +11,10 @@ returns-clause-last c last x h =
 
 pub returns-clause-truncated : goal.returns-clause-truncated
 returns-clause-truncated c greatest family next no_shorter =
-    after_block_truncated (ipv4_network c.args.net.now) (ipv4_network c.args.next.now) (ipv4_address c.args.last.now) (ipv4_valid c.args.net.now) (ipv4_valid c.args.next.now) greatest family next no_shorter
+    after_block_truncated (ipv4_network c.args.net.now) (ipv4_network c.args.next.now) (ipv4_address c.args.last.now)
+    (ipv4_valid c.args.net.now) (ipv4_valid c.args.next.now) greatest family next no_shorter
 
 pub returns-clause-apart : goal.returns-clause-apart
 returns-clause-apart c greatest family next no_shorter =
-    after_block_disjoint (ipv4_network c.args.net.now) (ipv4_network c.args.next.now) (ipv4_address c.args.last.now) (ipv4_valid c.args.net.now) (ipv4_valid c.args.next.now) greatest family next no_shorter
+    after_block_disjoint (ipv4_network c.args.net.now) (ipv4_network c.args.next.now) (ipv4_address c.args.last.now)
+    (ipv4_valid c.args.net.now) (ipv4_valid c.args.next.now) greatest family next no_shorter

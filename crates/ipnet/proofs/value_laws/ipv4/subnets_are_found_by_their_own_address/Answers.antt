@@ -5,4 +5,5 @@ use Rattle.ipnet.proofs.value_laws.ipv4.subnets_are_found_by_their_own_address.G
 
 pub returns : goal.returns
 returns c =
-    subnet_iff_own (ipv4_network c.args.other.now) (ipv4_network c.args.net.now) (ipv4_valid c.args.other.now) (ipv4_valid c.args.net.now)
+    subnet_iff_own (ipv4_network c.args.other.now) (ipv4_network c.args.net.now) (ipv4_valid c.args.other.now)
+    (ipv4_valid c.args.net.now)

@@ -5,4 +5,5 @@ use Rattle.ipnet.proofs.value_laws.ipv6.members_of_an_aggregate_are_covered.Goal
 
 pub returns : goal.returns
 returns c =
-    aggregate_member (map ipv6_network c.args.aggregate.now.items) (map ipv6_network c.args.networks.now.items) (ipv6_network c.args.member.now)
+    aggregate_member (map ipv6_network c.args.aggregate.now.items) (map ipv6_network c.args.networks.now.items)
+    (ipv6_network c.args.member.now)

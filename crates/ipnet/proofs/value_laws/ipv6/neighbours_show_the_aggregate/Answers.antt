@@ -8,4 +8,5 @@ use Rattle.ipnet.proofs.value_laws.ipv6.neighbours_show_the_aggregate.Goals as g
 
 pub returns : goal.returns
 returns c =
-    neighbours_iff_own_aggregate (map ipv6_network c.args.networks.now) (All-read IsNetwork ipv6_network ipv6_valid c.args.networks.now)
+    neighbours_iff_own_aggregate (map ipv6_network c.args.networks.now)
+    (All-read IsNetwork ipv6_network ipv6_valid c.args.networks.now)
