@@ -14,11 +14,8 @@ use Rattle.ipnet_pools.specs.Fits.{HasRoom, IsLargeEnough, IsBestFit}
 use Rattle.ipnet_pools.specs.FitSteps.{HasRequested, IsNoneBefore, IsBestBefore, IsBestSoFar, shortened_to}
 use Rattle.ipnet_pools.proofs.FitLaws.{large_enough_above, fit_at_start}
 
-pub best_start : (blocks : List Network) (request : Network) → IsBestSoFar blocks request 0 None
-best_start blocks request = record { none = λ k c lt. absurd (omega (arith, lt)); some = tt }
-
 -- the block is better than the best so far
-abbrev pub IsBetter : Network → IpNet → Option IpNet → Type 0
+abbrev IsBetter : Network → IpNet → Option IpNet → Type 0
 IsBetter request b best = HasRequested request (ip_network b)
     × IfSome best (λ z. (ip_network z).prefix_len < (ip_network b).prefix_len)
 
@@ -124,7 +121,7 @@ best_is_fit S blocks request b count u e all best =
       at_start = refl;
     }
 
--- where no maximal block is large enough there is no room
+-- if no maximal block is large enough, there is no room
 pub none_is_no_room : (S : Address → Type 0) → IsDecided S → (blocks : List Network) (request : Network) (count : ℕ)
     → count ≡ length blocks → AreMaximalBlocks S 0 blocks → IsNoneBefore blocks request count
     → ¬ (HasRoom S request.family request.prefix_len)

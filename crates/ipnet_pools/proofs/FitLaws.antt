@@ -44,7 +44,7 @@ pub in_above : (n : Network) (q : ℕ) → q ≤ n.prefix_len → IsSubnetOf n (
 in_above n q le x a =
     in_truncation (with_len n q) x (subnet_from_own n (with_len n q) le (own_in (with_len n q)) x a)
 
-pub above_below : (n k : Network) (q : ℕ) → k.prefix_len ≤ q → IsSubnetOf n k → IsSubnetOf (above n q) k
+above_below : (n k : Network) (q : ℕ) → k.prefix_len ≤ q → IsSubnetOf n k → IsSubnetOf (above n q) k
 above_below n k q le sub x a =
     subnet_from_own (with_len n q) k le (sub (own n) (own_in n)) x (truncation_in (with_len n q) x a)
 
@@ -67,22 +67,11 @@ same_or_apart n k e =
       | inr (inr d) ↦ inr d
     ]
 
--- what is left of a set that can be decided can be decided
-pub IsDecided-without : (InSet : Address → Type 0) → IsDecided InSet → (n : Network) → IsDecided (Without InSet n)
-IsDecided-without InSet dec n x =
-    elim (dec x) [
-      | inr out ↦ inr (λ h. out h.0)
-      | inl member ↦ elim (in_block_or_not n x) [
-        | inl a ↦ inr (λ h. h.1 a)
-        | inr outside ↦ inl (member, outside)
-      ]
-    ]
-
 -- what lies in the rest lies in the set, apart from what was taken; and back
 pub IsInside-of_rest : (InSet : Address → Type 0) (n k : Network) → IsInside (Without InSet n) 0 k → IsInside InSet 0 k
 IsInside-of_rest InSet n k i = IsInside-of_block (Without InSet n) InSet 0 k i (λ x a. (i.within x a).0)
 
-pub IsFit-of_rest : (InSet : Address → Type 0) (n k : Network) (f : Family) (q : ℕ) → IsFit (Without InSet n) f q k
+IsFit-of_rest : (InSet : Address → Type 0) (n k : Network) (f : Family) (q : ℕ) → IsFit (Without InSet n) f q k
     → IsFit InSet f q k
 IsFit-of_rest InSet n k f q fit = record {
   inside = IsInside-of_rest InSet n k fit.inside;
@@ -90,7 +79,7 @@ IsFit-of_rest InSet n k f q fit = record {
   of_length = fit.of_length;
 }
 
-pub IsFit-in_rest : (InSet : Address → Type 0) (n k : Network) (f : Family) (q : ℕ) → IsFit InSet f q k
+IsFit-in_rest : (InSet : Address → Type 0) (n k : Network) (f : Family) (q : ℕ) → IsFit InSet f q k
     → AreDisjoint k n → IsFit (Without InSet n) f q k
 IsFit-in_rest InSet n k f q fit apart = record {
   inside = IsInside-of_block InSet (Without InSet n) 0 k fit.inside (λ x a. (fit.inside.within x a, λ b. apart x a b));
@@ -122,7 +111,7 @@ fit_at_start InSet f p b fits h = record {
 }
 
 -- the best fit lies in its block
-pub best_in_block : (InSet : Address → Type 0) (f : Family) (p : ℕ) (n : Network) (best : IsBestFit InSet f p n)
+best_in_block : (InSet : Address → Type 0) (f : Family) (p : ℕ) (n : Network) (best : IsBestFit InSet f p n)
     → IsSubnetOf n best.block
 best_in_block InSet f p n best =
     subnet_from_own n best.block (omega (arith, best.large_enough.enough, best.fit.of_length)) (record {

@@ -1,6 +1,7 @@
--- What the map of the leases has after an insertion and after a removal, in terms of its list.
-use Rattle.std.proofs.Common.{◌≡◌, ◌⊎◌, ◌↔◌, Bool, true, false, Option, Some, None, List, Contains, inl, inr, refl, sym, ap}
-use Rattle.std.proofs.Common.{◌∙◌, subst, Ordering, Less, Equal, Greater, cond, [], ◌∷◌, Bor, option_copied, IfSome, IfNone}
+-- The members of the map of leases after an insertion and after a removal.
+use Rattle.std.proofs.Common.{◌≡◌, ◌⊎◌, ◌↔◌, Bool, true, false, Option, Some, None, List, Contains, inl, inr}
+use Rattle.std.proofs.Common.{◌∙◌, refl, sym, ap, subst, Ordering, Less, Equal, Greater, cond, [], ◌∷◌}
+use Rattle.std.proofs.Common.{Bor, option_copied, IfSome, IfNone}
 use Rattle.std.specs.Cmp.{IsTotalOrder, strict}
 use Rattle.std.specs.Ordering.{MatchOrdering, is_eq, is_gt, is_lt}
 use Rattle.std.specs.Option.{IsSome}
@@ -25,7 +26,7 @@ abbrev Before : IpNet → IpNet → Type 0
 Before a b = IsBefore (ip_network a) (ip_network b)
 
 -- the comparison says how the networks are ordered
-abbrev pub IsRanking : (IpNet → IpNet → Ordering) → Type 0
+abbrev IsRanking : (IpNet → IpNet → Ordering) → Type 0
 IsRanking cmp = (a b : IpNet) → MatchOrdering (cmp a b) (Before a b) (ip_network a ≡ ip_network b) (Before b a)
 
 same_value : (r : Ordering) (a b : IpNet) → MatchOrdering r (Before a b) (ip_network a ≡ ip_network b) (Before b a)
@@ -42,7 +43,8 @@ module _ (cmp : IpNet → IpNet → Ordering) (ranking : IsRanking cmp) where
   never_before a h = IsBefore-asymmetric (ip_network a) (ip_network a) h h
 
   pub total : IsTotalOrder cmp
-  total = strict Before never_before (λ a b d. IsBefore-transitive (ip_network a) (ip_network b) (ip_network d)) cmp ranks
+  total =
+      strict Before never_before (λ a b d. IsBefore-transitive (ip_network a) (ip_network b) (ip_network d)) cmp ranks
 
   pub exact : CmpEqualImpliesEq cmp
   exact a b e = by_ranked (Before a b) (a ≡ b) (Before b a) (cmp a b) (ranks a b) (λ f _. absurd (cc)) (λ _ same. same)
@@ -68,7 +70,8 @@ module _ (cmp : IpNet → IpNet → Ordering) (ranking : IsRanking cmp) where
 
     inserted_back : (v : V) (q : IpNet) (w : V) (b : Bool) → is_at (cmp k) q ≡ b → ¬ (HasLeaseOf m.entries k)
         → get cmp n q ≡ cond b (Some v) (get cmp m q) → Contains m.entries (q, w) → get cmp n q ≡ Some w
-    inserted_back v q w true at none e c = absurd (none (w, subst (λ z. Contains m.entries (z, w)) (sym (found_at k q at)) c))
+    inserted_back v q w true at none e c =
+        absurd (none (w, subst (λ z. Contains m.entries (z, w)) (sym (found_at k q at)) c))
     inserted_back v q w false at none e c = e ∙ (btree_map_get_iff total exact m old q w).1 c
 
     inserted_here : (v : V) (q : IpNet) → get cmp n q ≡ cond (is_at (cmp k) q) (Some v) (get cmp m q) → q ≡ k

@@ -17,14 +17,14 @@ abbrev pub size : Network → ℕ
 size n = 2 ^ host_bits n
 
 -- a truncated block by its own number and its size
-pub in_from : (n : Network) → IsTruncated n → (x : Address) → InBlock n x
+in_from : (n : Network) → IsTruncated n → (x : Address) → InBlock n x
     → (n.number ≤ x.number) × (x.number < n.number + size n)
 in_from n t x a = (
   t x a,
   omega (arith, (between_from_block n x a).to_end, number_from_truncated n t, pow_pos (host_bits n)),
 )
 
-pub in_to : (n : Network) → IsTruncated n → (x : Address) → x.family ≡ n.family → n.number ≤ x.number
+in_to : (n : Network) → IsTruncated n → (x : Address) → x.family ≡ n.family → n.number ≤ x.number
     → x.number < n.number + size n → InBlock n x
 in_to n t x f low high = block_from_between n x (record {
   of_family = f;
@@ -59,7 +59,8 @@ multiple_back p x pos (q, e) =
 abbrev pub shift : Network → Network → Network → Network
 shift c d k = record k { number = k.number - c.number + d.number }
 
--- What is in the one set at a place of c is in the other at this place of d, and the other way; elsewhere nothing moves.
+-- The addresses of c in the one set are the addresses of d in the other, at the same places, and the other way round.
+-- All other addresses are in both sets or in neither.
 pub record IsSwapped (c d : Network) (A B : Address → Type 0) : Type 0 where
   pub to_d : (x y : Address) → InBlock c x → InBlock d y → y.number + c.number ≡ x.number + d.number → A x → B y
   pub to_c : (x y : Address) → InBlock d x → InBlock c y → y.number + d.number ≡ x.number + c.number → A x → B y
@@ -149,7 +150,7 @@ module _ (c d : Network) (alike : AreAlike c d) (k : Network) (u : IsNetwork k) 
       in_to d alike.d_truncated y (a.same_family ∙ k_family ∙ alike.family) (omega (arith, bounds.0))
       (omega (arith, bounds.1, low, high, sizes))
 
-  -- where an address of the moved network comes from
+  -- the place that an address of the moved network comes from
   back : (x y : Address) → x.family ≡ c.family → y.number + c.number ≡ x.number + d.number
       → InBlock (shift c d k) y → InBlock k x
   back x y f off a =
@@ -161,7 +162,8 @@ module _ (c d : Network) (alike : AreAlike c d) (k : Network) (u : IsNetwork k) 
     came_from : Address → Address
     came_from y = record { family = c.family; number = y.number - d.number + c.number }
 
-    came_off : (y : Address) → InBlock (shift c d k) y → y.number + c.number ≡ (y.number - d.number + c.number) + d.number
+    came_off : (y : Address) → InBlock (shift c d k) y
+        → y.number + c.number ≡ (y.number - d.number + c.number) + d.number
     came_off y a = omega (arith, (in_from (shift c d k) shift_truncated y a).0)
 
     shift_fit : IsFit B f q (shift c d k)
@@ -188,7 +190,7 @@ module _ (c d : Network) (alike : AreAlike c d) (k : Network) (u : IsNetwork k) 
       other = λ x no_c no_d ax. (swapped.other x no_c no_d ax.0, λ b. no_d (shift_in x b));
     }
 
--- what is apart from both blocks stays where it is
+-- a network apart from both blocks stays in its place
 pub stay_fit : (c d : Network) (A B : Address → Type 0) → IsSwapped c d A B → (f : Family) (q : ℕ) (k : Network)
     → IsFit A f q k → AreDisjoint k c → AreDisjoint k d → IsFit B f q k
 stay_fit c d A B swapped f q k fit no_c no_d = record {

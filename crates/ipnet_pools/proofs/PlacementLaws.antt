@@ -19,7 +19,7 @@ use Rattle.ipnet_pools.proofs.MoveLaws.{IsSwapped, IsSwapped-sym, AreAlike, AreA
 use Rattle.ipnet_pools.proofs.MoveLaws.{stay_fit, stay_swapped}
 
 -- every network inside the set lies in one of the two blocks, or apart from both
-abbrev pub AreCompatible : Network → Network → (Address → Type 0) → Type 0
+abbrev AreCompatible : Network → Network → (Address → Type 0) → Type 0
 AreCompatible c d A = (k : Network) → IsInside A 0 k
     → IsSubnetOf k c ⊎ (IsSubnetOf k d ⊎ (AreDisjoint k c × AreDisjoint k d))
 
@@ -98,7 +98,7 @@ place_elsewhere S f p c d n ic id family len fit sub whole =
           )
     ]
 
--- a network anywhere in a block of the set may as well stand at its start
+-- a network anywhere in a block of the set can be exchanged for one at the block's start
 to_start : (S : Address → Type 0) (f : Family) (p e : ℕ) (t v : Network) → IsInside S 0 t → t.prefix_len + e ≡ p
     → IsFit S f p v → IsSubnetOf v t → (requests : List Request) → CanPlace (Without S v) requests
     → CanPlace (Without S (with_len t p)) requests
@@ -106,7 +106,8 @@ to_start S f p zero t v it len fit sub requests place =
     let family : v.family ≡ t.family = (sub (own v) (own_in v)).same_family in
     let bits : host_bits v ≡ host_bits t = omega (arith, ap width family, fit.of_length, len) in
     let back : IsSubnetOf t v = nested t v (own v) (sub (own v) (own_in v)) (own_in v) (omega (arith, bits)) in
-    let same : v ≡ t = same_from_block v t fit.inside.network it.network fit.inside.truncated it.truncated (sub, back) in
+    let same : v ≡ t =
+    same_from_block v t fit.inside.network it.network fit.inside.truncated it.truncated (sub, back) in
     let at_len : t ≡ with_len t p = same_network t (with_len t p) refl refl (omega (arith, len)) in
     subst (λ m. CanPlace (Without S m) requests) (same ∙ at_len) place
 to_start S f p (suc e) t v it len fit sub requests place =
@@ -144,7 +145,8 @@ best_fit_keeps_placements S dec f p n best requests (m, fit, rest) =
     let short : block.prefix_len ≤ m.prefix_len = omega (arith, best.large_enough.enough, fit.of_length) in
     let c : Network = above m block.prefix_len in
     let ic : IsInside S 0 c =
-    IsInside-above S m b block.prefix_len fit.inside.network short large.maximal.inside (best.smallest b large) m_in_b in
+    IsInside-above S m b block.prefix_len fit.inside.network short large.maximal.inside (best.smallest b large)
+    m_in_b in
     let family : m.family ≡ block.family = fit.of_family ∙ sym best.large_enough.of_family in
     let (v, fit_v, v_in_block, move) =
     place_elsewhere S f p c block m ic max.inside family refl fit (in_above m block.prefix_len short)
@@ -177,7 +179,8 @@ place_disjoint S (n ∷ ns) inside apart = (
   place_disjoint (Without S n) ns
       (λ i d l.
       let y : Network = get_or ns i d in
-      let iy : IsInside S 0 y = all_at (IsInside S 0) (n ∷ ns) inside y (contains_there n ns y (contains_at ns i d l)) in
+      let iy : IsInside S 0 y =
+      all_at (IsInside S 0) (n ∷ ns) inside y (contains_there n ns y (contains_at ns i d l)) in
       IsInside-of_block S (Without S n) 0 y iy (λ x a. (
         iy.within x a,
         λ b. pairs_head AreDisjoint n ns apart y (contains_at ns i d l) x b a,

@@ -36,7 +36,8 @@ planned_start S Left f lengths left back = record {
 }
 
 module _ (S Old New : Address → Type 0) (f : Family) (lengths : List ℕ) (done p : ℕ) (networks : List Network)
-    (here : drop done lengths ≡ p ∷ drop (done + 1) lengths) (so_far : IsPlannedSoFar S Old f lengths done networks) where
+    (here : drop done lengths ≡ p ∷ drop (done + 1) lengths)
+    (so_far : IsPlannedSoFar S Old f lengths done networks) where
   pub planned_more : (n : Network) → IsBestFit Old f p n → ((x : Address) → New x → Without Old n x)
       → ((requests : List Request) → CanPlace Old ((f, p) ∷ requests) → CanPlace New requests)
       → IsPlannedSoFar S New f lengths (done + 1) (networks ++ n ∷ [])
@@ -75,7 +76,8 @@ pub planned_end : (S Left : Address → Type 0) (f : Family) (lengths : List ℕ
     → IsPlannedSoFar S Left f lengths (length lengths) networks → IsPlan S f lengths networks
 planned_end S Left f lengths networks h = record {
   requested = sym (append-nil (map request_of networks))
-      ∙ ap (λ z. map request_of networks ++ requests_of f z) (sym (drop_all (length lengths) lengths (omega arith))) ∙ h.requested;
+      ∙ ap (λ z. map request_of networks ++ requests_of f z) (sym (drop_all (length lengths) lengths (omega arith)))
+      ∙ h.requested;
   inside = h.inside;
   disjoint = h.disjoint;
 }
@@ -86,7 +88,8 @@ plan_places : (S : Address → Type 0) (f : Family) (lengths : List ℕ) (networ
 plan_places S f lengths networks plan =
     subst (CanPlace S) plan.requested (place_disjoint S networks plan.inside plan.disjoint)
 
-pub answer_places : {T E : Type 0} (S : Address → Type 0) (f g : Family) (lengths : List ℕ) (networks : T → List Network)
+pub answer_places : {T E : Type 0} (S : Address → Type 0) (f g : Family) (lengths : List ℕ)
+    (networks : T → List Network)
     (r : Result T E) → f ≡ g → IfOk r (λ t. IsPlan S f lengths (networks t)) → IsOk r
     → CanPlace S (requests_of g lengths)
 answer_places S f g lengths networks (Ok t) same plan ok =

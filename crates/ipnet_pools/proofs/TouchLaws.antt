@@ -90,7 +90,7 @@ module _ {V : Type 0} (leases : List (IpNet × V)) (l : AreLeases leases) (n : N
         ]
 
 -- the network of this one address
-abbrev pub host_of : Address → Network
+abbrev host_of : Address → Network
 host_of x = record { family = x.family; number = x.number; prefix_len = width x.family }
 
 touches_address : (m : Network) (x : Address) → ¬ (AreDisjoint m (host_of x)) → InBlock m x
@@ -120,7 +120,8 @@ module _ {V : Type 0} (leases : List (IpNet × V)) (x : Address) (h : Network) (
       (leased.0, (v, leased.2), subst (λ z. InBlock z x) (sym leased.1) a)
 
 -- a lease that touches a network shows that not all of the network is free, and without one all of it is
-module _ {V : Type 0} (leases : List (IpNet × V)) (S Free : Address → Type 0) (rest : IsRest Free leases S) (n : Network)
+module _ {V : Type 0} (leases : List (IpNet × V)) (S Free : Address → Type 0) (rest : IsRest Free leases S)
+    (n : Network)
   where
     pub touched_not_free : (k : IpNet) → HasLeaseOf leases k → ¬ (AreDisjoint (ip_network k) n)
         → ¬ ((x : Address) → InBlock n x → Free x)

@@ -24,11 +24,11 @@ pub record AreLeases {V : Type 0} (leases : List (IpNet × V)) : Type 0 where
 abbrev pub LieIn : {V : Type 0} → List (IpNet × V) → (Address → Type 0) → Type 0
 LieIn leases InSet = (x : Address) → IsInLease leases x → InSet x
 
--- the free addresses are those of the set that lie in no lease
+-- the free addresses are the addresses of the set that lie in no lease
 abbrev pub IsRest : {V : Type 0} → (Address → Type 0) → List (IpNet × V) → (Address → Type 0) → Type 0
 IsRest Free leases InSet = (x : Address) → Free x ↔ (InSet x × ¬ (IsInLease leases x))
 
--- the lease stands no later than the network `at`, and no other such lease stands after it
+-- the lease is not after the network `at`, and it is the last such lease
 pub record IsLastNotAfter {V : Type 0} (leases : List (IpNet × V)) (at k : IpNet) : Type 0 where
   pub not_after : ¬ (IsBefore (ip_network at) (ip_network k))
   pub last : (q : IpNet) → HasLeaseOf leases q → ¬ (IsBefore (ip_network at) (ip_network q))

@@ -10,7 +10,8 @@ abbrev pub requests_of : Family → List ℕ → List Request
 requests_of family lengths = map (λ p. (family, p)) lengths
 
 -- networks of the family in the set, one for each prefix length and in the order of the lengths
-pub record IsPlan (InSet : Address → Type 0) (family : Family) (lengths : List ℕ) (networks : List Network) : Type 0 where
+pub record IsPlan (InSet : Address → Type 0) (family : Family) (lengths : List ℕ) (networks : List Network)
+    : Type 0 where
   -- each network has its prefix length
   pub requested : map request_of networks ≡ requests_of family lengths
   -- each network lies in the set, and has no host bits

@@ -67,7 +67,7 @@ pub(crate) fn contains<V>(leases: &BTreeMap<IpNet, V>, network: &IpNet) -> bool
     }
 }
 
-/// Returns the last lease that does not stand after the network `at` in the order of networks.
+/// Returns the last lease that is not after the network `at` in the order of networks.
 fn last_not_after<'a, V>(leases: &'a BTreeMap<IpNet, V>, at: &IpNet) -> Option<(&'a IpNet, &'a V)>
     ensures found { IfSome result (λ r. Contains leases.now.entries (r.0.now, r.1.now)
         × IsLastNotAfter leases.now.entries at.now r.0.now) }

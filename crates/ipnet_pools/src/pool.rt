@@ -1,5 +1,6 @@
 //! Pools of addresses.
-ghost use Rattle.std.specs.Prelude.{◌≡◌, ◌↔◌, ◌⊎◌, ◌<◌, ◌∷◌, List, Err, map, length, IfOk, OnOk, IfErr, IsErr, IfSome, IfNone, IsTrue, Contains};
+ghost use Rattle.std.specs.Prelude.{◌≡◌, ◌↔◌, ◌⊎◌, ◌<◌, ◌∷◌, List, Err, map, length, IfOk, OnOk, IfErr, IsErr};
+ghost use Rattle.std.specs.Prelude.{IfSome, IfNone, IsTrue};
 ghost use Rattle.ipnet_base.specs.Address.{Address, IPv4, IPv6, ip_address};
 ghost use Rattle.ipnet_base.specs.Network.{Network, InBlock, AreDisjoint, IsTruncated, truncation};
 ghost use Rattle.ipnet_base.specs.Blocks.{AreMaximalBlocks};
@@ -9,7 +10,8 @@ ghost use Rattle.ipnet_pools.specs.Fits.{HasRoom, IsBestFit};
 ghost use Rattle.ipnet_pools.specs.FreeOf.{IsIn};
 ghost use Rattle.ipnet_pools.specs.Leases.{HasLeaseOf, AreLeases, LieIn, IsRest};
 ghost use Rattle.ipnet_pools.specs.Placements.{Request, CanPlace};
-ghost use Rattle.ipnet_pools.specs.declared.error.PoolError.TheVariants.{PrefixLen, Exhausted, NotLeased, NotInPool, Memory};
+ghost use Rattle.ipnet_pools.specs.declared.error.PoolError.TheVariants.{PrefixLen, Exhausted, NotLeased};
+ghost use Rattle.ipnet_pools.specs.declared.error.PoolError.TheVariants.{NotInPool, Memory};
 
 use crate::error::{PoolError, Refused};
 use crate::free::FreeBlocks;
@@ -36,7 +38,8 @@ pub struct IpPool<V> {
 }
 
 impl<V: Drop> IpPool<V> {
-    ghost use Rattle.ipnet_pools.specs.PoolOf.{IsOfPool, IsFree, leases_of, IsLeased, IsLeaseOf, IsSamePool, IsTaken, IsReleased};
+    ghost use Rattle.ipnet_pools.specs.PoolOf.{IsOfPool, IsFree, leases_of, IsLeased, IsLeaseOf};
+    ghost use Rattle.ipnet_pools.specs.PoolOf.{IsSamePool, IsTaken, IsReleased};
     ghost use Rattle.ipnet_pools.specs.Refusals.{IsErrorOf, IsNotFree, IfNotFree};
 
     /// Returns the pool of the set's addresses, all of them free. Fails only if memory runs out.
@@ -102,8 +105,9 @@ impl<V: Drop> IpPool<V> {
 
     /// Leases the network with the value. The network's host bits do not count.
     ///
-    /// The error is `NotInPool` if some address of the network does not belong to the pool, and otherwise `NotFree`, with
-    /// a lease in the way, if some address of it is leased. An error hands the value back, and the pool is as it was.
+    /// The error is `NotInPool` if some address of the network does not belong to the pool. Otherwise it is `NotFree`,
+    /// with the lease in the way, if some address of the network is leased. An error hands the value back, and the pool
+    /// is as it was.
     ///
     /// ```text
     /// take 10.0.0.64/26 from 10.0.0.0/24: then 10.0.0.0/26 and 10.0.0.128/25 are free
@@ -191,8 +195,8 @@ impl<V: Drop> IpPool<V> {
     /// Leases the best fit for an IPv4 prefix length with the value, and returns it: the first network in the smallest
     /// free block that is large enough.
     ///
-    /// The error is `PrefixLen` above 32, and `Exhausted` if no network of this length is free. An error hands the value
-    /// back, and the pool is as it was.
+    /// The error is `PrefixLen` above 32, and `Exhausted` if no network of this length is free. An error hands the
+    /// value back, and the pool is as it was.
     ///
     /// ```text
     /// from 10.0.0.0/25 and 10.0.0.192/26: a /27 is 10.0.0.192/27, and then a /25 is 10.0.0.0/25
@@ -223,8 +227,8 @@ impl<V: Drop> IpPool<V> {
         }
     }
 
-    /// Leases the best fit for an IPv6 prefix length with the value, and returns it, as `assign_ipv4` does. The error is
-    /// `PrefixLen` above 128.
+    /// Leases the best fit for an IPv6 prefix length with the value, and returns it, as `assign_ipv4` does. The error
+    /// is `PrefixLen` above 128.
     ///
     /// ```text
     /// from 2001:db8::/32: a /48 is 2001:db8::/48

@@ -1,4 +1,4 @@
--- Each turn the next block is taken where it is better than the best so far.
+-- In each turn the next block becomes the best block if it is better.
 use Rattle.std.proofs.Common.{◌+◌, map, Contains, refl, sym, ap, ◌∙◌, subst, arith}
 use Rattle.std.proofs.lemmas.List.{length-map, get_or-map}
 use Rattle.ipnet_base.proofs.ResultLaws.{true_gives, false_gives}

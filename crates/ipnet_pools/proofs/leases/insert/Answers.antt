@@ -1,4 +1,4 @@
--- The lease is in the map exactly where the list has it.
+-- The map finds a lease if and only if its list has the lease.
 use Rattle.ipnet_pools.proofs.LeaseLaws.{inserted}
 use Rattle.ipnet_pools.proofs.leases.insert.Goals as goal
 

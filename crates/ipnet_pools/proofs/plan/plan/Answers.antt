@@ -43,14 +43,17 @@ returns-in_err-network-clause-exhausted c e =
     let result = c.from_residual-in_err-network.result in
     let (y, is, same) = err_from_is_err_and result c.from_residual-in_err-network.ensures.1 in
     let was : c.assign.result ≡ Err c.in_err-network.field-0.0 = c.in_err-network.was in
-    planned_none (IsMember c.args.set.now) (IsIn c.loop-index.free) (IsIn c.loop-index.free) f lengths i request.prefix_len
-    (map ip_network c.loop-index.networks.items) (drop_more lengths i 0 (omega (arith, c.loop-index-test.true))
-    ∙ ap (λ z. z ∷ drop (i + 1) lengths) (sym (ap (λ z. z.prefix_len) c.in_ok-request.ensures.made))) c.loop-index.invariant
-    (subst (λ z. ¬ (HasRoom (IsIn c.loop-index.free) z request.prefix_len)) (ap (λ z. z.family) c.in_ok-request.ensures.made ∙ ap (λ z. z.family) c.addr.ensures) (c.assign.ensures.exhausted (cc)))
+    let here = drop_more lengths i 0 (omega (arith, c.loop-index-test.true))
+    ∙ ap (λ z. z ∷ drop (i + 1) lengths) (sym (ap (λ z. z.prefix_len) c.in_ok-request.ensures.made)) in
+    let of_family = ap (λ z. z.family) c.in_ok-request.ensures.made ∙ ap (λ z. z.family) c.addr.ensures in
+    planned_none (IsMember c.args.set.now) (IsIn c.loop-index.free) (IsIn c.loop-index.free) f lengths i
+    request.prefix_len (map ip_network c.loop-index.networks.items) here c.loop-index.invariant
+    (subst (λ z. ¬ (HasRoom (IsIn c.loop-index.free) z request.prefix_len)) of_family (c.assign.ensures.exhausted (cc)))
 
 pub returns-in_err-push-clause-prefix_len : goal.returns-in_err-push-clause-prefix_len
 returns-in_err-push-clause-prefix_len c =
-    let (y, is, same) = err_from_is_err_and c.from_residual-in_err-push.result c.from_residual-in_err-push.ensures.1 in (
+    let (y, is, same) =
+    err_from_is_err_and c.from_residual-in_err-push.result c.from_residual-in_err-push.ensures.1 in (
       λ e. absurd (cc),
       λ any. absurd (false_gives c.has_too_long.result c.has_too_long.ensures c.if-has_too_long.false any),
     )
@@ -66,12 +69,14 @@ loop-index-preserved c =
     let request = ip_network c.in_ok-request.request in
     let n = ip_network c.in_ok-network.network in
     let xs = c.loop-index.networks.items in
+    let here = drop_more lengths i 0 (omega (arith, c.loop-index-test.true))
+    ∙ ap (λ z. z ∷ drop (i + 1) lengths) (sym (ap (λ z. z.prefix_len) c.in_ok-request.ensures.made)) in
+    let of_family = ap (λ z. z.family) c.in_ok-request.ensures.made ∙ ap (λ z. z.family) c.addr.ensures in
     let best : IsBestFit Old f request.prefix_len n =
-    subst (λ z. IsBestFit Old z request.prefix_len n) (ap (λ z. z.family) c.in_ok-request.ensures.made ∙ ap (λ z. z.family) c.addr.ensures) c.in_ok-network.ensures.best in
+    subst (λ z. IsBestFit Old z request.prefix_len n) of_family c.in_ok-network.ensures.best in
     subst (IsPlannedSoFar S New f lengths (i + 1))
     (sym (ap (map ip_network) c.in_ok-push.ensures.items ∙ map-append ip_network xs (c.in_ok-network.network ∷ [])))
-    (planned_more S Old New f lengths i request.prefix_len (map ip_network xs) (drop_more lengths i 0 (omega (arith, c.loop-index-test.true))
-    ∙ ap (λ z. z ∷ drop (i + 1) lengths) (sym (ap (λ z. z.prefix_len) c.in_ok-request.ensures.made))) c.loop-index.invariant n best
+    (planned_more S Old New f lengths i request.prefix_len (map ip_network xs) here c.loop-index.invariant n best
     (λ x h. (c.in_ok-network.ensures.cut.free x).0 h)
     (λ requests place. CanPlace-more requests (Without Old n) New (λ x h. (c.in_ok-network.ensures.cut.free x).1 h)
     (best_fit_keeps_placements Old (member_or_not c.loop-index.free.set) f request.prefix_len n best requests place)))

@@ -47,7 +47,8 @@ invariant_of-self-in-Ok g c =
           (λ x a. ((pool.rest x).0 (c.requires.free x a)).1);
       within = within_more old new k c.args.value more (IsMember pool.whole) pool.within
           (λ x a. ((pool.rest x).0 (c.requires.free x a)).0);
-      rest = rest_more old new k c.args.value more (IsMember pool.whole) (IsIn pool.free) (IsIn c.cut.new.self) pool.rest
+      rest = rest_more old new k c.args.value more (IsMember pool.whole) (IsIn pool.free) (IsIn c.cut.new.self)
+          pool.rest
           c.in-Ok.ensures.cut.free;
     }
 
