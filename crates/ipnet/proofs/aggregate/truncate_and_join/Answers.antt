@@ -37,5 +37,5 @@ pub returns-clause-addresses : goal.returns-clause-addresses
 returns-clause-addresses g c =
     let net = g.N.Net.network in
     list_of_first_whole (map net c.args.list.now) c.loop-index.index
-        (map net (take c.loop-index.kept c.loop-index.list))
+    (map net (take c.loop-index.kept c.loop-index.list))
     (omega (arith, length-map c.args.list.now net)) c.loop-index.invariant.first
