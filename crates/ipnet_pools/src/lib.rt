@@ -4,6 +4,7 @@
 #![tactic(auto)]
 
 pub mod error;
+mod block_set;
 mod fit;
 mod free;
 pub mod laws;
