@@ -1,6 +1,6 @@
-//! Facts of the definitions, each the contract of a function that does nothing. They show that networks, blocks and
-//! lists of networks, as `specs/` defines them, are what a reader takes them for. A caller whose own contract needs
-//! such a fact calls its function; a program never has to.
+//! Facts about the definitions, each the contract of a function that does nothing. They show that networks, blocks and
+//! lists of networks, as `specs/` defines them, are what a reader expects. If a caller's own contract needs such a
+//! fact, the caller calls its function. Programs never need to.
 ghost use Rattle.std.specs.Prelude.{◌≡◌, ◌≢◌, ℕ, ◌+◌, ◌-◌, ◌*◌, ◌^◌, ◌<◌, ◌≤◌, ◌⊎◌, ◌↔◌, Bool};
 ghost use Rattle.std.specs.Prelude.{List, [], ◌∷◌, ◌++◌, length, map, Contains, All, IsPermutation};
 ghost use Rattle.ipnet_base.specs.Address.{Family, Address, IsAddress, IsBetween, IsAcceptedBy, width, family_index};
@@ -20,12 +20,12 @@ pub fn nested_or_disjoint()
     ensures { (n k : Network) → IsSubnetOf n k ⊎ (IsSubnetOf k n ⊎ AreDisjoint n k) }
 {}
 
-/// Blocks of two families share no address.
+/// Blocks of different families share no address.
 pub fn families_share_no_address()
     ensures { (n k : Network) → n.family ≢ k.family → AreDisjoint n k }
 {}
 
-/// A block has a least and a greatest address, and holds every address of its family between these two.
+/// A block has a least and a greatest address, and contains every address of its family between these two.
 pub fn block_is_an_interval()
     ensures least { (n : Network) → IsNetwork n → (x : Address) × IsAddress x × IsLeastOf n x }
     ensures greatest { (n : Network) → IsNetwork n → (x : Address) × IsAddress x × IsGreatestOf n x }
@@ -33,26 +33,26 @@ pub fn block_is_an_interval()
         → InBlock n x ↔ IsBetween n.family low.number high.number x }
 {}
 
-/// The network's own address stands between the least address of its block and the greatest.
+/// The network's own address lies between the least and the greatest address of its block.
 pub fn own_address_is_between()
     ensures { (n : Network) (low high : Address) → IsLeastOf n low → IsGreatestOf n high
         → (low.number ≤ n.number) × (n.number ≤ high.number) }
 {}
 
-/// At the full prefix length a block is the network's own address alone.
+/// At the full prefix length a block contains only the network's own address.
 pub fn full_prefix_len_is_one_address()
     ensures { (n : Network) (x : Address) → n.prefix_len ≡ width n.family
         → InBlock n x ↔ ((x.family ≡ n.family) × (x.number ≡ n.number)) }
 {}
 
-/// At prefix length 0 a block is all addresses of the family.
+/// At prefix length 0 a block contains all addresses of the family.
 pub fn zero_prefix_len_is_all_addresses()
     ensures { (n : Network) (x : Address) → IsNetwork n → IsAddress x → n.prefix_len ≡ 0
         → InBlock n x ↔ (x.family ≡ n.family) }
 {}
 
-/// Inclusion of blocks is reflexive and transitive, and two blocks include each other exactly where the networks
-/// have one truncation.
+/// Inclusion of blocks is reflexive and transitive. Two blocks include each other if and only if the networks have the
+/// same truncation.
 pub fn inclusion_is_an_order()
     ensures reflexive { (n : Network) → IsSubnetOf n n }
     ensures transitive { (n k l : Network) → IsSubnetOf n k → IsSubnetOf k l → IsSubnetOf n l }
@@ -64,8 +64,8 @@ pub fn truncated_networks_are_their_blocks()
     ensures { (n k : Network) → IsNetwork n → IsNetwork k → IsTruncated n → IsTruncated k → HaveSameBlock n k → n ≡ k }
 {}
 
-/// A network has one truncation, the one of the formula; a truncated network is its own; and truncated twice is
-/// truncated once.
+/// A network has one truncation, which the formula gives. A truncated network is its own truncation, and truncating
+/// twice is the same as truncating once.
 pub fn truncation_is_one()
     ensures exists { (n : Network) → IsNetwork n → IsTruncationOf (truncation n) n }
     ensures one { (t n : Network) → IsTruncationOf t n → t ≡ truncation n }
@@ -73,34 +73,34 @@ pub fn truncation_is_one()
     ensures twice { (n : Network) → truncation (truncation n) ≡ truncation n }
 {}
 
-/// A network of a prefix length above 0 has one supernet, and is one of the two halves of it.
+/// A network with a prefix length above 0 has one supernet, and is one of the supernet's two halves.
 pub fn supernet_is_one()
     ensures exists { (n : Network) → IsNetwork n → 0 < n.prefix_len → (s : Network) × IsSupernetOf s n }
     ensures one { (s t n : Network) → IsNetwork n → IsSupernetOf s n → IsSupernetOf t n → s ≡ t }
     ensures other_half { (n : Network) → IsNetwork n → 0 < n.prefix_len → (k : Network) × IsNetwork k × AreHalves n k }
 {}
 
-/// The block of a supernet is that of the one half and that of the other, which share no address.
+/// The block of a supernet is the union of the blocks of its two halves, which share no address.
 pub fn supernet_is_its_two_halves()
     ensures union { (s n k : Network) → IsNetwork n → IsSupernetOf s n → AreHalves n k
         → (x : Address) → InBlock s x ↔ (InBlock n x ⊎ InBlock k x) }
     ensures apart { (n k : Network) → AreHalves n k → AreDisjoint n k }
 {}
 
-/// Being siblings is symmetric, and each network of a prefix length above 0 is its own sibling.
+/// Being siblings is symmetric, and each network with a prefix length above 0 is its own sibling.
 pub fn siblings_are_symmetric()
     ensures symmetric { (n k : Network) → AreSiblings n k → AreSiblings k n }
     ensures own { (n : Network) → 0 < n.prefix_len → AreSiblings n n }
 {}
 
-/// The netmask and the host mask of a prefix length add up to the family's last number.
+/// The netmask and the host mask of a prefix length add up to the family's greatest number.
 pub fn masks_add_up()
     ensures { (f : Family) (prefix_len : ℕ) → prefix_len ≤ width f
         → netmask_number f prefix_len + hostmask_number f prefix_len ≡ greatest_number f }
 {}
 
-/// The netmask of a prefix length has its ones at the places of the prefix, and the host mask at all others; and an
-/// address lies in a block exactly where it has the network's bits at the ones of the netmask.
+/// The netmask of a prefix length has its ones at the bits of the prefix, and the host mask at all other bits. An
+/// address lies in a block if and only if it has the network's bits at the ones of the netmask.
 pub fn masks_mark_the_prefix()
     ensures netmask { (f : Family) (prefix_len i : ℕ) → prefix_len ≤ width f → i < width f
         → (bit (netmask_number f prefix_len) i ≡ 1) ↔ (width f - prefix_len ≤ i) }
@@ -111,7 +111,7 @@ pub fn masks_mark_the_prefix()
         → bit x.number i ≡ bit n.number i) }
 {}
 
-/// A number is the netmask of one prefix length at most.
+/// A number is the netmask of at most one prefix length.
 pub fn netmask_has_one_prefix_len()
     ensures { (f : Family) (number p q : ℕ) → IsNetmaskOf f number p → IsNetmaskOf f number q → p ≡ q }
 {}
@@ -130,8 +130,8 @@ pub fn truncated_networks_are_ordered_by_first_address()
         ⊎ ((a.family ≡ b.family) × ((a.number < b.number) ⊎ ((a.number ≡ b.number) × (n.prefix_len < k.prefix_len))))) }
 {}
 
-/// At most one list is the maximal blocks of a set under a minimum prefix length: of a set given by a boolean test, of
-/// what a list covers, of a range.
+/// At most one list contains the maximal blocks of a set under a minimum prefix length. The set is given by a boolean
+/// test, by the list that covers it, or as a range.
 pub fn one_list_of_maximal_blocks()
     ensures of_set { (test : Address → Bool) (m : ℕ) (a b : List Network)
         → AreMaximalBlocks (IsAcceptedBy test) m a → AreMaximalBlocks (IsAcceptedBy test) m b → a ≡ b }
@@ -141,8 +141,8 @@ pub fn one_list_of_maximal_blocks()
         → AreMaximalBlocks (IsBetween f start end) m a → AreMaximalBlocks (IsBetween f start end) m b → a ≡ b }
 {}
 
-/// Sets with the same addresses have the same maximal blocks; what a list covers, and a range, are sets given by a
-/// boolean test.
+/// Sets with the same addresses have the same maximal blocks. Membership in a range, and in the cover of a list, is
+/// given by a boolean test.
 pub fn same_set_has_same_maximal_blocks()
     ensures of_set { (test other : Address → Bool) (m : ℕ) (blocks : List Network)
         → ((x : Address) → IsAcceptedBy test x ↔ IsAcceptedBy other x)
@@ -153,8 +153,8 @@ pub fn same_set_has_same_maximal_blocks()
         → (test : Address → Bool) × ((x : Address) → IsBetween f start end x ↔ IsAcceptedBy test x) }
 {}
 
-/// No exact cover of a set under a minimum prefix length has fewer members than its maximal blocks, and an exact cover
-/// with as many members is those same blocks, but for host bits and order.
+/// No exact cover of a set under a minimum prefix length has fewer members than the set has maximal blocks. An exact
+/// cover with the same number of members consists of those blocks, except for host bits and order.
 pub fn no_cover_is_shorter()
     ensures shortest { (test : Address → Bool) (m : ℕ) (blocks cover : List Network)
         → AreMaximalBlocks (IsAcceptedBy test) m blocks → IsExactCover (IsAcceptedBy test) m cover
@@ -164,24 +164,31 @@ pub fn no_cover_is_shorter()
         → length cover ≡ length blocks → IsPermutation (map truncation cover) blocks }
 {}
 
-/// A list meets the four conditions on neighbours exactly where it is its own aggregate.
+/// A list meets the four conditions on neighbours if and only if it is its own aggregate.
 pub fn neighbours_show_an_aggregate()
     ensures { (networks : List Network) → All IsNetwork networks
         → AreAggregatedNeighbours networks ↔ IsAggregateOf networks networks }
 {}
 
-/// An aggregate of a list of networks is all that `IsCanonicalAggregateOf` says: it covers the same addresses; no list
-/// that does is shorter, and one as short is this one but for host bits and order; it is no longer than the list; the
-/// list has no other aggregate; it is the aggregate of exactly the lists that cover the same addresses, so order,
-/// repeats and host bits do not matter; and it is its own aggregate. Its networks share no address, whatever the list.
+/// An aggregate of a list of networks has all the properties that `IsCanonicalAggregateOf` lists:
+///
+/// - it covers the same addresses;
+/// - no list that covers them is shorter, and one of the same length differs only in host bits and order;
+/// - it is not longer than the list;
+/// - the list has no other aggregate;
+/// - it is the aggregate of exactly the lists that cover the same addresses, so order, repeats and host bits do not
+///   matter;
+/// - it is its own aggregate.
+///
+/// Its networks share no address, whatever the list.
 pub fn aggregate_is_canonical()
     ensures canonical { (networks answer : List Network) → All IsNetwork networks → IsAggregateOf answer networks
         → IsCanonicalAggregateOf answer networks }
     ensures disjoint { (networks answer : List Network) → IsAggregateOf answer networks → ArePairwiseDisjoint answer }
 {}
 
-/// Two lists have equal aggregates exactly where they cover the same addresses. `IsCanonicalAggregateOf` says this of
-/// one aggregate and the lists that it is of; here it is said of two.
+/// Two lists have equal aggregates if and only if they cover the same addresses. `IsCanonicalAggregateOf` says this of
+/// one aggregate and its lists; this law compares two aggregates.
 pub fn equal_aggregates_are_equal_covers()
     ensures { (networks others answer other : List Network) → All IsNetwork networks → All IsNetwork others
         → IsAggregateOf answer networks → IsAggregateOf other others
@@ -189,16 +196,16 @@ pub fn equal_aggregates_are_equal_covers()
 {}
 
 /// Order, repeats and host bits of a list do not change its aggregate: lists with the same truncated members have the
-/// same aggregate. `IsCanonicalAggregateOf` says this of the aggregate of a list of networks; here it is said of any
-/// two lists, both ways.
+/// same aggregate. `IsCanonicalAggregateOf` says this of the aggregate of one list of networks; this law says it of
+/// any two lists, in both directions.
 pub fn order_repeats_and_host_bits_do_not_matter()
     ensures { (networks others answer : List Network)
         → ((n : Network) → Contains (map truncation networks) n ↔ Contains (map truncation others) n)
         → IsAggregateOf answer networks ↔ IsAggregateOf answer others }
 {}
 
-/// The empty list covers nothing; a list with one network more covers that network's block and what it covered; two
-/// lists joined cover what the one or the other covers.
+/// The empty list covers nothing. A list with one more network also covers that network's block. Two concatenated
+/// lists cover the addresses that either list covers.
 pub fn cover_is_a_union()
     ensures empty { (x : Address) → ¬ (IsCoveredBy [] x) }
     ensures in_front { (n : Network) (networks : List Network) (x : Address)
@@ -209,16 +216,17 @@ pub fn cover_is_a_union()
         → IsCoveredBy (networks ++ others) x ↔ (IsCoveredBy networks x ⊎ IsCoveredBy others x) }
 {}
 
-/// The aggregate of two aggregates, one after the other, is the aggregate of both lists, so that a long list may be
-/// split, its parts aggregated apart, and the answers once more.
+/// The aggregate of two concatenated aggregates is the aggregate of both lists. So a long list may be split, its parts
+/// aggregated separately, and the results aggregated again.
 pub fn aggregates_can_be_aggregated()
     ensures { (networks others first second answer : List Network) → All IsNetwork networks → All IsNetwork others
         → IsAggregateOf first networks → IsAggregateOf second others
         → IsAggregateOf answer (first ++ second) ↔ IsAggregateOf answer (networks ++ others) }
 {}
 
-/// Where one set comes before another and is not adjacent to it, the maximal blocks of both together are those of the
-/// first, followed by those of the second; so are the aggregates of two lists that cover such sets.
+/// If one set comes before another and is not adjacent to it, the maximal blocks of their union are the blocks of the
+/// first followed by the blocks of the second. The aggregates of two lists that cover such sets append in the same
+/// way.
 pub fn separated_blocks_append()
     ensures of_sets { (first second : Address → Bool) (m : ℕ) (networks others : List Network)
         → AreSeparated (IsAcceptedBy first) (IsAcceptedBy second)
@@ -238,8 +246,8 @@ pub fn covering_blocks_are_all()
         → AreMaximalBlocks (IsAcceptedBy test) m networks }
 {}
 
-/// What keeps a list's cover: truncating its networks; sorting it; dropping a network that lies in another member;
-/// joining two halves to their supernet.
+/// Four steps keep a list's cover: truncating its networks; sorting it; dropping a network that lies in another member;
+/// replacing two halves by their supernet.
 pub fn cover_is_kept()
     ensures truncated { (networks : List Network) → HaveSameCover (map truncation networks) networks }
     ensures sorted { (networks sorted : List Network) → IsPermutation networks sorted → HaveSameCover sorted networks }
@@ -249,8 +257,8 @@ pub fn cover_is_kept()
         → HaveSameCover (n ∷ k ∷ networks) (s ∷ networks) }
 {}
 
-/// From every start within a range there is a largest subnet; it is a maximal block of the range, and stands in front
-/// of the maximal blocks of what is left after its last address.
+/// From every start within a range there is a largest subnet. It is a maximal block of the range, and comes before the
+/// maximal blocks of the rest of the range, which starts after its last address.
 pub fn largest_subnet_is_the_next_block()
     ensures exists { (f : Family) (start end m : ℕ) → start ≤ end → end < 2 ^ width f → m ≤ width f
         → (n : Network) × IsLargestSubnetAt f start end m n }
@@ -262,7 +270,8 @@ pub fn largest_subnet_is_the_next_block()
         → AreMaximalBlocks (IsBetween f start end) m (n ∷ rest) }
 {}
 
-/// Every range has its maximal blocks; they are the shortest list that covers it, and no two of them share an address.
+/// Every range has maximal blocks. They are the shortest list that covers the range, and no two of them share an
+/// address.
 pub fn range_is_tiled()
     ensures exists { (f : Family) (start end m : ℕ) → end < 2 ^ width f → m ≤ width f
         → (networks : List Network) × AreMaximalBlocks (IsBetween f start end) m networks }
@@ -273,8 +282,8 @@ pub fn range_is_tiled()
         → AreMaximalBlocks (IsBetween f start end) m networks → ArePairwiseDisjoint networks }
 {}
 
-/// Under minimum prefix length 0 a range has at most twice the width less two maximal blocks: 62 for IPv4, 254 for
-/// IPv6.
+/// Under minimum prefix length 0 the number of maximal blocks of a range is at most twice the width minus two: 62 for
+/// IPv4, 254 for IPv6.
 pub fn range_has_few_blocks()
     ensures { (f : Family) (start end : ℕ) (networks : List Network) → end < 2 ^ width f
         → AreMaximalBlocks (IsBetween f start end) 0 networks → length networks ≤ 2 * width f - 2 }

@@ -1,5 +1,5 @@
-//! Addresses, masks and ranges of addresses; and, for every crate above, what networks, their blocks and
-//! lists of them are, with the laws of these.
+//! Addresses, masks and ranges of addresses. Also defines networks, their blocks and lists of networks, with their
+//! laws, for all crates that use this one.
 #![tactic(auto)]
 
 pub mod addr;

@@ -10,9 +10,10 @@ pub mod laws;
 use crate::addr::{IpAddr, Ipv4Addr, Ipv6Addr};
 use thiserror::Error;
 
-/// A prefix length was above 32 or 128, or in `subnets` below the network's own; or an address was no netmask.
+/// The prefix length was above 32 (IPv4) or 128 (IPv6), or shorter than the network's own in `subnets`; or the address
+/// was not a netmask.
 ///
-/// Its text is `invalid IP prefix length`.
+/// Displayed as `invalid IP prefix length`.
 ///
 /// ```text
 /// ipv4_mask_to_prefix(255.0.255.0)   Err(PrefixLenError)
@@ -23,7 +24,7 @@ use thiserror::Error;
 #[error("invalid IP prefix length")]
 pub struct PrefixLenError;
 
-/// The number of the IPv4 netmask with this many ones.
+/// The IPv4 netmask with the given number of ones, as a number.
 fn ipv4_netmask(prefix_len: u32) -> u32
     requires { prefix_len ≤ 32 }
     ensures { result ≡ netmask_number IPv4 prefix_len }
@@ -31,7 +32,7 @@ fn ipv4_netmask(prefix_len: u32) -> u32
     u32::MAX.checked_shl(32 - prefix_len).unwrap_or(0)
 }
 
-/// The number of the IPv6 netmask with this many ones.
+/// The IPv6 netmask with the given number of ones, as a number.
 fn ipv6_netmask(prefix_len: u32) -> u128
     requires { prefix_len ≤ 128 }
     ensures { result ≡ netmask_number IPv6 prefix_len }
@@ -41,8 +42,8 @@ fn ipv6_netmask(prefix_len: u32) -> u128
 
 /// The prefix length, 0 to 32, of an IPv4 netmask: the count of its leading ones.
 ///
-/// An address whose bits are not ones followed by zeros is refused. All zeros are the mask of prefix length 0, all
-/// ones that of 32.
+/// Fails unless the bits of the address are ones followed by zeros. All zeros give prefix length 0, and all ones give
+/// 32.
 ///
 /// ```text
 /// 255.255.255.128   Ok(25)
@@ -63,8 +64,8 @@ pub fn ipv4_mask_to_prefix(mask: Ipv4Addr) -> Result<u8, PrefixLenError>
 
 /// The prefix length, 0 to 128, of an IPv6 netmask: the count of its leading ones.
 ///
-/// An address whose bits are not ones followed by zeros is refused. All zeros are the mask of prefix length 0, all
-/// ones that of 128.
+/// Fails unless the bits of the address are ones followed by zeros. All zeros give prefix length 0, and all ones give
+/// 128.
 ///
 /// ```text
 /// ffff:ffff:ffff::   Ok(48)
@@ -83,7 +84,7 @@ pub fn ipv6_mask_to_prefix(mask: Ipv6Addr) -> Result<u8, PrefixLenError>
     }
 }
 
-/// The prefix length of a netmask of either family, as `ipv4_mask_to_prefix` or `ipv6_mask_to_prefix` reads it.
+/// The prefix length of a netmask of either family, as `ipv4_mask_to_prefix` or `ipv6_mask_to_prefix` returns it.
 ///
 /// ```text
 /// 255.255.0.0   Ok(16)
