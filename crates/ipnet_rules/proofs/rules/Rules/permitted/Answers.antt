@@ -12,7 +12,7 @@ returns-in_ok-unmatched-in-Permit c =
     IfOk-weaker c.union.result _ _ (λ s h x fits.
     let same = ap₂ (λ rs d. HasRuleVerdict rs d x Permit) c.as_slice.ensures.value (sym c.in-Permit.is) in
     let by_default = permit_by_default Matches (λ r. r.action) rules x in
-    let unmatched = c.in_ok-unmatched-in-Permit.ensures x fits in
+    let unmatched = c.in_ok-unmatched-in-Permit.ensures.members x fits in
     let compiled = c.in_ok-compiled.ensures in (
       λ m. subst (λ v. v) same
           (by_default.1 (elim ((h x).0 m) [
