@@ -26,7 +26,7 @@ abbrev Before : IpNet → IpNet → Type 0
 Before a b = IsBefore (ip_network a) (ip_network b)
 
 -- the comparison says how the networks are ordered
-abbrev pub IsRanking : (IpNet → IpNet → Ordering) → Type 0
+abbrev IsRanking : (IpNet → IpNet → Ordering) → Type 0
 IsRanking cmp = (a b : IpNet) → MatchOrdering (cmp a b) (Before a b) (ip_network a ≡ ip_network b) (Before b a)
 
 same_value : (r : Ordering) (a b : IpNet) → MatchOrdering r (Before a b) (ip_network a ≡ ip_network b) (Before b a)
@@ -154,14 +154,9 @@ module _ (cmp : IpNet → IpNet → Ordering) (ranking : IsRanking cmp) where
       (λ _ same. never_before b (subst (λ z. Before z b) same h))
       (λ _ after. IsBefore-asymmetric (ip_network a) (ip_network b) h after)
 
-  pub up_to : (a b : IpNet) → ¬ (Before b a) → is_gt (cmp a b) ≡ false
+  up_to : (a b : IpNet) → ¬ (Before b a) → is_gt (cmp a b) ≡ false
   up_to a b h = by_ranked (Before a b) (a ≡ b) (Before b a) (cmp a b) (ranks a b)
       (λ f _. ap is_gt f) (λ f _. ap is_gt f) (λ _ after. absurd (h after))
-
-  -- if the first network is not after the second, they are one or the first is before the second
-  pub order_after : (a b : IpNet) → is_gt (cmp a b) ≡ false → (ip_network b ≡ ip_network a) ⊎ Before a b
-  order_after a b e = by_ranked (Before a b) (a ≡ b) (Before b a) (cmp a b) (ranks a b) (λ _ before. inr before)
-      (λ _ same. inl (ap ip_network (sym same))) (λ _ after. absurd (not_greater a b e after))
 
   before_or_not : (a b : IpNet) → Before b a ⊎ ¬ (Before b a)
   before_or_not a b = by_ranked (Before a b) (a ≡ b) (Before b a) (cmp a b) (ranks a b)

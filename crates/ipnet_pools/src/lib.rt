@@ -4,7 +4,6 @@
 #![tactic(auto)]
 
 pub mod error;
-mod block_set;
 mod fit;
 mod free;
 pub mod laws;
