@@ -49,10 +49,10 @@ fn truncated_and_joined<N: Net>(alloc: Global, networks: &Vec<N>) -> Result<Vec<
 
 /// Pushes a network on the stack that fills the front of the list; in the order of networks, none of the stack comes
 /// after it. A network that the topmost covers is left out. While it and the topmost are the two halves of one
-/// supernet, both are replaced by that supernet. Answers how many networks the stack has then.
+/// supernet, both are replaced by that supernet. Returns the number of networks on the stack after that.
 //
-// The topmost alone has to be asked: the stack is ascending, its networks share no address, and the new network starts
-// no earlier than the topmost. One below that covered it would share an address with the topmost.
+// Only the topmost has to be compared: the stack is ascending, its networks share no address, and the new network
+// starts no earlier than the topmost. A lower one that covered it would share an address with the topmost.
 fn push_on_stack<N: Net>(list: &mut [N], stacked: usize, network: N) -> usize
     requires room { stacked < length list.old }
     requires joined { AreJoined (map N.network (take stacked list.old)) }
@@ -77,7 +77,7 @@ fn push_on_stack<N: Net>(list: &mut [N], stacked: usize, network: N) -> usize
 }
 
 /// Pushes the networks of a sorted list, one after the other, on a stack in its own front: the stack never has more
-/// networks than were read, so nothing unread is overwritten. Answers how many networks the stack has at the end.
+/// networks than were read, so nothing unread is overwritten. Returns the number of networks on the stack at the end.
 fn sweep<N: Net>(list: &mut [N]) -> usize
     requires truncated { All IsTruncated (map N.network list.old) }
     requires order { IsInOrder (map N.network list.old) }
@@ -327,8 +327,8 @@ pub fn is_aggregated(networks: &[IpNet]) -> bool
     true
 }
 
-/// Whether the two lists cover the same addresses. Both are aggregated, since lists that cover the same have one
-/// aggregate, and the answers compared.
+/// Whether the two lists cover the same addresses. Aggregates both lists and compares the aggregates: lists that cover
+/// the same addresses have the same aggregate.
 ///
 /// Fails only when memory runs out. Two empty lists need none.
 ///

@@ -12,8 +12,7 @@ use crate::net::{IpNet, Ipv4Net, Ipv6Net};
 use arrayvec::ArrayVec;
 use thiserror::Error;
 
-/// Why bytes are not those of a network. The texts are `invalid length`, `invalid variant` and `invalid IP prefix
-/// length`.
+/// Why bytes are not a network. Displayed as `invalid length`, `invalid variant` or `invalid IP prefix length`.
 ///
 /// ```text
 /// IpNet::from_bytes of 0 gives Length, of 2 Variant, and of 0, 10, 1, 1, 0, 33 Prefix
@@ -69,7 +68,7 @@ impl Ipv4Net {
         with_prefix_len(octets, self.prefix_len())
     }
 
-    /// The network of which these are the bytes.
+    /// The network with these bytes.
     ///
     /// `Length` if there are not five bytes; otherwise `Prefix` if the last byte is above 32.
     ///
@@ -105,7 +104,7 @@ impl Ipv6Net {
         with_prefix_len(octets, self.prefix_len())
     }
 
-    /// The network of which these are the bytes.
+    /// The network with these bytes.
     ///
     /// `Length` if there are not seventeen bytes; otherwise `Prefix` if the last byte is above 128.
     ///
@@ -144,10 +143,10 @@ impl IpNet {
         }
     }
 
-    /// The network of which these are the bytes.
+    /// The network with these bytes.
     ///
-    /// Checked in this order: `Length` where there are no bytes; `Variant` where the first is neither 0 nor 1; `Length`
-    /// where not 5, or 17, follow it; `Prefix` where the last is above 32, or 128.
+    /// Checked in this order: `Length` if there are no bytes; `Variant` if the first byte is neither 0 nor 1; `Length`
+    /// unless 5 bytes (IPv4) or 17 bytes (IPv6) follow it; `Prefix` if the last byte is above 32 (IPv4) or 128 (IPv6).
     ///
     /// ```text
     /// 0, 10, 1, 1, 0, 24 is 10.1.1.0/24; 2 gives Variant, 0 Length, and 0, 10, 1, 1, 0, 33 Prefix

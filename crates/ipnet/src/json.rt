@@ -15,7 +15,7 @@ use serde_json::Value;
 use std::alloc::{AllocError, Global};
 use thiserror::Error;
 
-/// Why a JSON value is not that of a network. The texts are `not a JSON string` and `invalid IP address syntax`.
+/// Why a JSON value is not a network. Displayed as `not a JSON string` or `invalid IP address syntax`.
 ///
 /// ```text
 /// IpNet::from_json of 7 or of null gives NotString, and of "x" or of "" Syntax
@@ -25,7 +25,7 @@ pub enum JsonError {
     /// The value is null, a truth value, a number, an array or an object.
     #[error("not a JSON string")]
     NotString,
-    /// The string writes no network of the type that was asked for.
+    /// The string is not the text of a network of the requested type.
     #[error("invalid IP address syntax")]
     Syntax,
 }

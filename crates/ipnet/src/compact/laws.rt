@@ -1,6 +1,5 @@
-//! What holds of all networks as bytes, and of all values of `CompactError`. The first three laws write a network and
-//! read it back; each of the others is a function with nothing to run, whose contract is the
-//! law.
+//! Laws of all networks as bytes, and of all values of `CompactError`. The first three functions write a network and
+//! read it back. Each of the others does nothing, and its contract is the law.
 ghost use Rattle.std.specs.Prelude.{◌≡◌, Ok};
 ghost use Rattle.ipnet_base.specs.Values.{EqualsExactly, ClonesExactly};
 
@@ -29,7 +28,7 @@ pub fn ip_bytes_read_back(network: &IpNet) -> Result<IpNet, CompactError>
     IpNet::from_bytes(network.to_bytes().as_slice())
 }
 
-/// `==` says whether two values of the error are one.
+/// `==` returns whether two values of the error are the same.
 pub fn compact_errors_compare_by_value()
     ensures { EqualsExactly ⟦<CompactError as PartialEq>⟧.eq }
 {}

@@ -1,5 +1,5 @@
-//! What holds of all networks as JSON values, and of all values of `JsonError`. The first three laws write a network
-//! and read it back; each of the others is a function with nothing to run, whose contract is the law.
+//! Laws of all networks as JSON values, and of all values of `JsonError`. The first three functions write a network
+//! and read it back. Each of the others does nothing, and its contract is the law.
 ghost use Rattle.std.specs.Prelude.{◌≡◌, Ok, IfOk};
 ghost use Rattle.ipnet_base.specs.Values.{EqualsExactly, ClonesExactly};
 
@@ -44,7 +44,7 @@ pub fn ip_json_reads_back(
     Ok(IpNet::from_json(&network.to_json(alloc)?))
 }
 
-/// `==` says whether two values of the error are one.
+/// `==` returns whether two values of the error are the same.
 pub fn json_errors_compare_by_value()
     ensures { EqualsExactly ⟦<JsonError as PartialEq>⟧.eq }
 {}

@@ -26,7 +26,7 @@ pub struct Ipv6AddrRange {
     /// The numbers `start..=end` are left. Once the last address was given, or `nth` or `nth_back` passed over all, the
     /// two are 1 and 0; until then a range that was made with its start above its end keeps both.
     start: u128,
-    /// The last number that is left, or 0 as told at `start`.
+    /// The last number that is left, or 0 as described at `start`.
     end: u128,
     ghost start_fits: { start < 2 ^ 128 },
     ghost end_fits: { end < 2 ^ 128 },

@@ -1,5 +1,5 @@
-//! Laws of ranges that no single call carries: what they list, what a mix of calls gives, and `==`, the order, the hash
-//! and the clone. Each is a function with nothing to run, whose contract is the law.
+//! Laws of ranges that no contract of a single call states: the addresses they list, the results of mixed calls, `==`,
+//! the order, the hash and the clone. Each law is the contract of a function that does nothing.
 //!
 //! ```text
 //! 0.0.0.1 to 0.0.0.0 < 0.0.0.1 to 0.0.0.6 < 0.0.0.5 to 0.0.0.3 < :: to ::6
@@ -21,7 +21,7 @@ use std::fmt::Debug;
 use std::hash::Hash;
 use std::iter::FusedIterator;
 
-/// The addresses that a range gives are those of its family between its ends, ascending, each once.
+/// A range gives the addresses of its family between its ends, in ascending order, each once.
 pub fn range_lists_what_lies_between()
     ensures members { (r : AddressRange) (x : Address) →
         Contains (addresses_of r) x ↔ IsBetween r.family r.start r.end x }
@@ -29,9 +29,9 @@ pub fn range_lists_what_lies_between()
     ensures count { (r : AddressRange) → length (addresses_of r) ≡ address_count r }
 {}
 
-/// Any mix of `next`, `next_back`, `nth` and `nth_back` gives addresses of the range, each at most once; and
-/// where no call passes over an address and one has answered `None`, it gave each exactly once. After `None`
-/// comes `None`.
+/// Any mix of `next`, `next_back`, `nth` and `nth_back` gives addresses of the range, each at most once. If no call
+/// skips an address and one call has returned `None`, the calls gave each address exactly once. After `None`, every
+/// call returns `None`.
 pub fn calls_give_each_address_once()
     ensures of_the_range { (r s : AddressRange) (steps : List Step) → IsRun r steps s →
         All (Contains (addresses_of r)) (given steps) }
@@ -44,24 +44,24 @@ pub fn calls_give_each_address_once()
         AllPairs (λ step later. step.answer ≡ None → later.answer ≡ None) steps }
 {}
 
-/// Two IPv4 ranges are equal where their stored ends are, are ordered by these, and feed a hasher the same if and only
-/// if they are equal.
+/// Two IPv4 ranges are equal if and only if their stored ends are equal, and they are ordered by their stored ends.
+/// They feed a hasher the same input if and only if they are equal.
 pub fn ipv4_ranges_compare_by_ends()
     ensures compare { (a b : Ipv4AddrRange) → ComparesBy ipv4_range IsRangeBefore ⟦<Ipv4AddrRange as PartialEq>⟧.eq
         ⟦<Ipv4AddrRange as Ord>⟧.cmp ⟦<Ipv4AddrRange as PartialOrd>⟧.partial_cmp a b }
     ensures hash { (a b : Ipv4AddrRange) → HashesBy ipv4_range ⟦<Ipv4AddrRange as Hash>⟧.hash_input a b }
 {}
 
-/// Two IPv6 ranges are equal where their stored ends are, are ordered by these, and feed a hasher the same if and only
-/// if they are equal.
+/// Two IPv6 ranges are equal if and only if their stored ends are equal, and they are ordered by their stored ends.
+/// They feed a hasher the same input if and only if they are equal.
 pub fn ipv6_ranges_compare_by_ends()
     ensures compare { (a b : Ipv6AddrRange) → ComparesBy ipv6_range IsRangeBefore ⟦<Ipv6AddrRange as PartialEq>⟧.eq
         ⟦<Ipv6AddrRange as Ord>⟧.cmp ⟦<Ipv6AddrRange as PartialOrd>⟧.partial_cmp a b }
     ensures hash { (a b : Ipv6AddrRange) → HashesBy ipv6_range ⟦<Ipv6AddrRange as Hash>⟧.hash_input a b }
 {}
 
-/// Two ranges of either family are equal where their families and stored ends are, are ordered by these with IPv4
-/// before IPv6, and feed a hasher the same if and only if they are equal.
+/// Two ranges of either family are equal if and only if their families and stored ends are equal. They are ordered by
+/// family, IPv4 first, and then by their stored ends. They feed a hasher the same input if and only if they are equal.
 pub fn ip_ranges_compare_by_ends()
     ensures compare { (a b : IpAddrRange) → ComparesBy ip_range IsRangeBefore ⟦<IpAddrRange as PartialEq>⟧.eq
         ⟦<IpAddrRange as Ord>⟧.cmp ⟦<IpAddrRange as PartialOrd>⟧.partial_cmp a b }
@@ -83,11 +83,11 @@ pub fn ip_ranges_clone()
     ensures { ClonesExactly ⟦<IpAddrRange as Clone>⟧.is_clone ⟦<IpAddrRange as Clone>⟧.is_infallible }
 {}
 
-/// Ranges of each type are `Copy`, and fused iterators, which answer `None` ever after `None`; and they have a `Debug`,
-/// whose text no contract tells.
+/// Ranges of each type are `Copy` and `Debug`, and they are fused iterators: after `None` they always return `None`. No
+/// contract describes the text of `Debug`.
 //
-// The contract says nothing: it is the body that is not compiled where one of the nine implementations, three for each
-// type, is missing.
+// The contract says nothing: the body does not compile if one of the nine implementations, three for each type, is
+// missing.
 pub fn ranges_are_fused_and_debug(ipv4: &Ipv4AddrRange, ipv6: &Ipv6AddrRange, ip: &IpAddrRange) {
     is_fused_and_debug(ipv4);
     is_fused_and_debug(ipv6);

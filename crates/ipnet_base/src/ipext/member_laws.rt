@@ -1,9 +1,9 @@
-//! What the ghost members of public traits say of each implementation: the output of each arithmetic operation is the
-//! sum, the difference, or the operation bit by bit, of the addresses' numbers; a range made from another is that
-//! range; and as an iterator a range gives its addresses from both ends.
+//! The meaning of the ghost members of public traits for each implementation. The output of an arithmetic operation is
+//! the sum, the difference, or the bitwise operation, of the addresses' numbers. A range made from another range is
+//! that range. As an iterator, a range gives its addresses from both ends.
 //!
-//! A contract that names a ghost member, as that of `IpAdd::saturating_add` does, promises only what that member says;
-//! these laws state it in the words of `specs/`.
+//! A contract that names a ghost member, such as the contract of `IpAdd::saturating_add`, promises only what that
+//! member says; these laws state it in the words of `specs/`.
 ghost use Rattle.std.specs.Prelude.{◌≡◌, ◌↔◌};
 ghost use Rattle.std.specs.Iterator.{YieldsFirstBy, YieldsLastBy, at_most};
 ghost use Rattle.std.specs.Net.Addr.{ipv4_bits, ipv6_bits};

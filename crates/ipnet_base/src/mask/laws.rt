@@ -19,7 +19,7 @@ pub fn prefix_len_errors_clone()
     ensures { ClonesExactly ⟦<PrefixLenError as Clone>⟧.is_clone ⟦<PrefixLenError as Clone>⟧.is_infallible }
 {}
 
-/// A result that is `Ok` exactly with the prefix length of a netmask is an error exactly where the number is no
+/// If a result is `Ok` with exactly the prefix length of a netmask, it is an error if and only if the number is not a
 /// netmask.
 pub fn masks_of_no_prefix_len_are_refused(prefix_len: Result<u8, PrefixLenError>)
     ensures { (f : Family) (number : ℕ) → IsOkExactlyAt prefix_len (IsNetmaskOf f number)
