@@ -18,8 +18,8 @@ use ipnet_base::{IpAddr, IpAddrRange, PrefixLenError, ip_mask_to_prefix};
 pub use ipv4_net::Ipv4Net;
 pub use ipv6_net::Ipv6Net;
 
-/// A type that a network may contain: addresses or networks. An [`IpNet`] accepts both families, and contains nothing
-/// of the other family. An [`Ipv4Net`] or an [`Ipv6Net`] accepts only its own family.
+/// A network that may contain an address or another network, of type `T`. An [`IpNet`] accepts both families, and
+/// contains nothing of the other family. An [`Ipv4Net`] or an [`Ipv6Net`] accepts only its own family.
 ///
 /// ```text
 /// 192.168.0.0/24 contains 192.168.0.1 and 192.168.0.0/25, and neither 192.168.1.0 nor 192.168.0.0/23
