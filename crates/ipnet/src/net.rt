@@ -18,15 +18,15 @@ use ipnet_base::{IpAddr, IpAddrRange, PrefixLenError, ip_mask_to_prefix};
 pub use ipv4_net::Ipv4Net;
 pub use ipv6_net::Ipv6Net;
 
-/// What a network can be asked to contain: an address, or a network. An [`IpNet`] takes those of either family, and
-/// contains none of the other family; an [`Ipv4Net`] or an [`Ipv6Net`] takes those of its own.
+/// A network that may contain an address or another network, of type `T`. An [`IpNet`] accepts both families, and
+/// contains nothing of the other family. An [`Ipv4Net`] or an [`Ipv6Net`] accepts only its own family.
 ///
 /// ```text
 /// 192.168.0.0/24 contains 192.168.0.1 and 192.168.0.0/25, and neither 192.168.1.0 nor 192.168.0.0/23
 /// 192.168.0.0/24, as an IpNet, does not contain fd00::/16
 /// ```
 pub trait Contains<T> {
-    /// The relation between the network and the other, which `contains` answers.
+    /// The relation between the network and the other value that `contains` decides.
     ghost holds: { Self → T → Type 0 };
 
     /// Whether the relation holds.
@@ -71,12 +71,12 @@ pub(crate) trait Net: Copy + Ord {
 
 /// An IP network of either family.
 ///
-/// An IPv4 network stands before every IPv6 one; within a family networks are ordered by the address, host bits and
-/// all, and then by the prefix length.
+/// An IPv4 network comes before every IPv6 network. Within a family networks are ordered by the address, including host
+/// bits, and then by the prefix length.
 ///
 /// ```text
-/// 10.0.0.1/24 is 10.0.0.1 with the prefix length 24, and another network than 10.0.0.0/24 of the same block
-/// 255.255.255.255/32 stands before ::/0, and 10.0.0.0/8 before 10.0.0.0/24
+/// 10.0.0.1/24 is 10.0.0.1 with prefix length 24; it differs from 10.0.0.0/24, which has the same block
+/// 255.255.255.255/32 comes before ::/0, and 10.0.0.0/8 before 10.0.0.0/24
 /// ```
 #[derive(Clone, Copy, PartialEq, Eq, PartialOrd, Ord, Hash)]
 pub enum IpNet {
@@ -109,7 +109,7 @@ impl IpNet {
     }
 
     /// The network of the address and a prefix length that the caller knows to be at most the width of the address, 32
-    /// or 128; use `new` where this is not known.
+    /// or 128; use `new` if this is not known.
     ///
     /// ```text
     /// IpNet::new_assert(10.1.1.7, 32) is 10.1.1.7/32, and IpNet::new_assert(fd00::7, 33) is fd00::7/33
@@ -126,9 +126,8 @@ impl IpNet {
 
     /// The network of the address and the prefix length that the netmask stands for; the address keeps its host bits.
     ///
-    /// The families of the two are not compared: an IPv4 address goes with an IPv6 mask of at most 32 ones, an IPv6
-    /// address with any IPv4 mask. An error where the mask is none, or its prefix length above the width of the
-    /// address.
+    /// The families are not compared: an IPv4 address may have an IPv6 mask of at most 32 ones, and an IPv6 address any
+    /// IPv4 mask. Fails if the mask is not a netmask, or if its prefix length is above the width of the address.
     ///
     /// ```text
     /// IpNet::with_netmask(10.1.1.0, 255.255.0.0) is 10.1.1.0/16
@@ -146,7 +145,7 @@ impl IpNet {
     /// The address, with its host bits.
     ///
     /// ```text
-    /// that of 10.0.0.1/24 is 10.0.0.1
+    /// the address of 10.0.0.1/24 is 10.0.0.1
     /// ```
     pub fn addr(&self) -> IpAddr
         ensures { ip_address result ≡ own_address (ip_network self.now) }
@@ -160,7 +159,7 @@ impl IpNet {
     /// The prefix length, from 0 to 32 or 128.
     ///
     /// ```text
-    /// that of 10.0.0.1/24 is 24
+    /// the prefix length of 10.0.0.1/24 is 24
     /// ```
     pub fn prefix_len(&self) -> u8
         ensures { result ≡ (ip_network self.now).prefix_len }
@@ -174,7 +173,7 @@ impl IpNet {
     /// The greatest prefix length of a network of this one's family: 32 or 128.
     ///
     /// ```text
-    /// that of 10.0.0.1/24 is 32, that of fd00::/24 is 128
+    /// 10.0.0.1/24 gives 32, fd00::/24 gives 128
     /// ```
     pub fn max_prefix_len(&self) -> u8
         ensures { result ≡ width (ip_network self.now).family }
@@ -188,7 +187,7 @@ impl IpNet {
     /// The netmask: as many ones as the prefix length says, followed by zeros (RFC 4632, section 3.1).
     ///
     /// ```text
-    /// the netmask of 10.1.0.0/20 is 255.255.240.0, that of fd00::/24 is ffff:ff00::
+    /// 10.1.0.0/20 gives 255.255.240.0, fd00::/24 gives ffff:ff00::
     /// ```
     pub fn netmask(&self) -> IpAddr
         ensures { ip_address result ≡ netmask (ip_network self.now) }
@@ -202,7 +201,7 @@ impl IpNet {
     /// The host mask: as many zeros as the prefix length says, followed by ones.
     ///
     /// ```text
-    /// the host mask of 10.1.0.0/20 is 0.0.15.255, that of fd00::/120 is ::ff
+    /// 10.1.0.0/20 gives 0.0.15.255, fd00::/120 gives ::ff
     /// ```
     pub fn hostmask(&self) -> IpAddr
         ensures { ip_address result ≡ hostmask (ip_network self.now) }
@@ -216,7 +215,7 @@ impl IpNet {
     /// The least address of the block.
     ///
     /// ```text
-    /// that of 172.16.123.123/16 is 172.16.0.0
+    /// 172.16.123.123/16 gives 172.16.0.0
     /// ```
     pub fn network(&self) -> IpAddr
         ensures { IsLeastOf (ip_network self.now) (ip_address result) }
@@ -230,7 +229,7 @@ impl IpNet {
     /// The greatest address of the block, of an IPv6 network too.
     ///
     /// ```text
-    /// that of 172.16.0.0/22 is 172.16.3.255
+    /// 172.16.0.0/22 gives 172.16.3.255
     /// ```
     pub fn broadcast(&self) -> IpAddr
         ensures { IsGreatestOf (ip_network self.now) (ip_address result) }
@@ -259,7 +258,7 @@ impl IpNet {
     /// length 0.
     ///
     /// ```text
-    /// that of 172.16.0.0/12 is 172.0.0.0/11
+    /// 172.16.0.0/12 gives 172.0.0.0/11
     /// ```
     pub fn supernet(&self) -> Option<IpNet>
         ensures none { IsNone result ↔ ((ip_network self.now).prefix_len ≡ 0) }

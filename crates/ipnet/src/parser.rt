@@ -1,18 +1,25 @@
 //! Networks from text: the strict grammar by `FromStr`, the legacy one by `parse_legacy`.
 //!
 //! Both read a whole text: an address, "/" and a prefix length (RFC 4632, section 3.1; RFC 4291, section 2.3). An
-//! IPv4 address is four octets joined by "."; an IPv6 address is eight groups joined by ":", where one "::" may stand
-//! for groups of zeros and, at the end alone, an IPv4 address for the last two (RFC 4291, section 2.2). The address
-//! keeps its host bits.
+//! IPv4 address is four octets joined by "."; an IPv6 address is eight groups joined by ":". One "::" may replace
+//! groups of zeros, and an IPv4 address may replace the last two groups (RFC 4291, section 2.2). The address keeps its
+//! host bits.
 //!
-//! The legacy grammar reads each text of the strict one as the same network, and is wider in two places. Octets
-//! and prefix lengths, which are always decimal, may have leading zeros, where the strict grammar takes no leading zero
-//! but 0 itself; and a "::" may stand for no group, with eight groups written beside it and at most seven of them
-//! before it, where the strict grammar, as RFC 4291 does, has it stand for one at least. The limits are the same in
-//! both, and leading zeros count as digits: an octet has 1 to 3 digits and is at most 255; a prefix length has 1 or 2
-//! digits in an IPv4 text and is at most 32, and 1 to 3 digits in an IPv6 text and is at most 128; a group has 1 to 4
-//! hexadecimal digits of either case, in both grammars with leading zeros or without. Every other text is refused, such
-//! as one with a blank, a sign, a zone or no prefix length.
+//! The legacy grammar reads each strict text as the same network, and accepts more texts in two ways:
+//!
+//! - Octets and prefix lengths, which are always decimal, may have leading zeros. The strict grammar refuses leading
+//!   zeros, except the number 0 itself.
+//! - A "::" may replace no group: eight groups are written, at most seven of them before the "::". In the strict
+//!   grammar, as in RFC 4291, a "::" replaces at least one group.
+//!
+//! The limits are the same in both grammars, and leading zeros count as digits:
+//!
+//! - An octet has 1 to 3 digits and is at most 255.
+//! - A prefix length has 1 or 2 digits in an IPv4 text and is at most 32. It has 1 to 3 digits in an IPv6 text and is
+//!   at most 128.
+//! - A group has 1 to 4 hexadecimal digits of either case, with or without leading zeros in both grammars.
+//!
+//! Every other text is refused, such as one with a blank, a sign, a zone or no prefix length.
 //!
 //! ```text
 //!                            from_str             parse_legacy
@@ -38,9 +45,9 @@ use thiserror::Error;
 pub mod laws;
 mod reader;
 
-/// The refusal of a text that writes no network of the type that was asked for.
+/// The text is not a network of the requested type.
 ///
-/// Its text is `invalid IP address syntax`.
+/// Displayed as `invalid IP address syntax`.
 ///
 /// ```text
 /// 10.0.0.0/33 read as an Ipv4Net or IpNet    Err(AddrParseError)
@@ -51,14 +58,14 @@ mod reader;
 #[error("invalid IP address syntax")]
 pub struct AddrParseError(());
 
-/// The two grammars of network texts, described in the module `parser`: of what `from_str` reads and of what
-/// `parse_legacy` does. Each strict text is a legacy text of the same network.
+/// The two grammars of network texts, described in the module `parser`: `from_str` reads the strict grammar, and
+/// `parse_legacy` the legacy grammar. Each strict text is a legacy text of the same network.
 ///
 /// ```text
 /// 10.0.0.1/8          is a strict text, and a legacy one
-/// 010.0.0.1/08        is a legacy text alone
-/// 1:2:3:4:5:6:7::8/64 is a legacy text alone
-/// 10.0.0.1            is no text of either
+/// 010.0.0.1/08        is only a legacy text
+/// 1:2:3:4:5:6:7::8/64 is only a legacy text
+/// 10.0.0.1            is neither
 /// ```
 #[derive(Clone, Copy, Debug, PartialEq, Eq)]
 pub enum Grammar {
@@ -75,7 +82,7 @@ fn ip_net(text: &str, grammar: Grammar) -> Result<IpNet, AddrParseError>
     reader::read_network(text.as_bytes(), grammar).ok_or(AddrParseError(()))
 }
 
-/// The same, of IPv4 alone: no text of an IPv6 network is one of an IPv4 network too.
+/// The IPv4 network that the whole text writes in this grammar. No text is both an IPv4 and an IPv6 network.
 fn ipv4_net(text: &str, grammar: Grammar) -> Result<Ipv4Net, AddrParseError>
     ensures { ReadsNetwork ipv4_network (IsIpv4NetworkText grammar) text.now result }
 {
@@ -88,7 +95,7 @@ fn ipv4_net(text: &str, grammar: Grammar) -> Result<Ipv4Net, AddrParseError>
     }
 }
 
-/// The same, of IPv6 alone.
+/// The IPv6 network that the whole text writes in this grammar.
 fn ipv6_net(text: &str, grammar: Grammar) -> Result<Ipv6Net, AddrParseError>
     ensures { ReadsNetwork ipv6_network (IsIpv6NetworkText grammar) text.now result }
 {
@@ -124,9 +131,8 @@ impl Ipv4Net {
     /// Reads a text of the legacy grammar, described in the module `parser`: a dotted address, "/" and a prefix length
     /// (RFC 4632, section 3.1), whose numbers may have leading zeros. What `from_str` reads is read alike.
     ///
-    /// An error for every other text: where there are not four octets, or one has more than 3 digits or is above
-    /// 255; where the prefix length is missing, has more than 2 digits or is above 32; and for the text of an IPv6
-    /// network.
+    /// Fails for every other text: if there are not four octets, or an octet has more than 3 digits or is above 255; if
+    /// the prefix length is missing, has more than 2 digits or is above 32; and for the text of an IPv6 network.
     ///
     /// ```text
     /// 10.1.1.9/24    Ok(10.1.1.9/24)
@@ -165,13 +171,13 @@ impl FromStr for Ipv6Net {
 
 impl Ipv6Net {
     /// Reads a text of the legacy grammar, described in the module `parser`: an address (RFC 4291, section 2.2), "/"
-    /// and a prefix length (section 2.3), where all numbers may have leading zeros and a "::" may stand for no group.
-    /// What `from_str` reads is read alike.
+    /// and a prefix length (section 2.3). All numbers may have leading zeros, and a "::" may replace no group. A text
+    /// that `from_str` reads gives the same network.
     ///
-    /// An error for every other text: where the groups, with those of "::" and the two of an IPv4 address at the end,
-    /// are not eight, or eight stand before a "::"; where a group has more than 4 digits; where an octet has more than
-    /// 3 digits or is above 255; where the prefix length is missing, has more than 3 digits or is above 128; and for
-    /// the text of an IPv4 network.
+    /// Fails for every other text: if there are not eight groups, including the groups that "::" replaces and the two
+    /// that an IPv4 address at the end replaces; if eight groups come before a "::"; if a group has more than 4 digits;
+    /// if an octet has more than 3 digits or is above 255; if the prefix length is missing, has more than 3 digits or
+    /// is above 128; and for the text of an IPv4 network.
     ///
     /// ```text
     /// fd00::9/32             Ok(fd00::9/32)

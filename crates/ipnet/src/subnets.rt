@@ -23,8 +23,8 @@ pub use ipv6_subnets::Ipv6Subnets;
 /// A walk over a range of addresses of either family: an IPv4 walk or an IPv6 walk; gives that walk's networks. It is
 /// made from such a walk by `From`, and by `IpNet::subnets`.
 ///
-/// Walks of one family compare as [`Ipv4Subnets`] or [`Ipv6Subnets`] do, by what they store; an IPv4 one stands
-/// before every IPv6 one.
+/// Walks of one family compare by what they store, as [`Ipv4Subnets`] or [`Ipv6Subnets`] do. An IPv4 walk comes before
+/// every IPv6 walk.
 ///
 /// ```text
 /// 10.0.0.0 to 10.0.0.239, min_prefix_len 0: 10.0.0.0/25, 10.0.0.128/26, 10.0.0.192/27, 10.0.0.224/28
@@ -63,8 +63,8 @@ impl Iterator for IpSubnets {
 
     ghost remaining = { item_count ip_subnets_left };
 
-    /// What the walk that it holds gives next; or `None`, at this and every later call, where the start lies above the
-    /// end.
+    /// The next network of the walk that it contains; or `None`, at this and every later call, if the start is above
+    /// the end.
     fn next(&mut self) -> Option<IpNet>
         ensures steps { YieldsFirstBy ip_network ip_subnets_left self.old result self.new }
         ensures goes { IsSubnetStep ip_network ip_subnet_range ip_subnets_left self.old result self.new }

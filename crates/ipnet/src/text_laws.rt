@@ -31,7 +31,7 @@ pub fn families_apart()
         → IsIpv4NetworkText grammar text m → ¬ (IsIpv6NetworkText grammar text n) }
 {}
 
-/// The text of an IPv6 address has one of the three forms alone (RFC 4291, section 2.2): groups, groups with an IPv4
+/// The text of an IPv6 address has exactly one of three forms (RFC 4291, section 2.2): groups, groups with an IPv4
 /// address at the end, or groups with "::".
 pub fn ipv6_forms_apart()
     ensures groups_or_ipv4 { (grammar : Grammar) (text groups others : List ℕ)
@@ -42,12 +42,12 @@ pub fn ipv6_forms_apart()
         → EndsInIpv4 grammar text groups → ¬ (IsCompressed grammar text others) }
 {}
 
-/// The strict texts of IPv4 addresses are those of std's own grammar of addresses, and no others.
+/// The strict grammar of IPv4 addresses has exactly the texts of std's own grammar.
 pub fn ipv4_strict_is_std()
     ensures { (text octets : List ℕ) → IsIpv4AddressText Strict text octets ↔ IsDotted text octets }
 {}
 
-/// The strict texts of IPv6 addresses are those of std's own grammar of addresses, and no others.
+/// The strict grammar of IPv6 addresses has exactly the texts of std's own grammar.
 pub fn ipv6_strict_is_std()
     ensures { (text groups : List ℕ) → IsIpv6AddressText Strict text groups ↔ IsColonHex text groups }
 {}
@@ -113,9 +113,8 @@ pub fn ipv6_address_text_is_of_groups(addr: Ipv6Addr)
     ensures { address_text IPv6 (ipv6_bits addr) ≡ ipv6_text (ipv6_segments addr) }
 {}
 
-/// The canonical text of an IPv6 address, by its groups: in dotted form after `::ffff:` where the address is
-/// mapped, and else with `::` for the first of the longest runs of two zero groups or more (RFC 5952, sections 4.2
-/// and 5).
+/// The canonical text of an IPv6 address, by its groups: in dotted form after `::ffff:` if the address is mapped.
+/// Otherwise `::` replaces the first of the longest runs of two zero groups or more (RFC 5952, sections 4.2 and 5).
 pub fn shortens_longest_run()
     ensures mapped { (groups : List ℕ) → IsIpv4Mapped groups
         → ipv6_text groups ≡ codes "::ffff:" ++ ipv4_text (octets_of (drop 6 groups)) }
@@ -129,8 +128,8 @@ pub fn network_texts_have_the_longest_room()
     ensures ipv6 { IPV6_NETWORK_LEN ≡ 43 }
 {}
 
-/// The lines of a text write one list of networks at most, and none where a line is bad; and one line at most is the
-/// first bad one.
+/// The lines of a text write at most one list of networks, and no list if a line is bad. At most one line is the first
+/// bad line.
 pub fn one_list()
     ensures one { (grammar : Grammar) (lines : List (List ℕ)) (networks others : List Network)
         → AreNetworksOf grammar lines networks → AreNetworksOf grammar lines others → networks ≡ others }

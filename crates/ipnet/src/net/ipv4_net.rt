@@ -17,7 +17,7 @@ use ipnet_base::{Ipv4Addr, Ipv4AddrRange, PrefixLenError, ipv4_mask_to_prefix};
 ///
 /// ```text
 /// 10.0.0.1/24 is 10.0.0.1 with the prefix length 24, and another network than 10.0.0.0/24 of the same block
-/// 10.0.0.0/8 stands before 10.0.0.0/24, and 10.0.0.0/32 before 10.0.0.1/8
+/// 10.0.0.0/8 comes before 10.0.0.0/24, and 10.0.0.0/32 before 10.0.0.1/8
 /// ```
 //
 // Number and prefix length share one word, the number in the upper half and the prefix length in the lower, so that
@@ -87,8 +87,8 @@ impl Ipv4Net {
         Ok(Ipv4Net::new_assert(ip, prefix_len))
     }
 
-    /// The network of the address and a prefix length that the caller knows to be at most 32; use `new` where this is
-    /// not known.
+    /// The network of the address and a prefix length that the caller knows to be at most 32; use `new` if this is not
+    /// known.
     ///
     /// ```text
     /// Ipv4Net::new_assert(10.1.1.7, 24) is 10.1.1.7/24
@@ -120,7 +120,7 @@ impl Ipv4Net {
     /// The address, with its host bits.
     ///
     /// ```text
-    /// that of 10.0.0.1/24 is 10.0.0.1
+    /// the address of 10.0.0.1/24 is 10.0.0.1
     /// ```
     pub fn addr(&self) -> Ipv4Addr
         ensures { ipv4_address result ≡ own_address (ipv4_network self.now) }
@@ -131,7 +131,7 @@ impl Ipv4Net {
     /// The prefix length, from 0 to 32.
     ///
     /// ```text
-    /// that of 10.0.0.1/24 is 24
+    /// the prefix length of 10.0.0.1/24 is 24
     /// ```
     pub fn prefix_len(&self) -> u8
         ensures { result ≡ (ipv4_network self.now).prefix_len }
@@ -142,7 +142,7 @@ impl Ipv4Net {
     /// The greatest prefix length of an IPv4 network: 32.
     ///
     /// ```text
-    /// that of 10.0.0.1/24 is 32
+    /// 10.0.0.1/24 gives 32
     /// ```
     pub fn max_prefix_len(&self) -> u8
         ensures { result ≡ width (ipv4_network self.now).family }
@@ -175,7 +175,7 @@ impl Ipv4Net {
     /// The least address of the block.
     ///
     /// ```text
-    /// that of 172.16.123.123/16 is 172.16.0.0
+    /// 172.16.123.123/16 gives 172.16.0.0
     /// ```
     pub fn network(&self) -> Ipv4Addr
         ensures { IsLeastOf (ipv4_network self.now) (ipv4_address result) }
@@ -186,7 +186,7 @@ impl Ipv4Net {
     /// The greatest address of the block.
     ///
     /// ```text
-    /// that of 172.16.0.0/22 is 172.16.3.255
+    /// 172.16.0.0/22 gives 172.16.3.255
     /// ```
     pub fn broadcast(&self) -> Ipv4Addr
         ensures { IsGreatestOf (ipv4_network self.now) (ipv4_address result) }
@@ -210,7 +210,7 @@ impl Ipv4Net {
     /// length 0.
     ///
     /// ```text
-    /// that of 172.16.0.0/12 is 172.0.0.0/11
+    /// 172.16.0.0/12 gives 172.0.0.0/11
     /// ```
     pub fn supernet(&self) -> Option<Ipv4Net>
         ensures none { IsNone result ↔ ((ipv4_network self.now).prefix_len ≡ 0) }
@@ -409,7 +409,7 @@ impl Net for Ipv4Net {
         if len != other.leading_bits() {
             return false;
         }
-        // Their leading bits differ in the last alone.
+        // Their leading bits differ only in the last.
         prefix_of(self.number() ^ other.number(), len) == 1
     }
 

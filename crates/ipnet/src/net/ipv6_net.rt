@@ -16,7 +16,7 @@ use ipnet_base::{Ipv6Addr, Ipv6AddrRange, PrefixLenError, ipv6_mask_to_prefix};
 ///
 /// ```text
 /// fd00::1/64 is fd00::1 with the prefix length 64, and another network than fd00::/64 of the same block
-/// fd00::/64 stands before fd00::/128, and fd00::/128 before fd00::1/64
+/// fd00::/64 comes before fd00::/128, and fd00::/128 before fd00::1/64
 /// ```
 //
 // The number is kept as its two halves and the prefix length in a word as wide as these: a network of three equal
@@ -86,8 +86,8 @@ impl Ipv6Net {
         Ok(Ipv6Net::new_assert(ip, prefix_len))
     }
 
-    /// The network of the address and a prefix length that the caller knows to be at most 128; use `new` where this is
-    /// not known.
+    /// The network of the address and a prefix length that the caller knows to be at most 128; use `new` if this is not
+    /// known.
     ///
     /// ```text
     /// Ipv6Net::new_assert(fd00::7, 24) is fd00::7/24
@@ -119,7 +119,7 @@ impl Ipv6Net {
     /// The address, with its host bits.
     ///
     /// ```text
-    /// that of fd00::7/24 is fd00::7
+    /// the address of fd00::7/24 is fd00::7
     /// ```
     pub fn addr(&self) -> Ipv6Addr
         ensures { ipv6_address result ≡ own_address (ipv6_network self.now) }
@@ -130,7 +130,7 @@ impl Ipv6Net {
     /// The prefix length, from 0 to 128.
     ///
     /// ```text
-    /// that of fd00::7/24 is 24
+    /// the prefix length of fd00::7/24 is 24
     /// ```
     pub fn prefix_len(&self) -> u8
         ensures { result ≡ (ipv6_network self.now).prefix_len }
@@ -141,7 +141,7 @@ impl Ipv6Net {
     /// The greatest prefix length of an IPv6 network: 128.
     ///
     /// ```text
-    /// that of fd00::7/24 is 128
+    /// fd00::7/24 gives 128
     /// ```
     pub fn max_prefix_len(&self) -> u8
         ensures { result ≡ width (ipv6_network self.now).family }
@@ -174,7 +174,7 @@ impl Ipv6Net {
     /// The least address of the block.
     ///
     /// ```text
-    /// that of fd00:1234:5678::/24 is fd00:1200::
+    /// fd00:1234:5678::/24 gives fd00:1200::
     /// ```
     pub fn network(&self) -> Ipv6Addr
         ensures { IsLeastOf (ipv6_network self.now) (ipv6_address result) }
@@ -185,7 +185,7 @@ impl Ipv6Net {
     /// The greatest address of the block.
     ///
     /// ```text
-    /// that of fd00::/120 is fd00::ff
+    /// fd00::/120 gives fd00::ff
     /// ```
     pub fn broadcast(&self) -> Ipv6Addr
         ensures { IsGreatestOf (ipv6_network self.now) (ipv6_address result) }
@@ -209,7 +209,7 @@ impl Ipv6Net {
     /// length 0.
     ///
     /// ```text
-    /// that of fd00:ff00::/24 is fd00:fe00::/23
+    /// fd00:ff00::/24 gives fd00:fe00::/23
     /// ```
     pub fn supernet(&self) -> Option<Ipv6Net>
         ensures none { IsNone result ↔ ((ipv6_network self.now).prefix_len ≡ 0) }
@@ -402,7 +402,7 @@ impl Net for Ipv6Net {
         if len != other.leading_bits() {
             return false;
         }
-        // Their leading bits differ in the last alone.
+        // Their leading bits differ only in the last.
         prefix_of(self.number() ^ other.number(), len) == 1
     }
 

@@ -1,5 +1,5 @@
-//! What holds of all values of the network types at once: `==`, the order and the hash go by the network that a value
-//! stands for, host bits and all; the clone is the value; a network's netmask reads back as its prefix length; which
+//! Laws of all values of the network types: `==`, the order and the hash depend on the network that a value represents,
+//! including host bits; the clone is the value; a network's netmask reads back as its prefix length; and which
 //! addresses of a network are hosts, and how many.
 //!
 //! ```text
@@ -20,8 +20,9 @@ use super::{IpNet, Ipv4Net, Ipv6Net};
 use ipnet_base::{PrefixLenError, ip_mask_to_prefix, ipv4_mask_to_prefix, ipv6_mask_to_prefix};
 use std::hash::Hash;
 
-/// Each IPv4 network has a number of 32 bits and a prefix length of at most 32. Two are equal where they stand for the
-/// same network, are ordered as networks, and feed a hasher the same if and only if they are equal.
+/// Each IPv4 network has a number of 32 bits and a prefix length of at most 32. Two values are equal if and only if
+/// they represent the same network. They are ordered as networks, and feed a hasher the same if and only if they are
+/// equal.
 pub fn ipv4_nets_compare_by_network()
     ensures valid { (n : Ipv4Net) → IsNetwork (ipv4_network n) }
     ensures compare { (a b : Ipv4Net) → ComparesBy ipv4_network IsBefore ⟦<Ipv4Net as PartialEq>⟧.eq
@@ -29,8 +30,9 @@ pub fn ipv4_nets_compare_by_network()
     ensures hash { (a b : Ipv4Net) → HashesBy ipv4_network ⟦<Ipv4Net as Hash>⟧.hash_input a b }
 {}
 
-/// Each IPv6 network has a number of 128 bits and a prefix length of at most 128. Two are equal where they stand for
-/// the same network, are ordered as networks, and feed a hasher the same if and only if they are equal.
+/// Each IPv6 network has a number of 128 bits and a prefix length of at most 128. Two values are equal if and only if
+/// they represent the same network. They are ordered as networks, and feed a hasher the same if and only if they are
+/// equal.
 pub fn ipv6_nets_compare_by_network()
     ensures valid { (n : Ipv6Net) → IsNetwork (ipv6_network n) }
     ensures compare { (a b : Ipv6Net) → ComparesBy ipv6_network IsBefore ⟦<Ipv6Net as PartialEq>⟧.eq
@@ -38,9 +40,9 @@ pub fn ipv6_nets_compare_by_network()
     ensures hash { (a b : Ipv6Net) → HashesBy ipv6_network ⟦<Ipv6Net as Hash>⟧.hash_input a b }
 {}
 
-/// Networks of either family have a number and a prefix length within its width. Two are equal where they stand for the
-/// same network, are ordered as networks, so IPv4 before IPv6, and feed a hasher the same if and only if they are
-/// equal.
+/// Networks of either family have a number and a prefix length within its width. Two values are equal if and only if
+/// they represent the same network. They are ordered as networks, so IPv4 before IPv6, and feed a hasher the same if
+/// and only if they are equal.
 pub fn ip_nets_compare_by_network()
     ensures valid { (n : IpNet) → IsNetwork (ip_network n) }
     ensures compare { (a b : IpNet) → ComparesBy ip_network IsBefore ⟦<IpNet as PartialEq>⟧.eq
@@ -84,8 +86,8 @@ pub fn ip_netmask_reads_back(network: &IpNet) -> Result<u8, PrefixLenError>
     ip_mask_to_prefix(network.netmask())
 }
 
-/// The hosts of an IPv4 network below prefix length 31 are the addresses of its block but the least and the greatest.
-/// At 31 and 32, and of an IPv6 network at every prefix length, they are the whole block.
+/// The hosts of an IPv4 network below prefix length 31 are the addresses of its block except the least and the
+/// greatest. At 31 and 32, and in an IPv6 network of any prefix length, they are the whole block.
 pub fn hosts_lie_in_the_block()
     ensures ipv4_below_31 { (n : Network) (hosts : AddressRange) (x : Address) → n.family ≡ IPv4 → n.prefix_len < 31
         → IsHostRange n hosts
@@ -96,8 +98,8 @@ pub fn hosts_lie_in_the_block()
         → IsHostRange n hosts → Contains (addresses_of hosts) x ↔ InBlock n x }
 {}
 
-/// An IPv4 network has two hosts fewer than addresses below prefix length 31, two at 31, and one at 32; an IPv6 network
-/// has as many as addresses.
+/// Below prefix length 31 an IPv4 network has two hosts fewer than addresses; at 31 it has two hosts, and at 32 one. In
+/// an IPv6 network every address is a host.
 pub fn hosts_are_counted()
     ensures ipv4_below_31 { (n : Network) (hosts : AddressRange) → n.family ≡ IPv4 → n.prefix_len < 31
         → IsHostRange n hosts → address_count hosts ≡ 2 ^ (32 - n.prefix_len) - 2 }

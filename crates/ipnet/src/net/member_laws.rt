@@ -1,8 +1,8 @@
-//! What the ghost members of public traits say of each network type: which relation `contains` answers, which network
-//! is the default, which network another value is made into, and which text is printed.
+//! The meaning of the ghost members of public traits for each network type: the relation that `contains` decides, the
+//! default network, the network that another value is converted to, and the text that is printed.
 //!
-//! A contract that names a ghost member, as that of `Contains::contains` does, promises only what that member says;
-//! these laws state it in the words of `specs/`.
+//! A contract that names a ghost member, such as the contract of `Contains::contains`, promises only what that member
+//! says; these laws state it in the words of `specs/`.
 ghost use Rattle.std.specs.Prelude.{◌≡◌, ◌↔◌, Some};
 ghost use Rattle.ipnet_base.specs.Address.{width, ipv4_address, ipv6_address, ip_address};
 ghost use Rattle.ipnet_base.specs.Network.{InBlock, IsSubnetOf};
@@ -14,7 +14,7 @@ use super::{Contains, IpNet, Ipv4Net, Ipv6Net};
 use ipnet_base::{IpAddr, Ipv4Addr, Ipv6Addr};
 use std::fmt;
 
-/// An IPv4 network contains an address where that lies in its block, and a network where that one's block does.
+/// An IPv4 network contains exactly the addresses in its block, and exactly the networks whose blocks lie in its block.
 pub fn ipv4_net_contains_its_block<'a>(net: Ipv4Net, address: &'a Ipv4Addr, other: &'a Ipv4Net)
     ensures addresses { ⟦<Ipv4Net as Contains<&'a Ipv4Addr>>⟧.holds net address.entry
         ↔ InBlock (ipv4_network net) (ipv4_address address.now) }
@@ -22,7 +22,7 @@ pub fn ipv4_net_contains_its_block<'a>(net: Ipv4Net, address: &'a Ipv4Addr, othe
         ↔ IsSubnetOf (ipv4_network other.now) (ipv4_network net) }
 {}
 
-/// An IPv6 network contains an address where that lies in its block, and a network where that one's block does.
+/// An IPv6 network contains exactly the addresses in its block, and exactly the networks whose blocks lie in its block.
 pub fn ipv6_net_contains_its_block<'a>(net: Ipv6Net, address: &'a Ipv6Addr, other: &'a Ipv6Net)
     ensures addresses { ⟦<Ipv6Net as Contains<&'a Ipv6Addr>>⟧.holds net address.entry
         ↔ InBlock (ipv6_network net) (ipv6_address address.now) }
@@ -30,8 +30,8 @@ pub fn ipv6_net_contains_its_block<'a>(net: Ipv6Net, address: &'a Ipv6Addr, othe
         ↔ IsSubnetOf (ipv6_network other.now) (ipv6_network net) }
 {}
 
-/// A network of either family contains an address where that lies in its block, and a network where that one's block
-/// does, so nothing of the other family.
+/// A network of either family contains exactly the addresses in its block, and exactly the networks whose blocks lie in
+/// its block. So it contains nothing of the other family.
 pub fn ip_net_contains_its_block<'a>(net: IpNet, address: &'a IpAddr, other: &'a IpNet)
     ensures addresses { ⟦<IpNet as Contains<&'a IpAddr>>⟧.holds net address.entry
         ↔ InBlock (ip_network net) (ip_address address.now) }

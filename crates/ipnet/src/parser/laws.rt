@@ -1,5 +1,5 @@
-//! What holds of all values of `Grammar` and `AddrParseError`, and what the readers of the standard trait say. Each law
-//! is a function with nothing to run, whose contract is the law.
+//! Laws of all values of `Grammar` and `AddrParseError`, and of the readers of the standard trait. Each law is the
+//! contract of a function that does nothing.
 ghost use Rattle.std.specs.Prelude.{◌↔◌, ℕ, List, Result};
 ghost use Rattle.ipnet_base.specs.Values.{EqualsExactly, ClonesExactly};
 ghost use Rattle.ipnet.specs.NetworkOf.{ipv4_network, ipv6_network, ip_network};

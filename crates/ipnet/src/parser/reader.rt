@@ -1,4 +1,4 @@
-//! Reading a text in one forward pass. Before it starts, the first four bytes at most tell the family.
+//! Reading a text in one forward pass. The family is known beforehand, from at most the first four bytes.
 ghost use Rattle.std.specs.Prelude.{◌≡◌, ◌≢◌, min, [], ◌∷◌, ◌+◌, ◌<◌, ◌≤◌, length, take, drop, slice_index, IfSome};
 ghost use Rattle.std.specs.Prelude.{IfNone, option_map, MatchOption, true};
 ghost use Rattle.std.specs.Bool.{OnTrue, OnFalse};
@@ -25,7 +25,7 @@ struct Decimals {
     number: u16,
 }
 
-/// The decimal digit at this place, and a number from 10 on where none stands there.
+/// The decimal digit at this place, or a number of at least 10 if the byte is not a digit.
 fn decimal_digit(text: &[u8], index: usize) -> u8
     ensures digit { result < 10 → result ≡ digit_value (slice_index text.now index) }
     ensures within { result < 10 → index < length text.now }
@@ -139,14 +139,14 @@ static HEX_DIGITS: [u8; 256] = [
     16, 16, 16, 16, 16, 16, 16, 16, 16, 16, 16, 16, 16, 16,
 ];
 
-/// The hexadecimal digit that the byte writes, and 16 where it writes none.
+/// The value of the byte as a hexadecimal digit, or 16 if it is not one.
 fn hex_value(byte: u8) -> u8
     ensures { result ≡ min 16 (digit_value byte) }
 {
     HEX_DIGITS[byte as usize]
 }
 
-/// The hexadecimal digit at this place, if one stands there.
+/// The hexadecimal digit at this place, if there is one.
 fn hex_digit(text: &[u8], index: usize) -> Option<u16>
     ensures none { IfNone result (16 ≤ digit_value (slice_index text.now index)) }
     ensures value { IfSome result (λ d. d ≡ digit_value (slice_index text.now index)) }

@@ -36,8 +36,8 @@ pub struct Ipv4Subnets {
 
 /// The prefix length of the largest block that is no longer than a range of `distance + 1` addresses.
 //
-// A range whose distance is zeros followed by ones is as long as a block. Of any other distance the highest one is the
-// size of the largest block that is no longer, which has one host bit fewer.
+// If the distance is zeros followed by ones, the range is as long as a block. Otherwise the highest one of the distance
+// is the size of the largest block that is no longer, which has one host bit fewer.
 fn range_prefix_len(distance: u32) -> u32
     ensures fits { result ≤ 32 }
     ensures most { IsMostBits distance (32 - result) }
@@ -106,9 +106,9 @@ impl Ipv4Subnets {
 
     /// Leaves what lies after a block that ended at this number.
     //
-    // The end becomes 0 as in the Rust crate, since `==`, the order and the hash see what is stored. At the last
-    // address of all it has to, as the start can go no further; where the start was the end, the new start alone would
-    // do.
+    // The end becomes 0 as in the Rust crate, because `==`, the order and the hash use the stored values. After the
+    // last address of all this is necessary, because the start cannot increase. If the start was the end, changing only
+    // the start would be enough.
     fn advance_past(&mut self, last: u32)
         ensures { IsAdvancedPast last (ipv4_subnet_range self.old) (ipv4_subnet_range self.new) }
     {
@@ -130,10 +130,10 @@ impl Iterator for Ipv4Subnets {
     ghost remaining = { item_count ipv4_subnets_left };
 
     /// The largest network that starts at the stored start, ends at or before the stored end and has at least the
-    /// minimum prefix length; or `None`, at this and every later call, where the start lies above the end.
+    /// minimum prefix length; or `None`, at this and every later call, if the start is above the end.
     ///
     /// The start becomes the address after the network, and saturates at the last address of all. The end becomes
-    /// 0.0.0.0 where the network ended at that last address, or where the start was the end; otherwise it stays.
+    /// 0.0.0.0 if the network ended at that last address, or if the start was the end; otherwise it does not change.
     fn next(&mut self) -> Option<Ipv4Net>
         ensures steps { YieldsFirstBy ipv4_network ipv4_subnets_left self.old result self.new }
         ensures goes { IsSubnetStep ipv4_network ipv4_subnet_range ipv4_subnets_left self.old result self.new }

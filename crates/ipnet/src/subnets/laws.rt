@@ -1,5 +1,5 @@
-//! What holds of all walks at once: `==`, the order and the hash go by the stored ends and the minimum prefix length,
-//! and the clone is the value.
+//! Laws of all walks: `==`, the order and the hash depend on the stored ends and the minimum prefix length, and the
+//! clone is the value.
 //!
 //! ```text
 //! 0.0.0.0 to 0.0.0.6 at 0 < 0.0.0.0 to 0.0.0.6 at 31 < 0.0.0.0 to 0.0.0.7 at 0 < :: to ::6 at 0
@@ -18,8 +18,9 @@ use std::fmt::Debug;
 use std::hash::Hash;
 use std::iter::FusedIterator;
 
-/// Each walk over an IPv4 range has a minimum prefix length of at most 32. Two are equal where their stored ends and
-/// minimum prefix lengths are, are ordered by these, and feed a hasher the same if and only if they are equal.
+/// Each walk over an IPv4 range has a minimum prefix length of at most 32. Two walks are equal if and only if their
+/// stored ends and minimum prefix lengths are equal. They are ordered by these, and feed a hasher the same if and only
+/// if they are equal.
 pub fn ipv4_walks_compare_by_range()
     ensures valid { (s : Ipv4Subnets) → (ipv4_subnet_range s).min_prefix_len ≤ 32 }
     ensures compare { (a b : Ipv4Subnets) → ComparesBy ipv4_subnet_range IsWalkBefore ⟦<Ipv4Subnets as PartialEq>⟧.eq
@@ -27,8 +28,9 @@ pub fn ipv4_walks_compare_by_range()
     ensures hash { (a b : Ipv4Subnets) → HashesBy ipv4_subnet_range ⟦<Ipv4Subnets as Hash>⟧.hash_input a b }
 {}
 
-/// Each walk over an IPv6 range has a minimum prefix length of at most 128. Two are equal where their stored ends and
-/// minimum prefix lengths are, are ordered by these, and feed a hasher the same if and only if they are equal.
+/// Each walk over an IPv6 range has a minimum prefix length of at most 128. Two walks are equal if and only if their
+/// stored ends and minimum prefix lengths are equal. They are ordered by these, and feed a hasher the same if and only
+/// if they are equal.
 pub fn ipv6_walks_compare_by_range()
     ensures valid { (s : Ipv6Subnets) → (ipv6_subnet_range s).min_prefix_len ≤ 128 }
     ensures compare { (a b : Ipv6Subnets) → ComparesBy ipv6_subnet_range IsWalkBefore ⟦<Ipv6Subnets as PartialEq>⟧.eq
@@ -36,9 +38,9 @@ pub fn ipv6_walks_compare_by_range()
     ensures hash { (a b : Ipv6Subnets) → HashesBy ipv6_subnet_range ⟦<Ipv6Subnets as Hash>⟧.hash_input a b }
 {}
 
-/// Walks of either family have a minimum prefix length within its width. Two are equal where their families, stored
-/// ends and minimum prefix lengths are, are ordered by these with IPv4 before IPv6, and feed a hasher the same if and
-/// only if they are equal.
+/// Walks of either family have a minimum prefix length within its width. Two walks are equal if and only if their
+/// families, stored ends and minimum prefix lengths are equal. They are ordered by these with IPv4 before IPv6, and
+/// feed a hasher the same if and only if they are equal.
 pub fn ip_walks_compare_by_range()
     ensures valid { (s : IpSubnets) → (ip_subnet_range s).min_prefix_len ≤ width (ip_subnet_range s).family }
     ensures compare { (a b : IpSubnets) → ComparesBy ip_subnet_range IsWalkBefore ⟦<IpSubnets as PartialEq>⟧.eq
@@ -61,11 +63,11 @@ pub fn ip_walks_clone()
     ensures { ClonesExactly ⟦<IpSubnets as Clone>⟧.is_clone ⟦<IpSubnets as Clone>⟧.is_infallible }
 {}
 
-/// Walks of each type are `Copy`, and fused iterators, which answer `None` ever after `None`; and they have a `Debug`,
-/// whose text no contract tells.
+/// Walks of each type are `Copy` and `Debug`, and they are fused iterators: after `None` they always return `None`. No
+/// contract describes the text of `Debug`.
 //
-// The contract says nothing: it is the body that is not compiled where one of the nine implementations, three for each
-// type, is missing.
+// The contract says nothing: the body does not compile if one of the nine implementations, three for each type, is
+// missing.
 pub fn walks_are_fused_and_debug(ipv4: &Ipv4Subnets, ipv6: &Ipv6Subnets, ip: &IpSubnets) {
     is_fused_and_debug(ipv4);
     is_fused_and_debug(ipv6);

@@ -1,7 +1,7 @@
-//! What holds of each walk, whatever it stores, and what the ghost members of public traits say of walks.
+//! Laws of each walk, whatever it stores, and the meaning of the ghost members of public traits for walks.
 //!
-//! A contract that names a ghost member, as that of std's `collect` does, promises only what that member says; these
-//! laws state it in the words of `specs/`.
+//! A contract that names a ghost member, such as the contract of std's `collect`, promises only what that member says;
+//! these laws state it in the words of `specs/`.
 ghost use Rattle.std.specs.Prelude.{◌≡◌, ◌↔◌, Option, IsNone};
 ghost use Rattle.std.specs.Iterator.{YieldsFirstBy, item_count};
 ghost use Rattle.ipnet.specs.NetworkOf.{ipv4_network, ipv6_network, ip_network};
@@ -18,17 +18,17 @@ ghost use Rattle.ipnet.specs.declared.subnets.IpSubnets.TheVariants.{V4, V6};
 use super::{IpSubnets, Ipv4Subnets, Ipv6Subnets};
 use crate::net::{IpNet, Ipv4Net, Ipv6Net};
 
-/// What an IPv4 walk still gives is the walk of the range that is left to it.
+/// An IPv4 walk still gives the networks of the walk over the range that is left to it.
 pub fn ipv4_walk_is_of_its_range(subnets: Ipv4Subnets)
     ensures { IsWalkOf (ipv4_subnet_range subnets) (ipv4_subnets_left subnets) }
 {}
 
-/// What an IPv6 walk still gives is the walk of the range that is left to it.
+/// An IPv6 walk still gives the networks of the walk over the range that is left to it.
 pub fn ipv6_walk_is_of_its_range(subnets: Ipv6Subnets)
     ensures { IsWalkOf (ipv6_subnet_range subnets) (ipv6_subnets_left subnets) }
 {}
 
-/// What a walk of either family still gives is the walk of the range that is left to it.
+/// A walk of either family still gives the networks of the walk over the range that is left to it.
 pub fn ip_walk_is_of_its_range(subnets: IpSubnets)
     ensures { IsWalkOf (ip_subnet_range subnets) (ip_subnets_left subnets) }
 {}

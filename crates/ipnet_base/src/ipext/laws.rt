@@ -45,7 +45,7 @@ pub fn calls_give_each_address_once()
 {}
 
 /// Two IPv4 ranges are equal if and only if their stored ends are equal, and they are ordered by their stored ends.
-/// They feed a hasher the same input if and only if they are equal.
+/// They feed a hasher the same if and only if they are equal.
 pub fn ipv4_ranges_compare_by_ends()
     ensures compare { (a b : Ipv4AddrRange) → ComparesBy ipv4_range IsRangeBefore ⟦<Ipv4AddrRange as PartialEq>⟧.eq
         ⟦<Ipv4AddrRange as Ord>⟧.cmp ⟦<Ipv4AddrRange as PartialOrd>⟧.partial_cmp a b }
@@ -53,7 +53,7 @@ pub fn ipv4_ranges_compare_by_ends()
 {}
 
 /// Two IPv6 ranges are equal if and only if their stored ends are equal, and they are ordered by their stored ends.
-/// They feed a hasher the same input if and only if they are equal.
+/// They feed a hasher the same if and only if they are equal.
 pub fn ipv6_ranges_compare_by_ends()
     ensures compare { (a b : Ipv6AddrRange) → ComparesBy ipv6_range IsRangeBefore ⟦<Ipv6AddrRange as PartialEq>⟧.eq
         ⟦<Ipv6AddrRange as Ord>⟧.cmp ⟦<Ipv6AddrRange as PartialOrd>⟧.partial_cmp a b }
@@ -61,7 +61,7 @@ pub fn ipv6_ranges_compare_by_ends()
 {}
 
 /// Two ranges of either family are equal if and only if their families and stored ends are equal. They are ordered by
-/// family, IPv4 first, and then by their stored ends. They feed a hasher the same input if and only if they are equal.
+/// family, IPv4 first, and then by their stored ends. They feed a hasher the same if and only if they are equal.
 pub fn ip_ranges_compare_by_ends()
     ensures compare { (a b : IpAddrRange) → ComparesBy ip_range IsRangeBefore ⟦<IpAddrRange as PartialEq>⟧.eq
         ⟦<IpAddrRange as Ord>⟧.cmp ⟦<IpAddrRange as PartialOrd>⟧.partial_cmp a b }
