@@ -66,7 +66,7 @@ def with_lengths(lines):
 
 
 def in_turns(bench, task, original_task, source):
-    """(our shortest time, the shortest time of the original, all answers) of a task of the programs of calls."""
+    """(our shortest time, the shortest time of the original, all results) of a task of the call programs."""
     ours, theirs, answers = [], [], []
     sides = [(bench.programs.our_calls, task, ours), (bench.programs.original_calls, original_task, theirs)]
     for _ in range(bench.rounds):

@@ -6,10 +6,12 @@
  * that the caller supplies, so the caller never frees anything.
  *
  * The caller must ensure:
- * - No pointer is NULL, even if its length is 0.
+ * - A pointer is NULL only if its length is 0. Pointers without a length (`count`, `same`, `covered`, `line`) are never
+ *   NULL.
  * - A length is at most the number of bytes that may be read, or written, at its pointer.
  * - The memory that a call writes (`buffer`, `count`, `same`, `covered`, `line`) does not overlap any other argument.
- * - malloc, realloc and free belong to the same allocator.
+ * - malloc, realloc and free belong to the same allocator. It aligns a block to each power of two up to 16 that divides
+ *   the size of the block. The allocators of Linux do so.
  * - No call is made from a signal handler, nor in the child of a process that had several threads when it forked.
  *
  * A list of networks is a text with one network per line, such as 10.1.1.0/24 or fd00::/32. Networks may have host
@@ -36,8 +38,16 @@
 extern "C" {
 #endif
 
-/* The statuses that a call returns. */
-enum {
+/* The version of this header, 1.0.0: a million for each major version, a thousand for each minor version, and one for
+ * each patch. Programs that were compiled with this header run with each library of the same major version that is not
+ * older. docs/C.md says what raises which number. */
+#define IPNET_VERSION 1000000
+
+/* The version of the library, in the form of IPNET_VERSION. */
+uint32_t ipnet_version(void);
+
+/* The statuses that a call returns. A later minor version may add some. */
+typedef enum ipnet_status {
     IPNET_OK = 0,                 /* success: the result was written */
     IPNET_BAD_LINE = 1,           /* a line is neither empty nor a network */
     IPNET_NOT_UTF8 = 2,           /* the text is not UTF-8 */
@@ -49,7 +59,26 @@ enum {
     IPNET_PREFIX_TOO_LONG = 8,    /* the last byte, the prefix length, is above 32 (IPv4) or 128 (IPv6) */
     IPNET_BAD_LINE_IN_OTHER = 9,  /* a line of `other`, the second list, is neither empty nor a network */
     IPNET_OTHER_NOT_UTF8 = 10     /* `other` is not UTF-8 */
-};
+} ipnet_status;
+
+/* Returns the meaning of a status, in English. The text is constant; nothing is allocated. */
+static inline const char *ipnet_status_text(ipnet_status status)
+{
+    switch (status) {
+    case IPNET_OK: return "success";
+    case IPNET_BAD_LINE: return "a line is not a network";
+    case IPNET_NOT_UTF8: return "the text is not UTF-8";
+    case IPNET_OUT_OF_MEMORY: return "out of memory";
+    case IPNET_BUFFER_TOO_SHORT: return "the buffer is too short";
+    case IPNET_NOT_A_NETWORK: return "the text is not a network";
+    case IPNET_WRONG_LENGTH: return "the number of bytes is wrong for a network";
+    case IPNET_UNKNOWN_FAMILY: return "the first byte is not a family";
+    case IPNET_PREFIX_TOO_LONG: return "the prefix length is too long";
+    case IPNET_BAD_LINE_IN_OTHER: return "a line of the other list is not a network";
+    case IPNET_OTHER_NOT_UTF8: return "the other text is not UTF-8";
+    }
+    return "unknown status";
+}
 
 /* The maximum number of bytes in the byte form of a network, and in its text. */
 enum { IPNET_MAX_BYTES = 18, IPNET_MAX_TEXT = 43 };
@@ -69,11 +98,11 @@ enum { IPNET_MAX_BYTES = 18, IPNET_MAX_TEXT = 43 };
  *     "10.0.1.0/24\n\n10.0.0.0/24"   OK, 12, "10.0.0.0/23\n"
  *     "10.0.0.0/24\n\nx\n"           BAD_LINE, 3
  */
-uint8_t ipnet_aggregate_text(const uint8_t *text, size_t text_len, uint8_t *buffer, size_t buffer_len, size_t *count);
+ipnet_status ipnet_aggregate_text(const char *text, size_t text_len, char *buffer, size_t buffer_len, size_t *count);
 
 /* Like ipnet_aggregate_text, for a list in the legacy grammar. The result is in the strict grammar. */
-uint8_t ipnet_aggregate_text_legacy(const uint8_t *text, size_t text_len, uint8_t *buffer, size_t buffer_len,
-                                    size_t *count);
+ipnet_status ipnet_aggregate_text_legacy(const char *text, size_t text_len, char *buffer, size_t buffer_len,
+                                         size_t *count);
 
 /* Checks whether two lists, in the strict grammar, cover the same addresses.
  *
@@ -90,8 +119,8 @@ uint8_t ipnet_aggregate_text_legacy(const uint8_t *text, size_t text_len, uint8_
  *     "10.0.0.0/25\n10.0.0.128/25" and "10.0.0.7/24"   OK, 1
  *     "10.0.0.0/25" and "10.0.0.0/24"                  OK, 0
  */
-uint8_t ipnet_same_addresses(const uint8_t *text, size_t text_len, const uint8_t *other, size_t other_len,
-                             uint8_t *same, size_t *line);
+ipnet_status ipnet_same_addresses(const char *text, size_t text_len, const char *other, size_t other_len, uint8_t *same,
+                                  size_t *line);
 
 /* Writes the union of two lists, in the strict grammar: the shortest list of networks with exactly the addresses that
  * are in either list or in both. The result has the form of the result of ipnet_aggregate_text.
@@ -111,22 +140,22 @@ uint8_t ipnet_same_addresses(const uint8_t *text, size_t text_len, const uint8_t
  *     "10.0.0.0/25" and "10.0.0.128/25"   OK, 12, "10.0.0.0/24\n"
  *     "10.0.0.0/25" and "\nx"             BAD_LINE_IN_OTHER, 2
  */
-uint8_t ipnet_union_text(const uint8_t *text, size_t text_len, const uint8_t *other, size_t other_len, uint8_t *buffer,
-                         size_t buffer_len, size_t *count);
+ipnet_status ipnet_union_text(const char *text, size_t text_len, const char *other, size_t other_len, char *buffer,
+                              size_t buffer_len, size_t *count);
 
 /* Like ipnet_union_text, for the intersection: exactly the addresses that are in both lists.
  *
  *     "10.0.0.0/24" and "10.0.0.128/25\n10.0.1.0/24"   OK, 14, "10.0.0.128/25\n"
  */
-uint8_t ipnet_intersection_text(const uint8_t *text, size_t text_len, const uint8_t *other, size_t other_len,
-                                uint8_t *buffer, size_t buffer_len, size_t *count);
+ipnet_status ipnet_intersection_text(const char *text, size_t text_len, const char *other, size_t other_len,
+                                     char *buffer, size_t buffer_len, size_t *count);
 
 /* Like ipnet_union_text, for the difference: exactly the addresses that are in `text` and not in `other`.
  *
  *     "10.0.0.0/24" and "10.0.0.0/26"   OK, 27, "10.0.0.64/26\n10.0.0.128/25\n"
  */
-uint8_t ipnet_difference_text(const uint8_t *text, size_t text_len, const uint8_t *other, size_t other_len,
-                              uint8_t *buffer, size_t buffer_len, size_t *count);
+ipnet_status ipnet_difference_text(const char *text, size_t text_len, const char *other, size_t other_len, char *buffer,
+                                   size_t buffer_len, size_t *count);
 
 /* Checks whether a list, in the strict grammar, covers every address of a network in byte form. Several networks of the
  * list may cover it together.
@@ -142,8 +171,8 @@ uint8_t ipnet_difference_text(const uint8_t *text, size_t text_len, const uint8_
  *     "10.0.0.0/25\n10.0.0.128/25" and 0, 10, 0, 0, 0, 24   OK, 1
  *     "10.0.0.0/25" and 0, 10, 0, 0, 200, 32                OK, 0
  */
-uint8_t ipnet_is_covered(const uint8_t *text, size_t text_len, const uint8_t *network, size_t network_len,
-                         uint8_t *covered, size_t *line);
+ipnet_status ipnet_is_covered(const char *text, size_t text_len, const uint8_t *network, size_t network_len,
+                              uint8_t *covered, size_t *line);
 
 /* Parses the text of one network, in the strict grammar, and writes its byte form. Allocates no memory.
  *
@@ -155,10 +184,10 @@ uint8_t ipnet_is_covered(const uint8_t *text, size_t text_len, const uint8_t *ne
  * `buffer` is modified only on OK, and only up to the end of the bytes. `*count` is not modified on NOT_A_NETWORK and
  * NOT_UTF8.
  */
-uint8_t ipnet_parse(const uint8_t *text, size_t text_len, uint8_t *buffer, size_t buffer_len, size_t *count);
+ipnet_status ipnet_parse(const char *text, size_t text_len, uint8_t *buffer, size_t buffer_len, size_t *count);
 
 /* Like ipnet_parse, for a text in the legacy grammar. */
-uint8_t ipnet_parse_legacy(const uint8_t *text, size_t text_len, uint8_t *buffer, size_t buffer_len, size_t *count);
+ipnet_status ipnet_parse_legacy(const char *text, size_t text_len, uint8_t *buffer, size_t buffer_len, size_t *count);
 
 /* Prints a network in byte form as canonical text: its address with the host bits (IPv6 as in RFC 5952), "/", and the
  * prefix length. Allocates no memory.
@@ -170,7 +199,7 @@ uint8_t ipnet_parse_legacy(const uint8_t *text, size_t text_len, uint8_t *buffer
  * `buffer` is modified only on OK, and only up to the end of the text. `*count` is not modified on WRONG_LENGTH,
  * UNKNOWN_FAMILY and PREFIX_TOO_LONG.
  */
-uint8_t ipnet_print(const uint8_t *network, size_t network_len, uint8_t *buffer, size_t buffer_len, size_t *count);
+ipnet_status ipnet_print(const uint8_t *network, size_t network_len, char *buffer, size_t buffer_len, size_t *count);
 
 #ifdef __cplusplus
 }

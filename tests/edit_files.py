@@ -1,8 +1,8 @@
 """Edit files: small changes of a crate's text, each of which makes one function or law wrong.
 
 They lie in `crates/NAME/must-fail` and `crates/NAME/wrong`. An edit has lines `file: PATH` and then pairs of lines
-`old: TEXT` and `new: TEXT`; each old text is in the file exactly once. The lines `at:`, `clause:`, `weak:` and
-`expected:` are for `tests/wrong_bodies`. This module is not run: `tests/edits` and `tests/wrong_bodies` import it.
+`old: TEXT` and `new: TEXT`; each old text is in the file exactly once. The lines `at:`, `clause:`, `weak:`, `control:`
+and `expected:` are for `tests/wrong_bodies`. This module is not run: `tests/edits` and `tests/wrong_bodies` import it.
 """
 import difflib
 import os
@@ -22,25 +22,33 @@ class Edit:
 
     - `notes` holds the values of the lines `at:`, `clause:`, `weak:` and `expected:`;
     - `texts` holds the edited text of each file that the edit changes;
+    - `has_control` says whether the file has a line `control:`, and `is_control` whether its texts are used here;
     - `fault` says why the edit cannot be applied, and is None if it can.
     """
 
-    def __init__(self, path, crate_folder):
+    def __init__(self, path, crate_folder, is_control=False):
         self.path = path
+        self.crate_folder = crate_folder
         self.crate = os.path.basename(crate_folder)
-        self.name = os.path.basename(path)[:-len(".edit")]
+        self.name = os.path.basename(path)[:-len(".edit")] + " (control)" * is_control
         self.folder = os.path.basename(os.path.dirname(path))
+        self.is_control = is_control
+        self.has_control = False
         self.notes = {}
         self.texts = {}
         self.originals = {}
-        self.fault = self.read(crate_folder)
+        self.fault = self.read()
 
     def __str__(self):
         return self.crate + "/" + self.name
 
-    def read(self, crate_folder):
+    def control(self):
+        """The control of this edit: the right body in the same form."""
+        return Edit(self.path, self.crate_folder, is_control=True)
+
+    def read(self):
         """Applies the edit to the texts of the crate, and returns the fault if that fails."""
-        path, old = None, None
+        path, pairs = None, []
         for line in read_text(self.path).split("\n"):
             key, _, word = line.partition(": ")
             if key in NOTES:
@@ -48,20 +56,27 @@ class Edit:
             elif key == "file":
                 path = word.strip()
             elif key == "old":
-                old = word
+                pairs.append([path, word, None])
             elif line.startswith("new:"):
-                if path is None or not old:
+                if not pairs or not pairs[-1][0] or pairs[-1][2] is not None:
                     return "a line new: comes before its lines file: and old:"
-                fault = self.replace(crate_folder, path, old, re.sub(r"^new: ?", "", line))
-                if fault:
-                    return fault
-                old = None
-        return None if self.texts else "the edit has no pair of lines old: and new:"
+                pairs[-1][2] = re.sub(r"^new: ?", "", line)
+            elif line.startswith("control:"):
+                if not pairs or pairs[-1][2] is None:
+                    return "a line control: comes before its line new:"
+                self.has_control = True
+                if self.is_control:
+                    pairs[-1][2] = re.sub(r"^control: ?", "", line)
+        if not pairs:
+            return "the edit has no pair of lines old: and new:"
+        return next(filter(None, (self.replace(*pair) for pair in pairs)), None)
 
-    def replace(self, crate_folder, path, old, new):
+    def replace(self, path, old, new):
         """Puts the new text in the place of the old one, and returns the fault if the old text is not there once."""
+        if not old or new is None:
+            return "a line old: has no text or no line new: below it"
         if path not in self.texts:
-            source = os.path.join(crate_folder, path)
+            source = os.path.join(self.crate_folder, path)
             if not os.path.isfile(source):
                 return "there is no file " + path
             self.originals[path] = self.texts[path] = read_text(source)

@@ -35,7 +35,7 @@ NOT_A_WARNING = "aggregate: maximum prefix length permitted will be 32\n"
 SPEED = [
     ("`ipnet`, all IPv4 ranges of `tor-geoipdb`", "The program", "all IPv4 ranges", "lines", "processor ms",
      ("ours over it", "processor, of iprange's"), ("ours over it", "processor, of the original's"), None),
-    ("`netset union`, the same as `FIRST-LAST`", "netset", "union: all ranges, as FIRST-LAST", "lines",
+    ("`netset union`, the same ranges as `FIRST-LAST`", "netset", "union: all ranges, as FIRST-LAST", "lines",
      "processor ms", "iprange's ms", None, None),
     ("`netset difference`, two lists of forty countries", "netset", "difference: countries 1 to 40, and 21 to 60", "lines",
      "processor ms", "iprange's ms", None, None),

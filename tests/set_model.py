@@ -20,7 +20,7 @@ def address_text(family, number):
 
 
 def range_text(a_range):
-    """The range as questions and answers write it."""
+    """The text of the range in questions and answers."""
     family, first, last = a_range
     return "{}-{}".format(address_text(family, first), address_text(family, last))
 
@@ -208,6 +208,20 @@ def covering(table, block):
     return min(holders, key=lambda route: route[0][2]) if holders else None
 
 
+def matches(table, family, number):
+    """The routes of the blocks that hold the address, the fewest open bits first."""
+    found = [(block, value) for block, value in table.items()
+             if block[0] == family and block[1] >> block[2] == number >> block[2]]
+    return sorted(found, key=lambda route: route[0][2])
+
+
+def within(table, block):
+    """The routes of the blocks that lie in this block, in order."""
+    family, number, open_bits = block
+    return [(other, value) for other, value in in_order(table)
+            if other[0] == family and other[2] <= open_bits and other[1] >> open_bits == number >> open_bits]
+
+
 def network_text(family, number, open_bits):
     """The canonical text of the network."""
     return "{}/{}".format(address_text(family, number), WIDTH[family] - open_bits)
@@ -230,7 +244,7 @@ def both_families():
 
 
 def route_text(route):
-    """The route as answers write it."""
+    """The text of the route in answers."""
     block, value = route
     return '({}, "{}")'.format(network_text(*block), value)
 

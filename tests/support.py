@@ -83,7 +83,7 @@ class Checks:
             print("FAILED: {}\n  found  {}\n  wanted {}".format(label, found, wanted))
 
     def check_all(self, label, questions, found, wanted):
-        """Checks each answer to the questions. The label stands before the question of a failed check."""
+        """Checks each answer to the questions. The label is printed before the question of a failed check."""
         if found == wanted:
             self.passed += len(wanted)
             return

@@ -56,60 +56,61 @@ static const char part[] = "10.0.0.0/24\nfd00::/33\n";
 static const uint8_t network[] = {0, 10, 0, 0, 0, 23};
 static const char whole[] = "10.0.0.0/23\nfd00::/32\n";
 static const char rest[] = "10.0.1.0/24\nfd00:0:8000::/33\n";
-static const uint8_t *const text = (const uint8_t *)list;
-
 /* The memory that is passed to a call. */
 struct lent {
-    uint8_t buffer[64], yes;
+    char buffer[64];
+    uint8_t yes;
     size_t number;
 };
 
-static uint8_t aggregate(struct lent *lent)
+static ipnet_status aggregate(struct lent *lent)
 {
-    return ipnet_aggregate_text(text, strlen(list), lent->buffer, sizeof lent->buffer, &lent->number);
+    return ipnet_aggregate_text(list, strlen(list), lent->buffer, sizeof lent->buffer, &lent->number);
 }
 
-static uint8_t aggregate_legacy(struct lent *lent)
+static ipnet_status aggregate_legacy(struct lent *lent)
 {
-    return ipnet_aggregate_text_legacy(text, strlen(list), lent->buffer, sizeof lent->buffer, &lent->number);
+    return ipnet_aggregate_text_legacy(list, strlen(list), lent->buffer, sizeof lent->buffer, &lent->number);
 }
 
-static uint8_t of_both(struct lent *lent, uint8_t (*call)(const uint8_t *, size_t, const uint8_t *, size_t, uint8_t *,
-                                                          size_t, size_t *))
+/* Functions that write text, with one or two texts as input. */
+typedef ipnet_status of_one(const char *, size_t, char *, size_t, size_t *);
+typedef ipnet_status of_two(const char *, size_t, const char *, size_t, char *, size_t, size_t *);
+
+static ipnet_status of_both(struct lent *lent, of_two *call)
 {
-    return call(text, strlen(list), (const uint8_t *)part, strlen(part), lent->buffer, sizeof lent->buffer,
-                &lent->number);
+    return call(list, strlen(list), part, strlen(part), lent->buffer, sizeof lent->buffer, &lent->number);
 }
 
-static uint8_t union_of(struct lent *lent)
+static ipnet_status union_of(struct lent *lent)
 {
     return of_both(lent, ipnet_union_text);
 }
 
-static uint8_t intersection(struct lent *lent)
+static ipnet_status intersection(struct lent *lent)
 {
     return of_both(lent, ipnet_intersection_text);
 }
 
-static uint8_t difference(struct lent *lent)
+static ipnet_status difference(struct lent *lent)
 {
     return of_both(lent, ipnet_difference_text);
 }
 
-static uint8_t same_addresses(struct lent *lent)
+static ipnet_status same_addresses(struct lent *lent)
 {
-    return ipnet_same_addresses(text, strlen(list), (const uint8_t *)other, strlen(other), &lent->yes, &lent->number);
+    return ipnet_same_addresses(list, strlen(list), other, strlen(other), &lent->yes, &lent->number);
 }
 
-static uint8_t is_covered(struct lent *lent)
+static ipnet_status is_covered(struct lent *lent)
 {
-    return ipnet_is_covered(text, strlen(list), network, sizeof network, &lent->yes, &lent->number);
+    return ipnet_is_covered(list, strlen(list), network, sizeof network, &lent->yes, &lent->number);
 }
 
 /* Each call, and the text that it writes; NULL if its result is yes. */
 static const struct {
     const char *name;
-    uint8_t (*call)(struct lent *);
+    ipnet_status (*call)(struct lent *);
     const char *answer;
 } calls[] = {
     {"aggregate_text", aggregate, whole},   {"aggregate_text_legacy", aggregate_legacy, whole},
@@ -127,7 +128,7 @@ static int is_answered(const struct lent *lent, const char *answer)
 }
 
 /* How many allocations the call needed; -1 if the call broke a rule above. */
-static long least_growths(uint8_t (*call)(struct lent *), const char *answer)
+static long least_growths(ipnet_status (*call)(struct lent *), const char *answer)
 {
     for (long growths = 0; growths < 100; growths++) {
         struct lent before, lent;
@@ -135,7 +136,7 @@ static long least_growths(uint8_t (*call)(struct lent *), const char *answer)
         lent = before;
         held = 0;
         granted = growths;
-        uint8_t status = call(&lent);
+        ipnet_status status = call(&lent);
         granted = -1;
         if (held != 0) {
             return -1;
@@ -150,11 +151,30 @@ static long least_growths(uint8_t (*call)(struct lent *), const char *answer)
     return -1;
 }
 
-/* Functions that write into a buffer, with one or two texts or byte forms as input. */
-typedef uint8_t of_one(const uint8_t *, size_t, uint8_t *, size_t, size_t *);
-typedef uint8_t of_two(const uint8_t *, size_t, const uint8_t *, size_t, uint8_t *, size_t, size_t *);
+/* parse, parse_legacy and print as functions that write text, and is_covered as one that takes it */
+static ipnet_status parse(const char *text, size_t text_len, char *buffer, size_t buffer_len, size_t *count)
+{
+    return ipnet_parse(text, text_len, (uint8_t *)buffer, buffer_len, count);
+}
+
+static ipnet_status parse_legacy(const char *text, size_t text_len, char *buffer, size_t buffer_len, size_t *count)
+{
+    return ipnet_parse_legacy(text, text_len, (uint8_t *)buffer, buffer_len, count);
+}
+
+static ipnet_status print(const char *text, size_t text_len, char *buffer, size_t buffer_len, size_t *count)
+{
+    return ipnet_print((const uint8_t *)text, text_len, buffer, buffer_len, count);
+}
+
+static ipnet_status covers(const char *text, size_t text_len, const char *bytes, size_t bytes_len, uint8_t *covered,
+                           size_t *line)
+{
+    return ipnet_is_covered(text, text_len, (const uint8_t *)bytes, bytes_len, covered, line);
+}
+
 /* Functions whose result is yes or no. */
-typedef uint8_t yes_or_no(const uint8_t *, size_t, const uint8_t *, size_t, uint8_t *, size_t *);
+typedef ipnet_status yes_or_no(const char *, size_t, const char *, size_t, uint8_t *, size_t *);
 
 /* The calls that need no memory, and their statuses. */
 static const struct {
@@ -166,7 +186,7 @@ static const struct {
     size_t first_len;
     const char *second;
     size_t second_len;
-    uint8_t status;
+    ipnet_status status;
 } free_calls[] = {
 #define TEXT(text) text, sizeof(text) - 1
     {"aggregate, empty", ipnet_aggregate_text, NULL, NULL, TEXT(""), TEXT(""), IPNET_OK},
@@ -188,12 +208,12 @@ static const struct {
     {"same addresses, empty", NULL, NULL, ipnet_same_addresses, TEXT("\n"), TEXT(""), IPNET_OK},
     {"same addresses, a bad line at once in the other", NULL, NULL, ipnet_same_addresses, TEXT("\n"), TEXT("\nx"),
      IPNET_BAD_LINE_IN_OTHER},
-    {"is covered, empty", NULL, NULL, ipnet_is_covered, TEXT("\n"), TEXT("\0\12\0\0\0\30"), IPNET_OK},
-    {"is covered, a bad line at once", NULL, NULL, ipnet_is_covered, TEXT("\nx"), TEXT("\0\12\0\0\0\30"),
+    {"is covered, empty", NULL, NULL, covers, TEXT("\n"), TEXT("\0\12\0\0\0\30"), IPNET_OK},
+    {"is covered, a bad line at once", NULL, NULL, covers, TEXT("\nx"), TEXT("\0\12\0\0\0\30"),
      IPNET_BAD_LINE},
-    {"parse", ipnet_parse, NULL, NULL, TEXT("10.0.0.7/24"), TEXT(""), IPNET_OK},
-    {"parse legacy", ipnet_parse_legacy, NULL, NULL, TEXT("010.0.0.7/24"), TEXT(""), IPNET_OK},
-    {"print", ipnet_print, NULL, NULL, TEXT("\0\12\0\0\0\27"), TEXT(""), IPNET_OK},
+    {"parse", parse, NULL, NULL, TEXT("10.0.0.7/24"), TEXT(""), IPNET_OK},
+    {"parse legacy", parse_legacy, NULL, NULL, TEXT("010.0.0.7/24"), TEXT(""), IPNET_OK},
+    {"print", print, NULL, NULL, TEXT("\0\12\0\0\0\27"), TEXT(""), IPNET_OK},
 };
 
 /* How many of the calls above break a rule. */
@@ -201,10 +221,10 @@ static int free_faults(void)
 {
     int faults = 0;
     for (size_t i = 0; i < sizeof free_calls / sizeof *free_calls; i++) {
-        const uint8_t *first = (const uint8_t *)free_calls[i].first, *second = (const uint8_t *)free_calls[i].second;
+        const char *first = free_calls[i].first, *second = free_calls[i].second;
         size_t first_len = free_calls[i].first_len, second_len = free_calls[i].second_len;
         struct lent lent;
-        uint8_t status;
+        ipnet_status status;
         requests = 0;
         granted = 0;
         if (free_calls[i].one != NULL) {

@@ -22,9 +22,40 @@ struct row {
     size_t number;
 };
 
-typedef uint8_t into_buffer(const uint8_t *, size_t, uint8_t *, size_t, size_t *);
-typedef uint8_t both_into_buffer(const uint8_t *, size_t, const uint8_t *, size_t, uint8_t *, size_t, size_t *);
-typedef uint8_t yes_or_no(const uint8_t *, size_t, const uint8_t *, size_t, uint8_t *, size_t *);
+typedef ipnet_status into_buffer(const uint8_t *, size_t, uint8_t *, size_t, size_t *);
+typedef ipnet_status both_into_buffer(const uint8_t *, size_t, const uint8_t *, size_t, uint8_t *, size_t, size_t *);
+typedef ipnet_status yes_or_no(const uint8_t *, size_t, const uint8_t *, size_t, uint8_t *, size_t *);
+
+/* Each function of ipnet.h as one over bytes: some take or write text. */
+#define OF_ONE(name, in, out)                                                                                        \
+    static ipnet_status name(const uint8_t *first, size_t first_len, uint8_t *buffer, size_t len, size_t *count)     \
+    {                                                                                                                \
+        return ipnet_##name((in)first, first_len, (out)buffer, len, count);                                          \
+    }
+#define OF_TWO(name)                                                                                                 \
+    static ipnet_status name(const uint8_t *first, size_t first_len, const uint8_t *second, size_t second_len,       \
+                             uint8_t *buffer, size_t len, size_t *count)                                             \
+    {                                                                                                                \
+        return ipnet_##name((const char *)first, first_len, (const char *)second, second_len, (char *)buffer, len,   \
+                            count);                                                                                  \
+    }
+#define YES_OR_NO(name, in)                                                                                          \
+    static ipnet_status name(const uint8_t *first, size_t first_len, const uint8_t *second, size_t second_len,       \
+                             uint8_t *answer, size_t *line)                                                          \
+    {                                                                                                                \
+        return ipnet_##name((const char *)first, first_len, (in)second, second_len, answer, line);                   \
+    }
+
+OF_ONE(aggregate_text, const char *, char *)
+OF_ONE(aggregate_text_legacy, const char *, char *)
+OF_ONE(parse, const char *, uint8_t *)
+OF_ONE(parse_legacy, const char *, uint8_t *)
+OF_ONE(print, const uint8_t *, char *)
+OF_TWO(union_text)
+OF_TWO(intersection_text)
+OF_TWO(difference_text)
+YES_OR_NO(same_addresses, const char *)
+YES_OR_NO(is_covered, const uint8_t *)
 
 /* A function of one argument, or of two. */
 static const struct function {
@@ -32,41 +63,48 @@ static const struct function {
     into_buffer *of_one;
     both_into_buffer *of_two;
 } into_buffers[] = {
-    {"aggregate_text", ipnet_aggregate_text, NULL},
-    {"aggregate_text_legacy", ipnet_aggregate_text_legacy, NULL},
-    {"union_text", NULL, ipnet_union_text},
-    {"intersection_text", NULL, ipnet_intersection_text},
-    {"difference_text", NULL, ipnet_difference_text},
-    {"parse", ipnet_parse, NULL},
-    {"parse_legacy", ipnet_parse_legacy, NULL},
-    {"print", ipnet_print, NULL},
+    {"aggregate_text", aggregate_text, NULL},
+    {"aggregate_text_legacy", aggregate_text_legacy, NULL},
+    {"union_text", NULL, union_text},
+    {"intersection_text", NULL, intersection_text},
+    {"difference_text", NULL, difference_text},
+    {"parse", parse, NULL},
+    {"parse_legacy", parse_legacy, NULL},
+    {"print", print, NULL},
 };
 
 static const struct {
     const char *name;
     yes_or_no *call;
-} yes_or_nos[] = {{"same_addresses", ipnet_same_addresses}, {"is_covered", ipnet_is_covered}};
+} yes_or_nos[] = {{"same_addresses", same_addresses}, {"is_covered", is_covered}};
 
 static const char *const statuses[] = {
     "OK",           "BAD_LINE",       "NOT_UTF8",        "OUT_OF_MEMORY",     "BUFFER_TOO_SHORT", "NOT_A_NETWORK",
     "WRONG_LENGTH", "UNKNOWN_FAMILY", "PREFIX_TOO_LONG", "BAD_LINE_IN_OTHER", "OTHER_NOT_UTF8",
 };
 
-static unsigned rows, calls, faults;
+static unsigned lines, calls, faults;
+
+/* Whether the calls are made with NULL if a length is 0. */
+static bool with_null;
 
 static void fail(const struct row *row, const char *what)
 {
     faults++;
-    printf("row %u, %s: %s\n", rows, row->function, what);
+    printf("line %u, %s: %s\n", lines, row->function, what);
 }
 
-static void *exactly(size_t len)
+/* A copy of the bytes, in a block of exactly their length. */
+static void *copied(const void *bytes, size_t len)
 {
+    if (len == 0 && with_null) {
+        return NULL;
+    }
     void *at = malloc(len > 0 ? len : 1);
     if (at == NULL) {
         abort();
     }
-    return at;
+    return memcpy(at, bytes, len);
 }
 
 /* The bytes of a quoted field, and a pointer to its end. */
@@ -87,8 +125,7 @@ static const char *unquoted(const char *field, struct bytes *bytes)
         buffer[len++] = (uint8_t)byte;
     }
     bytes->len = len;
-    bytes->at = exactly(len);
-    memcpy(bytes->at, buffer, len);
+    bytes->at = copied(buffer, len);
     return field + 1;
 }
 
@@ -118,8 +155,8 @@ static bool all_untouched(const uint8_t *at, size_t len)
     return len == 0;
 }
 
-static uint8_t called(const struct row *row, const struct function *function, uint8_t *buffer, size_t buffer_len,
-                      size_t *count)
+static ipnet_status called(const struct row *row, const struct function *function, uint8_t *buffer,
+                           size_t buffer_len, size_t *count)
 {
     if (function->of_two != NULL) {
         return function->of_two(row->first.at, row->first.len, row->second.at, row->second.len, buffer, buffer_len,
@@ -134,15 +171,16 @@ static void call_into_buffer(const struct row *row, const struct function *funct
     bool ok = strcmp(row->status, "OK") == 0, fits = row->answer.len <= buffer_len;
     const char *wanted = ok && !fits ? "BUFFER_TOO_SHORT" : row->status;
     size_t count = 77, wanted_count = ok ? row->answer.len : row->has_number ? row->number : 77;
-    uint8_t *buffer = exactly(buffer_len);
-    memset(buffer, UNTOUCHED, buffer_len);
-    uint8_t status = called(row, function, buffer, buffer_len, &count);
+    uint8_t untouched[MOST];
+    memset(untouched, UNTOUCHED, sizeof untouched);
+    uint8_t *buffer = copied(untouched, buffer_len);
+    ipnet_status status = called(row, function, buffer, buffer_len, &count);
     calls++;
     if (status >= sizeof statuses / sizeof *statuses || strcmp(statuses[status], wanted) != 0) {
         fail(row, "another status");
     } else if (count != wanted_count) {
         fail(row, "another number");
-    } else if (ok && fits && memcmp(buffer, row->answer.at, count) != 0) {
+    } else if (ok && fits && count > 0 && memcmp(buffer, row->answer.at, count) != 0) {
         fail(row, "another answer");
     }
     size_t written = ok && fits ? row->answer.len : 0;
@@ -157,7 +195,7 @@ static void call_yes_or_no(const struct row *row, yes_or_no *call)
     bool ok = strcmp(row->status, "OK") == 0;
     uint8_t answer = 77, wanted_answer = ok ? (uint8_t)row->number : 77;
     size_t line = 77, wanted_line = !ok && row->has_number ? row->number : 77;
-    uint8_t status = call(row->first.at, row->first.len, row->second.at, row->second.len, &answer, &line);
+    ipnet_status status = call(row->first.at, row->first.len, row->second.at, row->second.len, &answer, &line);
     calls++;
     if (status >= sizeof statuses / sizeof *statuses || strcmp(statuses[status], row->status) != 0) {
         fail(row, "another status");
@@ -196,15 +234,18 @@ int main(int words, char **word)
     }
     while (fgets(line, sizeof line, file) != NULL) {
         struct row row;
-        if (read_row(line, &row)) {
-            rows++;
-            try_row(&row);
-            free(row.first.at);
-            free(row.second.at);
-            free(row.answer.at);
+        lines++;
+        for (int null = 0; null < 2; null++) {
+            with_null = null;
+            if (read_row(line, &row)) {
+                try_row(&row);
+                free(row.first.at);
+                free(row.second.at);
+                free(row.answer.at);
+            }
         }
     }
     fclose(file);
-    printf("%u rows, %u calls, %u faults\n", rows, calls, faults);
-    return rows == 0 || faults > 0;
+    printf("%u calls, %u faults\n", calls, faults);
+    return calls == 0 || faults > 0;
 }

@@ -21,8 +21,8 @@ NOTHING = "(None, None, None)"
 
 
 def decimal(given, digits, greatest, strict):
-    """The number that the text is in decimal: at most so many digits, at most this value. A strict text begins with
-    `0` only if it is `0`."""
+    """The number that the text is in decimal, with at most `digits` digits, and at most `greatest`. A strict text
+    begins with `0` only if it is `0`."""
     if not 0 < len(given) <= digits or not set(given) <= DIGITS:
         return None
     if strict and given != "0" and given[0] == "0":
@@ -58,7 +58,7 @@ def groups(given, may_end_dotted, strict):
 
 def ipv6_number(given, strict):
     """The number of an IPv6 address. The strict reader has `::` for at least one group, the legacy reader also for none
-    if at most seven groups stand before it."""
+    if at most seven groups come before it."""
     head, compression, tail = given.partition("::")
     if not compression:
         found = groups(given, True, strict)
@@ -139,7 +139,7 @@ def check_decimals(checks, program):
 
 
 def joined(digit, count, is_dotted):
-    """The text of so many groups of two digits, and their numbers. The last two are a dotted address if asked for."""
+    """The text of `count` groups of two digits, and their numbers. The last two are a dotted address if asked for."""
     plain = max(count - 2, 0) if is_dotted else count
     parts = ["%s%x" % (digit, place) for place in range(plain)]
     numbers = [int(part, 16) for part in parts]

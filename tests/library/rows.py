@@ -264,8 +264,8 @@ def add_printing(rows):
     for (left,) in tables["alike"]:
         for (right,) in tables["alike"]:
             equal, order = str(left == right).lower(), ordering(network(left), network(right))
-            rows.add("printing: alike exactly if equal", compared(equal, order), "IpNet", "compare", left, right)
-        rows.add("printing: alike exactly if equal", '"%s"' % text(network(left)), "IpNet", "to_text", left)
+            rows.add("printing: alike if and only if equal", compared(equal, order), "IpNet", "compare", left, right)
+        rows.add("printing: alike if and only if equal", '"%s"' % text(network(left)), "IpNet", "to_text", left)
 
 
 def ordering(left, right):

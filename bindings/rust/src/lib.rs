@@ -16,6 +16,8 @@
 //! # Ok::<(), Error>(())
 //! ```
 
+#![deny(missing_docs)]
+
 mod raw;
 
 use std::fmt;
@@ -24,6 +26,7 @@ use std::str::FromStr;
 
 /// The reasons why a call fails.
 #[derive(Clone, Copy, Debug, PartialEq, Eq, Hash)]
+#[non_exhaustive]
 pub enum Error {
     /// The number of the first line that is neither empty nor a network. Lines count from 1, including empty ones.
     BadLine(usize),
@@ -145,6 +148,40 @@ impl From<Ipv6Addr> for Network {
     }
 }
 
+/// Like [`Network::new`], for an address and a prefix length.
+///
+/// ```
+/// use ipnet_proved::{Error, Network};
+/// use std::net::{Ipv4Addr, Ipv6Addr};
+///
+/// assert_eq!(Network::try_from((Ipv4Addr::new(10, 0, 0, 0), 8))?.to_string(), "10.0.0.0/8");
+/// assert_eq!(Network::try_from((Ipv6Addr::LOCALHOST, 129)), Err(Error::PrefixTooLong));
+/// # Ok::<(), Error>(())
+/// ```
+impl<A: Into<IpAddr>> TryFrom<(A, u8)> for Network {
+    type Error = Error;
+
+    fn try_from((address, prefix_len): (A, u8)) -> Result<Network, Error> {
+        Network::new(address.into(), prefix_len)
+    }
+}
+
+/// The address, with its host bits, and the prefix length.
+///
+/// ```
+/// use ipnet_proved::{Error, Network};
+/// use std::net::{IpAddr, Ipv4Addr};
+///
+/// let pair: (IpAddr, u8) = "10.0.0.7/24".parse::<Network>()?.into();
+/// assert_eq!(pair, (IpAddr::from(Ipv4Addr::new(10, 0, 0, 7)), 24));
+/// # Ok::<(), Error>(())
+/// ```
+impl From<Network> for (IpAddr, u8) {
+    fn from(network: Network) -> (IpAddr, u8) {
+        (network.address, network.prefix_len)
+    }
+}
+
 /// Parses the strict grammar: an address, "/" and a prefix length, without leading zeros in decimal numbers.
 impl FromStr for Network {
     type Err = Error;
@@ -254,6 +291,16 @@ pub fn same_addresses_text(text: &str, other: &str) -> Result<bool, Error> {
 /// ```
 pub fn is_covered_text(text: &str, network: impl Into<Network>) -> Result<bool, Error> {
     raw::is_covered(text, network.into().to_bytes().as_slice())
+}
+
+/// The version of the library as one number: a million for each major version, a thousand for each minor version, and
+/// one for each patch.
+///
+/// ```
+/// assert_eq!(ipnet_proved::version() / 1_000_000, 1);
+/// ```
+pub fn version() -> u32 {
+    raw::version()
 }
 
 /// The text of the networks, one per line.

@@ -2,39 +2,40 @@
 use crate::Error;
 use std::{fmt, str};
 
-const OK: u8 = 0;
-const BAD_LINE: u8 = 1;
-const OUT_OF_MEMORY: u8 = 3;
-const BUFFER_TOO_SHORT: u8 = 4;
-const NOT_A_NETWORK: u8 = 5;
-const PREFIX_TOO_LONG: u8 = 8;
-const BAD_LINE_IN_OTHER: u8 = 9;
+const OK: u32 = 0;
+const BAD_LINE: u32 = 1;
+const OUT_OF_MEMORY: u32 = 3;
+const BUFFER_TOO_SHORT: u32 = 4;
+const NOT_A_NETWORK: u32 = 5;
+const PREFIX_TOO_LONG: u32 = 8;
+const BAD_LINE_IN_OTHER: u32 = 9;
 
 /// The maximum number of bytes in the byte form of a network, and in its text.
 const MAX_BYTES: usize = 18;
 const MAX_TEXT: usize = 43;
 
 /// A function that takes a text and its length, a buffer and its length, and a pointer to a count or line number.
-type IntoBuffer = unsafe extern "C" fn(*const u8, usize, *mut u8, usize, *mut usize) -> u8;
+type IntoBuffer = unsafe extern "C" fn(*const u8, usize, *mut u8, usize, *mut usize) -> u32;
 
 /// Like [`IntoBuffer`], with two texts.
-type BothIntoBuffer = unsafe extern "C" fn(*const u8, usize, *const u8, usize, *mut u8, usize, *mut usize) -> u8;
+type BothIntoBuffer = unsafe extern "C" fn(*const u8, usize, *const u8, usize, *mut u8, usize, *mut usize) -> u32;
 
 extern "C" {
+    fn ipnet_version() -> u32;
     pub fn ipnet_aggregate_text(
         text: *const u8,
         text_len: usize,
         buffer: *mut u8,
         buffer_len: usize,
         count: *mut usize,
-    ) -> u8;
+    ) -> u32;
     pub fn ipnet_aggregate_text_legacy(
         text: *const u8,
         text_len: usize,
         buffer: *mut u8,
         buffer_len: usize,
         count: *mut usize,
-    ) -> u8;
+    ) -> u32;
     pub fn ipnet_union_text(
         text: *const u8,
         text_len: usize,
@@ -43,7 +44,7 @@ extern "C" {
         buffer: *mut u8,
         buffer_len: usize,
         count: *mut usize,
-    ) -> u8;
+    ) -> u32;
     pub fn ipnet_intersection_text(
         text: *const u8,
         text_len: usize,
@@ -52,7 +53,7 @@ extern "C" {
         buffer: *mut u8,
         buffer_len: usize,
         count: *mut usize,
-    ) -> u8;
+    ) -> u32;
     pub fn ipnet_difference_text(
         text: *const u8,
         text_len: usize,
@@ -61,7 +62,7 @@ extern "C" {
         buffer: *mut u8,
         buffer_len: usize,
         count: *mut usize,
-    ) -> u8;
+    ) -> u32;
     fn ipnet_same_addresses(
         text: *const u8,
         text_len: usize,
@@ -69,7 +70,7 @@ extern "C" {
         other_len: usize,
         same: *mut u8,
         line: *mut usize,
-    ) -> u8;
+    ) -> u32;
     fn ipnet_is_covered(
         text: *const u8,
         text_len: usize,
@@ -77,28 +78,34 @@ extern "C" {
         network_len: usize,
         covered: *mut u8,
         line: *mut usize,
-    ) -> u8;
+    ) -> u32;
     pub fn ipnet_parse(
         text: *const u8,
         text_len: usize,
         buffer: *mut u8,
         buffer_len: usize,
         count: *mut usize,
-    ) -> u8;
+    ) -> u32;
     pub fn ipnet_parse_legacy(
         text: *const u8,
         text_len: usize,
         buffer: *mut u8,
         buffer_len: usize,
         count: *mut usize,
-    ) -> u8;
+    ) -> u32;
     fn ipnet_print(
         network: *const u8,
         network_len: usize,
         buffer: *mut u8,
         buffer_len: usize,
         count: *mut usize,
-    ) -> u8;
+    ) -> u32;
+}
+
+/// The version of the library as one number.
+pub fn version() -> u32 {
+    // SAFETY: the function takes nothing.
+    unsafe { ipnet_version() }
 }
 
 /// The byte form of a network.
@@ -126,7 +133,7 @@ impl Bytes {
 
 /// The error for a status and the line number reported with it. The statuses for invalid UTF-8 cannot occur for a
 /// `str`, and the statuses for invalid bytes cannot occur for a [`crate::Network`].
-fn error_of(status: u8, line: usize) -> Error {
+fn error_of(status: u32, line: usize) -> Error {
     match status {
         BAD_LINE => Error::BadLine(line),
         BAD_LINE_IN_OTHER => Error::BadLineInOther(line),
@@ -137,7 +144,7 @@ fn error_of(status: u8, line: usize) -> Error {
 }
 
 /// Calls the function, and returns the status and the count or line number.
-fn call(into_buffer: IntoBuffer, text: &[u8], buffer: &mut [u8]) -> (u8, usize) {
+fn call(into_buffer: IntoBuffer, text: &[u8], buffer: &mut [u8]) -> (u32, usize) {
     let mut count = 0;
     // SAFETY: the pointers and lengths belong to two slices and a variable. They live through the call. They do not
     // overlap, because two of them are borrowed mutably. A pointer to a slice or a variable is never null.
@@ -148,7 +155,7 @@ fn call(into_buffer: IntoBuffer, text: &[u8], buffer: &mut [u8]) -> (u8, usize) 
 
 /// The text that `call` writes. It is usually not longer than its input of `given_len` bytes. If it is longer, as
 /// `::ffff:0.0.0.0/96` for `::ffff:0:0/96`, the first call reports the length and a second one writes the text.
-fn answer(given_len: usize, call: impl Fn(&mut [u8]) -> (u8, usize)) -> Result<String, Error> {
+fn answer(given_len: usize, call: impl Fn(&mut [u8]) -> (u32, usize)) -> Result<String, Error> {
     let mut buffer = Vec::new();
     grow(&mut buffer, given_len.saturating_add(1))?;
     loop {

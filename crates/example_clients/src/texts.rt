@@ -10,7 +10,7 @@ ghost use Rattle.ipnet.specs.NetworkTexts.{IsNetworkText, WritesNone};
 
 use ipnet::{IpNet, Ipv4Addr, Ipv4Net, ipv4_mask_to_prefix};
 
-/// The network of the text; `None` if the text is not one of a network.
+/// The network of the text; `None` if the text does not denote a network.
 pub fn read(text: &str) -> Option<IpNet>
     ensures some { IfSome result (λ n. IsNetworkText Strict text.now (ip_network n)) }
     ensures complete { (n : IpNet) → IsNetworkText Strict text.now (ip_network n) → result ≡ Some n }
@@ -18,7 +18,7 @@ pub fn read(text: &str) -> Option<IpNet>
     text.parse().ok()
 }
 
-/// Whether the text is not one of a network.
+/// Whether the text does not denote a network.
 pub fn is_bad(text: &str) -> bool
     ensures { IsTrue result ↔ WritesNone (IsNetworkText Strict) text.now }
 {

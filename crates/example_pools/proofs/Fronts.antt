@@ -1,4 +1,4 @@
--- What holds of all subnets of a block holds of the first of them.
+-- A property of all subnets of a block is also a property of the first of them.
 use Rattle.std.proofs.Common.{ℕ, zero, suc, List, [], ◌∷◌, take, arith}
 use Rattle.std.specs.Prelude.{All, AllPairs}
 use Rattle.std.proofs.lemmas.List.Elements.{All-take, All-contains_itself}

@@ -1,4 +1,4 @@
--- Bytes that are split into octets and a length are those of one network.
+-- Bytes split into octets and a length are the bytes of exactly one network.
 use Rattle.std.proofs.Common.{◌≡◌, ◌↔◌, ℕ, zero, suc, ◌+◌, ◌^◌, ◌<◌, List, [], ◌∷◌, ◌++◌, length, get_or, take, drop}
 use Rattle.std.proofs.Common.{Ok, refl, sym, ap, ◌∙◌, subst, arith, lit<}
 use Rattle.std.proofs.lemmas.List.{take-append-drop, length-take-le}
@@ -34,7 +34,7 @@ one_item [] one = absurd (omega arith)
 one_item (x ∷ []) one = refl
 one_item (x ∷ y ∷ xs) one = absurd (omega arith)
 
--- Bytes that are octets and one more are those of the network of the number that the octets write.
+-- Bytes that are octets and one byte more are the bytes of the network with the number that the octets write.
 pub split_bytes : (family : Family) (bytes octets last : List ℕ) (number prefix_len : ℕ) (n : Network)
     → octets ≡ take (octet_count family) bytes
     → last ≡ drop (octet_count family) bytes → length last + octet_count family ≡ length bytes → length last ≡ 1
@@ -83,7 +83,7 @@ network_from_bytes family n k of_n of_k u v e =
     let parts = same_parts family n.number k.number n.prefix_len k.prefix_len fit fit' bytes in
     same_network n k (of_n ∙ sym of_k) parts.0 parts.1
 
--- Where values stand for networks of one family, each network one, bytes of a value are no other value's.
+-- If each value has a network of its own, all of one family, then no two values have the same bytes.
 pub ok_at_bytes : {N E : Type 0} (network_of : N → Network) (family : Family)
     (of_family : (x : N) → (network_of x).family ≡ family)
     (valid : (x : N) → IsNetwork (network_of x)) (one : (x y : N) → network_of x ≡ network_of y → x ≡ y) (value : N)

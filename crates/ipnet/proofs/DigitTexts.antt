@@ -16,7 +16,7 @@ use Rattle.ipnet.specs.ReaderSteps.{digit_run, decimal_of, group_of, is_plain}
 
 -- ---- the run
 
--- at most `room` digits, and then none where there is room, are the run
+-- the run is at most `room` digits; if it is shorter, no digit follows
 digit_run_stop : (radix room : ℕ) (ds rest : List ℕ) → AllDigits radix ds → length ds ≤ room
     → (length ds < room → NoDigit radix rest) → digit_run radix room (ds ++ rest) ≡ (ds, rest)
 unfolding digit_run
@@ -139,7 +139,7 @@ room_for_one i n less below =
 pub one_below : (i n d : ℕ) → n < 16 ^ i → d < 16 → n * 16 + d < 16 ^ (i + 1)
 one_below i n d below digit = rw (add-one, pow-suc) (omega arith)
 
--- the run is the first i bytes, where as many as there is room for are read or the next is no digit
+-- the run is the first i bytes, if i is the room or the next byte is not a digit
 pub digit_run_at : (radix room i : ℕ) (text : List ℕ) → i ≤ room → i ≤ length text → AllDigits radix (take i text)
     → (i < room → radix ≤ digit_value (get_or text i 0)) → digit_run radix room text ≡ (take i text, drop i text)
 digit_run_at radix room i text few within all stop =

@@ -1,4 +1,4 @@
--- What the derived `==` of two lists of networks tells.
+-- Consequences of the derived `==` on two lists of networks.
 use Rattle.std.proofs.Common.{◌≡◌, ℕ, ◌*◌, ◌+◌, ◌/◌, ◌%◌, ◌^◌, ◌&&◌, ◌↔◌, Bool, true, IsTrue, eqb, List, [], ◌∷◌}
 use Rattle.std.proofs.Common.{map, refl, sym, ap, ap₂, ◌∙◌, arith, eq-eqb}
 use Rattle.std.proofs.lemmas.Bool.{eqb-true, and_parts, and_from}
@@ -20,7 +20,7 @@ three_equal a b c d p q = (
   λ e. grind (arith, nat_tests),
 )
 
--- two networks are equal exactly where `==` says so
+-- `==` of two networks is true if and only if they are equal
 ip_equal : (x y : IpNet) → (eq-value.it x y ≡ true) ↔ (x ≡ y)
 ip_equal (V4 x) (V4 y) = (
   λ h. let same : x.word ≡ y.word = eqb-true x.word y.word h in
@@ -64,7 +64,7 @@ read_one_to_one f h (x ∷ xs) (y ∷ ys) e =
     let tails : map f xs ≡ map f ys = cc in
     ap₂ (λ z zs. z ∷ zs) (h x y heads) (read_one_to_one f h xs ys tails)
 
--- the aggregates of two lists are equal exactly where the lists cover the same addresses
+-- the aggregates of two lists are equal if and only if the lists cover the same addresses
 pub equal_tells_cover : (networks others answer other : List IpNet) (result : Bool)
     → result ≡ pointwise eq-value.it answer other
     → IsAggregateOf (map ip_network answer) (map ip_network networks)

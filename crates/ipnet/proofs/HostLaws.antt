@@ -10,7 +10,7 @@ use Rattle.ipnet_base.proofs.BlockLaws.{last_from_greatest, IsLeastOf-first, IsG
 use Rattle.ipnet_base.proofs.RangeLaws.{between_from_contains, contains_from_between}
 use Rattle.ipnet.specs.NetworkParts.{HasReservedEnds, IsHostRange}
 
--- A range from the least to the greatest address, or between these two, is that of the hosts.
+-- A range from the least to the greatest address, or between these two, is the range of the hosts.
 pub IsHostRange-whole : (n : Network) (hosts : AddressRange) (low high : Address) → hosts.family ≡ n.family
     → ¬ (HasReservedEnds n)
     → IsLeastOf n low → IsGreatestOf n high → hosts.start ≡ low.number → hosts.end ≡ high.number → IsHostRange n hosts
@@ -38,7 +38,7 @@ reserved_ends_are_apart n u reserved =
     let bits : 1 < host_bits n = omega (arith, reserved.1, ap width reserved.0) in
     (omega (arith, pow_below 1 (host_bits n) bits), last_fits n u)
 
--- The other way: by numbers, the ends of the hosts, where those of the block are reserved and where they are not.
+-- The other way: the ends of the hosts as numbers, if the ends of the block are reserved and if they are not.
 inner_ends : (n : Network) (hosts : AddressRange) → HasReservedEnds n → IsHostRange n hosts
     → (hosts.start ≡ first_of n + 1) × (hosts.end + 1 ≡ last_of n)
 inner_ends n hosts reserved h =

@@ -133,7 +133,7 @@ mixed_complete grammar (suc room) text rest (g ∷ i ∷ j ∷ groups) h stop fi
       later,
     )
 
--- ---- a whole address, after which "/" stands
+-- ---- a whole address, followed by "/"
 
 run_some : (text : List ℕ) → Begins text → (length (hex_run text).0 == 0) ≡ false
 unfolding digit_run

@@ -1,5 +1,5 @@
--- Lists in which nothing is left to join: the stack of a sweep as the aggregate of a list, and what tests of neighbours
--- tell.
+-- Lists in which nothing is left to join: the stack of a sweep is the aggregate of a list, and consequences of tests on
+-- neighbours.
 use Rattle.std.proofs.Common.{◌≡◌, ℕ, ◌+◌, ◌-◌, ◌<◌, ◌↔◌, IsTrue, true, false, ltb, eqb, List, [], ◌∷◌, ◌++◌, map, take}
 use Rattle.std.proofs.Common.{length, get_or, All, refl, sym, ap, ◌∙◌, subst, subst₂, arith, inl, inr, eq-eqb}
 use Rattle.std.proofs.lemmas.Bool.{ltb-true, lt-ltb, eqb-true}
@@ -24,7 +24,7 @@ aggregate_from_stack given stack valid joined same =
     AreMaximalBlocks-same_set (IsCoveredBy stack) (IsCoveredBy given) 0 stack same
     (AreMaximalBlocks-from_neighbours stack valid joined)
 
--- in one family, the last number of the first network below the number of the second tells that it lies before it
+-- in one family, a network lies before another if and only if its last number is below the number of the other
 pub lies_by_last : (n k : Network) (last number : ℕ) → last ≡ last_of n → number ≡ k.number → n.family ≡ k.family
     → IsTrue (ltb last number) ↔ LiesBefore n k
 lies_by_last n k last number e d f = (
@@ -35,7 +35,7 @@ lies_by_last n k last number e d f = (
   ]),
 )
 
--- a network whose number is that of its truncation has no host bit
+-- a network has no host bit if and only if it has the number of its truncation
 pub truncated_by_number : (n t : Network) (number other : ℕ) → number ≡ n.number → t ≡ truncation n → other ≡ t.number
     → IsTrue (eqb number other) ↔ IsTruncated n
 truncated_by_number n t number other e f d =
@@ -44,7 +44,7 @@ truncated_by_number n t number other e f d =
       λ h. eq-eqb number other (e ∙ number_from_truncated n h ∙ sym first),
     )
 
--- a list in which no network stands yet, and one more that is truncated
+-- an empty list, and one truncated network more
 pub joined_first : {X : Type 0} (f : X → Network) (xs : List X) (i : ℕ) (x : X) → i < length xs → x ≡ get_or xs i x
     → i ≡ 0
     → AreJoined (map f (take i xs)) → IsTruncated (f x) → AreJoined (map f (take (i + 1) xs))

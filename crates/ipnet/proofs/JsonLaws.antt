@@ -1,4 +1,4 @@
--- What a JSON value is read to, by what its text is read to.
+-- The result of reading a JSON value, from the result of reading its text.
 use Rattle.std.proofs.Common.{◌≡◌, ◌↔◌, ℕ, List, Some, Result, Ok, Err, MatchResult, refl, sym, ap, ◌∙◌, subst}
 use Rattle.serde_json.specs.Data.{Data, null, boolean, number, string, array, object}
 use Rattle.serde_json.specs.Find.{as_str}
@@ -21,8 +21,8 @@ string_of_text (string s) text e = let same : s ≡ text = cc in ap string same
 string_of_text (array ds) text e = absurd (cc)
 string_of_text (object ms) text e = absurd (cc)
 
--- Where values stand for networks, each for its own, and a text writes one network at most: what is read from the
--- text of a JSON string is what is read from the value.
+-- If each value has a network of its own, and a text writes at most one network, then reading the text of a JSON string
+-- and reading the JSON value give the same.
 pub json_read : {N E : Type 0} (network_of : N → Network) (one : (x y : N) → network_of x ≡ network_of y → x ≡ y)
     (Writes : List ℕ → Network → Type 0)
     (one_network : (text : List ℕ) (m n : Network) → Writes text m → Writes text n → m ≡ n) (value : Data)

@@ -1,4 +1,4 @@
--- Lemmas that the proofs of this crate share, and those of the base crate that proofs above it name.
+-- Lemmas that the proofs of this crate share, and lemmas of the base crate that the proofs of crates above name.
 pub mod NumberLaws
 pub mod HostLaws
 pub mod NetOrderLaws

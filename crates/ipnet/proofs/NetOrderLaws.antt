@@ -1,4 +1,4 @@
--- The network types are ordered as networks, and feed a hasher all that tells two networks apart.
+-- The network types are ordered as networks, and different networks feed a hasher different bytes.
 use Rattle.std.proofs.Common.{◌≡◌, ℕ, ◌+◌, ◌*◌, ◌/◌, ◌%◌, ◌^◌, ◌<◌, ◌⊎◌, ◌↔◌, List, [], ◌∷◌, inl, inr, refl, ap, sym}
 use Rattle.std.proofs.Common.{◌∙◌, arith, Ordering, Less, Equal, Greater, nat_cmp}
 use Rattle.std.specs.Cmp.{ranks}
@@ -16,7 +16,7 @@ use Rattle.ipnet.specs.NetworkOf.{ipv4_network, ipv6_network, ip_network}
 use Rattle.ipnet.specs.NetLaws.{ipv4_one_to_one, ipv6_one_to_one, ip_one_to_one}
 use Rattle.ipnet.specs.declared.net.IpNet.TheVariants as Ip
 
--- a comparison, and where that ends even, a second one
+-- a comparison, and a second one if the first finds both equal
 then_ranks : (r s : Ordering) (P Q R P' Q' R' : Type 0) → MatchOrdering r P Q R → MatchOrdering s P' Q' R'
     → MatchOrdering (ordering_then r s) (P ⊎ (Q × P')) (Q × Q') (R ⊎ (Q × R'))
 then_ranks Less s P Q R P' Q' R' h k = inl h
@@ -44,7 +44,7 @@ IsLess a b c d = (a < c) ⊎ ((a ≡ c) × (b < d))
 before : (n k : Network) → n.family ≡ k.family → IsLess n.number n.prefix_len k.number k.prefix_len → IsBefore n k
 before n k same h = inr (same, h)
 
--- words are compared as the numbers in their upper halves, and where these are equal as the lengths in the lower ones
+-- words are compared as the numbers in their upper halves, and if these are equal, as the lengths in the lower halves
 halves_of_less : (v w : ℕ) → v < w → IsLess (v / 2 ^ 32) (v % 2 ^ 32) (w / 2 ^ 32) (w % 2 ^ 32)
 halves_of_less v w lt = elim (cases_order (v / 2 ^ 32) (w / 2 ^ 32)) [
   | inl same ↦ inr (same, omega (arith, same, lt))
@@ -79,7 +79,7 @@ turned a b c d p q (inl lt) = inl lt
 turned a b c d p q (inr (e, inl lt)) = inr (sym e, inl lt)
 turned a b c d p q (inr (e, inr (f, lt))) = inr (sym e, inr (sym f, lt))
 
--- what the derived comparison of an IPv6 network and another answers
+-- the result of the derived comparison of two IPv6 networks
 abbrev ipv6_cmp : Ipv6Net → Ipv6Net → Ordering
 ipv6_cmp x y =
     ordering_then (nat_cmp x.high y.high) (ordering_then (nat_cmp x.low y.low) (nat_cmp x.prefix_len y.prefix_len))
@@ -137,7 +137,7 @@ ipv6_hash x y = (to, λ e. ap ipv6_fed (ipv6_one_to_one x y e))
         same_network (ipv6_network x) (ipv6_network y) refl (omega arith)
         (same_by_bytes 8 x.prefix_len y.prefix_len (omega (arith, x.prefix_fits)) (omega (arith, y.prefix_fits)) len)
 
--- Of either family a hasher is fed the family's place first.
+-- For either family, a hasher is fed the family's place first.
 pub ip_hash : (fed : IpNet → List (List ℕ)) → ((n : Ipv4Net) → fed (Ip.V4 n) ≡ le_bytes 8 0 ∷ ipv4_fed n)
     → ((n : Ipv6Net) → fed (Ip.V6 n) ≡ le_bytes 8 1 ∷ ipv6_fed n)
     → (x y : IpNet) → (fed x ≡ fed y) ↔ (ip_network x ≡ ip_network y)

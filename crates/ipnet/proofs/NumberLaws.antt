@@ -1,4 +1,4 @@
--- What the functions on numbers compute that the bodies of the network types call, at the width of either family.
+-- The functions on numbers that the bodies of the network types call, for the width of either family.
 use Rattle.std.proofs.Common.{◌≡◌, ◌≢◌, ℕ, ◌+◌, ◌-◌, ◌*◌, ◌/◌, ◌^◌, ◌<◌, ◌↔◌, refl, sym, ap, ◌∙◌, subst, arith, inl}
 use Rattle.std.proofs.Common.{inr, IsTrue, eqb, eqb-true, eq-eqb, bit_xor, shr-shr}
 use Rattle.std.proofs.Math.Nat.{div-eq_of_lt}
@@ -11,7 +11,7 @@ use Rattle.ipnet_base.specs.Network.{truncation}
 use Rattle.ipnet_base.proofs.NetworkLaws.{same_network, IsTruncationOf-truncation}
 use Rattle.ipnet_base.proofs.SupernetLaws.{supernet, IsSupernetOf-supernet}
 
--- Numbers are equal where no bit tells them apart.
+-- Numbers are equal if they differ in no bit.
 xor_none : (a b : ℕ) → (bit_xor a b ≡ 0) ↔ (a ≡ b)
 xor_none a b = (
   λ e. sym (xor_zero_r a) ∙ ap (bit_xor a) (sym (xor_self b)) ∙ sym (xor_assoc a b b) ∙ ap (λ x. bit_xor x b) e
@@ -19,7 +19,7 @@ xor_none a b = (
   λ e. ap (bit_xor a) (sym e) ∙ xor_self a,
 )
 
--- Where the last bit alone does, the other bits are the same.
+-- If they differ only in the last bit, the other bits are the same.
 xor_last : (a b : ℕ) → (bit_xor a b ≡ 1) ↔ ((a ≢ b) × (a / 2 ≡ b / 2))
 xor_last a b = (
   λ e. (
@@ -34,7 +34,7 @@ xor_last a b = (
       ],
 )
 
--- What is asked of the leading bits that tell a number from a network's: whether the block has that number.
+-- The test whether a block contains a number: the leading bits in which the number and the network's differ are all 0.
 pub in_block_test : (n : Network) (number len a : ℕ) → len ≡ n.prefix_len
     → a ≡ bit_xor number n.number / 2 ^ (width n.family - len)
     → IsTrue (eqb a 0) ↔ InBlock n (address_at n.family number)
@@ -51,7 +51,7 @@ in_block_test n number len a same a_is = (
     leading =
         a_is ∙ ap (λ p. bit_xor number n.number / 2 ^ (width n.family - p)) same ∙ xor_shr number n.number (host_bits n)
 
--- Networks of one length are different halves exactly where their leading bits differ in the last alone.
+-- Networks of one length are halves if and only if their leading bits differ only in the last.
 pub halves_test : (n k : Network) (len a : ℕ) → IsNetwork n → IsNetwork k → n.family ≡ k.family → len ≡ n.prefix_len
     → len ≡ k.prefix_len
     → a ≡ bit_xor n.number k.number / 2 ^ (width n.family - len) → IsTrue (eqb a 1) ↔ AreHalves n k

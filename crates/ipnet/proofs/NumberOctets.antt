@@ -70,7 +70,7 @@ octets_again bytes sixteen fit whole =
     same_octets (to_be_bytes w128 (from_be_bytes w128 bytes)) bytes (sym sixteen)
     (octet_fits 16 (from_be_bytes w128 bytes)) fit e
 
--- sixteen octets are those of the number that they write
+-- sixteen octets are the octets of the number that they write
 pub sixteen_again : (bytes : List ℕ) → length bytes ≡ 16 → ((k : ℕ) → get_or bytes k 0 < 2 ^ 8)
     → to_be_bytes w128 (from_be_bytes w128 bytes) ≡ bytes
 unfolding AreOctets
@@ -141,7 +141,7 @@ groups_again groups eight fit =
     ap segments_of (octets_again (octets_of groups) sixteen (octets_of-octets groups fit) (eight_groups groups eight))
     ∙ segments_of-octets_of groups
 
--- the octets and groups of std's addresses are those of their bits
+-- the octets and groups of std's addresses are the octets and groups of their bits
 pub ipv4_octets_of_bits : (a : Ipv4Addr) → IsIpv4Addr a → to_be_bytes w32 (ipv4_bits a) ≡ ipv4_octets a
 unfolding ipv4_bits
 ipv4_octets_of_bits a h = be_bytes_4 (ipv4_octets a) (from_be_bytes w32 (ipv4_octets a)) h.0 h.1 refl

@@ -1,4 +1,4 @@
--- The strict texts of addresses are exactly those of std's own grammar.
+-- The strict texts of addresses are exactly the texts of std's own grammar.
 use Rattle.std.proofs.Common.{◌≡◌, ℕ, ◌<◌, ◌↔◌, Bool, true, List, [], ◌∷◌, ◌++◌, decimal, refl, sym, ap, ◌∙◌, arith}
 use Rattle.std.proofs.Common.{inl, inr, append_assoc, append-nil, ◌⊎◌, false, subst, lit<}
 use Rattle.std.proofs.lemmas.Str.Parse.{numerals_by_value, tells_digits}
@@ -38,7 +38,7 @@ IsIpv4AddressText-std text octets h =
 IsGroup-std : (text : List ℕ) (n : ℕ) → StdGroup text n → IsGroup text n
 IsGroup-std text n h = record { digits = h.0.0; value = h.0.1; short = h.1 }
 
--- groups alone, or with a dotted address at the end
+-- only groups, or groups with a dotted address at the end
 abbrev IsPieces : List ℕ → List ℕ → Type 0
 IsPieces text groups = IsGroups text groups ⊎ EndsInIpv4 Strict text groups
 

@@ -17,7 +17,7 @@ use Rattle.ipnet_base.proofs.ListLaws.{contains_nil, contains_cases, all_from_me
 use Rattle.ipnet_base.proofs.WalkLaws.{AreMaximalBlocks-uncons, step_from_bits}
 use Rattle.ipnet.specs.NetworkParts.{IsSubnetOfLength, AreSubnetsOfLength, IsBlockRange}
 
--- the networks have this length, and there are so many
+-- `count` networks of this length
 abbrev AreOfLength : (prefix_len count : ℕ) → List Network → Type 0
 AreOfLength prefix_len count networks = All (λ k. k.prefix_len ≡ prefix_len) networks × (length networks ≡ count)
 
@@ -88,7 +88,7 @@ subnets_of_length n q networks valid longer q_fits blocks = (
     size : 2 ^ host_bits n ≡ 2 ^ (q - n.prefix_len) * 2 ^ (width n.family - q)
     size = ap (λ k. 2 ^ k) (omega (arith, longer, q_fits)) ∙ pow-add 2 (q - n.prefix_len) (width n.family - q)
 
-    -- how many blocks of the length stand before the network
+    -- the number of blocks of the length before the network
     first_place : ℕ
     first_place = n.number / 2 ^ host_bits n * 2 ^ (q - n.prefix_len)
 

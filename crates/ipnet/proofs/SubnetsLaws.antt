@@ -1,4 +1,4 @@
--- What is left to a walk, by its stored ends, and how a step leaves that list, for both families.
+-- The rest of a walk, from its stored ends, and how a step changes it, for both families.
 use Rattle.std.proofs.Common.{◌≡◌, ℕ, ◌+◌, ◌^◌, ◌<◌, ◌≤◌, ◌⊎◌, ◌↔◌, List, [], ◌∷◌, Option, Some, None, IsNone}
 use Rattle.std.proofs.Common.{subst, sym, ◌∙◌, arith, inl, inr, lit<}
 use Rattle.std.proofs.lemmas.Bool.{cases_eq}
@@ -60,7 +60,7 @@ pub ip_walk : (s : IpSubnets) → IsWalkOf (ip_subnet_range s) (ip_subnets_left 
 ip_walk (Ip.V4 s) = ipv4_walk s
 ip_walk (Ip.V6 s) = ipv6_walk s
 
--- a step after one that answered `None` answers `None`, and changes nothing
+-- a step after one that returned `None` returns `None` too, and changes nothing
 pub none_after_none : {S A : Type 0} (network_of : A → Network) (range_of : S → SubnetRange) (left : S → List Network)
     → (old middle new : S) (first second : Option A) → IsSubnetStep network_of range_of left old first middle
     → IsSubnetStep network_of range_of left middle second new → IsNone first → IsNone second × (new ≡ old)
@@ -103,7 +103,7 @@ greatest_above_zero : (f : Family) → 0 < greatest_number f
 greatest_above_zero IPv4 = lit< tt
 greatest_above_zero IPv6 = lit< tt
 
--- what the stored end becomes: 0 where nothing lies after the block, else the end before
+-- the new stored end: 0 if nothing lies after the block, else the end before
 abbrev EndBecomes : (old new : SubnetRange) (last : ℕ) → Type 0
 EndBecomes old new last =
     ((new.end ≡ 0) × (old.end ≤ last)) ⊎ ((new.end ≡ old.end) × (last < greatest_number old.family))

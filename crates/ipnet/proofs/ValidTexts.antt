@@ -1,4 +1,4 @@
--- What a text writes is a network: its number and its length are in the range of its family.
+-- A text that writes a network writes a valid one: its number and its length are in the range of its family.
 use Rattle.std.proofs.Common.{◌≡◌, ℕ, zero, suc, ◌+◌, ◌*◌, ◌-◌, ◌^◌, ◌<◌, ◌≤◌, ◌⊎◌, List, [], ◌∷◌, ◌++◌, length, get_or}
 use Rattle.std.proofs.Common.{replicate, sym, ap, ◌∙◌, subst, arith, inl, inr, lit<, length-append}
 use Rattle.std.proofs.Math.Nat.{pow-le-pow_right}

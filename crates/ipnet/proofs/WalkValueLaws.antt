@@ -1,4 +1,4 @@
--- Values of the types of walks: equal where what they store is, and told apart by the bytes that a hasher is fed.
+-- Values of the types of walks: equal if they store the same, and then a hasher is fed the same bytes.
 use Rattle.std.proofs.Common.{◌≡◌, ◌↔◌, ℕ, ◌^◌, ◌<◌, ◌≤◌, List, [], ◌∷◌, refl, sym, ap, ◌∙◌, arith}
 use mathlib.Core.HLevel.{is_prop→PathP}
 use Rattle.std.specs.Coded.{le_prop}

@@ -117,7 +117,7 @@ colon_after grammar text more groups (inr (inr h)) = by_head h.head h.head_group
     by_head (g ∷ i ∷ head) k =
         after_group k.0 (k.1 ++ (58 ∷ 58 ∷ (h.tail_text ++ more))) _ g k.3 (rw (h.spelled, k.2) (simp append_assoc))
 
--- a "." after decimal digits stands after the same digits read as hexadecimal ones
+-- a "." that follows decimal digits also follows the same digits read as hexadecimal ones
 dot_at : (text ds rest : List ℕ) → text ≡ ds ++ rest → AllDigits 10 ds → length ds ≤ 3 → get_or rest 0 0 ≡ 46
     → get_or (hex_run text).1 0 0 ≡ 46
 dot_at text ds rest split all few dot =
@@ -169,7 +169,7 @@ pub read_back : {N E : Type 0} (network_of : N → Network) (Writes : List ℕ �
 read_back network_of Writes text written value result read same h =
     (read.ok value).1 (subst (λ t. Writes t (network_of value)) (sym same) h)
 
--- Where values stand for networks, each for its own: what was read, by what the text writes.
+-- If each value has a network of its own: the contract of a reader, from the network that the text writes.
 pub reads : {N E : Type 0} (network_of : N → Network) (one : (x y : N) → network_of x ≡ network_of y → x ≡ y)
     (Writes : List ℕ → Network → Type 0)
     (text : List ℕ) (one_network : (m n : Network) → Writes text m → Writes text n → m ≡ n) (result : Result N E)

@@ -57,7 +57,7 @@ pub record IsSubnetStep {S A : Type 0} (network_of : A → Network) (range_of : 
   -- the list before the call is the walk over the range before, and the list after it the walk over the range after
   pub walk : IsWalkOf (range_of old) (left old)
   pub rest : IsWalkOf (range_of new) (left new)
-  -- `None` comes exactly where the start lies above the end, and changes nothing
+  -- `None` is returned if and only if the start is above the end, and then nothing changes
   pub over : IsNone answer ↔ ((range_of old).end < (range_of old).start)
   pub unchanged : IfNone answer (new ≡ old)
 

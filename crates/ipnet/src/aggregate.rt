@@ -163,9 +163,9 @@ impl Ipv4Net {
     /// The aggregate: the one shortest list of networks over exactly the addresses of these networks, truncated
     /// and in order.
     ///
-    /// It holds, once each, the truncated networks whose block lies in what the networks cover and in no larger such
-    /// block, by ascending first address. Order, repeats and host bits of the input do not matter, and
-    /// lists over the same addresses have the same aggregate.
+    /// It has the truncated networks of the maximal blocks: each block is covered by the networks, and lies in no
+    /// larger block that they cover. They are in ascending order, each once. Order, repeats and host bits of the input
+    /// do not matter, and lists over the same addresses have the same aggregate.
     ///
     /// Allocates once: room for as many networks as the input has. Fails only when memory runs out; an empty list needs
     /// none.
@@ -201,9 +201,9 @@ impl Ipv6Net {
     /// The aggregate: the one shortest list of networks over exactly the addresses of these networks, truncated
     /// and in order.
     ///
-    /// It holds, once each, the truncated networks whose block lies in what the networks cover and in no larger such
-    /// block, by ascending first address. Order, repeats and host bits of the input do not matter, and
-    /// lists over the same addresses have the same aggregate.
+    /// It has the truncated networks of the maximal blocks: each block is covered by the networks, and lies in no
+    /// larger block that they cover. They are in ascending order, each once. Order, repeats and host bits of the input
+    /// do not matter, and lists over the same addresses have the same aggregate.
     ///
     /// Allocates once: room for as many networks as the input has. Fails only when memory runs out; an empty list needs
     /// none.

@@ -144,8 +144,8 @@ fn push_groups(out: &mut Buffer, groups: &[u16])
 
 /// The start and the length of the longest run of zero groups, the first one of that length.
 //
-// From the back, so that each place begins the run that is counted there; and by `>=`, so that of two as long the first
-// is kept, which is met last.
+// From the back, so that each place begins the run that is counted there. If several runs are longest, `>=` keeps the
+// one found last, which is the first in the text.
 fn longest_zero_run(groups: &[u16]) -> (usize, usize)
     ensures value { result ≡ text.longest_zero_run groups.now }
     ensures within { result.0 + result.1 ≤ length groups.now }

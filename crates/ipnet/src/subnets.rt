@@ -1,7 +1,7 @@
 //! Walks: the fewest networks that tile a range of addresses, in ascending order.
 //!
-//! A walk is an iterator. It goes over a range from its first address to its last, and each call of `next` gives the
-//! largest network that starts at the address that it has come to, ends within the range and has at least the minimum
+//! A walk is an iterator. It goes over a range from its first address to its last, and each call of `next` returns the
+//! largest network that starts at the first remaining address, ends within the range and has at least the minimum
 //! prefix length. A walk is made of two addresses and this length, or by `subnets` of a network.
 ghost use Rattle.std.specs.Prelude.{◌≡◌};
 ghost use Rattle.std.specs.Iterator.{YieldsFirstBy, item_count};
@@ -20,8 +20,8 @@ pub mod walk_laws;
 pub use ipv4_subnets::Ipv4Subnets;
 pub use ipv6_subnets::Ipv6Subnets;
 
-/// A walk over a range of addresses of either family: an IPv4 walk or an IPv6 walk; gives that walk's networks. It is
-/// made from such a walk by `From`, and by `IpNet::subnets`.
+/// A walk over a range of addresses of either family: an IPv4 walk or an IPv6 walk, with the networks of that walk.
+/// `From` of such a walk and `IpNet::subnets` make one.
 ///
 /// Walks of one family compare by what they store, as [`Ipv4Subnets`] or [`Ipv6Subnets`] do. An IPv4 walk comes before
 /// every IPv6 walk.

@@ -1,5 +1,5 @@
-//! Facts of texts that no call carries: the contract of each function is the fact. Three of them print a network and
-//! read it back; the others do nothing.
+//! Facts about texts that no single call states: each is the contract of a function. Three of these functions print a
+//! network and read it back; the others do nothing.
 ghost use Rattle.std.specs.Prelude.{◌≡◌, ℕ, List, ◌↔◌, ◌++◌, drop, codes, Ok};
 ghost use Rattle.std.specs.Net.Addr.{ipv4_octets, ipv4_bits, ipv6_segments, ipv6_bits, IsIpv4Mapped, octets_of};
 ghost use Rattle.std.specs.Net.Grammar.{IsDotted, IsColonHex};

@@ -38,7 +38,7 @@ adding_end old came xs next h = record {
   cover = λ x. let pushed = cover_push xs next x in (λ c. (h.cover x).0 (pushed.0 c), λ c. pushed.1 ((h.cover x).1 c));
 }
 
--- the first i networks are in the list, but for host bits
+-- the first i networks are in the list, except for their host bits
 pub record IsListOfFirst (given : List Network) (i : ℕ) (list : List Network) : Type 0 where
   pub truncated : All IsTruncated list
   pub cover : (x : Address) → IsCoveredBy list x ↔ IsCoveredBy (take i given) x

@@ -33,8 +33,8 @@ blocks_cover networks blocks valid h x = (to, from)
         }) in
         any_from_contains (λ k. InBlock k x) blocks m ((h.members m).1 max) (sub x (in_truncation n x a.4))
 
--- A list is the blocks of another list's cover exactly where the two lists cover the same, given that it is
--- the blocks of its own cover.
+-- Given that a list is the blocks of its own cover: it is the blocks of another list's cover if and only if the two
+-- lists cover the same addresses.
 same_blocks_iff_same_cover : (networks others blocks : List Network) → All IsNetwork networks
     → All IsNetwork others → AreMaximalBlocks (IsCoveredBy networks) 0 blocks
     → AreMaximalBlocks (IsCoveredBy others) 0 blocks ↔ HaveSameCover others networks
@@ -97,7 +97,7 @@ IsAggregateOf-unique : (networks answer other : List Network) → IsAggregateOf 
     → IsAggregateOf other networks → answer ≡ other
 IsAggregateOf-unique networks answer other h k = AreMaximalBlocks-unique (IsCoveredBy networks) 0 answer other h k
 
--- lists with one cover have one aggregate, and aggregates are equal exactly where the covers are
+-- lists with one cover have one aggregate, and aggregates are equal if and only if the covers are
 pub aggregate_of_same_cover : (networks others answer : List Network) → HaveSameCover networks others
     → IsAggregateOf answer networks → IsAggregateOf answer others
 aggregate_of_same_cover networks others answer same h =

@@ -1,4 +1,4 @@
--- What the machine's `&` and `|` do bit by bit.
+-- The machine's `&` and `|`, bit by bit.
 use Rattle.std.proofs.Common.{◌≡◌, ℕ, ◌^◌, ◌<◌, sym, subst, arith, bit_and, bit_or}
 use Rattle.std.proofs.lemmas.Nat.{and_le_l, or_lt}
 use Rattle.std.proofs.lemmas.Nat.Bits.{bit_at_and, bit_at_or}

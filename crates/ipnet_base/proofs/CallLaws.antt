@@ -1,4 +1,4 @@
--- Any mix of calls on a range: each address comes at most once, and exactly once where none is passed over.
+-- Any mix of calls on a range: each address comes at most once, and exactly once if no call passes one over.
 use Rattle.std.proofs.Common.{◌≡◌, ◌≢◌, ℕ, ◌+◌, ◌-◌, ◌<◌, ◌≤◌, Option, Some, None, List, [], ◌∷◌, ◌++◌, All}
 use Rattle.std.proofs.Common.{AllPairs, Any, Contains, IfSome, IfNone, MatchOption, IsPermutation, refl, sym, ap, ap₂}
 use Rattle.std.proofs.Common.{◌∙◌, subst, arith, suc, inl, inr}
@@ -20,8 +20,8 @@ use Rattle.ipnet_base.proofs.RangeCallLaws.{IsNext-yields, IsNextBack-yields}
 abbrev IsIn : AddressRange → Address → Type 0
 IsIn r x = IsBetween r.family r.start r.end x
 
--- What one call does to the addresses of a range: an answer is one of them, and none of those that are left,
--- which were all there before; `None` leaves none.
+-- The effect of one call on the addresses of a range: if it returns an address, this was one of them and is not left;
+-- all that are left were there before. If it returns `None`, none is left.
 record TakesOut (r : AddressRange) (answer : Option Address) (t : AddressRange) : Type 0 where
   kept : (y : Address) → IsIn t y → IsIn r y
   item : IfSome answer (λ x. IsIn r x × ((y : Address) → IsIn t y → x ≢ y))
@@ -180,13 +180,13 @@ none_stays r s (first ∷ steps) h =
     e) h.2 later c)
     (none_stays h.0 s steps h.2)
 
--- ---- each exactly once, where none is passed over
+-- ---- each exactly once, if no call passes one over
 
 same_list : {xs ys : List Address} → xs ≡ ys → IsPermutation xs ys
 same_list {xs} e = subst (IsPermutation xs) e (IsPermutation-refl xs)
 
--- A call that passes over no address gives one of those that were there, and the others are left; or it
--- answers None, where none was there.
+-- A call that passes over no address returns one of those that were there, and the others are left; or it
+-- returns `None`, and none was there.
 abbrev Spends : AddressRange → Option Address → AddressRange → Type 0
 Spends r answer t =
     MatchOption answer ((addresses_of r ≡ []) × (addresses_of t ≡ []))

@@ -1,4 +1,4 @@
--- What lists of networks cover: the empty list, one network more, two lists joined; and what keeps a cover.
+-- The cover of lists of networks: the empty list, one network more, two lists joined; and which changes keep a cover.
 use Rattle.std.proofs.Common.{◌⊎◌, ◌↔◌, List, [], ◌∷◌, ◌++◌, map, Contains, IsPermutation, sym, subst, inl, inr}
 use Rattle.std.proofs.Common.{◌^◌, All, ap, arith}
 use Rattle.std.proofs.lemmas.List.Elements.{Contains-append_left, Contains-append_right, Contains-append_cases}
@@ -50,7 +50,7 @@ cover_cons n networks x = (to, from)
     from (inr a) =
         cover_member (n ∷ networks) a.1 x (contains_there n networks a.1 (covering_member networks x a)) a.4
 
--- one network alone
+-- a list of one network
 pub cover_one : (n : Network) (x : Address) → IsCoveredBy (n ∷ []) x ↔ InBlock n x
 cover_one n x = (
   λ a. elim ((cover_cons n [] x).0 a) [ inl b ↦ b | inr c ↦ absurd (cover_nil x c) ],
@@ -96,7 +96,7 @@ cover_push networks n x = (
   ],
 )
 
--- to cover the same is symmetric and transitive, and is kept where lists are joined
+-- to cover the same is symmetric and transitive, and remains true if lists are joined
 pub HaveSameCover-sym : (networks others : List Network) → HaveSameCover networks others → HaveSameCover others networks
 HaveSameCover-sym networks others h x = ((h x).1, (h x).0)
 

@@ -1,4 +1,4 @@
--- Sets of addresses that can be decided: covers and ranges, what a test tells, and whether a block lies in one.
+-- Sets of addresses that can be decided: covers, ranges and sets with a test; and whether a block lies inside one.
 use Rattle.std.proofs.Common.{◌≡◌, ℕ, zero, suc, ◌+◌, ◌-◌, ◌/◌, ◌^◌, ◌<◌, ◌⊎◌, ◌↔◌, List, [], ◌∷◌, Bool, true, false}
 use Rattle.std.proofs.Common.{IsTrue, refl, sym, subst, arith, inl, inr, pow_pos}
 use Rattle.std.proofs.lemmas.Bool.{cases_lt, cases_eq}
@@ -87,7 +87,7 @@ IsDecided-between f s e x =
       ]
     ]
 
--- a set that can be decided is told by a test
+-- a set that can be decided has a test
 answer_of : {P : Type 0} → P ⊎ (P → ⊥) → Bool
 answer_of (inl holds) = true
 answer_of (inr fails) = false

@@ -1,5 +1,5 @@
--- Numbers and their digits: the order of digits is the order of the number that they write, and the bytes of a number
--- tell it.
+-- Numbers and their digits: digits are ordered as the numbers that they write, and numbers with the same bytes are
+-- equal.
 use Rattle.std.proofs.Common.{◌≡◌, ℕ, ◌+◌, ◌*◌, ◌/◌, ◌%◌, ◌^◌, ◌<◌, List, [], ◌∷◌, length, slice_index, refl, sym, ap}
 use Rattle.std.proofs.Common.{◌∙◌, arith, zero, suc, inl, inr}
 use Rattle.std.specs.Bool.{⊤}
@@ -33,7 +33,7 @@ value_below r (x ∷ xs) h =
     let turned = mul_comm r (r ^ length xs) in
     omega (arith, lower, p, turned)
 
--- the first digit decides, and where it is the same the others do
+-- the first digit decides, and if it is the same, the other digits decide
 cmp_first : (x y p u v : ℕ) → u < p → v < p
     → ordering_then (nat_cmp x y) (nat_cmp u v) ≡ nat_cmp (x * p + u) (y * p + v)
 cmp_first x y p u v hu hv = elim (cases_lt x y) [
@@ -160,7 +160,7 @@ number_back n fits = whole ∙ value-bytes_high_first 16 n ∙ mod-eq_of_lt fits
     whole : from_be_bytes w128 (to_be_bytes w128 n) ≡ value 256 (to_be_bytes w128 n)
     whole = omega arith
 
--- so do those of its groups
+-- so do the octets of its groups
 pub octets_back : (n : ℕ) → n < 2 ^ 128 → from_be_bytes w128 (octets_of (segments_of (to_be_bytes w128 n))) ≡ n
 unfolding pairs
 octets_back n fits = ap (from_be_bytes w128) (octets_of-segments_of 8 n) ∙ number_back n fits

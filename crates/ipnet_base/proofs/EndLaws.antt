@@ -12,7 +12,7 @@ use Rattle.ipnet_base.proofs.NestingLaws.{nested, nested_or_disjoint}
 use Rattle.ipnet_base.proofs.ListLaws.{pair_at, one_place, pairs_from_adjacent, all_at}
 use Rattle.ipnet_base.proofs.SupernetLaws.{supernet_to_halves}
 
--- `LiesBefore` by numbers alone
+-- `LiesBefore`, by numbers only
 abbrev pub EndsBelow : (f g last number : ℕ) → Type 0
 EndsBelow f g last number = (f < g) ⊎ ((f ≡ g) × (last < number))
 
@@ -55,7 +55,7 @@ one_member networks trunc ends n k c e x a b =
           (pair_at LiesBefore networks ends k n e c gt) b a)
     ]
 
--- what stands no later and does not cover the next ends before it
+-- a network that starts no later than the next and does not cover it ends before it
 pub ends_before_next : (t n : Network) → IsNetwork t → IsNetwork n → IsTruncated t → IsTruncated n
     → IsBeforeOrEqual t n → (IsSubnetOf n t → ⊥) → LiesBefore t n
 ends_before_next t n u v tt_ tn (inl e) out = absurd (out (subst (λ z. IsSubnetOf z t) e (λ x a. a)))
@@ -79,7 +79,7 @@ ends_before_next t n u v tt_ tn (inr (inr (f, order))) out =
     between : (x : Address) → InBlock t x → n.number ≤ x.number → InBlock t (own n)
     between x a ge = block_between t x (own n) a (sym f) (omega (arith, order)) ge
 
--- the supernet of two halves stands where the first of them does
+-- the supernet of two halves starts at the start of the first half
 pub supernet_start : (s t n : Network) → IsNetwork t → IsSupernetOf s t → AreHalves t n → IsTruncated t
     → IsTruncated n → LiesBefore t n → s.number ≡ t.number
 supernet_start s t n u p h tr tn ends =

@@ -1,4 +1,4 @@
--- Single maximal networks: those that share an address are one, a network is maximal where its supernet is not inside,
+-- Single maximal networks: two that share an address are the same, a network is maximal if its supernet is not inside,
 -- and each network inside a set that can be decided lies in a maximal one.
 use Rattle.std.proofs.Common.{◌≡◌, ℕ, ◌<◌, ◌≤◌, sym, ap, arith, inl, inr, zero, suc}
 use Rattle.std.proofs.lemmas.Bool.{cases_lt}
@@ -32,7 +32,7 @@ one_maximal InSet least n k p q x a b =
       | inr (inr d) ↦ absurd (d x a b)
     ]
 
--- a network is maximal where its supernet is not inside
+-- a network is maximal if its supernet is not inside
 IsMaximal-from_supernet : (InSet : Address → Type 0) (least : ℕ) (n : Network) → IsInside InSet least n
     → (0 < n.prefix_len → IsInside InSet least (supernet n) → ⊥) → IsMaximal InSet least n
 IsMaximal-from_supernet InSet least n inside no_supernet = record {

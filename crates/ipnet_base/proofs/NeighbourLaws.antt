@@ -25,7 +25,7 @@ use Rattle.ipnet_base.proofs.MaximalLaws.{one_maximal}
 use Rattle.ipnet_base.proofs.FamilyLaws.{same_family_from_index}
 use Rattle.ipnet_base.proofs.EndLaws.{EndsBelow, ends_by_numbers, ends_before_all, before_from_ends, one_member}
 
--- nothing stands between blocks that touch
+-- no block lies between blocks that touch
 none_between : (f g h last_n mid last_mid number : ℕ) → f ≡ h → number ≡ last_n + 1 → mid ≤ last_mid
     → EndsBelow f g last_n mid → EndsBelow g h last_mid number → ⊥
 none_between f g h last_n mid last_mid number e t m p q = omega arith
@@ -59,7 +59,7 @@ touching networks ends n k c e f t =
         (ends_by_numbers n mid (pair_at LiesBefore networks ends n mid c m (omega arith)))
         (ends_by_numbers mid k (pair_at LiesBefore networks ends mid k m e lt))
 
--- the numbers with the leading bits c, but for the low k bits, lie in the block of one member
+-- the numbers that begin with the bits c, and then have any k low bits, lie in the block of one member
 abbrev LiesInOne : List Network → Family → ℕ → ℕ → Type 0
 LiesInOne networks family k c = (n : Network) × Contains networks n × (n.family ≡ family) × (k ≤ host_bits n)
     × ((c * 2 ^ k) / 2 ^ host_bits n ≡ n.number / 2 ^ host_bits n)
@@ -216,7 +216,7 @@ module _ (networks : List Network) (valid : All IsNetwork networks) (joined : Ar
           let (m, in_m, n_in_m) = subnet_of_one n h.inside.within in
           subst (Contains networks) (h.largest m (member_is_inside m in_m) n_in_m) in_m
 
--- of two maximal networks the one that stands before the other ends before it
+-- if one maximal network is before another in the order, it ends before the other begins
 pub lies_before_from_maximal : (InSet : Address → Type 0) (least : ℕ) (n k : Network) → IsMaximal InSet least n
     → IsMaximal InSet least k → IsBefore n k → LiesBefore n k
 lies_before_from_maximal InSet least n k p q (inl lt) = inl lt
@@ -301,7 +301,7 @@ AreAggregatedNeighbours-from_joined networks h = record {
     apart n k (inl lt) same = absurd (omega (arith, lt, ap family_index same))
     apart n k (inr h) same = h.1
 
--- a list meets the four conditions exactly where it is its own aggregate
+-- a list meets the four conditions if and only if it is its own aggregate
 pub neighbours_iff_own_aggregate : (networks : List Network) → All IsNetwork networks
     → AreAggregatedNeighbours networks ↔ IsAggregateOf networks networks
 neighbours_iff_own_aggregate networks valid = (

@@ -1,4 +1,4 @@
--- Blocks inside one another: two are nested or disjoint, and the lengths and the own addresses tell which.
+-- Blocks inside one another: two are nested or disjoint, which the lengths and the own addresses decide.
 use Rattle.std.proofs.Common.{◌≡◌, ◌+◌, ◌/◌, ◌^◌, ◌<◌, ◌≤◌, ◌⊎◌, sym, ap, ◌∙◌, arith, pow_pos, inl, inr}
 use Rattle.std.proofs.lemmas.Nat.{pow_below}
 use Rattle.std.proofs.lemmas.Bool.{cases_lt, cases_eq}
@@ -48,7 +48,7 @@ bits_from_subnet n k s =
       | inl lt ↦ absurd (omega (arith, pow_below (host_bits k) (host_bits n) lt))
     ]
 
--- A block lies in another exactly where its prefix is no shorter and its own address is in the other.
+-- A block lies in another if and only if its prefix is at least as long and the other contains its own address.
 pub longer_from_subnet : (n k : Network) → IsNetwork n → IsNetwork k → IsSubnetOf n k → k.prefix_len ≤ n.prefix_len
 longer_from_subnet n k u v s =
     omega (arith, bits_from_subnet n k s, ap width (s (own n) (own_in n)).same_family, u.prefix_fits, v.prefix_fits)

@@ -1,4 +1,4 @@
--- Networks told by their parts and, where they are truncated, by their blocks; truncations.
+-- Networks are equal by their parts and, if they are truncated, by their blocks; truncations.
 use Rattle.std.proofs.Common.{◌≡◌, ◌*◌, ◌/◌, ◌^◌, ◌↔◌, refl, sym, ap, ◌∙◌, subst, arith}
 use Rattle.ipnet_base.specs.Address.{width}
 use Rattle.ipnet_base.specs.Network.{Network, IsNetwork, host_bits, InBlock, HaveSameBlock, IsTruncated, IsTruncationOf}
@@ -55,7 +55,7 @@ pub in_truncation : (n : Network) → IsSubnetOf n (truncation n)
 in_truncation n x h =
     record { same_family = h.same_family; same_prefix = h.same_prefix ∙ sym (first_in_block (host_bits n) n.number) }
 
--- blocks contain each other exactly where the truncations are equal
+-- blocks contain each other if and only if the truncations are equal
 pub same_block_iff_same_truncation : (n k : Network) → IsNetwork n → IsNetwork k
     → HaveSameBlock n k ↔ (truncation n ≡ truncation k)
 same_block_iff_same_truncation n k u v = (to, from)

@@ -1,4 +1,4 @@
--- The order of networks: strict, total, that of first addresses; and lists in it.
+-- The order of networks: strict, total, by first addresses; and lists in this order.
 use Rattle.std.proofs.Common.{◌≡◌, ℕ, zero, suc, ◌+◌, ◌<◌, ◌⊎◌, ◌↔◌, List, [], ◌∷◌, length, get_or, map, sym, ap, ◌∙◌}
 use Rattle.std.proofs.Common.{subst, subst₂, arith, inl, inr, IsSorted, Ordering, Less, is_lt, add-one, true, false}
 use Rattle.std.proofs.lemmas.Bool.{cases_eq, cases_order}
@@ -10,7 +10,7 @@ use Rattle.ipnet_base.proofs.NetworkLaws.{same_network, number_from_truncated}
 use Rattle.ipnet_base.proofs.BlockLaws.{first_from_least}
 use Rattle.ipnet_base.proofs.FamilyLaws.{same_family_from_index}
 
--- the order of networks by numbers alone
+-- the order of networks, by numbers only
 abbrev OrderedBy : (f g a b p q : ℕ) → Type 0
 OrderedBy f g a b p q = (f < g) ⊎ ((f ≡ g) × ((a < b) ⊎ ((a ≡ b) × (p < q))))
 
@@ -22,7 +22,7 @@ before_by_numbers n k (inr h) = inr (ap family_index h.0, h.1)
 asymmetric_by_numbers : (f g a b p q : ℕ) → OrderedBy f g a b p q → OrderedBy g f b a q p → ⊥
 asymmetric_by_numbers f g a b p q h k = omega arith
 
--- no two networks stand before each other
+-- no two networks come before each other
 pub IsBefore-asymmetric : (n k : Network) → IsBefore n k → IsBefore k n → ⊥
 IsBefore-asymmetric n k h i =
     asymmetric_by_numbers (family_index n.family) (family_index k.family) n.number k.number n.prefix_len k.prefix_len
@@ -67,7 +67,7 @@ order_total n k =
           ]
     ]
 
--- the order of truncated networks is that of families, first addresses and lengths
+-- truncated networks are ordered by family, then first address, then length
 pub before_by_first : (n k : Network) (a b : Address) → IsTruncated n → IsTruncated k → IsLeastOf n a → IsLeastOf k b
     → IsBefore n k ↔ ((family_index a.family < family_index b.family)
     ⊎ ((a.family ≡ b.family) × ((a.number < b.number) ⊎ ((a.number ≡ b.number) × (n.prefix_len < k.prefix_len)))))
@@ -106,7 +106,7 @@ in_order_from_adjacent xs h i (suc j) d le l =
           (subst (λ k. IsBeforeOrEqual (get_or xs j d) (get_or xs k d)) (add-one j) (h j d (omega arith)))
     ]
 
--- what a sort by an order that tells networks apart leaves
+-- a list sorted by a comparison that returns `Less` for networks in order is in order
 pub in_order_from_sort : {X : Type 0} (net : X → Network) (cmp : X → X → Ordering)
     → ((x y : X) → IsBefore (net x) (net y) → cmp x y ≡ Less)
     → (xs : List X) → IsSorted cmp xs → IsInOrder (map net xs)

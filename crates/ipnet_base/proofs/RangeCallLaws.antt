@@ -1,4 +1,4 @@
--- What each call on a range gives, and what it leaves: the first, the last, and the item at a place from either end.
+-- Each call on a range, its result and the rest: the first, the last, and the item at a place from either end.
 use Rattle.std.proofs.Common.{◌≡◌, ℕ, ◌+◌, ◌-◌, Option, Some, None, [], ◌∷◌, ◌++◌, length, take, drop, reverse}
 use Rattle.std.proofs.Common.{slice_get, option_map, MatchOption, refl, sym, ap, ◌∙◌, arith, inl, inr, length-append}
 use Rattle.std.specs.Iterator.{YieldsFirstBy, YieldsLastBy}
@@ -10,7 +10,7 @@ use Rattle.ipnet_base.proofs.RangeLaws.{addresses_none, addresses_first, address
 use Rattle.ipnet_base.proofs.RangeLaws.{length-addresses_of, addresses_at, addresses_past, addresses_from}
 use Rattle.ipnet_base.proofs.RangeLaws.{addresses_back_at, addresses_back_past, addresses_up_to}
 
--- `next` gives the first of the list and leaves the rest of it, `next_back` the last and what stands before that
+-- `next` returns the first item and leaves the rest, `next_back` returns the last and leaves those before it
 pub IsNext-yields : (r : AddressRange) (answer : Option Address) (s : AddressRange) → IsNext r answer s
     → MatchOption answer ((addresses_of r ≡ []) × (addresses_of s ≡ [])) (λ x. addresses_of r ≡ x ∷ addresses_of s)
 IsNext-yields r answer s h = elim (cases_lt r.end r.start) [
@@ -34,7 +34,7 @@ IsNextBack-yields r answer s h = elim (cases_lt r.end r.start) [
   ]
 ]
 
--- so the ends tell all that `next` does
+-- so the ends determine the whole effect of `next`
 pub range_step : {R A : Type 0} {address_of : A → Address} {range_of : R → AddressRange} {old new : R}
     {answer : Option A}
     → IsNext (range_of old) (option_map address_of answer) (range_of new)
@@ -110,7 +110,7 @@ yields_last {range_of = range_of} {old = old} {new = new} {answer = None} step =
 yields_last {address_of = address_of} {range_of = range_of} {old = old} {new = new} {answer = Some x} step =
     IsNextBack-yields (range_of old) (Some (address_of x)) (range_of new) step.ends
 
--- `nth` gives the item at its place and leaves what stands after it, `nth_back` the same from the end
+-- `nth` returns the item at its place and leaves the items after it, `nth_back` does the same from the end
 pub IsNth-item : (n : ℕ) (r : AddressRange) (answer : Option Address) (s : AddressRange) → IsNth n r answer s
     → answer ≡ slice_get (addresses_of r) n
 IsNth-item n r answer s h = elim (cases_lt n (address_count r)) [

@@ -1,5 +1,5 @@
--- Sets that are separated, as are those that networks of two families cover: the maximal blocks of both together are
--- those of the first, followed by those of the second.
+-- Separated sets, such as the covers of networks of two families: the maximal blocks of both sets together are the
+-- blocks of the first set, then the blocks of the second.
 use Rattle.std.proofs.Common.{◌≡◌, ℕ, ◌≤◌, ◌⊎◌, List, ◌++◌, All, refl, sym, ap, arith, inl, inr, ◌∙◌}
 use Rattle.std.proofs.lemmas.List.Elements.{Contains-append_left, Contains-append_right, Contains-append_cases}
 use Rattle.ipnet_base.specs.Address.{Address, family_index, IsAddressBefore, Family, IPv4, IPv6}
@@ -12,12 +12,12 @@ use Rattle.ipnet_base.proofs.CoverLaws.{covering_member, cover_append}
 use Rattle.ipnet_base.proofs.MaximalLaws.{IsInside-of_block}
 use Rattle.ipnet_base.proofs.UniqueLaws.{AreMaximalBlocks-same_set}
 
--- an address comes before none of its family with a number that is no greater
+-- an address does not come before one of the same family with the same or a smaller number
 not_before : (x y : Address) → IsAddressBefore x y → x.family ≡ y.family → y.number ≤ x.number → ⊥
 not_before x y (inl h) same le = omega (arith, h, ap family_index same)
 not_before x y (inr h) same le = omega (arith, h.1, le)
 
--- networks whose own addresses come one before the other stand so too
+-- networks are in order if their own addresses are
 before_from_own : (n k : Network) → IsAddressBefore (own n) (own k) → IsBefore n k
 before_from_own n k (inl h) = inl h
 before_from_own n k (inr h) = inr (h.0, inl h.1)
@@ -121,7 +121,7 @@ IsAggregateOf-append networks others first second apart h k =
 abbrev AreOfFamily : Family → List Network → Type 0
 AreOfFamily f networks = All (λ n. n.family ≡ f) networks
 
--- networks of one family cover addresses of it alone
+-- networks of one family cover only addresses of this family
 covered_family : (f : Family) (networks : List Network) → AreOfFamily f networks → (x : Address)
     → IsCoveredBy networks x → x.family ≡ f
 covered_family f networks all x a =
@@ -142,7 +142,7 @@ AreSeparated-families ipv4 ipv6 of4 of6 = record {
       absurd (cc);
 }
 
--- the aggregate of the IPv4 networks, followed by that of the IPv6 networks, is the aggregate of all
+-- the aggregate of the IPv4 networks, then the aggregate of the IPv6 networks, is the aggregate of all
 pub aggregate_of_families : (ipv4 ipv6 blocks4 blocks6 : List Network) → AreOfFamily IPv4 ipv4 → AreOfFamily IPv6 ipv6
     → IsAggregateOf blocks4 ipv4 → IsAggregateOf blocks6 ipv6 → IsAggregateOf (blocks4 ++ blocks6) (ipv4 ++ ipv6)
 aggregate_of_families ipv4 ipv6 blocks4 blocks6 of4 of6 h k =

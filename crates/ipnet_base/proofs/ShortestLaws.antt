@@ -19,7 +19,7 @@ use Rattle.ipnet_base.proofs.ListLaws.{partners, partners_no_more}
 use Rattle.ipnet_base.proofs.OrderLaws.{IsBefore-asymmetric}
 use Rattle.ipnet_base.proofs.MaximalLaws.{one_maximal}
 
--- What an exact cover and the maximal blocks of one set have to do with each other.
+-- How an exact cover and the maximal blocks of one set are related.
 module _ (InSet : Address → Type 0) (least : ℕ) (networks cover : List Network)
     (blocks : AreMaximalBlocks InSet least networks) (exact : IsExactCover InSet least cover) where
   maximal : (n : Network) → Contains networks n → IsMaximal InSet least n
@@ -71,7 +71,7 @@ module _ (InSet : Address → Type 0) (least : ℕ) (networks cover : List Netwo
   pub shortest : length networks ≤ length cover
   shortest = partners_no_more (λ n k. IsSubnetOf k n) networks cover partner apart
 
-  -- a member of the list stands at one place
+  -- a member of the list is at one place
   place_is : (n : Network) (c : Contains networks n) (j : ℕ) (d : Network) → j < length networks
       → get_or networks j d ≡ n → j ≡ c.0
   place_is n c j d l e =
@@ -83,7 +83,7 @@ module _ (InSet : Address → Type 0) (least : ℕ) (networks cover : List Netwo
             (pair_at IsBefore networks blocks.ascending n n c (j, l, at_place networks j n d l ∙ e) gt))
       ]
 
-  -- where no member of the cover is left over, each is its block, but for its host bits
+  -- if no member of the cover is left over, each is its block, except for its host bits
   module _ (chosen : List Network) (moved : IsPermutation cover chosen)
       (zip : AllZip (λ n k. IsSubnetOf k n) networks chosen) where
     lengths : length chosen ≡ length networks

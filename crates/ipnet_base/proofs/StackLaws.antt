@@ -19,7 +19,7 @@ use Rattle.ipnet_base.proofs.EndLaws.{ends_before_next, supernet_start, ends_bef
 stack_truncated : (xs : List Network) (n : Network) → AreJoined xs → IsTruncated n → All IsTruncated (xs ++ n ∷ [])
 stack_truncated xs n joined t = All-push IsTruncated xs n joined.truncated t
 
--- the conditions hold with one more network that the last one ends before and is no half with
+-- the conditions hold with one more network, if the last one ends before it and is not its other half
 pub neighbours_push : (xs : List Network) (n : Network) → AreJoined xs → IsTruncated n
     → ((d : Network) → 0 < length xs → LiesBefore (get_or xs (length xs - 1) d) n)
     → ((d : Network) → 0 < length xs → ¬ (AreHalves (get_or xs (length xs - 1) d) n))
@@ -41,7 +41,7 @@ neighbours_pop xs n joined = record {
       (get_or_append_left xs (n ∷ []) d (k + 1) l) (joined.unjoined k d (omega (arith, l, length_push xs n)));
 }
 
--- the supernet of two halves stands before the first of them
+-- the supernet of two halves comes before the first of them
 supernet_before : (s t : Network) → IsSupernetOf s t → s.number ≡ t.number → IsBefore s t
 supernet_before s t p e = inr (sym (p.contains (own t) (own_in t)).same_family, inr (e, omega (arith, p.shorter)))
 
@@ -49,8 +49,8 @@ supernet_before s t p e = inr (sym (p.contains (own t) (own_in t)).same_family, 
 abbrev LastLiesBefore : List Network → Network → Type 0
 LastLiesBefore xs n = (d : Network) → 0 < length xs → LiesBefore (get_or xs (length xs - 1) d) n
 
--- Between two joins: the stack shows the conditions and ends before the next network, nothing stands after
--- the network that came, and the cover is that of the old stack and that network.
+-- Between two joins: the stack meets the conditions and ends before the next network, all of it comes no later than
+-- the new network, and its cover is the cover of the old stack and of the new network.
 pub record IsJoining (old : List Network) (came : Network) (xs : List Network) (next : Network) : Type 0 where
   pub joined : AreJoined xs
   pub truncated : IsTruncated next
@@ -121,7 +121,7 @@ joining_end old came xs next h no_half = record {
   cover = λ x. let pushed = cover_push xs next x in (λ c. (h.cover x).0 (pushed.0 c), λ c. pushed.1 ((h.cover x).1 c));
 }
 
--- where the last one covers it, nothing changes
+-- if the last network covers the new one, nothing changes
 pub stack_covers : (old : List Network) (came : Network) (top : Network) → AreJoined old
     → All (λ m. IsBeforeOrEqual m came) old
     → Contains old top → IsSubnetOf came top → IsStackWith old came old

@@ -84,12 +84,12 @@ pub halves_apart : (n k : Network) → AreHalves n k → AreDisjoint n k
 halves_apart n k h x a b =
     h.differ (sym a.same_prefix ∙ prefix_at k x (host_bits n) (halves_bits n k h) b)
 
--- one number is one of two different ones, where all three agree without their lowest bit
+-- if three numbers agree without their lowest bit, the first equals one of two others that differ
 two_halves : (q a b : ℕ) → q / 2 ≡ a / 2 → a / 2 ≡ b / 2 → a ≢ b → (q ≡ a) ⊎ (q ≡ b)
 two_halves q a b e d ne =
     elim (cases_eq q a) [ inl s ↦ inl s | inr o ↦ inr (omega arith) ]
 
--- the block of a supernet is that of the one half and that of the other
+-- the block of a supernet consists of the blocks of the two halves
 pub supernet_to_halves : (s n k : Network) → IsNetwork n → IsSupernetOf s n → AreHalves n k → (x : Address)
     → InBlock s x → InBlock n x ⊎ InBlock k x
 supernet_to_halves s n k u p h x a =
@@ -118,7 +118,7 @@ halves_to_supernet s n k u p h x (inr b) =
     in_block_at s x (host_bits n + 1) sb (b.same_family ∙ sym h.siblings.same_family ∙ in_s.same_family)
     (up ∙ sym h.siblings.same_supernet ∙ prefix_at s (own n) (host_bits n + 1) sb in_s)
 
--- the network of the other bits but for the last is the other half
+-- the network with the same bits except the last is the other half
 half_of_bits : (n : Network) (c : ℕ) → IsNetwork n → 0 < n.prefix_len → c / 2 ≡ n.number / 2 ^ host_bits n / 2
     → c ≢ n.number / 2 ^ host_bits n
     → (k : Network) × IsNetwork k × AreHalves n k

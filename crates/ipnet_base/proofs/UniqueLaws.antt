@@ -27,7 +27,7 @@ AreMaximalBlocks-unique InSet least xs ys p q =
     same_from_members IsBefore IsBefore-asymmetric xs ys p.ascending q.ascending
     (λ z c. (q.members z).1 ((p.members z).0 c)) (λ z c. (p.members z).1 ((q.members z).0 c))
 
--- the blocks of a set are those of a set with the same addresses
+-- sets with the same addresses have the same blocks
 pub AreMaximalBlocks-same_set : (A B : Address → Type 0) (least : ℕ) (networks : List Network)
     → ((x : Address) → A x ↔ B x) → AreMaximalBlocks A least networks → AreMaximalBlocks B least networks
 AreMaximalBlocks-same_set A B least networks same h = record {

@@ -80,7 +80,7 @@ pub record IsCanonicalAggregateOf (answer networks : List Network) : Type 0 wher
   -- each of its networks is an address of its family with a prefix that is no longer, and has no host bit
   pub valid : All IsNetwork answer
   pub truncated : All IsTruncated answer
-  -- each stands before all later ones
+  -- each comes before all later ones
   pub ascending : IsAscending answer
   -- it covers the same addresses as the list
   pub addresses : HaveSameCover answer networks

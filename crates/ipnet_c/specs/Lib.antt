@@ -2,3 +2,4 @@
 pub mod Statuses
 pub mod Buffers
 pub mod Replies
+pub mod Version

@@ -27,7 +27,7 @@ fn aggregate(
     grammar: Grammar,
     buffer: &mut [u8],
     count: &mut usize,
-) -> u8
+) -> u32
     ensures { IsAggregateReply grammar text.now buffer.old buffer.new count.old count.new result }
 {
     let Ok(text) = str::from_utf8(text) else {
@@ -65,7 +65,7 @@ pub extern "C" fn ipnet_aggregate_text(
     text: &[u8],
     buffer: &mut [u8],
     count: &mut usize,
-) -> u8
+) -> u32
     ensures { IsAggregateReply Strict text.now buffer.old buffer.new count.old count.new result }
 {
     aggregate(alloc, text, Grammar::Strict, buffer, count)
@@ -83,7 +83,7 @@ pub extern "C" fn ipnet_aggregate_text_legacy(
     text: &[u8],
     buffer: &mut [u8],
     count: &mut usize,
-) -> u8
+) -> u32
     ensures { IsAggregateReply Legacy text.now buffer.old buffer.new count.old count.new result }
 {
     aggregate(alloc, text, Grammar::Legacy, buffer, count)

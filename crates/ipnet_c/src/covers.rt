@@ -35,7 +35,7 @@ pub extern "C" fn ipnet_same_addresses(
     other: &[u8],
     same: &mut u8,
     line: &mut usize,
-) -> u8
+) -> u32
     ensures { IsSameAddressesReply text.now other.now same.old same.new line.old line.new result }
 {
     let Ok(text) = str::from_utf8(text) else {
@@ -103,7 +103,7 @@ pub extern "C" fn ipnet_is_covered(
     network: &[u8],
     covered: &mut u8,
     line: &mut usize,
-) -> u8
+) -> u32
     ensures { IsCoveredReply text.now network.now covered.old covered.new line.old line.new result }
 {
     let network = match IpNet::from_bytes(network) {

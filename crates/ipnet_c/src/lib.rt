@@ -9,3 +9,4 @@ mod lists;
 pub mod networks;
 pub mod sets;
 mod statuses;
+pub mod version;

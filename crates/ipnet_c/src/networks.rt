@@ -24,7 +24,7 @@ pub(crate) fn read_network(text: &str, grammar: Grammar) -> Result<IpNet, AddrPa
 }
 
 /// The bytes of the network that the text writes in this grammar, into the buffer.
-fn parse(text: &[u8], grammar: Grammar, buffer: &mut [u8], count: &mut usize) -> u8
+fn parse(text: &[u8], grammar: Grammar, buffer: &mut [u8], count: &mut usize) -> u32
     ensures { IsParseReply grammar text.now buffer.old buffer.new count.old count.new result }
 {
     let Ok(text) = str::from_utf8(text) else {
@@ -50,7 +50,7 @@ fn parse(text: &[u8], grammar: Grammar, buffer: &mut [u8], count: &mut usize) ->
 /// "10.1.1.0"       5
 /// ```
 #[unsafe(no_mangle)]
-pub extern "C" fn ipnet_parse(text: &[u8], buffer: &mut [u8], count: &mut usize) -> u8
+pub extern "C" fn ipnet_parse(text: &[u8], buffer: &mut [u8], count: &mut usize) -> u32
     ensures { IsParseReply Strict text.now buffer.old buffer.new count.old count.new result }
 {
     parse(text, Grammar::Strict, buffer, count)
@@ -63,7 +63,7 @@ pub extern "C" fn ipnet_parse(text: &[u8], buffer: &mut [u8], count: &mut usize)
 /// "010.1.1.0/24"   0, and the 6 bytes 0, 10, 1, 1, 0, 24
 /// ```
 #[unsafe(no_mangle)]
-pub extern "C" fn ipnet_parse_legacy(text: &[u8], buffer: &mut [u8], count: &mut usize) -> u8
+pub extern "C" fn ipnet_parse_legacy(text: &[u8], buffer: &mut [u8], count: &mut usize) -> u32
     ensures { IsParseReply Legacy text.now buffer.old buffer.new count.old count.new result }
 {
     parse(text, Grammar::Legacy, buffer, count)
@@ -83,7 +83,7 @@ pub extern "C" fn ipnet_parse_legacy(text: &[u8], buffer: &mut [u8], count: &mut
 /// 0, 10, 1, 1, 0, 33    8
 /// ```
 #[unsafe(no_mangle)]
-pub extern "C" fn ipnet_print(network: &[u8], buffer: &mut [u8], count: &mut usize) -> u8
+pub extern "C" fn ipnet_print(network: &[u8], buffer: &mut [u8], count: &mut usize) -> u32
     ensures { IsPrintReply network.now buffer.old buffer.new count.old count.new result }
 {
     match IpNet::from_bytes(network) {

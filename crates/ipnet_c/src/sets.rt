@@ -98,7 +98,7 @@ fn combine(
     other: &[u8],
     buffer: &mut [u8],
     count: &mut usize,
-) -> u8
+) -> u32
     ensures { IsSetReply operation text.now other.now buffer.old buffer.new count.old count.new result }
 {
     let Ok(text) = str::from_utf8(text) else {
@@ -159,7 +159,7 @@ pub extern "C" fn ipnet_union_text(
     other: &[u8],
     buffer: &mut [u8],
     count: &mut usize,
-) -> u8
+) -> u32
     ensures { IsSetReply Union text.now other.now buffer.old buffer.new count.old count.new result }
 {
     combine(alloc, Operation::Union, text, other, buffer, count)
@@ -177,7 +177,7 @@ pub extern "C" fn ipnet_intersection_text(
     other: &[u8],
     buffer: &mut [u8],
     count: &mut usize,
-) -> u8
+) -> u32
     ensures { IsSetReply Intersection text.now other.now buffer.old buffer.new count.old count.new result }
 {
     combine(alloc, Operation::Intersection, text, other, buffer, count)
@@ -195,7 +195,7 @@ pub extern "C" fn ipnet_difference_text(
     other: &[u8],
     buffer: &mut [u8],
     count: &mut usize,
-) -> u8
+) -> u32
     ensures { IsSetReply Difference text.now other.now buffer.old buffer.new count.old count.new result }
 {
     combine(alloc, Operation::Difference, text, other, buffer, count)

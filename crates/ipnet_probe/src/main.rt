@@ -17,6 +17,7 @@ mod json;
 mod lists;
 mod networks;
 mod pairs;
+mod prefix_lists;
 mod ranges;
 mod routes;
 mod sets;
@@ -81,6 +82,7 @@ fn answer(alloc: Global, question: Question<'_>) -> Answer {
         "Text" => texts::ask(alloc, question),
         "Error" => errors::ask(alloc, question),
         "IpSet" => sets::ask(alloc, question.call, question.first, question.second),
+        "PrefixList" => { prefix_lists::ask(alloc, question.call, question.first, question.second) }
         "RouteTable" => routes::ask(alloc, question.call, question.first, question.second),
         _ => Ok(None),
     }

@@ -21,7 +21,10 @@ pub fn ask(
         "get" => ask_get(alloc, &table, part),
         "longest_match" => ask_longest_match(alloc, &table, part),
         "covering" => ask_covering(alloc, &table, part),
+        "matches" => ask_matches(alloc, &table, part),
+        "within" => ask_within(alloc, &table, part),
         "into_routes" => Ok(Some(show(alloc, table.into_routes())?)),
+        "map" => Ok(Some(show(alloc, table.map(alloc, |value| value.len())?.routes())?)),
         _ => ask_table(alloc, call, &table),
     }
 }
@@ -52,6 +55,7 @@ fn ask_table(
 ) -> Result<Option<String>, AllocError> {
     let text = match call {
         "routes" => show(alloc, table.routes())?,
+        "loop" => loop_over(alloc, table)?,
         "len" => show(alloc, table.len())?,
         "is_empty" => show(alloc, table.is_empty())?,
         _ => return Ok(None),
@@ -83,7 +87,7 @@ fn ask_longest_match(
     Ok(Some(show(alloc, table.longest_match(&ip))?))
 }
 
-/// The route of the longest network that contains the network; none if the text is no network.
+/// The route of the longest network that contains the network; none if the text is not a network.
 fn ask_covering(
     alloc: Global,
     table: &RouteTable<String>,
@@ -93,4 +97,41 @@ fn ask_covering(
         return Ok(None);
     };
     Ok(Some(show(alloc, table.covering(&network))?))
+}
+
+/// The matches of the address, one after the other; `None` if the text is not an address.
+fn ask_matches(
+    alloc: Global,
+    table: &RouteTable<String>,
+    ip: &str,
+) -> Result<Option<String>, AllocError> {
+    let Ok(ip) = ip.parse::<IpAddr>() else {
+        return Ok(None);
+    };
+    let mut matches = Vec::new(alloc);
+    for route in table.matches(&ip) {
+        matches.push(route)?;
+    }
+    Ok(Some(show(alloc, matches)?))
+}
+
+/// The routes within the network; `None` if the text is not a network.
+fn ask_within(
+    alloc: Global,
+    table: &RouteTable<String>,
+    network: &str,
+) -> Result<Option<String>, AllocError> {
+    let Ok(network) = network.parse::<IpNet>() else {
+        return Ok(None);
+    };
+    Ok(Some(show(alloc, table.within(&network))?))
+}
+
+/// The routes of the table, by a loop over it.
+fn loop_over(alloc: Global, table: &RouteTable<String>) -> Result<String, AllocError> {
+    let mut routes = Vec::new(alloc);
+    for route in table {
+        routes.push(route)?;
+    }
+    show(alloc, routes)
 }

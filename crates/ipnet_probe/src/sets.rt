@@ -1,8 +1,8 @@
 //! Questions about sets of addresses. A set is a list of networks and ranges, separated by commas; `-` is the empty
 //! set.
 use crate::show;
-use ipnet::{IpAddr, IpAddrRange, IpNet};
-use ipnet_sets::{IpSet, IpSetRanges};
+use ipnet::{IpAddr, IpAddrRange, IpNet, Ipv4AddrRange, Ipv6AddrRange};
+use ipnet_sets::{IpSet, IpSetBuilder, IpSetRanges};
 use std::alloc::{AllocError, Global};
 use std::hash::{DefaultHasher, Hash, Hasher};
 
@@ -19,6 +19,15 @@ pub fn ask(
     }
     if call == "from_network" {
         return ask_network(alloc, first);
+    }
+    if call == "from_networks" {
+        return ask_networks(alloc, first);
+    }
+    if call == "from_ranges" {
+        return ask_ranges(alloc, first);
+    }
+    if call == "union_all" || call == "intersection_all" {
+        return ask_many(alloc, call, first);
     }
     let Some(set) = read_set(alloc, first)? else {
         return Ok(None);
@@ -38,28 +47,26 @@ pub fn ask(
     compare(alloc, call, &set, &other)
 }
 
-/// The set of the networks and ranges; `None` if the text is not a list of them.
+/// The set of the networks, addresses and ranges, put together in the order of the text; `None` if the text is not a
+/// list of them.
 fn read_set(alloc: Global, text: &str) -> Result<Option<IpSet>, AllocError> {
-    let mut networks = Vec::new(alloc);
-    let mut ranges = IpSet::new(alloc);
+    let mut builder = IpSetBuilder::new(alloc);
     if text == "-" {
-        return Ok(Some(ranges));
+        return Ok(Some(builder.into_set(alloc)?));
     }
     for part in text.split(',') {
         if let Ok(network) = part.parse::<IpNet>() {
-            networks.push(network)?;
+            builder.push_network(&network)?;
+        } else if let Ok(address) = part.parse::<IpAddr>() {
+            builder.push_address(address)?;
         } else {
             let Some((start, end)) = read_range(part) else {
                 return Ok(None);
             };
-            ranges = ranges.union(alloc, &IpSet::from_range(alloc, start, end)?)?;
+            builder.push_range(start, end)?;
         }
     }
-    let set = IpSet::from_networks(alloc, networks.as_slice())?;
-    if ranges.is_empty() {
-        return Ok(Some(set));
-    }
-    Ok(Some(ranges.union(alloc, &set)?))
+    Ok(Some(builder.into_set(alloc)?))
 }
 
 /// The ends of the range; `None` if the text is not a range.
@@ -69,6 +76,58 @@ fn read_range(text: &str) -> Option<(IpAddr, IpAddr)> {
         (Ok(start), Ok(end)) => Some((start, end)),
         _ => None,
     }
+}
+
+/// The set of the networks; `None` if the text is not a list of networks.
+fn ask_networks(alloc: Global, text: &str) -> Result<Option<String>, AllocError> {
+    let mut networks = Vec::new(alloc);
+    if text != "-" {
+        for part in text.split(',') {
+            let Ok(network) = part.parse::<IpNet>() else {
+                return Ok(None);
+            };
+            networks.push(network)?;
+        }
+    }
+    let set = IpSet::from_networks(alloc, networks.as_slice())?;
+    Ok(Some(show(alloc, set)?))
+}
+
+/// The set of the ranges; `None` if the text is not a list of ranges, each of one family.
+fn ask_ranges(alloc: Global, text: &str) -> Result<Option<String>, AllocError> {
+    let mut ranges = Vec::new(alloc);
+    if text != "-" {
+        for part in text.split(',') {
+            match read_range(part) {
+                Some((IpAddr::V4(start), IpAddr::V4(end))) => {
+                    ranges.push(IpAddrRange::V4(Ipv4AddrRange::new(start, end)))?;
+                }
+                Some((IpAddr::V6(start), IpAddr::V6(end))) => {
+                    ranges.push(IpAddrRange::V6(Ipv6AddrRange::new(start, end)))?;
+                }
+                _ => return Ok(None),
+            }
+        }
+    }
+    Ok(Some(show(alloc, IpSet::from_ranges(alloc, ranges.as_slice())?)?))
+}
+
+/// The set that the call makes of the sets between `;`, of none for `none`; `None` if one of them is not a set.
+fn ask_many(alloc: Global, call: &str, text: &str) -> Result<Option<String>, AllocError> {
+    let mut sets = Vec::new(alloc);
+    if text != "none" {
+        for part in text.split(';') {
+            let Some(set) = read_set(alloc, part)? else {
+                return Ok(None);
+            };
+            sets.push(set)?;
+        }
+    }
+    let made = match call {
+        "union_all" => IpSet::union_all(alloc, sets.as_slice())?,
+        _ => IpSet::intersection_all(alloc, sets.as_slice())?,
+    };
+    Ok(Some(show(alloc, made)?))
 }
 
 /// The set of the range; `None` if one of the texts is not an address.

@@ -1,4 +1,4 @@
-//! Reads networks from standard input, one a line, and prints the shortest list of the same addresses.
+//! Reads networks from standard input, one per line, and prints the shortest list with the same addresses.
 #![tactic(auto)]
 
 use ipnet_tool::program::{arguments, report, run};

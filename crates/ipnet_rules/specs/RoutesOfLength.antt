@@ -1,4 +1,4 @@
--- The networks of one prefix length, by their addresses. Private contracts alone cite these.
+-- The networks of one prefix length, by their addresses. Only private contracts use these.
 use Rattle.std.specs.Prelude.{ℕ, ◌≤◌, ◌↔◌, List, Any}
 use Rattle.ipnet_base.specs.Address.{Address, IsAddress, width}
 use Rattle.ipnet.specs.NetworkParts.{network_at}

@@ -38,7 +38,7 @@ fn is_match(number: usize, cell: u32) -> bool {
     first <= cell && cell <= last
 }
 
-/// Returns the list of so many rules with this number: its digits to the base 20 are the rules.
+/// Returns the list of `length` rules with this number: its digits to the base 20 are the rules.
 fn list(alloc: Global, number: usize, length: usize) -> Result<Vec<Rule>, AllocError> {
     let mut left = number;
     let mut list = Vec::new(alloc);
@@ -77,7 +77,7 @@ fn is_unreached(number: usize, length: usize, index: usize) -> bool {
     true
 }
 
-/// Returns whether the verdicts and the set of the permitted addresses are those of the search.
+/// Returns whether the verdicts and the set of the permitted addresses are the ones that the search finds.
 fn is_right(
     alloc: Global,
     number: usize,
@@ -104,7 +104,7 @@ fn is_right(
     Ok(true)
 }
 
-/// Returns whether the unreached rules are those of the search.
+/// Returns whether the unreached rules are the ones that the search finds.
 fn finds_unreached(alloc: Global, number: usize, length: usize) -> Result<bool, AllocError> {
     let rules = Rules {
         list: list(alloc, number, length)?,

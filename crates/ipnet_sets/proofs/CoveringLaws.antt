@@ -10,7 +10,7 @@ use Rattle.ipnet_sets.specs.RouteSteps.{IsTable, IsPlaceAfter, IsNearest}
 use Rattle.ipnet_sets.proofs.RouteLaws.{ascending_of}
 
 -- a network without host bits that contains another does not come after it
-not_after : (n k : Network) → IsNetwork n → IsNetwork k → IsTruncated k → IsSubnetOf n k → IsBefore n k → ⊥
+pub not_after : (n k : Network) → IsNetwork n → IsNetwork k → IsTruncated k → IsSubnetOf n k → IsBefore n k → ⊥
 not_after n k valid_n valid_k truncated sub before = go before (sub (own n) (own_in n))
   where
     go : IsBefore n k → InBlock k (own n) → ⊥
@@ -21,7 +21,7 @@ not_after n k valid_n valid_k truncated sub before = go before (sub (own n) (own
     ]
 
 -- so each network that contains it is before the place after it
-holder_before : (networks : List Network) → All IsNetwork networks → IsTable networks → (n : Network) → IsNetwork n
+pub holder_before : (networks : List Network) → All IsNetwork networks → IsTable networks → (n : Network) → IsNetwork n
     → (limit : ℕ) → IsPlaceAfter networks n limit → (k : Network) (c : Contains networks k) → IsSubnetOf n k
     → c.0 < limit
 holder_before networks valid table n valid_n limit after k c sub = elim (cases_lt c.0 limit) [
@@ -41,7 +41,7 @@ none_contains networks valid table n valid_n limit place e after found k c sub =
 )
 
 -- of two networks without host bits that hold an address the one that stands later is no shorter
-no_longer : (networks : List Network) → IsTable networks → (x : Address) (k e : Network) → Contains networks e
+pub no_longer : (networks : List Network) → IsTable networks → (x : Address) (k e : Network) → Contains networks e
     → InBlock k x → InBlock e x → IsBefore k e → k.prefix_len ≤ e.prefix_len
 no_longer networks table x k e c b a before = elim (cases_lt e.prefix_len k.prefix_len) [
   | inr ge ↦ ge

@@ -2,9 +2,11 @@
 pub mod InsideLaws
 pub mod TurnLaws
 pub mod SplitLaws
-pub mod ExtendLaws
+pub mod EndLaws
 pub mod MemberLaws
-pub mod LoadLaws
+pub mod JoinLaws
+pub mod PushedLaws
+pub mod ManyLaws
 pub mod SetRangeLaws
 pub mod SetEqualLaws
 pub mod FewestRanges
@@ -17,3 +19,8 @@ pub mod SetAlgebra
 pub mod RouteLaws
 pub mod CoveringLaws
 pub mod RouteOrderLaws
+pub mod RouteMatchLaws
+pub mod RouteWithinLaws
+pub mod RouteChangeLaws
+pub mod ImageLaws
+pub mod ImageSetLaws

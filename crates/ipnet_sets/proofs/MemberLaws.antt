@@ -23,6 +23,26 @@ pub block_fits : (n : Network) → IsNetwork n → (x : Address) → InBlock n x
 block_fits n valid x a =
     omega (arith, (between_from_block n x a).to_end, last_fits n valid, ap (λ f. 2 ^ width f) a.same_family)
 
+-- a block is the addresses from its least to its greatest
+pub block_from_to : (n : Network) (low high : Address) → IsLeastOf n low → IsGreatestOf n high → (x : Address)
+    → (InBlock n x → IsFromTo low high x) × (IsFromTo low high x → InBlock n x)
+block_from_to n low high least greatest x =
+    let between = block_is_between n low high x least greatest in (
+      λ b.
+          let a = between.0 b in
+          record {
+            family_of_start = a.of_family ∙ sym least.inside.same_family;
+            family_of_end = a.of_family ∙ sym greatest.inside.same_family;
+            from_start = a.from_start;
+            to_end = a.to_end;
+          },
+      λ a. between.1 (record {
+        of_family = a.family_of_start ∙ least.inside.same_family;
+        from_start = a.from_start;
+        to_end = a.to_end;
+      }),
+    )
+
 -- the numbers of a slice that holds the turns of a family
 abbrev pub HasTurns : IpSet → Family → List ℕ → Type 0
 HasTurns s f slice = map (λ n. n) slice ≡ turns_of s f

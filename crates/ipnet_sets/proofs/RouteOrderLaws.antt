@@ -25,7 +25,7 @@ use Rattle.ipnet_sets.specs.RouteSteps.{EndsWith, AreOthers}
 use Rattle.ipnet_sets.proofs.RouteLaws.{not_back, value_at, network_of_route}
 
 -- an element of a list, at its place
-element_at : {X : Type 0} (xs : List X) (k : ℕ) → k < length xs → (x : X) × ((d : X) → get_or xs k d ≡ x)
+pub element_at : {X : Type 0} (xs : List X) (k : ℕ) → k < length xs → (x : X) × ((d : X) → get_or xs k d ≡ x)
 element_at [] k l = absurd (omega (arith, l))
 element_at (x ∷ xs) zero l = (x, λ d. refl)
 element_at (x ∷ xs) (suc k) l = element_at xs k (omega (arith, l))

@@ -14,7 +14,7 @@ use Rattle.ipnet_sets.specs.declared.set.IpSet.{IpSet}
 use Rattle.ipnet_sets.specs.Turns.{is_inside, AreTurns}
 use Rattle.ipnet_sets.specs.Members.{turns_of, is_member, IsMember, HaveSameAddresses, HasFamily}
 use Rattle.ipnet_sets.proofs.InsideLaws.{not_twice, inside_before}
-use Rattle.ipnet_sets.proofs.ExtendLaws.{least_inside_at}
+use Rattle.ipnet_sets.proofs.EndLaws.{least_inside_at}
 use Rattle.ipnet_sets.proofs.SetRangeLaws.{tail_turns, later}
 use Rattle.ipnet_sets.proofs.MemberLaws.{fits_below}
 use lib.Pointwise.{pointwise}

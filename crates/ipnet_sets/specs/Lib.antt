@@ -2,9 +2,13 @@
 pub mod Turns
 pub mod Members
 pub mod SetRanges
-pub mod Loads
+pub mod Gather
+pub mod Pushed
+pub mod ManySets
 pub mod TurnRanges
 pub mod RangesLeft
 pub mod Routes
 pub mod RouteSteps
 pub mod RoutesOf
+pub mod MatchesLeft
+pub mod Images

@@ -1,11 +1,13 @@
 -- The private steps of a route table: its order, the search in it, and the link from each network to the nearest
 -- network that contains it.
 -- Only private contracts use these.
-use Rattle.std.specs.Prelude.{◌≡◌, ◌≢◌, ℕ, ◌+◌, ◌<◌, ◌≤◌, ◌↔◌, List, [], ◌∷◌, ◌++◌, length, get_or}
+use Rattle.std.specs.Prelude.{◌≡◌, ◌≢◌, ℕ, zero, suc, ◌+◌, ◌<◌, ◌≤◌, ◌↔◌, List, [], ◌∷◌, ◌++◌, length, get_or}
+use Rattle.std.specs.Prelude.{take, drop}
 use Rattle.std.specs.Prelude.{Contains, All, AllPairs}
 use Rattle.ipnet_base.specs.Network.{Network, IsSubnetOf, IsTruncated, IsBefore}
 use Rattle.ipnet_base.specs.Stack.{IsBeforeOrEqual}
-use Rattle.ipnet_sets.specs.Routes.{Route}
+use Rattle.ipnet.specs.declared.net.IpNet.{IpNet}
+use Rattle.ipnet_sets.specs.Routes.{Route, ip_networks}
 
 -- The network is the last of the list.
 abbrev pub EndsWith : List Network → Network → Type 0
@@ -41,3 +43,25 @@ pub record AreLinks (networks : List Network) (links : List ℕ) : Type 0 where
   pub within : length links ≤ length networks
   pub nearest : (n : Network) (c : Contains networks n) (d : ℕ) → c.0 < length links
       → IsNearest networks n c.0 (get_or links c.0 d)
+
+-- The index splits the list: the networks before it come before `n`, and `n` comes before the others or equals one.
+pub record IsPlaceOf (networks : List Network) (n : Network) (place : ℕ) : Type 0 where
+  pub within : place ≤ length networks
+  pub before : (k : Network) (c : Contains networks k) → c.0 < place → IsBefore k n
+  pub from : (k : Network) (c : Contains networks k) → place ≤ c.0 → IsBeforeOrEqual n k
+
+-- The routes on the way from a place along the links, at most `steps` of them: the route just before the place, and
+-- then the routes on the way from the link of that route. A place 0 ends the way.
+-- Example: for 10.0.0.0/8 (link 0), 10.1.0.0/16 (link 1), 10.2.0.0/16 (link 1), the way from 3 is the last and the
+-- first.
+abbrev pub linked : {V : Type 0} → ℕ → List (Route V) → List ℕ → ℕ → List (Route V)
+linked zero routes links place = []
+linked (suc steps) routes links zero = []
+linked (suc steps) routes links (suc i) = take 1 (drop i routes) ++ linked steps routes links (get_or links i 0)
+
+-- The new list has the networks of the old list in their order, each with a value that `made` relates to its old value.
+pub record AreChanged {V W : Type 0} (made : V → W → Type 0) (old : List (IpNet × V)) (new : List (IpNet × W)) : Type 0
+  where
+    pub size : length new ≡ length old
+    pub networks : ip_networks new ≡ ip_networks old
+    pub values : (i : ℕ) (d : IpNet × V) (e : IpNet × W) → i < length old → made (get_or old i d).1 (get_or new i e).1

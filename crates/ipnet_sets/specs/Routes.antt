@@ -1,5 +1,6 @@
 -- Routes, route tables, and the longest match for an address (RFC 1812, section 5.2.4.3; RFC 4632, section 5.1).
-use Rattle.std.specs.Prelude.{◌≡◌, ◌≢◌, ℕ, ◌<◌, ◌≤◌, ◌↔◌, List, map, length, slice_index_or, Contains}
+use Rattle.std.specs.Prelude.{◌≡◌, ◌≢◌, ℕ, ◌<◌, ◌≤◌, ◌↔◌, List, map, length, slice_index_or, Contains, AllPairs}
+use Rattle.std.specs.Borrow.{Bor}
 use Rattle.ipnet_base.specs.Address.{Address}
 use Rattle.ipnet_base.specs.Network.{Network, InBlock, IsSubnetOf, truncation}
 use Rattle.ipnet_base.specs.Blocks.{IsAscending}
@@ -9,6 +10,10 @@ use Rattle.ipnet.specs.NetworkOf.{ip_network}
 -- A route: a network and its value, of any type. Example: 10.0.0.0/8 with the value 1.
 abbrev pub Route : Type 0 → Type 0
 Route V = Network × V
+
+-- A reference to an `IpNet` with its value, as a route.
+abbrev pub ip_route : {V : Type 0} → Bor (IpNet × V) → Route V
+ip_route r = (ip_network r.now.0, r.now.1)
 
 -- The networks of the routes.
 abbrev pub networks_of : {V : Type 0} → List (Route V) → List Network
@@ -56,3 +61,15 @@ pub record IsLongestHolder {V : Type 0} (routes : List (Route V)) (n : Network) 
   pub holds : IsSubnetOf n route.0
   pub longest : (other : Route V) → Contains routes other → IsSubnetOf n other.0
       → other.0.prefix_len ≤ route.0.prefix_len
+
+-- The routes whose network contains the address: each of them once, the longest first.
+-- Example: of 0.0.0.0/0, 10.0.0.0/8 and 10.1.0.0/16, they are 10.0.0.0/8 and 0.0.0.0/0 for 10.2.0.1.
+pub record AreMatches {V : Type 0} (routes : List (Route V)) (x : Address) (matches : List (Route V)) : Type 0 where
+  pub longest_first : AllPairs (λ r s. s.0.prefix_len < r.0.prefix_len) matches
+  pub members : (route : Route V) → Contains matches route ↔ (Contains routes route × InBlock route.0 x)
+
+-- The routes whose block lies in the block of `n`, in the order of their networks.
+-- Example: of 0.0.0.0/0, 10.0.0.0/8, 10.1.0.0/16 and 11.0.0.0/8, they are the middle two for 10.0.0.0/8.
+pub record AreWithin {V : Type 0} (routes : List (Route V)) (n : Network) (within : List (Route V)) : Type 0 where
+  pub ascending : IsAscending (networks_of within)
+  pub members : (route : Route V) → Contains within route ↔ (Contains routes route × IsSubnetOf route.0 n)

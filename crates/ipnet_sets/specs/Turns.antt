@@ -1,7 +1,7 @@
 -- A set of numbers as its turns: the ascending list of the numbers at which the set begins or ends. Each set of numbers
 -- of one family has exactly one such list.
 -- `Members` uses `is_inside` and `by_family`. The other definitions are for private contracts.
-use Rattle.std.specs.Prelude.{◌≡◌, ℕ, ◌+◌, ◌-◌, ◌<◌, ◌≤◌, ◌⊎◌, ◌↔◌, Bool, true, false, not, cond, leb, ◌&&◌, ◌||◌}
+use Rattle.std.specs.Prelude.{◌≡◌, ℕ, ◌+◌, ◌<◌, ◌≤◌, ◌⊎◌, Bool, true, false, not, cond, leb, ◌&&◌, ◌||◌}
 use Rattle.std.specs.Prelude.{List, [], ◌∷◌, length, get_or, All, AllPairs}
 use Rattle.ipnet_base.specs.Address.{Family, IPv4, IPv6, greatest_number}
 use Rattle.ipnet_sets.specs.declared.turns.Operation.{Operation}
@@ -46,24 +46,6 @@ pub record IsSplitAt (turns : List ℕ) (number place : ℕ) : Type 0 where
   pub within : place ≤ length turns
   pub up_to : (k d : ℕ) → k < place → get_or turns k d ≤ number
   pub above : (k d : ℕ) → place ≤ k → k < length turns → number < get_or turns k d
-
--- The number is the last turn.
-abbrev pub EndsWith : List ℕ → ℕ → Type 0
-EndsWith turns number = (0 < length turns) × ((d : ℕ) → get_or turns (length turns - 1) d ≡ number)
-
--- The old set with all numbers from `first` on added. The old set contains none of these.
-pub record IsOpenedAt (family : Family) (old : List ℕ) (first : ℕ) (new : List ℕ) : Type 0 where
-  pub turns : AreTurns family new
-  pub up_to : All (λ t. t ≤ first) new
-  pub before : (x : ℕ) → x < first → is_inside new x ≡ is_inside old x
-  pub from : (x : ℕ) → first ≤ x → (is_inside old x ≡ false) × (is_inside new x ≡ true)
-
--- The old set with the numbers from `first` to `last` added. No turn of the new set is after `last + 1`.
-pub record IsExtended (family : Family) (old : List ℕ) (first last : ℕ) (new : List ℕ) : Type 0 where
-  pub turns : AreTurns family new
-  pub up_to : All (λ t. t ≤ last + 1) new
-  pub members : (x : ℕ) → x ≤ greatest_number family
-      → (is_inside new x ≡ true) ↔ ((is_inside old x ≡ true) ⊎ ((first ≤ x) × (x ≤ last)))
 
 -- The least number of the set.
 pub record IsLeastInside (family : Family) (turns : List ℕ) (n : ℕ) : Type 0 where

@@ -1,5 +1,6 @@
 //! The numbers of addresses, as machine words of the width of their family.
-ghost use Rattle.std.specs.Prelude.{◌≡◌, ℕ, ◌+◌, ◌<◌, ◌≤◌, ◌↔◌, IsTrue};
+ghost use Rattle.std.specs.Prelude.{◌≡◌, ℕ, ◌+◌, ◌<◌, ◌≤◌, ◌↔◌, IsTrue, IsPermutation};
+ghost use Rattle.std.specs.List.Sorted.{IsNonDecreasingBy};
 ghost use Rattle.ipnet_base.specs.Address.{Family, IPv4, IPv6, greatest_number, ip_address};
 ghost use Rattle.ipnet_base.specs.Blocks.{AreMaximalBlocks};
 ghost use Rattle.ipnet_base.specs.RangeOf.{ip_range};
@@ -10,6 +11,13 @@ use ipnet::{
     IpAddr, IpAddrRange, IpSubnets, Ipv4Addr, Ipv4AddrRange, Ipv4Subnets, Ipv6Addr, Ipv6AddrRange,
     Ipv6Subnets,
 };
+
+/// The numbers from a first to a last one.
+#[derive(Clone, Copy)]
+pub(crate) struct NumberRange<T> {
+    pub(crate) first: T,
+    pub(crate) last: T,
+}
 
 /// A machine word that holds the number of each address of one family.
 pub(crate) trait Number: Copy {
@@ -26,6 +34,10 @@ pub(crate) trait Number: Copy {
     /// The number of the last address.
     fn last() -> Self
         ensures { number result ≡ greatest_number family };
+
+    /// The number is at most that of the last address. Computes nothing.
+    fn fits(self)
+        ensures { number self ≤ greatest_number family };
 
     /// The number after this one, which is not that of the last address.
     fn next(self) -> Self
@@ -58,6 +70,11 @@ pub(crate) trait Number: Copy {
     fn walk_to(self, last: Self) -> IpSubnets
         ensures { AreMaximalBlocks (IsInRange (range_of family (number self) (number last))) 0
             (ip_subnets_left result) };
+
+    /// Sorts the ranges by their first numbers.
+    fn sort(ranges: &mut Vec<NumberRange<Self>>)
+        ensures same { IsPermutation ranges.old.items ranges.new.items }
+        ensures sorted { IsNonDecreasingBy (λ r. number r.first) ranges.new.items };
 }
 
 impl Number for u32 {
@@ -72,6 +89,8 @@ impl Number for u32 {
     fn last() -> u32 {
         u32::MAX
     }
+
+    fn fits(self) {}
 
     fn next(self) -> u32 {
         self + 1
@@ -104,6 +123,10 @@ impl Number for u32 {
         let end = Ipv4Addr::from_bits(last);
         IpSubnets::V4(Ipv4Subnets::new(start, end, 0))
     }
+
+    fn sort(ranges: &mut Vec<NumberRange<u32>>) {
+        ranges.sort_unstable_by_key(|range| range.first);
+    }
 }
 
 impl Number for u128 {
@@ -118,6 +141,8 @@ impl Number for u128 {
     fn last() -> u128 {
         u128::MAX
     }
+
+    fn fits(self) {}
 
     fn next(self) -> u128 {
         self + 1
@@ -149,5 +174,9 @@ impl Number for u128 {
         let start = Ipv6Addr::from_bits(self);
         let end = Ipv6Addr::from_bits(last);
         IpSubnets::V6(Ipv6Subnets::new(start, end, 0))
+    }
+
+    fn sort(ranges: &mut Vec<NumberRange<u128>>) {
+        ranges.sort_unstable_by_key(|range| range.first);
     }
 }

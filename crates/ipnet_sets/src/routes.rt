@@ -1,25 +1,32 @@
 //! Routes: networks with a value each, and the longest of them that holds an address.
 ghost use Rattle.std.specs.Prelude.{◌≡◌, ℕ, ◌<◌, ◌≤◌, ◌↔◌, IsTrue, [], length, IsOk, IfOk, OnOk, IsNone, IfSome};
-ghost use Rattle.std.specs.Prelude.{All, Any, Contains, IsPermutation};
+ghost use Rattle.std.specs.Prelude.{All, Any, Contains, IsPermutation, take, drop, ◌-◌, ◌^◌};
+ghost use Rattle.std.specs.Slice.Iter.{iter_rest};
+ghost use Rattle.std.specs.Iterator.Adapters.{IterYieldsInOrder};
 ghost use Rattle.ipnet_base.specs.Address.{ip_address};
 ghost use Rattle.ipnet_base.specs.Network.{Network, IsSubnetOf, IsTruncated, IsBefore, truncation};
 ghost use Rattle.ipnet_base.specs.Blocks.{IsCoveredBy, IsAscending};
 ghost use Rattle.ipnet_base.specs.Stack.{IsBeforeOrEqual, IsInOrder};
 ghost use Rattle.ipnet.specs.NetworkOf.{ip_network};
+ghost use Rattle.ipnet.specs.declared.net.IpNet.{IpNet};
 ghost use Rattle.ipnet_sets.specs.Routes.{Route, networks_of, ip_routes, ip_networks, without_host_bits, IsLatest};
-ghost use Rattle.ipnet_sets.specs.Routes.{IsTableOf, IsLongestMatch, IsLongestHolder};
-ghost use Rattle.ipnet_sets.specs.RouteSteps.{EndsWith, AreOthers, IsTable, IsPlaceAfter, IsNearest, AreLinks};
+ghost use Rattle.ipnet_sets.specs.Routes.{IsTableOf, IsLongestMatch, IsLongestHolder, AreMatches, AreWithin};
+ghost use Rattle.ipnet_sets.specs.RouteSteps.{EndsWith, AreOthers, IsTable, IsPlaceAfter, IsPlaceOf, IsNearest};
+ghost use Rattle.ipnet_sets.specs.RouteSteps.{AreLinks, AreChanged};
 
 use ipnet::net::laws::ip_nets_compare_by_network;
 use ipnet::{IpAddr, IpNet};
+use matches::RouteMatches;
 use std::alloc::{AllocError, Global};
+use std::slice;
 
 pub mod laws;
+pub mod matches;
 
 /// A table of routes: networks of both families, each once, with a value each.
 ///
-/// It answers which is the longest of its networks that holds an address, by halving and then following the links from
-/// each network to the nearest that encloses it.
+/// It finds the longest of its networks that contains an address, by halving and then following the links from each
+/// network to the nearest that encloses it. A value may have any type; calls that drop values ask that it is `Drop`.
 ///
 /// ```text
 /// of 0.0.0.0/0, 10.0.0.0/8 and 10.1.0.0/16: 10.1.2.3 is in 10.1.0.0/16, 10.2.0.1 in 10.0.0.0/8, 11.0.0.1 in 0.0.0.0/0
@@ -52,7 +59,7 @@ fn truncate_all<V>(routes: &mut Vec<(IpNet, V)>)
     }
 }
 
-/// Puts the routes in the order of their networks. Those of one network stay in their order.
+/// Puts the routes in the order of their networks. Routes of one network stay in their order.
 fn sort<V>(routes: &mut Vec<(IpNet, V)>) -> Result<(), AllocError>
     ensures order { OnOk result (IsInOrder (ip_networks routes.new.items)) }
     ensures permutation { IsPermutation routes.old.items routes.new.items }
@@ -75,7 +82,7 @@ fn ends_with<V>(routes: &[(IpNet, V)], network: &IpNet) -> bool
     is_same(&routes[routes.len() - 1].0, network)
 }
 
-/// Takes the last of the routes away if it is of the network, which stands before none of theirs.
+/// Removes the last route if it is of the network. The network comes before no network of the routes.
 fn drop_last<V: Drop>(routes: &mut Vec<(IpNet, V)>, network: &IpNet)
     requires ascending { IsAscending (ip_networks routes.old.items) }
     requires order { All (λ n. IsBeforeOrEqual n (ip_network network.now)) (ip_networks routes.old.items) }
@@ -88,7 +95,7 @@ fn drop_last<V: Drop>(routes: &mut Vec<(IpNet, V)>, network: &IpNet)
     }
 }
 
-/// Of the routes of each network, which stand in order, the last.
+/// Returns the last route of each network. The routes are in order.
 fn latest<V: Drop>(alloc: Global, routes: Vec<(IpNet, V)>) -> Result<Vec<(IpNet, V)>, AllocError>
     requires { IsInOrder (ip_networks routes.items) }
     ensures ascending { IfOk result (λ kept. IsAscending (ip_networks kept.items)) }
@@ -103,7 +110,7 @@ fn latest<V: Drop>(alloc: Global, routes: Vec<(IpNet, V)>) -> Result<Vec<(IpNet,
     Ok(kept)
 }
 
-/// The place after the networks that are this one or stand before it, by halving the list.
+/// The place after the networks that are this one or come before it, by halving the list.
 fn place_after<V>(routes: &[(IpNet, V)], network: &IpNet) -> usize
     requires { IsTable (ip_networks routes.now) }
     ensures { IsPlaceAfter (ip_networks routes.now) (ip_network network.now) result }
@@ -123,8 +130,23 @@ fn place_after<V>(routes: &[(IpNet, V)], network: &IpNet) -> usize
     low
 }
 
-/// The place after the nearest network before the limit that contains the network, or 0 where none does. Where one
-/// doesn't contain it, only those that enclose that one can.
+/// Returns the index of the network; if the list does not have it, the index of the next network.
+fn place_of<V>(routes: &[(IpNet, V)], network: &IpNet) -> usize
+    requires { IsTable (ip_networks routes.now) }
+    ensures { IsPlaceOf (ip_networks routes.now) (ip_network network.now) result }
+{
+    let place = place_after(routes, network);
+    if place == 0 {
+        return 0;
+    }
+    if is_same(&routes[place - 1].0, network) {
+        return place - 1;
+    }
+    place
+}
+
+/// The place after the nearest network before the limit that contains the network, or 0 if none does. If one doesn't
+/// contain it, only networks that enclose that one can.
 fn nearest<V>(routes: &[(IpNet, V)], enclosing: &[usize], limit: usize, network: &IpNet) -> usize
     requires table { IsTable (ip_networks routes.now) }
     requires links { AreLinks (ip_networks routes.now) enclosing.now }
@@ -159,11 +181,39 @@ fn links<V>(alloc: Global, routes: &[(IpNet, V)]) -> Result<Vec<usize>, AllocErr
     Ok(links)
 }
 
+/// Returns the routes from one index up to another.
+fn part<V>(routes: &[(IpNet, V)], start: usize, end: usize) -> &[(IpNet, V)]
+    requires order { start ≤ end }
+    requires within { end ≤ length routes.now }
+    ensures { result.now ≡ take (end - start) (drop start routes.now) }
+{
+    &routes[start..end]
+}
+
+/// Returns the routes of the same networks, each with what `change` makes of its value.
+fn change_values<V: Drop, W: Drop, F: Fn(V) -> W + Drop>(
+    alloc: Global,
+    routes: Vec<(IpNet, V)>,
+    change: F,
+) -> Result<Vec<(IpNet, W)>, AllocError>
+    requires { F.IsAlwaysCallable change }
+    ensures { IfOk result (λ changed. AreChanged (F.post change) routes.items changed.items) }
+{
+    let mut changed = Vec::with_capacity(alloc, routes.len())?;
+    for route in routes {
+        let (network, value) = route;
+        changed.push((network, change(value)))?;
+    }
+    Ok(changed)
+}
+
 impl<V> RouteTable<V> {
     ghost use Rattle.ipnet_sets.specs.RoutesOf.{routes_of};
+    ghost use Rattle.ipnet_sets.specs.MatchesLeft.{matches_left};
 
-    /// The table of the routes, in whatever order. Networks are equal where they are without their host bits; of the
-    /// values given for equal ones the last stands. Fails only when memory runs out; an empty list needs none.
+    /// Returns the table of the routes, in any order. Networks are equal if they are equal without their host bits; if
+    /// one is given twice, the last value counts, and the others are dropped. Fails only if memory runs out; an empty
+    /// list needs none.
     ///
     /// ```text
     /// 10.0.0.0/8 with 1, 10.1.0.0/16 with 2, 10.0.0.7/8 with 3: 10.0.0.0/8 with 3, 10.1.0.0/16 with 2
@@ -288,5 +338,87 @@ impl<V> RouteTable<V> {
             return None;
         }
         Some(&self.routes[place - 1])
+    }
+    /// Returns the routes whose networks contain the address, the longest first. Allocates nothing; the first takes as
+    /// long as `longest_match`, and each further one a step.
+    ///
+    /// ```text
+    /// of 0.0.0.0/0, 10.0.0.0/8 and 10.1.0.0/16, for 10.2.0.1: 10.0.0.0/8, then 0.0.0.0/0
+    /// ```
+    pub fn matches(&self, ip: &IpAddr) -> RouteMatches<'_, V>
+        ensures { AreMatches (routes_of self.now) (ip_address ip.now) (matches_left result) }
+    {
+        let host = IpNet::from(*ip);
+        let routes = self.routes.as_slice();
+        let enclosing = self.enclosing.as_slice();
+        let limit = place_after(routes, &host);
+        let place = nearest(routes, enclosing, limit, &host);
+        RouteMatches {
+            routes,
+            enclosing,
+            place,
+        }
+    }
+
+    /// Returns the routes whose networks lie in the network's block, in order; the network itself is one if the table
+    /// has it. The host bits of `network` do not matter. Allocates nothing; the time grows with the logarithm of the
+    /// number of routes.
+    ///
+    /// ```text
+    /// of 0.0.0.0/0, 10.0.0.0/8, 10.1.0.0/16 and 11.0.0.0/8: 10.0.0.0/8 has 10.0.0.0/8 and 10.1.0.0/16 within it,
+    /// 10.0.0.0/9 has 10.1.0.0/16, and 12.0.0.0/8 has none
+    /// ```
+    pub fn within(&self, network: &IpNet) -> &[(IpNet, V)]
+        ensures { AreWithin (routes_of self.now) (ip_network network.now) (ip_routes result.now) }
+    {
+        let routes = self.routes.as_slice();
+        let first = network.trunc();
+        let last = IpNet::from(network.broadcast());
+        let start = place_of(routes, &first);
+        let end = place_after(routes, &last);
+        part(routes, start, end)
+    }
+
+    /// Returns the table of the same networks, each with what `change` makes of its value. The values are moved, and
+    /// no network is sorted again. Fails only if memory runs out, and then drops the values; allocates one list.
+    ///
+    /// ```text
+    /// 10.0.0.0/8 with 1 and 10.1.0.0/16 with 2, change(v) = v * 10: 10.0.0.0/8 with 10, 10.1.0.0/16 with 20
+    /// ```
+    pub fn map<W: Drop, F: Fn(V) -> W + Drop>(
+        self,
+        alloc: Global,
+        change: F,
+    ) -> Result<RouteTable<W>, AllocError>
+    where
+        V: Drop,
+        requires { F.IsAlwaysCallable change }
+        ensures networks { IfOk result (λ table. networks_of (routes_of table) ≡ networks_of (routes_of self)) }
+        ensures values { IfOk result (λ table. (n : Network) (v : V) (w : W) → Contains (routes_of self) (n, v)
+            → Contains (routes_of table) (n, w) → F.post change v w) }
+    {
+        let RouteTable { routes, enclosing } = self;
+        let mapped = change_values(alloc, routes, change)?;
+        Ok(RouteTable {
+            routes: mapped,
+            enclosing,
+        })
+    }
+}
+
+impl<'a, V> IntoIterator for &'a RouteTable<V> {
+    type Item = &'a (IpNet, V);
+
+    type IntoIter = slice::Iter<'a, (IpNet, V)>;
+
+    ghost use Rattle.ipnet_sets.specs.RoutesOf.{routes_of};
+
+    ghost into_iter_gives = { λ table routes. (ip_routes (iter_rest routes) ≡ routes_of table.now)
+        × (length (iter_rest routes) < 2 ^ 64) × IterYieldsInOrder (IpNet × V) };
+
+    /// The routes of the table, as `RouteTable::routes` lists them. A loop `for route in &table` goes through them.
+    fn into_iter(self) -> slice::Iter<'a, (IpNet, V)> {
+        let routes = self.routes.as_slice();
+        routes.iter()
     }
 }

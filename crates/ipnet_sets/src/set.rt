@@ -9,7 +9,7 @@ ghost use Rattle.ipnet_sets.specs.SetRanges.{AreRangesOf, AreFewestRangesOf};
 ghost use Rattle.ipnet_sets.specs.TurnRanges.{ranges_of, HasBlocksAdded};
 ghost use Rattle.ipnet_sets.specs.Turns.{AreTurns, combined};
 
-use crate::load;
+use crate::gather;
 use crate::number::Number;
 use crate::set_ranges::IpSetRanges;
 use crate::turns::{self, Operation};
@@ -17,7 +17,9 @@ use ipnet::{IpAddr, IpAddrRange, IpNet, IpSubnets};
 use std::alloc::{AllocError, Global};
 use std::fmt;
 
+pub mod builder;
 pub mod laws;
+mod many;
 
 /// A set of IPv4 and IPv6 addresses.
 ///
@@ -31,8 +33,8 @@ pub mod laws;
 /// ```
 #[derive(PartialEq, Eq, PartialOrd, Ord, Hash, Drop)]
 pub struct IpSet {
-    ipv4: Vec<u32>,
-    ipv6: Vec<u128>,
+    pub(crate) ipv4: Vec<u32>,
+    pub(crate) ipv6: Vec<u128>,
     ghost ipv4_turns: { AreTurns IPv4 (map (λ n. n) ipv4.items) },
     ghost ipv6_turns: { AreTurns IPv6 (map (λ n. n) ipv6.items) },
 }
@@ -97,10 +99,10 @@ impl IpSet {
         let mut set = IpSet::new(alloc);
         match (start, end) {
             (IpAddr::V4(start), IpAddr::V4(end)) => {
-                set.ipv4 = turns::from_range(alloc, start.to_bits(), end.to_bits())?;
+                set.ipv4 = gather::from_range(alloc, start.to_bits(), end.to_bits())?;
             }
             (IpAddr::V6(start), IpAddr::V6(end)) => {
-                set.ipv6 = turns::from_range(alloc, start.to_bits(), end.to_bits())?;
+                set.ipv6 = gather::from_range(alloc, start.to_bits(), end.to_bits())?;
             }
             _ => {}
         }
@@ -116,22 +118,6 @@ impl IpSet {
         ensures { IfOk result (λ s. (x : Address) → IsMember s x ↔ InBlock (ip_network network.now) x) }
     {
         IpSet::from_range(alloc, network.network(), network.broadcast())
-    }
-
-    /// The set of the addresses that lie in the networks' blocks. Order, repeats, overlaps and host bits of the list
-    /// do not matter. Fails only when memory runs out; an empty list needs none.
-    ///
-    /// ```text
-    /// 10.0.0.0/30, 10.0.0.4/31: 10.0.0.0-10.0.0.5
-    /// ```
-    pub fn from_networks(alloc: Global, networks: &[IpNet]) -> Result<IpSet, AllocError>
-        ensures empty { networks.now ≡ [] → IsOk result }
-        ensures members { IfOk result (λ s. HasAddressesOf s (map ip_network networks.now)) }
-    {
-        let families = load::split(alloc, networks)?;
-        let ipv4 = load::turns_of(alloc, &families.ipv4)?;
-        let ipv6 = load::turns_of(alloc, &families.ipv6)?;
-        Ok(IpSet { ipv4, ipv6 })
     }
 
     /// The set that the operation makes of this one and the other.

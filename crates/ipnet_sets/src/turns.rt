@@ -3,12 +3,12 @@
 ghost use Rattle.std.specs.Prelude.{◌≡◌, ℕ, ◌+◌, ◌^◌, ◌<◌, ◌≤◌, ◌⊎◌, ◌↔◌, IsTrue, true, false, not, List, [], ◌∷◌};
 ghost use Rattle.std.specs.Prelude.{◌++◌, length, map, take, drop, All, IfOk, OnOk, IsNone, IfSome};
 ghost use Rattle.ipnet_base.specs.Address.{greatest_number};
-ghost use Rattle.ipnet_sets.specs.Turns.{is_inside, combined, AreTurns, IsTurn, IsSplitAt, IsOpenedAt, IsExtended};
+ghost use Rattle.ipnet_sets.specs.Turns.{is_inside, combined, AreTurns, IsTurn, IsSplitAt};
 ghost use Rattle.ipnet_sets.specs.SetRanges.{range_of};
 ghost use Rattle.ipnet_sets.specs.TurnRanges.{ranges_of, count_of, before_last};
-ghost use Rattle.ipnet_sets.specs.Turns.{EndsWith, IsLeastInside, IsGreatestInside};
+ghost use Rattle.ipnet_sets.specs.Turns.{IsLeastInside, IsGreatestInside};
 
-use crate::number::Number;
+use crate::number::{Number, NumberRange};
 use std::alloc::{AllocError, Global};
 
 /// What is made of two sets.
@@ -183,65 +183,6 @@ pub(crate) fn covers_range<T: Number>(turns: &[T], first: T, last: T) -> bool
     last.is_below(first) || covers(turns, first, last)
 }
 
-/// Whether the set, whose turns are at most the number, ends just before it.
-fn ends_before<T: Number>(turns: &[T], first: T) -> bool
-    requires turns { AreTurns T.family (map T.number turns.now) }
-    requires after { All (λ t. t ≤ T.number first) (map T.number turns.now) }
-    ensures ends { result ≡ true → EndsWith (map T.number turns.now) (T.number first) }
-    ensures earlier { result ≡ false → All (λ t. t < T.number first) (map T.number turns.now) }
-{
-    !turns.is_empty() && !turns[turns.len() - 1].is_below(first)
-}
-
-/// Adds all numbers from the first on, which come after those of the set: where the set ends just before the first,
-/// that end is taken away.
-fn open_at<T: Number>(turns: &mut Vec<T>, first: T) -> Result<(), AllocError>
-    requires turns { AreTurns T.family (map T.number turns.old.items) }
-    requires after { All (λ t. t ≤ T.number first) (map T.number turns.old.items) }
-    requires outside { is_inside (map T.number turns.old.items) (T.number first) ≡ false }
-    requires fits { T.number first ≤ greatest_number T.family }
-    ensures { OnOk result (IsOpenedAt T.family (map T.number turns.old.items) (T.number first)
-        (map T.number turns.new.items)) }
-{
-    if ends_before(turns.as_slice(), first) {
-        turns.pop();
-    } else {
-        turns.push(first)?;
-    }
-    Ok(())
-}
-
-/// Adds the numbers from the first to the last, which come after those of the set.
-pub(crate) fn add_range<T: Number>(turns: &mut Vec<T>, first: T, last: T) -> Result<(), AllocError>
-    requires turns { AreTurns T.family (map T.number turns.old.items) }
-    requires after { All (λ t. t ≤ T.number first) (map T.number turns.old.items) }
-    requires outside { is_inside (map T.number turns.old.items) (T.number first) ≡ false }
-    requires ordered { T.number first ≤ T.number last }
-    requires fits { T.number last ≤ greatest_number T.family }
-    ensures { OnOk result (IsExtended T.family (map T.number turns.old.items) (T.number first) (T.number last)
-        (map T.number turns.new.items)) }
-{
-    open_at(turns, first)?;
-    if last.is_below(T::last()) {
-        turns.push(last.next())?;
-    }
-    Ok(())
-}
-
-/// The set of the numbers from the first to the last; it is empty where the first is above the last.
-pub(crate) fn from_range<T: Number>(alloc: Global, first: T, last: T) -> Result<Vec<T>, AllocError>
-    requires { T.number last ≤ greatest_number T.family }
-    ensures turns { IfOk result (λ turns. AreTurns T.family (map T.number turns.items)) }
-    ensures members { IfOk result (λ turns. (x : ℕ) → x ≤ greatest_number T.family
-        → (is_inside (map T.number turns.items) x ≡ true) ↔ ((T.number first ≤ x) × (x ≤ T.number last))) }
-{
-    let mut turns = Vec::new(alloc);
-    if !last.is_below(first) {
-        add_range(&mut turns, first, last)?;
-    }
-    Ok(turns)
-}
-
 /// The least number of the set.
 pub(crate) fn first<T: Number>(turns: &[T]) -> Option<T>
     requires { AreTurns T.family (map T.number turns.now) }
@@ -269,13 +210,6 @@ pub(crate) fn last<T: Number>(turns: &[T]) -> Option<T>
         return Some(T::last());
     }
     Some(turns[turns.len() - 1].previous())
-}
-
-/// The numbers from a first to a last one.
-#[derive(Clone, Copy)]
-pub(crate) struct NumberRange<T> {
-    pub(crate) first: T,
-    pub(crate) last: T,
 }
 
 /// The first range of the set.

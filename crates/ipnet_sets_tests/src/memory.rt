@@ -1,9 +1,9 @@
-//! Memory that runs out. A call that allocates is refused in the first run, answers in the last, and never answers
-//! wrongly. A call that needs no memory answers in each run.
+//! Memory that runs out. A call that allocates fails in the first run, succeeds in the last, and never returns a wrong
+//! result. A call that needs no memory succeeds in each run.
 //!
 //! The lists are short, because memory that a call gives back does not serve the requests of later runs.
-use ipnet::{IpAddr, IpNet};
-use ipnet_sets::{IpSet, RouteTable};
+use ipnet::{IpAddr, IpAddrRange, IpNet};
+use ipnet_sets::{IpSet, IpSetBuilder, RouteTable};
 use std::alloc::{AllocError, Global};
 use std::process::Abort;
 use std::test::Fail;
@@ -12,13 +12,15 @@ use test_support::memory::{Outcome, grow_stack, is_refused_and_answered, needs_n
 /// A call, the networks of its arguments, and the networks of its answer.
 type Row = (&'static str, &'static str, &'static str, &'static str);
 
-/// What the call of a row needs. All of it is made before memory runs out.
+/// The arguments of the calls. All of them are made before memory runs out.
 #[derive(Drop)]
 struct Inputs {
     call: &'static str,
     list: Vec<IpNet>,
     first: IpSet,
     second: IpSet,
+    sets: Vec<IpSet>,
+    ranges: Vec<IpAddrRange>,
     wanted: Vec<IpNet>,
     wanted_set: IpSet,
     wanted_table: RouteTable<usize>,
@@ -42,6 +44,14 @@ fn make_inputs(rt: &impl Abort, alloc: Global, row: Row) -> Result<Inputs, Alloc
     let wanted = networks(rt, alloc, wanted)?;
     let first = IpSet::from_networks(alloc, list.as_slice())?;
     let second = IpSet::from_networks(alloc, other.as_slice())?;
+    let mut sets = Vec::new(alloc);
+    sets.push(first.clone()?)?;
+    sets.push(second.clone()?)?;
+    sets.push(first.clone()?)?;
+    let mut ranges = Vec::new(alloc);
+    for range in first.ranges().rev() {
+        ranges.push(range)?;
+    }
     let wanted_set = IpSet::from_networks(alloc, wanted.as_slice())?;
     let wanted_table = table_of(alloc, &list)?;
     Ok(Inputs {
@@ -49,6 +59,8 @@ fn make_inputs(rt: &impl Abort, alloc: Global, row: Row) -> Result<Inputs, Alloc
         list,
         first,
         second,
+        sets,
+        ranges,
         wanted,
         wanted_set,
         wanted_table,
@@ -95,6 +107,10 @@ fn make(alloc: Global, inputs: &Inputs) -> Result<IpSet, AllocError> {
         "complement" => inputs.first.complement(alloc),
         "clone" => inputs.first.clone(),
         "from_networks" => IpSet::from_networks(alloc, inputs.list.as_slice()),
+        "from_ranges" => IpSet::from_ranges(alloc, inputs.ranges.as_slice()),
+        "union_all" => IpSet::union_all(alloc, inputs.sets.as_slice()),
+        "intersection_all" => IpSet::intersection_all(alloc, inputs.sets.as_slice()),
+        "into_set" => build(alloc, inputs),
         "from_network" => match inputs.list.as_slice().first() {
             Some(network) => IpSet::from_network(alloc, network),
             None => Ok(IpSet::new(alloc)),
@@ -105,6 +121,21 @@ fn make(alloc: Global, inputs: &Inputs) -> Result<IpSet, AllocError> {
         },
         _ => Ok(IpSet::new(alloc)),
     }
+}
+
+/// The set of the row's ranges and networks. A push that is refused changes nothing, so it may be made again.
+fn build(alloc: Global, inputs: &Inputs) -> Result<IpSet, AllocError> {
+    let mut builder = IpSetBuilder::new(alloc);
+    for range in &inputs.ranges {
+        builder.push(*range)?;
+    }
+    for network in &inputs.list {
+        if builder.push_network(network).is_err() {
+            builder.push_network(network)?;
+        }
+        builder.push_address(network.network())?;
+    }
+    builder.into_set(alloc)
 }
 
 /// How the row's call ended.
@@ -138,7 +169,7 @@ const ONE: &str = "10.0.0.0/24 10.0.2.0/24 10.0.4.0/24 fd00::/32";
 const OTHER: &str = "10.0.1.0/24 10.0.4.0/25 fd00::/33 fd00:2::/32";
 
 /// Calls that allocate.
-const ALLOCATING: [Row; 13] = [
+const ALLOCATING: [Row; 17] = [
     (
         "union",
         ONE,
@@ -164,6 +195,15 @@ const ALLOCATING: [Row; 13] = [
         "",
         "64.0.0.0/2 ::/1",
     ),
+    (
+        "union_all",
+        ONE,
+        OTHER,
+        "10.0.0.0/23 10.0.2.0/24 10.0.4.0/24 fd00::/32 fd00:2::/32",
+    ),
+    ("intersection_all", ONE, OTHER, "10.0.4.0/25 fd00::/33"),
+    ("from_ranges", ONE, "", ONE),
+    ("into_set", ONE, "", ONE),
     ("clone", ONE, "", ONE),
     ("from_networks", ONE, "", ONE),
     ("networks", ONE, "", ONE),
@@ -180,11 +220,15 @@ const ALLOCATING: [Row; 13] = [
 ];
 
 /// Calls that need no memory.
-const FREE: [Row; 5] = [
+const FREE: [Row; 9] = [
     ("union", "", "", ""),
     ("networks", "", "", ""),
     ("clone", "", "", ""),
     ("from_networks", "", "", ""),
+    ("from_ranges", "", "", ""),
+    ("union_all", "", "", ""),
+    ("intersection_all", "", "", ""),
+    ("into_set", "", "", ""),
     ("from_routes", "", "", ""),
 ];
 

@@ -67,7 +67,7 @@ cover_moved a b n x = (
   ],
 )
 
--- the networks of both families, where those of the first cover one network more, or those of the second
+-- the cover of both families, if the list of the first covers one network more, or the list of the second
 pub first_covers_more : (a new b : List Network) (n : Network) → HaveSameCover new (a ++ n ∷ [])
     → HaveSameCover (new ++ b) ((a ++ b) ++ n ∷ [])
 first_covers_more a new b n h =
@@ -84,7 +84,7 @@ pub OnOk_then : {T E P Q : Type 0} (r : Result T E) → OnOk r P → (P → Q) �
 OnOk_then (Ok x) h then = then h
 OnOk_then (Err e) h then = h
 
--- a cover is that of the networks so far and of those to come, also after one of the latter has come
+-- the networks so far and the networks to come have the same cover after one network moves from these to those
 pub cover_moves_on : (whole old new more : List Network) (n : Network) → HaveSameCover new (old ++ n ∷ [])
     → HaveSameCover whole (old ++ n ∷ more) → HaveSameCover whole (new ++ more)
 cover_moves_on whole old new more n pushed same x =
@@ -128,7 +128,7 @@ answer_from grammar text answer networks families blocks written same aggregate 
 
 -- ---- what the tool gives
 
--- for a text that starts with no bad line, an answer, which is empty where its lines are
+-- if a text does not start with a bad line: its answer, which is empty if all its lines are
 pub answered : (grammar : Grammar) (text : List ℕ) (answer : String Global)
     → (All (λ line. line ≡ []) (lines_of text) → string_bytes answer ≡ [])
     → IsAnswerTo grammar text (string_bytes answer)

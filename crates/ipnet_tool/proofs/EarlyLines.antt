@@ -1,4 +1,4 @@
--- Empty lines, and the first line that is not empty, where it is bad.
+-- Empty lines, and the first line that is not empty, if it is bad.
 use Rattle.std.proofs.Common.{◌≡◌, ℕ, ◌+◌, ◌<◌, List, [], ◌∷◌, ◌++◌, length, All, refl, sym, ap, subst, inl, arith}
 use Rattle.std.proofs.lemmas.List.Elements.{All-head, All-tail}
 use Rattle.ipnet.specs.Network.{Network}
@@ -8,14 +8,14 @@ use Rattle.ipnet.specs.NetworkTexts.{IsNetworkText}
 use Rattle.ipnet_tool.specs.Answers.{StartsWithBadLine}
 use Rattle.ipnet_tool.proofs.LineCuts.{empty_text}
 
--- lines are not all empty where the first is not
+-- lines are not all empty if the first is not
 pub not_all_empty : (lines : List (List ℕ)) (line : List ℕ) (after : List (List ℕ)) → lines ≡ line ∷ after
     → 0 < length line → ¬ (All (λ line. line ≡ []) lines)
 not_all_empty lines line after cut some h =
     let none : line ≡ [] = All-head (λ line. line ≡ []) line after (subst (All (λ line. line ≡ [])) cut h) in
     omega (arith, some, ap length none)
 
--- where all are, so are those after the first
+-- if all are, so are the lines after the first
 pub rest_empty : (lines : List (List ℕ)) (line : List ℕ) (after : List (List ℕ)) → lines ≡ line ∷ after
     → All (λ line. line ≡ []) lines → All (λ line. line ≡ []) after
 rest_empty lines line after cut h = All-tail (λ line. line ≡ []) line after (subst (All (λ line. line ≡ [])) cut h)

@@ -1,11 +1,11 @@
--- Networks joined where they follow each other in a list: the list covers the same addresses.
+-- Networks that follow each other in a list, joined: the list still covers the same addresses.
 use Rattle.std.proofs.Common.{◌≡◌, ◌-◌, ◌/◌, ◌^◌, ◌++◌, ◌∷◌, [], List, sym, ap₂, subst, ◌∙◌, append_assoc}
 use Rattle.ipnet.specs.Address.{width}
 use Rattle.ipnet.specs.Network.{Network, IsNetwork, IsSubnetOf, AreSiblings, AreHalves, IsSupernetOf, host_bits}
 use Rattle.ipnet.specs.Blocks.{HaveSameCover}
 use Rattle.ipnet.proofs.CoverLaws.{HaveSameCover-sym, HaveSameCover-trans, HaveSameCover-append, cover_of_joined}
 
--- siblings are the two halves of their supernet where the second does not lie in the first
+-- siblings are the two halves of their supernet if the second does not lie in the first
 halves : (n k : Network) → AreSiblings n k → ¬ (IsSubnetOf k n) → AreHalves n k
 halves n k siblings outside = record {
   siblings = siblings;

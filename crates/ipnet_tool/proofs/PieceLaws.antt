@@ -1,4 +1,4 @@
--- A text that is read in pieces: lines of one piece after those of another, where the first ends with a line's end.
+-- A text that is read in pieces: if a piece ends with a line's end, its lines are followed by the lines of the next.
 use Rattle.std.proofs.Common.{◌≡◌, ◌≢◌, ℕ, ◌+◌, ◌<◌, ◌≤◌, ◌==◌, true, false, List, [], ◌∷◌, ◌++◌, length, get_or, take}
 use Rattle.std.proofs.Common.{if◌then◌else◌, refl, sym, ap, ◌∙◌, subst, arith, append_assoc, IsUtf8, ne_eqb, suc}
 use Rattle.std.proofs.Common.{length-append}
@@ -16,7 +16,7 @@ use Rattle.ipnet_tool.proofs.TextLengths.{network_text_short}
 
 -- ---- a piece that ends with a line's end
 
--- the lines of what follows come after those of the text
+-- the lines of a text, followed by any other text, are its lines and then the lines of the other
 abbrev pub IsClosed : List ℕ → Type 0
 IsClosed text = (more : List ℕ) → lines_of (text ++ more) ≡ lines_of text ++ lines_of more
 
@@ -161,7 +161,7 @@ taken_more grammar front piece old new number count taken is_text closed more is
       );
     }
 
--- the first bad line of the piece is that of the text
+-- the first bad line of the piece is the first bad line of the text
 pub bad_in_piece : (grammar : Grammar) (front piece : List ℕ) (old : List Network) (number later : ℕ)
     → IsTaken grammar front old number → IsFirstBadLine grammar (lines_of piece) later
     → IsFirstBadLine grammar (lines_of (front ++ piece)) (number + later)
@@ -184,7 +184,7 @@ onto_is : (b : ℕ) (lines : List (List ℕ))
 onto_is b [] = ([], [], refl)
 onto_is b (line ∷ lines) = (line, lines, refl)
 
--- the first line has all bytes that stand before its end
+-- the first line has all bytes before its end
 first_long : (held rest : List ℕ) → 0 < length held → ((k : ℕ) → k < length held → get_or held k 0 ≢ 10)
     → (line : List ℕ) × (after : List (List ℕ)) × (lines_of (held ++ rest) ≡ line ∷ after)
     × (length held ≤ length line)

@@ -1,4 +1,4 @@
--- What a reader gave, of which the window holds the last bytes.
+-- The bytes that a reader returned; the window holds the last of them.
 use Rattle.std.proofs.Common.{◌≡◌, ℕ, ◌+◌, ◌<◌, List, [], ◌++◌, length, take, drop, sym, ap, ◌∙◌, subst}
 use Rattle.std.proofs.Common.{IsUtf8, Option}
 use Rattle.std.proofs.Common.{append_assoc, append-nil, take-append-drop, get_or, ◌≢◌, ◌≤◌, arith, length-drop}

@@ -1,4 +1,4 @@
--- What a window holds, after a write behind it or a step of its start.
+-- The bytes in a window, after a write at its end or a step of its start.
 use Rattle.std.proofs.Common.{◌≡◌, ℕ, ◌+◌, ◌-◌, ◌≤◌, List, ◌++◌, length, take, drop, slice_range, nat_lt, false}
 use Rattle.std.proofs.Common.{refl, sym, ap, ◌∙◌, arith}
 use Rattle.std.proofs.lemmas.List.{append-nil, take_at, drop_at, take-append-le, drop-append-le, drop-take, drop-drop}
@@ -31,7 +31,7 @@ kept xs ys start end k ordered within =
     ap (slice_range (put_mid end k xs ys) start) none ∙ grown xs ys start end k 0 ordered within (omega arith)
     ∙ append-nil _
 
--- without the first ones, so many
+-- the window without its first `count` bytes
 pub taken : (xs : List ℕ) (start end count : ℕ) → start + count ≤ end
     → slice_range xs (start + count) end ≡ drop count (slice_range xs start end)
 taken xs start end count inside =

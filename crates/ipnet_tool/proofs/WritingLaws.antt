@@ -45,7 +45,7 @@ all_written a b c piece text h written =
 pub whole_front : (text : List ℕ) → StartsWith text text
 whole_front text = ap (take (length text)) (sym (append-nil text)) ∙ take_at text [] _ refl
 
--- the text of the first networks and that of the others
+-- the text of a list is the text of its first networks, then the text of the others
 pub text_cut : {X : Type 0} (network_of : X → Network) (items : List X) (i : ℕ)
     → text_of_lines (map network_of items)
     ≡ text_of_lines (map network_of (take i items)) ++ text_of_lines (map network_of (drop i items))

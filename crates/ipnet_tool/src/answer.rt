@@ -19,8 +19,8 @@ use std::io::Write;
 /// How many bytes are written at once.
 const PIECE: usize = 8192;
 
-/// Writes the canonical texts of the networks, one a line, IPv4 first, and flushes the writer. Where a write fails, or
-/// the flush, a front of the lines is written.
+/// Writes the canonical texts of the networks, one per line, IPv4 first, and flushes the writer. If a write or the
+/// flush fails, a front of the lines has been written.
 pub(crate) fn write_answer<W: Write>(out: &mut W, families: &Families) -> io::Result<()>
     ensures whole { OnOk result
         (Appends (W.contents out.old) (W.contents out.new) (text_of_lines (networks_of families.now))) }
@@ -38,7 +38,7 @@ pub(crate) fn write_answer<W: Write>(out: &mut W, families: &Families) -> io::Re
     out.flush()
 }
 
-/// Appends the network's text and a newline to the piece. Where there is no room for them, the piece is written first.
+/// Appends the network's text and a newline to the piece. If they do not fit, the piece is written first.
 fn push_line<W: Write>(
     out: &mut W,
     piece: &mut ArrayString<PIECE>,
@@ -56,7 +56,7 @@ fn push_line<W: Write>(
     Ok(())
 }
 
-/// Writes the piece, unless it has room for so many bytes more.
+/// Writes the piece, unless it has room for `more` bytes.
 fn make_room<W: Write>(out: &mut W, piece: &mut ArrayString<PIECE>, more: usize) -> io::Result<()>
     requires { more ≤ 8192 }
     ensures room { OnOk result (array_string_len piece.new + more ≤ 8192) }

@@ -1,8 +1,8 @@
 //! The networks of a reader's lines, without keeping its text.
 //!
-//! The text is read into a window. All whole lines in it are taken at once, and what is left, the front of a line, is
-//! kept for the next read. Lines end at a byte that is no part of another character, so the text is UTF-8 exactly
-//! where what is taken each time is.
+//! The text is read into a window. All whole lines in it are taken at once, and the rest, the front of a line, is
+//! kept for the next read. Lines end at a byte that is never part of another character, so the text is UTF-8 if and
+//! only if each of these pieces is.
 ghost use Rattle.std.specs.Prelude.{◌≡◌, ◌≢◌, ℕ, ◌+◌, ◌<◌, ◌≤◌, ◌⊎◌, List, ◌++◌, length, take, IfOk, IfErr, Err};
 ghost use Rattle.std.specs.Prelude.{slice_index, true, false};
 ghost use Rattle.ipnet.specs.Lines.{lines_of};
@@ -20,7 +20,7 @@ use std::alloc::Global;
 use std::io::Read;
 use std::str;
 
-/// More reads than any run makes: so many full ones give no more lines than can be counted.
+/// Bounds the loop, so that it provably ends. Even if every read were full, the count of lines would not overflow.
 const MOST_READS: u64 = 0x0000_ffff_ffff_ffff;
 
 /// The longest front of a character that is not whole.
@@ -28,8 +28,8 @@ const LONGEST_FRONT: usize = 3;
 
 /// The networks that the lines of the reader write, up to its end.
 ///
-/// A read that fails is told before all else, input that is not UTF-8 before a bad line: so after the first bad line
-/// the rest is read without being kept. A line that fills the window is longer than any network's text.
+/// A failed read is reported before all else, and input that is not UTF-8 before a bad line. So after the first bad
+/// line the rest is read without being kept. A line that fills the window is longer than any network's text.
 pub(crate) fn read_networks<R: Read>(
     alloc: Global,
     input: &mut R,
@@ -78,7 +78,7 @@ pub(crate) fn read_networks<R: Read>(
     Err(Failure::Unreadable)
 }
 
-/// How many of the bytes are taken at once: the lines at their front that have their end, or all where no more come.
+/// The length of the complete lines at the front of the bytes, or of all bytes if the input has ended.
 fn lines_len(bytes: &[u8], more: bool) -> usize
     ensures at_most { result ≤ length bytes.now }
     ensures all { more ≡ false → result ≡ length bytes.now }
@@ -95,7 +95,7 @@ fn lines_len(bytes: &[u8], more: bool) -> usize
     }
 }
 
-/// What is told where the line of this number is bad: the rest of the input is read, and has to be text.
+/// The failure to report if line `number` is bad. The rest of the input is read, and must be UTF-8.
 fn after_bad_line<R: Read>(window: &mut Window, input: &mut R, number: usize) -> Failure
     ensures line { (line : ℕ) → result ≡ Failure.Line line → (line ≡ number)
         × IsTextLeft (held window.old) (R.remaining input.old) (R.remaining input.new) }
@@ -120,7 +120,7 @@ fn after_bad_line<R: Read>(window: &mut Window, input: &mut R, number: usize) ->
     Failure::Unreadable
 }
 
-/// What is told of input that is not UTF-8: the rest is read all the same, as a read that fails is told first.
+/// The failure to report if the input is not UTF-8. The rest is read, because a failed read is reported first.
 fn after_bad_bytes<R: Read>(window: &mut Window, input: &mut R) -> Failure
     ensures { (result ≡ NotUtf8) ⊎ (result ≡ Unreadable) }
 {

@@ -11,8 +11,8 @@ pub(crate) trait Join: Copy + Ord {
     /// The network that a value stands for.
     ghost network: { Self → Network };
 
-    /// One network with exactly the addresses of this one and of the other, where the other lies in this one or is the
-    /// other half of its supernet.
+    /// One network with exactly the addresses of this one and of the other, if this one contains the other or the two
+    /// are the halves of their supernet.
     fn joined(&self, other: &Self) -> Option<Self>
         ensures { IfSome result (λ whole.
             HaveSameCover (network whole ∷ []) (network self.now ∷ network other.now ∷ [])) };
@@ -50,8 +50,8 @@ impl Join for Ipv6Net {
     }
 }
 
-/// Appends a network, joined with the last ones as far as they can be: most lists that people keep are in order, and
-/// then take the memory of their answer, not that of all their lines.
+/// Appends a network, and merges it with its predecessors as far as possible. Most lists that people keep are sorted,
+/// so this keeps memory near the size of the result.
 pub(crate) fn push_joined<N: Join>(list: &mut Vec<N>, network: N) -> Result<(), AllocError>
     ensures { OnOk result (HaveSameCover (map N.network list.new.items)
         (map N.network list.old.items ++ N.network network ∷ [])) }

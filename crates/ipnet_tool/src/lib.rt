@@ -1,5 +1,5 @@
-//! Lists of networks as text, one network a line, into the shortest list of the same addresses: the calls on texts,
-//! and the program over any reader and writers.
+//! Aggregates lists of networks in text, one network per line: the calls on texts, and the program over any reader and
+//! writers.
 #![tactic(auto)]
 
 mod answer;

@@ -1,4 +1,4 @@
-//! Writing.
+//! Writes all bytes of a slice to a writer.
 ghost use Rattle.std.specs.Prelude.{ℕ, List, OnOk};
 ghost use Rattle.std.specs.Io.{StartsWith};
 ghost use Rattle.std.specs.Io.KnownBytes.{Appends};
@@ -8,16 +8,16 @@ use std::io::{ErrorKind, Write};
 
 /// Writes all the bytes, and does not flush.
 ///
-/// A write that was interrupted is made again. Where one fails otherwise, the writer has taken a front of the bytes,
-/// and its error is given; a writer that takes no byte gives `WriteZero`. `write_all` of the standard library does the
-/// same, and promises nothing of what stands on the output after an error.
+/// An interrupted write is repeated. If a write fails otherwise, the writer has taken a front of the bytes, and its
+/// error is returned; a writer that takes no byte gives `WriteZero`. `write_all` of the standard library does the same,
+/// but does not promise which bytes were written before an error.
 ///
 /// ```text
 /// "10.0.0.0/8\n" to a writer that takes four bytes and then fails: its error, and "10.0" is written
 /// ```
 //
-// A loop is proved to end, and a writer may be interrupted again and again: so it counts, up to more calls than any run
-// makes.
+// The loop must provably end, although a writer may be interrupted again and again. So it counts up to more calls than
+// any run makes.
 pub fn write_whole<W: Write>(out: &mut W, bytes: &[u8]) -> io::Result<()>
     ensures whole { OnOk result (Appends (W.contents out.old) (W.contents out.new) bytes.now) }
     ensures front { (front : List ℕ) × StartsWith bytes.now front

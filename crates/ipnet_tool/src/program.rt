@@ -50,7 +50,7 @@ pub enum Failure {
 impl Failure {
     ghost use Rattle.ipnet_tool.specs.Statuses.{status_of};
 
-    /// The exit status that tells of this failure.
+    /// The exit status for this failure.
     fn status(self) -> u8
         ensures { result ≡ status_of self }
     {
@@ -62,11 +62,11 @@ impl Failure {
     }
 }
 
-/// Runs the program, and answers its exit status.
+/// Runs the program, and returns its exit status.
 ///
-/// It reads networks from `input` up to its end, one a line, and writes their aggregate to `out`, one network a line.
-/// With the one argument `legacy` the lines are read by the legacy grammar. An error is reported on `faults` in one
-/// line; if that write fails, the status is the same.
+/// It reads networks from `input` up to its end, one per line, and writes their aggregate to `out`, one network per
+/// line. With the one argument `legacy`, it reads the lines by the legacy grammar. An error is reported on `faults` in
+/// one line; if that write fails, the status is the same.
 ///
 /// | Status | On `faults` | When, in this order |
 /// |---|---|---|
@@ -126,13 +126,13 @@ fn chosen(args: &[String]) -> Option<Grammar>
     }
 }
 
-/// The arguments that the system gives, without the program's own name, which stands first.
+/// The arguments that the system passed, without the program's own name, which comes first.
 ///
-/// One that is not UTF-8 is refused as any other word is, with `Arguments`; where there is no memory for them the
-/// error is `Memory`.
+/// An argument that is not UTF-8 is refused with `Arguments`, like any other word. If memory runs out, the error is
+/// `Memory`.
 ///
 /// ```text
-/// of the words  ipnet legacy  the arguments are  legacy
+/// the words  ipnet legacy  have the arguments  legacy
 /// ```
 pub fn arguments<R: Env + AllocGlobal>(rt: &R) -> Result<Vec<String>, Failure>
     ensures { IfErr result (λ failure. (failure ≡ Arguments) ⊎ (failure ≡ Memory)) }
@@ -147,7 +147,7 @@ pub fn arguments<R: Env + AllocGlobal>(rt: &R) -> Result<Vec<String>, Failure>
     }
 }
 
-/// The words without the first, where there is one.
+/// The words without the first, if there is one.
 fn after_name(words: IntoIter<String>) -> IntoIter<String>
     ensures { into_iter_items result ≡ drop 1 (into_iter_items words) }
 {

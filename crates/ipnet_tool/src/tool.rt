@@ -1,4 +1,4 @@
-//! The text tool: a list of networks, one a line, into the shortest list of the same addresses.
+//! The text tool: it replaces a list of networks, one per line, by the shortest list with the same addresses.
 ghost use Rattle.std.specs.Prelude.{◌≡◌, ℕ, ◌<◌, ◌≤◌, ◌+◌, [], ◌∷◌, List, ◌++◌, map, length, All};
 ghost use Rattle.std.specs.Prelude.{Err, IsOk, IfOk, IsOkAnd, OnOk, IfSome};
 ghost use Rattle.std.specs.Prelude.{string_bytes};
@@ -21,7 +21,8 @@ use thiserror::Error;
 
 pub mod laws;
 
-/// Why a text has no answer. The text of a bad line has its number in decimal; that of `Memory` is `out of memory`.
+/// The reason why a text has no answer. For a bad line the text has its number in decimal; for `Memory` it is
+/// `out of memory`.
 ///
 /// ```text
 /// "10.0.0.0/24\n\nx\n" gives Line(3), whose text is  line 3: invalid IP address syntax
@@ -37,15 +38,15 @@ pub enum ToolError {
     Memory,
 }
 
-/// The shortest list of networks that cover exactly the addresses of the text's networks, in canonical text, one a
+/// The shortest list of networks that cover exactly the addresses of the text's networks, in canonical text, one per
 /// line.
 ///
-/// The text is cut at each "\n"; what stands after the last is a line too, unless it is empty. Empty lines
+/// The text is cut at each "\n"; the text after the last one is a line too, unless it is empty. Empty lines
 /// are skipped, and each other line is read as [`IpNet`] by the strict grammar. The answer has the maximal
 /// aligned blocks of the addresses, IPv4 first, ascending, each followed by "\n". The first bad line is
-/// refused with its number; if memory runs out before that line is reached, the error is `Memory`. Where only empty
-/// lines stand before it, no memory is needed. A text of empty lines alone, or of none, has an empty answer, and takes
-/// no memory.
+/// refused with its number; if memory runs out before that line is reached, the error is `Memory`. If only empty
+/// lines come before it, no memory is needed. A text that is empty, or has only empty lines, has an empty answer, and
+/// needs no memory.
 ///
 /// ```text
 /// aggregate_text(alloc, "10.0.1.0/24\n\n10.0.0.0/24")  is  Ok("10.0.0.0/23\n")
@@ -88,7 +89,7 @@ fn answer_to(alloc: Global, text: &str, grammar: Grammar) -> Result<String, Tool
     Ok(answer)
 }
 
-/// The first line of a text that is not empty, and what stands after its end.
+/// The first line of a text that is not empty, and the text after its end.
 fn first_line(text: &str) -> (&str, &str)
     requires { 0 < length text.now }
     ensures lines { lines_of text.now ≡ result.0.now ∷ lines_of result.1.now }
@@ -123,7 +124,7 @@ impl Families {
         }
     }
 
-    /// Puts one network more to those of its family.
+    /// Adds the network to the list of its family.
     fn push(&mut self, network: IpNet) -> Result<(), AllocError>
         ensures { OnOk result (HaveSameCover (networks_of self.new) (networks_of self.old ++ ip_network network ∷ [])) }
     {
@@ -133,8 +134,8 @@ impl Families {
         }
     }
 
-    /// Puts the networks that the lines of the text write to the others, up to the end or to the first bad line, and
-    /// answers how many lines there are, with so many before this text.
+    /// Adds the networks of the lines, up to the first bad one. `before` lines come earlier; returns the total
+    /// number of lines.
     pub(crate) fn push_lines(
         &mut self,
         before: usize,
@@ -182,7 +183,7 @@ impl Families {
     }
 }
 
-/// The canonical texts of the networks, one a line, IPv4 first.
+/// The canonical texts of the networks, one per line, IPv4 first.
 fn printed(alloc: Global, families: &Families) -> Result<String, AllocError>
     ensures empty { networks_of families.now ≡ [] → IsOk result }
     ensures text { IfOk result (λ text. string_bytes text ≡ text_of_lines (networks_of families.now)) }

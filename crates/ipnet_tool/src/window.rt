@@ -1,4 +1,4 @@
-//! The bytes that were read and are not taken yet.
+//! The bytes that were read and not yet processed.
 ghost use Rattle.std.specs.Prelude.{◌≡◌, ℕ, ◌<◌, ◌≤◌, List, [], ◌++◌, length, drop, IfOk, IfErr, OnOk, false};
 ghost use Rattle.std.specs.Io.KnownBytes.{Consumes, IsAtEnd};
 ghost use Rattle.ipnet_tool.specs.declared.program.Failure.TheVariants.{Unreadable};
@@ -33,7 +33,7 @@ impl Window {
         }
     }
 
-    /// What the window holds.
+    /// The bytes in the window.
     pub(crate) fn held(&self) -> &[u8]
         ensures value { result.now ≡ held self.now }
         ensures fits { length result.now ≤ 65536 }
@@ -41,7 +41,7 @@ impl Window {
         &self.bytes[self.start..self.end]
     }
 
-    /// Takes the first bytes, so many.
+    /// Discards the first `count` bytes.
     pub(crate) fn take(&mut self, count: usize)
         requires { count ≤ length (held self.old) }
         ensures { held self.new ≡ drop count (held self.old) }
@@ -60,11 +60,11 @@ impl Window {
         self.end = end - start;
     }
 
-    /// Reads once, behind what the window holds, and answers whether the reader gave anything: where it gave nothing,
-    /// it is at its end. A read that was interrupted is made again.
+    /// Reads once, after the bytes in the window, and returns whether the reader returned any bytes. If it returned
+    /// none, it is at its end. An interrupted read is repeated.
     //
-    // A loop is proved to end, and a reader may be interrupted again and again: so it counts, up to more calls than any
-    // run makes.
+    // The loop must provably end, although a reader may be interrupted again and again. So it counts up to more calls
+    // than any run makes.
     pub(crate) fn fill<R: Read>(&mut self, input: &mut R) -> Result<bool, Failure>
         requires { length (held self.old) < 65536 }
         ensures read { OnOk result ((more : List ℕ) × (held self.new ≡ held self.old ++ more)

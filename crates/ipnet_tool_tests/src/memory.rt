@@ -14,7 +14,7 @@ use test_support::memory::{
     Outcome, grow_stack, is_refused_and_answered, is_refused_then_answered, needs_no_memory,
 };
 
-/// The outcome of the text tool, where this answer or the bad line of this number is right.
+/// The outcome of the text tool, if this answer or the bad line of this number is right.
 fn text_outcome(answer: Result<String, ToolError>, wanted: Result<&str, usize>) -> Outcome {
     match &answer {
         Ok(text) if wanted == Ok(text.as_str()) => Outcome::Answered,
@@ -59,7 +59,7 @@ fn text_tool(rt: HostRuntime) -> Result<(), Fail> {
 /// A line that is longer than the window into which input is read.
 const LONG_LINE: [u8; 70_000] = [b'x'; 70_000];
 
-/// The outcome of a run of the program on the bytes, where these ends are right.
+/// The outcome of a run of the program on the bytes, if these ends are right.
 fn program_outcome(alloc: Global, bytes: &[u8], wanted: Ends) -> Outcome {
     let mut input = ByteReader::whole(bytes);
     let mut out = ArrayWriter::whole();

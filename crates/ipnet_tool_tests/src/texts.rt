@@ -51,7 +51,7 @@ fn texts(rt: HostRuntime) -> Result<(), Fail> {
             joined,
         ),
         ("nothing", "", Ok(""), Ok("")),
-        ("empty lines alone", "\n\n", Ok(""), Ok("")),
+        ("only empty lines", "\n\n", Ok(""), Ok("")),
         (
             "a bad line after an empty one",
             "10.0.0.0/24\n\nx\n",

@@ -1,4 +1,5 @@
 //! The command line: which lists are read, and what is asked of them.
+use crate::version::VERSION;
 use clap::{Arg, ArgAction, ArgMatches, Command, Error};
 use ipnet::Grammar;
 use netset_lists::{Families, Form, Operation, Query, Request, Side};
@@ -202,7 +203,7 @@ fn with_queries<'a>(alloc: Global, command: Command<'a>) -> Result<Command<'a>, 
 /// The command line of the program.
 fn command<'a>(alloc: Global) -> Result<Command<'a>, AllocError> {
     let command = Command::new(alloc, "netset")
-        .version("1.0.0")
+        .version(VERSION)
         .about("Combines and compares lists of networks, addresses and ranges")
         .subcommand_required(true)
         .arg_required_else_help(true);

@@ -3,6 +3,7 @@
 
 mod arguments;
 mod lists;
+mod version;
 
 use crate::arguments::{ArgumentFailure, Call, Work, call_of, matches_of, words};
 use crate::lists::read_lists;

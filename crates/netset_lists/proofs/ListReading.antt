@@ -2,10 +2,7 @@
 use Rattle.std.proofs.Common.{◌≡◌, ℕ, ◌+◌, ◌<◌, ◌≤◌, ◌↔◌, List, [], ◌∷◌, ◌++◌, length, map, refl, sym, ap, ◌∙◌}
 use Rattle.std.proofs.Common.{arith, inl, inr, subst, append_assoc, append-nil, Option, Some, None, IfSome}
 use Rattle.ipnet_base.proofs.ListLaws.{contains_nil}
-use Rattle.ipnet_base.proofs.CoverLaws.{cover_nil}
 use Rattle.ipnet_base.specs.Address.{Address}
-use Rattle.ipnet_base.specs.Network.{Network}
-use Rattle.ipnet_base.specs.Blocks.{IsCoveredBy}
 use Rattle.ipnet_base.specs.Ranges.{AddressRange}
 use Rattle.ipnet.specs.declared.parser.Grammar.{Grammar}
 use Rattle.ipnet.specs.Lines.{lines_of}
@@ -20,7 +17,7 @@ use Rattle.netset_lists.specs.FoundEntry.{found_range, found_entry}
 use Rattle.netset_lists.specs.Lists.{after_mark, held_text, ListEntry, Refusal, AreRead, IsListRead, IsInEntries}
 use Rattle.netset_lists.specs.Reading.{HasMore, AddsRange, AreLinesRead, IsReadTo, IsReadFrom, WasRead}
 use Rattle.netset_lists.specs.Reading.{WasReadAs}
-use Rattle.netset_lists.proofs.OperationLaws.{any_push}
+use Rattle.ipnet_sets.proofs.JoinLaws.{any_push}
 use Rattle.netset_lists.proofs.RefusalLaws.{HasMore-nil, HasMore-trans}
 
 -- ---- one line more
@@ -148,15 +145,15 @@ module _ (grammar : Grammar) (list : ℕ) where
 pub no_entry : (x : Address) → IsInEntries [] x → ⊥
 no_entry x h = contains_nil h.1 (h.0, h.2, h.3)
 
--- what covers no entry
-pub covers_none : (x : Address) → IsCoveredBy [] x ↔ IsInEntries [] x
-covers_none x = (λ h. absurd (cover_nil x h), λ h. absurd (no_entry x h))
+-- what has no address has those of no entry
+pub has_none : (Has : Address → Type 0) → ((x : Address) → ¬ (Has x)) → (x : Address) → Has x ↔ IsInEntries [] x
+has_none Has none x = (λ h. absurd (none x h), λ h. absurd (no_entry x h))
 
--- networks with the addresses of one entry more
-pub covers_more : (networks wider : List Network) (entries : List ListEntry) (e : ListEntry)
-    → ((x : Address) → IsCoveredBy networks x ↔ IsInEntries entries x) → AddsRange networks e.range wider
-    → (x : Address) → IsCoveredBy wider x ↔ IsInEntries (entries ++ e ∷ []) x
-covers_more networks wider entries e same adds x =
+-- the addresses of one entry more
+pub has_more : (Has Wider : Address → Type 0) (entries : List ListEntry) (e : ListEntry)
+    → ((x : Address) → Has x ↔ IsInEntries entries x) → AddsRange Has e.range Wider
+    → (x : Address) → Wider x ↔ IsInEntries (entries ++ e ∷ []) x
+has_more Has Wider entries e same adds x =
     let more = any_push (λ y. IsInRange y.range x) entries e in (
       λ h. more.1 (elim ((adds x).0 h) [ inl a ↦ inl ((same x).0 a) | inr b ↦ inr b ]),
       λ h. (adds x).1 (elim (more.0 h) [ inl a ↦ inl ((same x).1 a) | inr b ↦ inr b ]),
@@ -176,20 +173,20 @@ read_same grammar list bytes InSet Other old new same h = record {
   members = λ x. (λ o. (h.members x).0 ((same x).0 o), λ k. (same x).1 ((h.members x).1 k));
 }
 
--- the entries of a list that were read so far, and networks with their addresses
-pub record IsReadInto (grammar : Grammar) (list : ℕ) (bytes : List ℕ) (reader : EntryReader) (networks : List Network)
+-- the entries of a list that were read so far, and a set with their addresses
+pub record IsReadInto (grammar : Grammar) (list : ℕ) (bytes : List ℕ) (reader : EntryReader) (Has : Address → Type 0)
     (old new : RefusedLines) : Type 0 where
   pub entries : List ListEntry
   pub read : IsReadTo grammar list (after_mark bytes) 0 reader.rest.now reader.line entries old new
-  pub members : (x : Address) → IsCoveredBy networks x ↔ IsInEntries entries x
+  pub members : (x : Address) → Has x ↔ IsInEntries entries x
 
 -- the same where no entry came to the end of the list
 pub read_into_end : (grammar : Grammar) (list : ℕ) (bytes : List ℕ) (old_reader new_reader : EntryReader)
-    (networks : List Network) (old between new : RefusedLines)
-    → IsReadInto grammar list bytes old_reader networks old between
+    (Has : Address → Type 0) (old between new : RefusedLines)
+    → IsReadInto grammar list bytes old_reader Has old between
     → IsReadFrom grammar list old_reader new_reader [] between new → new_reader.rest.now ≡ []
-    → WasRead grammar list bytes (IsCoveredBy networks) old new
-read_into_end grammar list bytes old_reader new_reader networks old between new h last end = record {
+    → WasRead grammar list bytes Has old new
+read_into_end grammar list bytes old_reader new_reader Has old between new h last end = record {
   entries = h.entries;
   read =
       to_end grammar list bytes new_reader.rest.now new_reader.line h.entries old new end

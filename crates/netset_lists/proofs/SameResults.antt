@@ -13,9 +13,10 @@ use Rattle.netset_lists.specs.declared.operation.Operation.TheVariants.{Symmetri
 use Rattle.netset_lists.specs.declared.operation.Operation.TheVariants.{Complement}
 use Rattle.netset_lists.specs.Lists.{ListEntry, IsInEntries}
 use Rattle.netset_lists.specs.ListSets.{HaveMembers}
-use Rattle.netset_lists.specs.Operations.{IsInSome, IsInEach, IsInFirstAlone, IsInOneAlone, IsInComplement, IsInResult}
+use Rattle.ipnet_sets.specs.ManySets.{IsInSome, IsInEach}
+use Rattle.netset_lists.specs.Operations.{IsInFirstAlone, IsInOneAlone, IsInComplement, IsInResult}
 use Rattle.netset_lists.specs.Operations.{IsChosen}
-use Rattle.netset_lists.proofs.OperationLaws.{some_none}
+use Rattle.ipnet_sets.proofs.ManyLaws.{some_none}
 
 -- both ways at once
 both : {A B C D : Type 0} → A ↔ B → C ↔ D → (A × C) ↔ (B × D)

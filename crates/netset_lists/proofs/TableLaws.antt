@@ -24,7 +24,7 @@ use Rattle.ipnet_sets.proofs.RouteLaws.{same_networks, all_valid}
 use Rattle.netset_lists.specs.Entries.{block_range}
 use Rattle.netset_lists.specs.Lists.{ListEntry}
 use Rattle.netset_lists.specs.Routing.{IsTruncatedOne, AddsMaximal, AreTableNetworks, InTable}
-use Rattle.netset_lists.proofs.OperationLaws.{any_push}
+use Rattle.ipnet_sets.proofs.JoinLaws.{any_push}
 use Rattle.netset_lists.proofs.RangeCovers.{whole_block}
 
 -- ---- the fewest networks of a range

@@ -1,7 +1,8 @@
 -- The operations on lists, by the addresses of each list. `In` is the addresses of a list: `IsInEntries` for its
 -- entries, and `IsMember` for a set in private contracts.
-use Rattle.std.specs.Prelude.{◌≡◌, ◌⊎◌, ◌≤◌, ⊤, ℕ, List, [], ◌∷◌, All, Any}
+use Rattle.std.specs.Prelude.{◌≡◌, ◌⊎◌, ◌≤◌, ⊤, ℕ, List, [], ◌∷◌, All}
 use Rattle.ipnet_base.specs.Address.{Family, IPv4, IPv6, Address, IsAddress}
+use Rattle.ipnet_sets.specs.ManySets.{IsInSome, IsInEach}
 use Rattle.netset_lists.specs.declared.operation.Families.{Families}
 use Rattle.netset_lists.specs.declared.operation.Families.TheVariants.{Named, Ipv4, Ipv6, Both}
 use Rattle.netset_lists.specs.declared.operation.Operation.{Operation}
@@ -16,15 +17,6 @@ IsCountFor Intersection n = 2 ≤ n
 IsCountFor Difference n = 2 ≤ n
 IsCountFor SymmetricDifference n = n ≡ 2
 IsCountFor (Complement families) n = n ≡ 1
-
--- The addresses of any list.
-abbrev pub IsInSome : {L : Type 0} → (L → Address → Type 0) → List L → Address → Type 0
-IsInSome In lists x = Any (λ l. In l x) lists
-
--- The addresses that are in every list. Example: 10.0.0.4 to 10.0.0.5 for `10.0.0.0-10.0.0.5` and `10.0.0.4-10.0.0.9`.
-abbrev pub IsInEach : {L : Type 0} → (L → Address → Type 0) → List L → Address → Type 0
-IsInEach In [] x = ⊥
-IsInEach In (first ∷ others) x = In first x × All (λ l. In l x) others
 
 -- The addresses of the first list that are in no other list.
 abbrev pub IsInFirstAlone : {L : Type 0} → (L → Address → Type 0) → List L → Address → Type 0

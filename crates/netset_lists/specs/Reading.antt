@@ -1,9 +1,7 @@
--- The private steps of reading lists: what they add to the networks and to the refused lines.
+-- The private steps of reading lists: what they add to the addresses and to the refused lines.
 -- Only private contracts use these.
 use Rattle.std.specs.Prelude.{◌≡◌, ◌⊎◌, ◌↔◌, ℕ, ◌+◌, List, ◌++◌, length, map, take}
 use Rattle.ipnet_base.specs.Address.{Address}
-use Rattle.ipnet_base.specs.Network.{Network}
-use Rattle.ipnet_base.specs.Blocks.{IsCoveredBy}
 use Rattle.ipnet_base.specs.Ranges.{AddressRange}
 use Rattle.ipnet.specs.declared.parser.Grammar.{Grammar}
 use Rattle.ipnet.specs.Lines.{lines_of}
@@ -35,9 +33,9 @@ pub record IsReadTo (grammar : Grammar) (list : ℕ) (rest : List ℕ) (line : �
 abbrev pub IsReadFrom : Grammar → ℕ → EntryReader → EntryReader → List ListEntry → RefusedLines → RefusedLines → Type 0
 IsReadFrom grammar list old new = IsReadTo grammar list old.rest.now old.line new.rest.now new.line
 
--- The networks cover one more range.
-abbrev pub AddsRange : List Network → AddressRange → List Network → Type 0
-AddsRange old range new = (x : Address) → IsCoveredBy new x ↔ (IsCoveredBy old x ⊎ IsInRange range x)
+-- The new set has the addresses of the old one, and those of one more range.
+abbrev pub AddsRange : (Address → Type 0) → AddressRange → (Address → Type 0) → Type 0
+AddsRange Old range New = (x : Address) → New x ↔ (Old x ⊎ IsInRange range x)
 
 -- The whole list was read: it has these entries, and its refused lines are added.
 pub record WasReadAs (grammar : Grammar) (list : ℕ) (bytes : List ℕ) (entries : List ListEntry)

@@ -2,10 +2,9 @@
 ghost use Rattle.std.specs.Prelude.{◌≡◌, ◌↔◌, ◌∷◌, [], IfOk, IsTrue, length};
 ghost use Rattle.ipnet_base.specs.Address.{IPv4, IPv6, Address, IsAddress, ip_address};
 ghost use Rattle.ipnet_sets.specs.Members.{IsMember, IsFromTo};
-ghost use Rattle.netset_lists.specs.Operations.{IsInSome, IsInEach, IsInFirstAlone, IsInOneAlone, IsInComplement};
+ghost use Rattle.netset_lists.specs.Operations.{IsInFirstAlone, IsInOneAlone, IsInComplement};
 ghost use Rattle.netset_lists.specs.Operations.{IsInResult};
 ghost use Rattle.netset_lists.specs.Operations.{IsChosen, IsCountFor};
-ghost use Rattle.netset_lists.specs.declared.operation.Families.TheVariants.{Named};
 
 use ipnet::{IpAddr, Ipv4Addr, Ipv6Addr};
 use ipnet_sets::IpSet;
@@ -68,33 +67,11 @@ impl Operation {
     }
 }
 
-/// The addresses of all sets.
-fn union_of(alloc: Global, sets: &[IpSet]) -> Result<IpSet, AllocError>
-    ensures { IfOk result (λ s. (x : Address) → IsMember s x ↔ IsInSome IsMember sets.now x) }
-{
-    let mut whole = IpSet::new(alloc);
-    for set in sets {
-        whole = whole.union(alloc, set)?;
-    }
-    Ok(whole)
-}
-
-/// The addresses that are in the first set and in all others.
-fn intersection_of(alloc: Global, first: &IpSet, others: &[IpSet]) -> Result<IpSet, AllocError>
-    ensures { IfOk result (λ s. (x : Address) → IsMember s x ↔ IsInEach IsMember (first.now ∷ others.now) x) }
-{
-    let mut shared = first.union(alloc, &IpSet::new(alloc))?;
-    for set in others {
-        shared = shared.intersection(alloc, set)?;
-    }
-    Ok(shared)
-}
-
 /// The addresses of the first set that are in none of the others.
 fn difference_of(alloc: Global, first: &IpSet, others: &[IpSet]) -> Result<IpSet, AllocError>
     ensures { IfOk result (λ s. (x : Address) → IsMember s x ↔ IsInFirstAlone IsMember (first.now ∷ others.now) x) }
 {
-    let taken = union_of(alloc, others)?;
+    let taken = IpSet::union_all(alloc, others)?;
     first.difference(alloc, &taken)
 }
 
@@ -103,19 +80,9 @@ fn takes_ipv4(families: Families, set: &IpSet) -> bool
     ensures { IsTrue result ↔ IsChosen IsMember families set.now IPv4 }
 {
     match families {
-        Families::Named => set.ipv4_count() != 0,
+        Families::Named => set.has_ipv4(),
         Families::Ipv4 | Families::Both => true,
         Families::Ipv6 => false,
-    }
-}
-
-/// Whether the set has an IPv6 address.
-fn has_ipv6(set: &IpSet) -> bool
-    ensures { IsTrue result ↔ IsChosen IsMember Named set.now IPv6 }
-{
-    match set.ipv6_count() {
-        Some(count) => count != 0,
-        None => true,
     }
 }
 
@@ -124,7 +91,7 @@ fn takes_ipv6(families: Families, set: &IpSet) -> bool
     ensures { IsTrue result ↔ IsChosen IsMember families set.now IPv6 }
 {
     match families {
-        Families::Named => has_ipv6(set),
+        Families::Named => set.has_ipv6(),
         Families::Ipv6 | Families::Both => true,
         Families::Ipv4 => false,
     }
@@ -180,8 +147,8 @@ pub(crate) fn combined(
     ensures { IfOk result (λ s. (x : Address) → IsMember s x ↔ IsInResult IsMember operation sets.now x) }
 {
     match (operation, sets) {
-        (Operation::Union, sets) => union_of(alloc, sets),
-        (Operation::Intersection, [first, others @ ..]) => intersection_of(alloc, first, others),
+        (Operation::Union, sets) => IpSet::union_all(alloc, sets),
+        (Operation::Intersection, sets) => IpSet::intersection_all(alloc, sets),
         (Operation::Difference, [first, others @ ..]) => difference_of(alloc, first, others),
         (Operation::SymmetricDifference, [first, second]) => {
             first.symmetric_difference(alloc, second)

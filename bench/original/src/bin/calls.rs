@@ -300,7 +300,7 @@ fn longest_match(places: &HashMap<IpNet, u64>, address: IpAddr) -> u64 {
         .unwrap_or(0)
 }
 
-/// The routes to the networks in order, each with its position as value. Of equal networks only the last is kept.
+/// The routes to the networks in order, each with its position as value. If networks are equal, only the last is kept.
 fn routes(networks: &[IpNet]) -> u64 {
     let places = networks.iter().zip(0..).map(|(network, place)| (network.trunc(), place));
     let table = places.collect::<BTreeMap<IpNet, u64>>();

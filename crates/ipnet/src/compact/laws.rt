@@ -33,7 +33,7 @@ pub fn compact_errors_compare_by_value()
     ensures { EqualsExactly ⟦<CompactError as PartialEq>⟧.eq }
 {}
 
-/// The clone of the error is the error, and is never refused.
+/// The clone of the error is equal, and cloning never fails.
 pub fn compact_errors_clone()
     ensures { ClonesExactly ⟦<CompactError as Clone>⟧.is_clone ⟦<CompactError as Clone>⟧.is_infallible }
 {}

@@ -49,7 +49,7 @@ pub fn json_errors_compare_by_value()
     ensures { EqualsExactly ⟦<JsonError as PartialEq>⟧.eq }
 {}
 
-/// The clone of the error is the error, and is never refused.
+/// The clone of the error is equal, and cloning never fails.
 pub fn json_errors_clone()
     ensures { ClonesExactly ⟦<JsonError as Clone>⟧.is_clone ⟦<JsonError as Clone>⟧.is_infallible }
 {}

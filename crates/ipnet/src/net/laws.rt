@@ -1,5 +1,5 @@
 //! Laws of all values of the network types: `==`, the order and the hash depend on the network that a value represents,
-//! including host bits; the clone is the value; a network's netmask reads back as its prefix length; and which
+//! including host bits; the clone is the same value; a network's netmask reads back as its prefix length; and which
 //! addresses of a network are hosts, and how many.
 //!
 //! ```text
@@ -50,17 +50,17 @@ pub fn ip_nets_compare_by_network()
     ensures hash { (a b : IpNet) → HashesBy ip_network ⟦<IpNet as Hash>⟧.hash_input a b }
 {}
 
-/// The clone of an IPv4 network is the network, and is never refused.
+/// The clone of an IPv4 network is the same network, and cloning never fails.
 pub fn ipv4_nets_clone()
     ensures { ClonesExactly ⟦<Ipv4Net as Clone>⟧.is_clone ⟦<Ipv4Net as Clone>⟧.is_infallible }
 {}
 
-/// The clone of an IPv6 network is the network, and is never refused.
+/// The clone of an IPv6 network is the same network, and cloning never fails.
 pub fn ipv6_nets_clone()
     ensures { ClonesExactly ⟦<Ipv6Net as Clone>⟧.is_clone ⟦<Ipv6Net as Clone>⟧.is_infallible }
 {}
 
-/// The clone of a network of either family is the network, and is never refused.
+/// The clone of a network of either family is the same network, and cloning never fails.
 pub fn ip_nets_clone()
     ensures { ClonesExactly ⟦<IpNet as Clone>⟧.is_clone ⟦<IpNet as Clone>⟧.is_infallible }
 {}

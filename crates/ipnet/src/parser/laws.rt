@@ -20,7 +20,7 @@ pub fn grammars_compare_by_value()
     ensures { EqualsExactly ⟦<Grammar as PartialEq>⟧.eq }
 {}
 
-/// The clone of a grammar is the grammar, and is never refused.
+/// The clone of a grammar is the same grammar, and cloning never fails.
 pub fn grammars_clone()
     ensures { ClonesExactly ⟦<Grammar as Clone>⟧.is_clone ⟦<Grammar as Clone>⟧.is_infallible }
 {}
@@ -30,7 +30,7 @@ pub fn addr_parse_errors_compare_by_value()
     ensures { EqualsExactly ⟦<AddrParseError as PartialEq>⟧.eq }
 {}
 
-/// The clone of the error is the error, and is never refused.
+/// The clone of the error is equal, and cloning never fails.
 pub fn addr_parse_errors_clone()
     ensures { ClonesExactly ⟦<AddrParseError as Clone>⟧.is_clone ⟦<AddrParseError as Clone>⟧.is_infallible }
 {}

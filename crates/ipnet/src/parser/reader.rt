@@ -123,8 +123,8 @@ struct Run<'a> {
     ghost is_number: { number ≡ digits_value 16 digits.now },
 }
 
-// What each byte writes as a hexadecimal digit, and 16 where it writes none. By a table, since a branch on the kind of
-// a digit is one that a processor can't foretell.
+// The value of each byte as a hexadecimal digit, and 16 if it is none. A table, because a processor cannot predict a
+// branch on the kind of a digit.
 static HEX_DIGITS: [u8; 256] = [
     16, 16, 16, 16, 16, 16, 16, 16, 16, 16, 16, 16, 16, 16, 16, 16, 16, 16, 16, 16, 16, 16, 16, 16,
     16, 16, 16, 16, 16, 16, 16, 16, 16, 16, 16, 16, 16, 16, 16, 16, 16, 16, 16, 16, 16, 16, 16, 16,
@@ -358,8 +358,8 @@ impl<'a> Reader<'a> {
         let mut groups = ArrayVec::new();
         let mut run = first;
         'next_group: while groups.len() < room {
-            // What stands before a "." is an octet, also where its digits write a group: so this is asked first. Which
-            // number the same digits write in decimal is asked here alone, since most texts have no such octet.
+            // Text before a "." is an octet, even if its digits also write a group, so the dot is tested first. The
+            // digits are read as a decimal only here, because most texts have no such octet.
             if self.is_at_dot() {
                 // A dotted address stands for two groups.
                 if groups.len() + 1 == room {

@@ -18,8 +18,8 @@ use std::net::Ipv4Addr;
 /// 10.0.0.0 to 10.0.0.239, min_prefix_len 26: 10.0.0.0/26, 10.0.0.64/26, 10.0.0.128/26, 10.0.0.192/27, 10.0.0.224/28
 /// ```
 ///
-/// Walks compare by what they store, the start, then the end, then the minimum prefix length of what is left, and not
-/// by the networks that they still give: two walks that are over may differ.
+/// Walks compare by what they store: the start, then the end of the rest, then the minimum prefix length. They do not
+/// compare by the networks that they still yield, so two walks that have ended may differ.
 #[derive(Clone, Copy, PartialEq, Eq, PartialOrd, Ord, Hash, Debug)]
 pub struct Ipv4Subnets {
     /// The first number of what is left. It saturates at the last address of all.
@@ -81,9 +81,9 @@ fn largest_subnet_at(start: u32, end: u32, min_prefix_len: u32) -> Ipv4Net
 impl Ipv4Subnets {
     ghost use Rattle.ipnet.specs.SubnetsLeft.{IsWalkOf, ipv4_range_of, ipv4_subnet_range, ipv4_subnets_left};
 
-    /// The walk from the first address to the last, both of them in the range, by networks whose prefix length is
-    /// at least `min_prefix_len`. With a start above the end the walk gives nothing. Under the minimum
-    /// prefix length 0 a walk gives at most 62 networks.
+    /// The walk from the first address to the last, both of them in the range, by networks whose prefix length is at
+    /// least `min_prefix_len`. If the start is above the end, the walk yields nothing. With minimum prefix length 0, a
+    /// walk yields at most 62 networks.
     ///
     /// The caller sees to it that the minimum prefix length is at most 32, as by `min_prefix_len <= 32`.
     ///

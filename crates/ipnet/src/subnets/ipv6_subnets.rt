@@ -18,8 +18,8 @@ use std::net::Ipv6Addr;
 /// fd00:: to fd00::ef, min_prefix_len 122: fd00::/122, fd00::40/122, fd00::80/122, fd00::c0/123, fd00::e0/124
 /// ```
 ///
-/// Walks compare by what they store, the start, then the end, then the minimum prefix length of what is left, and not
-/// by the networks that they still give: two walks that are over may differ.
+/// Walks compare by what they store: the start, then the end of the rest, then the minimum prefix length. They do not
+/// compare by the networks that they still yield, so two walks that have ended may differ.
 #[derive(Clone, Copy, PartialEq, Eq, PartialOrd, Ord, Hash, Debug)]
 pub struct Ipv6Subnets {
     /// The first number of what is left. It saturates at the last address of all.
@@ -81,9 +81,9 @@ fn largest_subnet_at(start: u128, end: u128, min_prefix_len: u32) -> Ipv6Net
 impl Ipv6Subnets {
     ghost use Rattle.ipnet.specs.SubnetsLeft.{IsWalkOf, ipv6_range_of, ipv6_subnet_range, ipv6_subnets_left};
 
-    /// The walk from the first address to the last, both of them in the range, by networks whose prefix length is
-    /// at least `min_prefix_len`. With a start above the end the walk gives nothing. Under the minimum
-    /// prefix length 0 a walk gives at most 254 networks.
+    /// The walk from the first address to the last, both of them in the range, by networks whose prefix length is at
+    /// least `min_prefix_len`. If the start is above the end, the walk yields nothing. With minimum prefix length 0, a
+    /// walk yields at most 254 networks.
     ///
     /// The caller sees to it that the minimum prefix length is at most 128, as by `min_prefix_len <= 128`.
     ///

@@ -1,5 +1,5 @@
 //! Laws of all walks: `==`, the order and the hash depend on the stored ends and the minimum prefix length, and the
-//! clone is the value.
+//! clone is the same value.
 //!
 //! ```text
 //! 0.0.0.0 to 0.0.0.6 at 0 < 0.0.0.0 to 0.0.0.6 at 31 < 0.0.0.0 to 0.0.0.7 at 0 < :: to ::6 at 0
@@ -48,17 +48,17 @@ pub fn ip_walks_compare_by_range()
     ensures hash { (a b : IpSubnets) → HashesBy ip_subnet_range ⟦<IpSubnets as Hash>⟧.hash_input a b }
 {}
 
-/// The clone of a walk over an IPv4 range is the walk, and is never refused.
+/// The clone of a walk over an IPv4 range is the same walk, and cloning never fails.
 pub fn ipv4_walks_clone()
     ensures { ClonesExactly ⟦<Ipv4Subnets as Clone>⟧.is_clone ⟦<Ipv4Subnets as Clone>⟧.is_infallible }
 {}
 
-/// The clone of a walk over an IPv6 range is the walk, and is never refused.
+/// The clone of a walk over an IPv6 range is the same walk, and cloning never fails.
 pub fn ipv6_walks_clone()
     ensures { ClonesExactly ⟦<Ipv6Subnets as Clone>⟧.is_clone ⟦<Ipv6Subnets as Clone>⟧.is_infallible }
 {}
 
-/// The clone of a walk of either family is the walk, and is never refused.
+/// The clone of a walk of either family is the same walk, and cloning never fails.
 pub fn ip_walks_clone()
     ensures { ClonesExactly ⟦<IpSubnets as Clone>⟧.is_clone ⟦<IpSubnets as Clone>⟧.is_infallible }
 {}

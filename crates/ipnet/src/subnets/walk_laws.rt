@@ -18,22 +18,22 @@ ghost use Rattle.ipnet.specs.declared.subnets.IpSubnets.TheVariants.{V4, V6};
 use super::{IpSubnets, Ipv4Subnets, Ipv6Subnets};
 use crate::net::{IpNet, Ipv4Net, Ipv6Net};
 
-/// An IPv4 walk still gives the networks of the walk over the range that is left to it.
+/// The networks that an IPv4 walk still yields are the walk over its remaining range.
 pub fn ipv4_walk_is_of_its_range(subnets: Ipv4Subnets)
     ensures { IsWalkOf (ipv4_subnet_range subnets) (ipv4_subnets_left subnets) }
 {}
 
-/// An IPv6 walk still gives the networks of the walk over the range that is left to it.
+/// The networks that an IPv6 walk still yields are the walk over its remaining range.
 pub fn ipv6_walk_is_of_its_range(subnets: Ipv6Subnets)
     ensures { IsWalkOf (ipv6_subnet_range subnets) (ipv6_subnets_left subnets) }
 {}
 
-/// A walk of either family still gives the networks of the walk over the range that is left to it.
+/// The networks that a walk of either family still yields are the walk over its remaining range.
 pub fn ip_walk_is_of_its_range(subnets: IpSubnets)
     ensures { IsWalkOf (ip_subnet_range subnets) (ip_subnets_left subnets) }
 {}
 
-/// After `None` an IPv4 walk gives `None` at each call, and stores the same for good.
+/// After `None`, each call on an IPv4 walk returns `None`, and the walk stays the same.
 pub fn ipv4_walk_stays_over()
     ensures { (before between after : Ipv4Subnets) (first second : Option Ipv4Net) →
         IsSubnetStep ipv4_network ipv4_subnet_range ipv4_subnets_left before first between →
@@ -41,7 +41,7 @@ pub fn ipv4_walk_stays_over()
         IsNone first → IsNone second × (after ≡ before) }
 {}
 
-/// After `None` an IPv6 walk gives `None` at each call, and stores the same for good.
+/// After `None`, each call on an IPv6 walk returns `None`, and the walk stays the same.
 pub fn ipv6_walk_stays_over()
     ensures { (before between after : Ipv6Subnets) (first second : Option Ipv6Net) →
         IsSubnetStep ipv6_network ipv6_subnet_range ipv6_subnets_left before first between →
@@ -49,7 +49,7 @@ pub fn ipv6_walk_stays_over()
         IsNone first → IsNone second × (after ≡ before) }
 {}
 
-/// After `None` a walk gives `None` at each call, and stores the same for good.
+/// After `None`, each call on a walk returns `None`, and the walk stays the same.
 pub fn ip_walk_stays_over()
     ensures { (before between after : IpSubnets) (first second : Option IpNet) →
         IsSubnetStep ip_network ip_subnet_range ip_subnets_left before first between →
@@ -57,8 +57,8 @@ pub fn ip_walk_stays_over()
         IsNone first → IsNone second × (after ≡ before) }
 {}
 
-/// As an iterator an IPv4 walk gives the first of the networks that are left to it, and leaves the others; the
-/// call may be made at any time, and no more networks come than are left.
+/// As an iterator, an IPv4 walk returns the first remaining network, and keeps the others. The call may be made at any
+/// time, and returns no more networks than remain.
 pub fn ipv4_walk_gives_its_networks(old: Ipv4Subnets, answer: Option<Ipv4Net>, new: Ipv4Subnets)
     ensures next { ⟦<Ipv4Subnets as Iterator>⟧.next_gives old answer new
         ↔ YieldsFirstBy ipv4_network ipv4_subnets_left old answer new }
@@ -66,8 +66,8 @@ pub fn ipv4_walk_gives_its_networks(old: Ipv4Subnets, answer: Option<Ipv4Net>, n
     ensures count { ⟦<Ipv4Subnets as Iterator>⟧.remaining old ≡ item_count ipv4_subnets_left old }
 {}
 
-/// As an iterator an IPv6 walk gives the first of the networks that are left to it, and leaves the others; the
-/// call may be made at any time, and no more networks come than are left.
+/// As an iterator, an IPv6 walk returns the first remaining network, and keeps the others. The call may be made at any
+/// time, and returns no more networks than remain.
 pub fn ipv6_walk_gives_its_networks(old: Ipv6Subnets, answer: Option<Ipv6Net>, new: Ipv6Subnets)
     ensures next { ⟦<Ipv6Subnets as Iterator>⟧.next_gives old answer new
         ↔ YieldsFirstBy ipv6_network ipv6_subnets_left old answer new }
@@ -75,8 +75,8 @@ pub fn ipv6_walk_gives_its_networks(old: Ipv6Subnets, answer: Option<Ipv6Net>, n
     ensures count { ⟦<Ipv6Subnets as Iterator>⟧.remaining old ≡ item_count ipv6_subnets_left old }
 {}
 
-/// As an iterator a walk of either family gives the first of the networks that are left to it, and leaves the others;
-/// the call may be made at any time, and no more networks come than are left.
+/// As an iterator, a walk of either family returns the first remaining network, and keeps the others. The call may be
+/// made at any time, and returns no more networks than remain.
 pub fn ip_walk_gives_its_networks(old: IpSubnets, answer: Option<IpNet>, new: IpSubnets)
     ensures next { ⟦<IpSubnets as Iterator>⟧.next_gives old answer new
         ↔ YieldsFirstBy ip_network ip_subnets_left old answer new }

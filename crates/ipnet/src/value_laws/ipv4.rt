@@ -1,4 +1,4 @@
-//! Laws of given IPv4 networks: a caller passes the values, and knows the fact of them afterwards.
+//! Laws of given IPv4 networks: a caller passes the values, and may use the fact about them afterwards.
 ghost use Rattle.std.specs.Prelude.{◌≡◌, ◌+◌, ◌<◌, ◌≤◌, ◌⊎◌, ◌↔◌, ℕ, map, drop, slice_get, option_map};
 ghost use Rattle.std.specs.Prelude.{Contains, IfSome};
 ghost use Rattle.std.specs.Iterator.{SkipsThenYields};

@@ -8,10 +8,10 @@ use super::{Ipv4AddrRange, Ipv6AddrRange};
 use crate::addr::IpAddr;
 use std::iter::FusedIterator;
 
-/// The addresses of one family from a first to a last one, given in ascending order from the front and in
-/// descending order from the back.
+/// The addresses of one family from a first to a last one, in ascending order from the front and in descending order
+/// from the back.
 ///
-/// Two ranges are equal, and ordered, by their stored ends, and not by the addresses that they still give; an IPv4
+/// Two ranges are equal, and ordered, by their stored ends, and not by the addresses that they still yield; an IPv4
 /// range comes before every IPv6 range.
 ///
 /// ```text

@@ -9,10 +9,10 @@ ghost use Rattle.ipnet_base.specs.Ranges.{address_count, with_ends, IsNth, IsNth
 use crate::addr::{Ipv4Addr, ipv4_from_number};
 use std::iter::FusedIterator;
 
-/// The IPv4 addresses from a first to a last one, given in ascending order from the front and in descending
-/// order from the back.
+/// The IPv4 addresses from a first to a last one, in ascending order from the front and in descending order from the
+/// back.
 ///
-/// Two ranges are equal, and ordered, by their stored ends, and not by the addresses that they still give.
+/// Two ranges are equal, and ordered, by their stored ends, and not by the addresses that they still yield.
 ///
 /// ```text
 /// from 10.0.0.0 to 10.0.0.3:
@@ -23,8 +23,8 @@ use std::iter::FusedIterator;
 /// ```
 #[derive(Clone, Copy, PartialEq, Eq, PartialOrd, Ord, Hash, Debug)]
 pub struct Ipv4AddrRange {
-    /// The numbers `start..=end` are left. Once the last address was given, or `nth` or `nth_back` passed over all, the
-    /// two are 1 and 0; until then a range that was made with its start above its end keeps both.
+    /// The numbers `start..=end` are left. After the last address was returned, or `nth` or `nth_back` passed over all,
+    /// the two are 1 and 0; until then a range that was made with its start above its end keeps both.
     start: u32,
     /// The last number that is left, or 0 as described at `start`.
     end: u32,

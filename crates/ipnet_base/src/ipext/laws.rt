@@ -21,7 +21,7 @@ use std::fmt::Debug;
 use std::hash::Hash;
 use std::iter::FusedIterator;
 
-/// A range gives the addresses of its family between its ends, in ascending order, each once.
+/// A range lists the addresses of its family between its ends, in ascending order, each once.
 pub fn range_lists_what_lies_between()
     ensures members { (r : AddressRange) (x : Address) →
         Contains (addresses_of r) x ↔ IsBetween r.family r.start r.end x }
@@ -29,9 +29,9 @@ pub fn range_lists_what_lies_between()
     ensures count { (r : AddressRange) → length (addresses_of r) ≡ address_count r }
 {}
 
-/// Any mix of `next`, `next_back`, `nth` and `nth_back` gives addresses of the range, each at most once. If no call
-/// skips an address and one call has returned `None`, the calls gave each address exactly once. After `None`, every
-/// call returns `None`.
+/// Any mix of `next`, `next_back`, `nth` and `nth_back` returns addresses of the range, each at most once. If no call
+/// skips an address and one call has returned `None`, the calls have returned each address exactly once. After `None`,
+/// every call returns `None`.
 pub fn calls_give_each_address_once()
     ensures of_the_range { (r s : AddressRange) (steps : List Step) → IsRun r steps s →
         All (Contains (addresses_of r)) (given steps) }
@@ -68,17 +68,17 @@ pub fn ip_ranges_compare_by_ends()
     ensures hash { (a b : IpAddrRange) → HashesBy ip_range ⟦<IpAddrRange as Hash>⟧.hash_input a b }
 {}
 
-/// The clone of an IPv4 range is the range, and is never refused.
+/// The clone of an IPv4 range is the same range, and cloning never fails.
 pub fn ipv4_ranges_clone()
     ensures { ClonesExactly ⟦<Ipv4AddrRange as Clone>⟧.is_clone ⟦<Ipv4AddrRange as Clone>⟧.is_infallible }
 {}
 
-/// The clone of an IPv6 range is the range, and is never refused.
+/// The clone of an IPv6 range is the same range, and cloning never fails.
 pub fn ipv6_ranges_clone()
     ensures { ClonesExactly ⟦<Ipv6AddrRange as Clone>⟧.is_clone ⟦<Ipv6AddrRange as Clone>⟧.is_infallible }
 {}
 
-/// The clone of a range of either family is the range, and is never refused.
+/// The clone of a range of either family is the same range, and cloning never fails.
 pub fn ip_ranges_clone()
     ensures { ClonesExactly ⟦<IpAddrRange as Clone>⟧.is_clone ⟦<IpAddrRange as Clone>⟧.is_infallible }
 {}

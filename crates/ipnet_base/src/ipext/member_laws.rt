@@ -1,6 +1,6 @@
 //! The meaning of the ghost members of public traits for each implementation. The output of an arithmetic operation is
 //! the sum, the difference, or the bitwise operation, of the addresses' numbers. A range made from another range is
-//! that range. As an iterator, a range gives its addresses from both ends.
+//! that range. As an iterator, a range returns its addresses from both ends.
 //!
 //! A contract that names a ghost member, such as the contract of `IpAdd::saturating_add`, promises only what that
 //! member says; these laws state it in the words of `specs/`.
@@ -95,8 +95,8 @@ pub fn ip_range_from_is_same(ipv4: Ipv4AddrRange, ipv6: Ipv6AddrRange, range: Ip
     ensures from_ipv6 { ⟦<IpAddrRange as From<Ipv6AddrRange>>⟧.from_gives ipv6 range ↔ (range ≡ V6 ipv6) }
 {}
 
-/// As an iterator an IPv4 range gives, of the addresses that are left, the first from the front and the last from the
-/// back, and leaves the others; both calls may be made at any time, and as many addresses come as are left.
+/// As an iterator, an IPv4 range returns the first remaining address from the front and the last from the back, and
+/// keeps the others. Both calls may be made at any time, and each returns a remaining address until none is left.
 pub fn ipv4_range_gives_its_addresses(
     old: Ipv4AddrRange,
     answer: Option<Ipv4Addr>,
@@ -111,8 +111,8 @@ pub fn ipv4_range_gives_its_addresses(
     ensures count { ⟦<Ipv4AddrRange as Iterator>⟧.remaining old ≡ at_most (address_count (ipv4_range old)) }
 {}
 
-/// As an iterator an IPv6 range gives, of the addresses that are left, the first from the front and the last from the
-/// back, and leaves the others; both calls may be made at any time, and as many addresses come as are left.
+/// As an iterator, an IPv6 range returns the first remaining address from the front and the last from the back, and
+/// keeps the others. Both calls may be made at any time, and each returns a remaining address until none is left.
 pub fn ipv6_range_gives_its_addresses(
     old: Ipv6AddrRange,
     answer: Option<Ipv6Addr>,
@@ -127,8 +127,8 @@ pub fn ipv6_range_gives_its_addresses(
     ensures count { ⟦<Ipv6AddrRange as Iterator>⟧.remaining old ≡ at_most (address_count (ipv6_range old)) }
 {}
 
-/// As an iterator a range of either family gives, of the addresses that are left, the first from the front and the
-/// last from the back, and leaves the others; both calls may be made at any time, and as many addresses come as are
+/// As an iterator, a range of either family returns the first remaining address from the front and the last from the
+/// back, and keeps the others. Both calls may be made at any time, and each returns a remaining address until none is
 /// left.
 pub fn ip_range_gives_its_addresses(old: IpAddrRange, answer: Option<IpAddr>, new: IpAddrRange)
     ensures next { ⟦<IpAddrRange as Iterator>⟧.next_gives old answer new

@@ -14,7 +14,7 @@ pub fn prefix_len_errors_compare_by_value()
     ensures { EqualsExactly ⟦<PrefixLenError as PartialEq>⟧.eq }
 {}
 
-/// The clone of the error is the error, and is never refused.
+/// The clone of the error is equal, and cloning never fails.
 pub fn prefix_len_errors_clone()
     ensures { ClonesExactly ⟦<PrefixLenError as Clone>⟧.is_clone ⟦<PrefixLenError as Clone>⟧.is_infallible }
 {}

@@ -1,9 +1,9 @@
 //! The laws of all tables of routes: functions with nothing to run, whose contracts are the laws.
-ghost use Rattle.std.specs.Prelude.{◌≡◌, All, Contains};
+ghost use Rattle.std.specs.Prelude.{◌≡◌, ◌∷◌, List, All, Contains};
 ghost use Rattle.ipnet_base.specs.Address.{Address};
 ghost use Rattle.ipnet_base.specs.Blocks.{IsAscending};
 ghost use Rattle.ipnet_base.specs.Network.{IsNetwork, IsTruncated};
-ghost use Rattle.ipnet_sets.specs.Routes.{Route, networks_of, IsLongestMatch};
+ghost use Rattle.ipnet_sets.specs.Routes.{Route, networks_of, IsLongestMatch, AreMatches};
 ghost use Rattle.ipnet_sets.specs.RoutesOf.{routes_of};
 ghost use Rattle.ipnet_sets.specs.declared.routes.RouteTable.{RouteTable};
 
@@ -22,4 +22,10 @@ pub fn table_is_in_order<V>(table: &RouteTable<V>)
     ensures truncated { All IsTruncated (networks_of (routes_of table.now)) }
     ensures one_value { (r s : Route V) → Contains (routes_of table.now) r → Contains (routes_of table.now) s
         → r.0 ≡ s.0 → r ≡ s }
+{}
+
+/// The first of the matches of an address is its longest match.
+pub fn the_first_match_is_the_longest<V>()
+    ensures { (routes : List (Route V)) (x : Address) (first : Route V) (others : List (Route V))
+        → AreMatches routes x (first ∷ others) → IsLongestMatch routes x first }
 {}

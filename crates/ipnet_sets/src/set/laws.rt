@@ -3,10 +3,10 @@
 //!
 //! The laws of the operations speak of any sets that are a union, a complement and so on, as the contracts of the calls
 //! say that their answers are.
-ghost use Rattle.std.specs.Prelude.{◌≡◌, ℕ, ◌+◌, ◌^◌, ◌⊎◌, ◌↔◌, IsTrue, List, map, sum};
+ghost use Rattle.std.specs.Prelude.{◌≡◌, ℕ, ◌+◌, ◌^◌, ◌⊎◌, ◌↔◌, IsTrue, List, map, sum, All};
 ghost use Rattle.std.specs.declared.cmp.Ordering.TheVariants.{Equal};
 ghost use Rattle.ipnet_base.specs.Address.{Family, IPv4, IPv6, Address, width};
-ghost use Rattle.ipnet_base.specs.Network.{Network};
+ghost use Rattle.ipnet_base.specs.Network.{Network, IsNetwork};
 ghost use Rattle.ipnet_base.specs.Blocks.{AreMaximalBlocks, IsAggregateOf};
 ghost use Rattle.ipnet_base.specs.Ranges.{AddressRange, address_count};
 ghost use Rattle.ipnet_sets.specs.declared.set.IpSet.{IpSet};
@@ -32,6 +32,18 @@ pub fn sets_follow_addresses()
 pub fn networks_are_the_aggregate()
     ensures { (s : IpSet) (list networks : List Network) → HasAddressesOf s list
         → AreMaximalBlocks (IsMember s) 0 networks → IsAggregateOf networks list }
+{}
+
+/// A list and its aggregate make sets with the same addresses, and the networks of such a set are the aggregate, which
+/// has valid networks only.
+pub fn a_list_and_its_aggregate_make_one_set()
+    ensures set { (s t : IpSet) (list aggregate : List Network) → All IsNetwork list → IsAggregateOf aggregate list
+        → HasAddressesOf s list → HasAddressesOf t aggregate → HaveSameAddresses s t }
+    ensures networks { (t : IpSet) (list aggregate networks : List Network) → All IsNetwork list
+        → IsAggregateOf aggregate list → HasAddressesOf t aggregate → AreMaximalBlocks (IsMember t) 0 networks
+        → networks ≡ aggregate }
+    ensures valid { (list aggregate : List Network) → All IsNetwork list → IsAggregateOf aggregate list
+        → All IsNetwork aggregate }
 {}
 
 /// The complement of a union is the intersection of the complements (De Morgan).

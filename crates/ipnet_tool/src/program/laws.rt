@@ -1,4 +1,4 @@
-//! What holds of all failures of the program. The law is a function with nothing to run, whose contract is the law.
+//! Facts about all failures of the program. The law is a function with an empty body, whose contract is the fact.
 ghost use Rattle.ipnet.specs.Values.{ClonesExactly};
 
 use super::Failure;

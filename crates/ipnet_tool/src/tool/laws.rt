@@ -1,5 +1,5 @@
-//! What holds of all errors and answers of the text tool. Each law is a function with nothing to run, whose contract is
-//! the law.
+//! Facts about all errors and answers of the text tool. Each law is a function with an empty body, whose contract is
+//! the fact.
 ghost use Rattle.std.specs.Prelude.{ℕ, List, All};
 ghost use Rattle.ipnet.specs.declared.parser.Grammar.{Grammar};
 ghost use Rattle.ipnet.specs.Lines.{lines_of, IsGoodLine};

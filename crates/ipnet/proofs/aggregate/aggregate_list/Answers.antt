@@ -1,5 +1,5 @@
--- What is left in the front covers what the list covered, so its aggregate is that of the list, and all that is said of
--- aggregates follows.
+-- The front that is left covers the same addresses as the list, so it is the aggregate of the list, and all facts about
+-- aggregates follow.
 use Rattle.std.proofs.Common.{◌≡◌, All, map, take, drop, length, sym, subst, arith}
 use Rattle.ipnet_base.specs.Network.{IsNetwork, IsTruncated}
 use Rattle.ipnet_base.specs.Blocks.{IsCoveredBy, HaveSameCover}

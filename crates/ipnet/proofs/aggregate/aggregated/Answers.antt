@@ -1,5 +1,5 @@
--- The list covers what the input covers, so its aggregate is that of the input, and all that is said of aggregates
--- follows.
+-- The list covers the same addresses as the input, so its aggregate is the aggregate of the input, and all facts about
+-- aggregates follow.
 use Rattle.std.proofs.Common.{map, length, ap, arith}
 use Rattle.std.proofs.lemmas.List.{length-map, nil_from_length}
 use Rattle.ipnet_base.specs.Network.{IsNetwork}
@@ -20,7 +20,7 @@ returns-clause-aggregate g c =
     (AreMaximalBlocks-same_set (IsCoveredBy list) (IsCoveredBy given) 0 answer c.in_ok-list.ensures.addresses
     c.sort_and_sweep.ensures)
 
--- an aggregate is no longer than its list, so that of no networks has none
+-- an aggregate is no longer than its list, so the aggregate of no networks is empty
 pub returns-clause-empty : goal.returns-clause-empty
 returns-clause-empty g c e =
     let net = g.N.Net.network in

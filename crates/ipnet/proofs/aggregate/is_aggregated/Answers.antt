@@ -1,5 +1,5 @@
--- As long as each test passes, nothing is left to join in the networks read so far; where one fails, the list does not
--- show the four conditions, and so is not its own aggregate.
+-- As long as each test passes, nothing is left to join in the networks read so far. If a test fails, the list does not
+-- meet the four conditions, so it is not its own aggregate.
 use Rattle.std.proofs.Common.{map, subst, arith}
 use Rattle.std.proofs.lemmas.List.{take_all}
 use Rattle.ipnet_base.specs.Network.{IsNetwork}

@@ -1,4 +1,4 @@
--- A network has no host bit exactly where its number is that of its truncation.
+-- A network has no host bit if and only if its number is the number of its truncation.
 use Rattle.std.proofs.Common.{◌↔◌, IsTrue, eqb, sym, subst}
 use Rattle.ipnet_base.specs.Network.{IsTruncated}
 use Rattle.ipnet.specs.NetworkOf.{ipv4_network, ipv6_network, ip_network}

@@ -1,4 +1,4 @@
--- In one family the last number of the first, below the number of the second, tells that it lies before it.
+-- In one family, the first network lies before the second if its last number is below the number of the second.
 use Rattle.std.proofs.Common.{◌↔◌, IsTrue, ltb, refl, sym, subst₂}
 use Rattle.ipnet_base.specs.Stack.{LiesBefore}
 use Rattle.ipnet.specs.NetworkOf.{ipv4_network, ipv6_network, ip_network}

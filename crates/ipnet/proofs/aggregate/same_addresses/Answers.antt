@@ -1,4 +1,4 @@
--- Two lists have equal aggregates exactly where they cover the same addresses.
+-- Two lists have equal aggregates if and only if they cover the same addresses.
 use Rattle.ipnet.proofs.EqualLaws.{equal_tells_cover}
 use Rattle.ipnet.proofs.aggregate.same_addresses.Goals as goal
 

@@ -1,4 +1,4 @@
--- What the reader of both families read is an IPv6 network or none: a text writes one network at most.
+-- The reader of both families read one network or none, because a text writes at most one.
 use Rattle.std.proofs.Common.{◌≡◌, ◌∙◌, sym, ap, refl, inr}
 use Rattle.ipnet_base.specs.Address.{IPv4, IPv6}
 use Rattle.ipnet.specs.NetworkOf.{ipv4_network, ipv6_network}
@@ -8,7 +8,7 @@ use Rattle.ipnet.proofs.parser.ipv6_net.Goals as goal
 pub returns-in_default : goal.returns-in_default
 returns-in_default c = reads_ipv6 c.args.grammar c.args.text.now _ (λ n h. c.in_default.ensures.error.0 refl n (inr h))
 
--- the text writes one network alone, and that is of the other family
+-- the text writes only one network, and its family is the other one
 pub returns-in-V4 : goal.returns-in-V4
 returns-in-V4 c = reads_ipv6 c.args.grammar c.args.text.now _ λ n h.
     let same =

@@ -1,4 +1,5 @@
--- To be maximal in a set speaks of its members alone; covers and ranges can be decided, and so have a test.
+-- Whether a block is maximal depends only on the members of the set; covers and ranges can be decided, so they have
+-- a test.
 use Rattle.ipnet_base.specs.Address.{IsAcceptedBy, IsBetween}
 use Rattle.ipnet_base.specs.Blocks.{IsCoveredBy}
 use Rattle.ipnet_base.proofs.UniqueLaws.{AreMaximalBlocks-same_set}

@@ -1,4 +1,4 @@
--- What the rules permit they match.
+-- The rules match each network that they permit.
 use Rattle.std.proofs.Common.{Any, subst}
 use Rattle.ipnet_rules.specs.Rules.{Matches}
 use Rattle.ipnet_rules.proofs.VerdictLaws.{permit_matched}

@@ -3,7 +3,7 @@ use Rattle.std.proofs.Common.{◌<◌, length, map, arith}
 use Rattle.std.proofs.lemmas.List.{length-map}
 use Rattle.ipnet_sets.specs.Turns.{IsLeastInside}
 use Rattle.ipnet_sets.proofs.InsideLaws.{number_at, some_from_empty}
-use Rattle.ipnet_sets.proofs.ExtendLaws.{least_inside_at, least_shows_some}
+use Rattle.ipnet_sets.proofs.EndLaws.{least_inside_at, least_shows_some}
 use Rattle.ipnet_sets.proofs.turns.first.Goals as goal
 
 pub returns-clause-none : goal.returns-clause-none

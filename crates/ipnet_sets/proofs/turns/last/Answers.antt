@@ -5,7 +5,7 @@ use Rattle.std.proofs.lemmas.List.{length-map}
 use Rattle.ipnet_base.specs.Address.{greatest_number}
 use Rattle.ipnet_sets.specs.Turns.{IsGreatestInside}
 use Rattle.ipnet_sets.proofs.InsideLaws.{last_at, some_from_empty}
-use Rattle.ipnet_sets.proofs.ExtendLaws.{greatest_open, greatest_closed_at, last_above_zero, greatest_shows_some}
+use Rattle.ipnet_sets.proofs.EndLaws.{greatest_open, greatest_closed_at, last_above_zero, greatest_shows_some}
 use Rattle.ipnet_sets.proofs.turns.last.Goals as goal
 
 pub returns-then-turns-eq1-clause-none : goal.returns-then-turns-eq1-clause-none

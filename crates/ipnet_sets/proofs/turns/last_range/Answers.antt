@@ -4,7 +4,7 @@ use Rattle.std.proofs.lemmas.List.{length-map, take-map}
 use Rattle.ipnet_sets.specs.SetRanges.{range_of}
 use Rattle.ipnet_sets.specs.TurnRanges.{ranges_of, before_last}
 use Rattle.ipnet_sets.proofs.InsideLaws.{number_at, last_at, some_from_empty}
-use Rattle.ipnet_sets.proofs.ExtendLaws.{last_above_zero}
+use Rattle.ipnet_sets.proofs.EndLaws.{last_above_zero}
 use Rattle.ipnet_sets.proofs.RangeEndLaws.{last_open, last_closed, odd_from_not}
 use Rattle.ipnet_sets.proofs.turns.last_range.Goals as goal
 

@@ -1,5 +1,5 @@
--- Each loop keeps that what was written and what the piece holds is the text of the networks so far (`one_line_more`);
--- the second begins where the first has printed all of IPv4. A front of the piece makes a front of the whole text.
+-- Each loop keeps this: the written bytes and the piece are the text of the networks so far (`one_line_more`); the
+-- second loop begins after the first has printed all of IPv4. A front of the piece is a front of the whole text.
 use Rattle.std.proofs.Common.{◌≡◌, List, ℕ, [], ◌∷◌, ◌++◌, length, map, take, drop, take_all, refl, sym, ap, ◌∙◌, subst}
 use Rattle.std.proofs.Common.{append-nil, append_assoc, OnOk, Result, Ok, Err, ◌+◌, ◌≤◌}
 use Rattle.std.specs.Io.{StartsWith}
@@ -78,7 +78,7 @@ returns-in_err-push_line-2-clause-front g c =
     c.loop-network-2.piece.bytes (first ++ text) rest (text_of_lines (networks_of c.args.families.now))
     c.loop-network-2.invariant cut c.in_err-push_line-2.ensures.front
 
--- the text of all networks, where the second loop has gone through its list
+-- the text of all networks, after the second loop has gone through its list
 whole_text : (families : Families) (items : List Ipv6Net) (i : ℕ) → length items ≤ i → items ≡ families.ipv6.items
     → text_of_lines (map ipv4_network families.ipv4.items) ++ text_of_lines (map ipv6_network (take i items))
     ≡ text_of_lines (networks_of families)

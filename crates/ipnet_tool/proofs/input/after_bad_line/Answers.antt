@@ -1,5 +1,5 @@
--- In each turn the longest front of what is held that is UTF-8 is judged, and more is read behind the rest
--- (`judged_more`). Where nothing is left at the end, all was judged.
+-- In each turn the longest front of the window that is UTF-8 is judged, and more is read after the rest
+-- (`judged_more`). If nothing is left at the end, all was judged.
 use Rattle.std.proofs.Common.{◌≡◌, ◌≤◌, ◌++◌, [], length, take, take_all, sym, ap, ◌∙◌, subst, arith}
 use Rattle.std.proofs.Common.{IsUtf8}
 use Rattle.std.specs.Str.{valid_up_to}

@@ -1,5 +1,5 @@
--- In each turn more is read behind what is held (`read_more`), and its whole lines are taken (`piece_taken`). At the
--- end all is taken. A bad line is that of what was read so far, and what follows it is a text as well.
+-- In each turn more is read into the window (`read_more`), and its whole lines are taken (`piece_taken`). At the
+-- end all is taken. A bad line of a piece is a bad line of the text read so far, and the rest is a text as well.
 use Rattle.std.proofs.Common.{◌≡◌, ◌≢◌, ℕ, ◌+◌, ◌<◌, ◌≤◌, length, get_or, take, take_all, Err, sym}
 use Rattle.std.proofs.Common.{ap, ◌∙◌, subst, arith, IsUtf8, length-take}
 use Rattle.ipnet.specs.Lines.{lines_of, IsFirstBadLine}

@@ -4,8 +4,8 @@ use Rattle.ipnet_tool.specs.Window.{held}
 use Rattle.ipnet_tool.proofs.ReadingLaws.{IsReadUpTo}
 use Rattle.ipnet_tool.proofs.input.read_networks.Given as goal
 
--- What was read is what was taken and what the window holds; there is room behind it, and a turn takes no more lines
--- than the window has bytes.
+-- The bytes read are the bytes taken and the bytes in the window; the window has room for more, and a turn takes at
+-- most as many lines as the window has bytes.
 abbrev pub invariant-loop : goal.invariant-loop
 invariant-loop g l = record {
   taken : IsReadUpTo l.grammar (g.R.Read.remaining l.fn.input) (g.R.Read.remaining l.input) (held l.window)

@@ -1,5 +1,5 @@
--- A run that reads all, aggregates and writes is answered; one whose writing fails is cut short; one that tells a line
--- has read a text with that bad line.
+-- A run that reads all, aggregates and writes is answered; a run whose write fails is cut short; a run that reports a
+-- line has read a text with that bad line.
 use Rattle.std.proofs.Common.{◌≡◌, ℕ, inr, Err, refl, sym, ap, ◌∙◌, arith}
 use Rattle.ipnet_tool.specs.Answers.{text_of_lines}
 use Rattle.ipnet_tool.specs.Families.{networks_of}

@@ -1,5 +1,5 @@
 -- An answer is the lines' networks, aggregated and printed (`answer_from`). Memory runs out neither for a text of empty
--- lines nor where the first line that is not empty is bad, as each step promises.
+-- lines nor if the first line that is not empty is bad, as each step promises.
 use Rattle.std.proofs.Common.{◌≡◌, ◌+◌, ◌∙◌, ◌++◌, string_bytes, Ok, Err, Result, IsErrAnd, String, Global, sym}
 use Rattle.std.proofs.Common.{subst, ap, arith}
 use Rattle.std.proofs.lemmas.Bool.{false≢true}

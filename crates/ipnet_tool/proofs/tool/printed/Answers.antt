@@ -1,5 +1,5 @@
--- Each loop keeps that the text is that of the networks printed so far (`one_line_more`); the second begins where the
--- first has printed all of IPv4.
+-- Each loop keeps this: the text is the text of the networks printed so far (`one_line_more`); the second loop begins
+-- after the first has printed all of IPv4.
 use Rattle.std.proofs.Common.{◌≡◌, [], ◌++◌, length, map, string_bytes, sym, ap, ◌∙◌, append-nil, arith}
 use Rattle.std.proofs.lemmas.List.{take_all}
 use Rattle.ipnet.specs.NetworkOf.{ipv4_network, ipv6_network}

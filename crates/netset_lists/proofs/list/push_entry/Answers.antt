@@ -1,43 +1,39 @@
-use Rattle.std.proofs.Common.{map, sym, subst, ap, ◌∙◌}
-use Rattle.std.proofs.lemmas.List.{map_push}
-use Rattle.ipnet_base.specs.Address.{ip_address}
+use Rattle.std.proofs.Common.{◌≡◌, refl}
+use Rattle.std.proofs.lemmas.Result.{on_ok_weaker}
+use Rattle.ipnet_base.specs.Address.{ip_address, ipv4_address, ipv6_address}
+use Rattle.ipnet_base.specs.Network.{InBlock}
 use Rattle.ipnet.specs.NetworkOf.{ip_network}
-use Rattle.ipnet.specs.SubnetsLeft.{ipv4_subnets_left, ipv6_subnets_left}
-use Rattle.netset_lists.specs.EntryOf.{entry_range}
-use Rattle.netset_lists.specs.Reading.{AddsRange}
-use Rattle.netset_lists.proofs.RangeCovers.{adds_network, adds_address, adds_cover}
+use Rattle.ipnet_sets.specs.Members.{IsFromTo}
+use Rattle.ipnet_sets.specs.Pushed.{IsPushed}
+use Rattle.netset_lists.proofs.RangeCovers.{adds_same, block_in_range, address_in_range, from_to_in_range}
 use Rattle.netset_lists.proofs.list.push_entry.Goals as goal
 
-pub returns-in_ok-push-in-Network : goal.returns-in_ok-push-in-Network
-returns-in_ok-push-in-Network c =
-    let old = c.args.networks.now.items in
-    let new = c.push.new.self.items in
-    let n = c.in-Network.network in
-    subst (λ e. AddsRange (map ip_network old) (entry_range e) (map ip_network new)) (sym c.in-Network.is)
-    (adds_network (map ip_network old) (map ip_network new) (ip_network n)
-    (ap (map ip_network) c.in_ok-push-in-Network.ensures.items ∙ map_push ip_network old n))
+pub returns-in-Network : goal.returns-in-Network
+returns-in-Network c =
+    let n = ip_network c.in-Network.network in
+    rw c.in-Network.is (on_ok_weaker c.push_network.result
+    (λ same. adds_same (IsPushed c.args.builder.now) (IsPushed c.push_network.new.self) (InBlock n) _
+    (block_in_range n) same) c.push_network.ensures.added)
 
-pub returns-in_ok-push-in-Address : goal.returns-in_ok-push-in-Address
-returns-in_ok-push-in-Address c =
-    let old = c.args.networks.now.items in
-    let new = c.push-in-Address.new.self.items in
-    subst (λ e. AddsRange (map ip_network old) (entry_range e) (map ip_network new)) (sym c.in-Address.is)
-    (adds_address (map ip_network old) (map ip_network new) (ip_address c.in-Address.address)
-    (ip_network c.from.result) c.from.ensures
-    (ap (map ip_network) c.in_ok-push-in-Address.ensures.items ∙ map_push ip_network old c.from.result))
+pub returns-in-Address : goal.returns-in-Address
+returns-in-Address c =
+    let a = ip_address c.in-Address.address in
+    rw c.in-Address.is (on_ok_weaker c.push_address.result
+    (λ same. adds_same (IsPushed c.args.builder.now) (IsPushed c.push_address.new.self) (λ x. x ≡ a) _
+    (address_in_range a) same) c.push_address.ensures.added)
 
-pub returns-in_ok-push_walk-in-Ipv4Range : goal.returns-in_ok-push_walk-in-Ipv4Range
-returns-in_ok-push_walk-in-Ipv4Range c =
-    let old = map ip_network c.args.networks.now.items in
-    let new = map ip_network c.push_walk.new.networks.items in
-    subst (λ e. AddsRange old (entry_range e) new) (sym c.in-Ipv4Range.is)
-    (adds_cover old (ipv4_subnets_left c.new.result) new _ c.new.ensures.walk.shortest.exact.covers
-    c.in_ok-push_walk-in-Ipv4Range.ensures)
+pub returns-in-Ipv4Range : goal.returns-in-Ipv4Range
+returns-in-Ipv4Range c =
+    let first = ipv4_address c.in-Ipv4Range.first in
+    let last = ipv4_address c.in-Ipv4Range.last in
+    rw c.in-Ipv4Range.is (on_ok_weaker c.push_range.result
+    (λ same. adds_same (IsPushed c.args.builder.now) (IsPushed c.push_range.new.self) (IsFromTo first last) _
+    (from_to_in_range first last refl) same) c.push_range.ensures.added)
 
-pub returns-in_ok-push_walk-in-Ipv6Range : goal.returns-in_ok-push_walk-in-Ipv6Range
-returns-in_ok-push_walk-in-Ipv6Range c =
-    let old = map ip_network c.args.networks.now.items in
-    let new = map ip_network c.push_walk-in-Ipv6Range.new.networks.items in
-    subst (λ e. AddsRange old (entry_range e) new) (sym c.in-Ipv6Range.is)
-    (adds_cover old (ipv6_subnets_left c.new-in-Ipv6Range.result) new _
-    c.new-in-Ipv6Range.ensures.walk.shortest.exact.covers c.in_ok-push_walk-in-Ipv6Range.ensures)
+pub returns-in-Ipv6Range : goal.returns-in-Ipv6Range
+returns-in-Ipv6Range c =
+    let first = ipv6_address c.in-Ipv6Range.first in
+    let last = ipv6_address c.in-Ipv6Range.last in
+    rw c.in-Ipv6Range.is (on_ok_weaker c.push_range-in-Ipv6Range.result
+    (λ same. adds_same (IsPushed c.args.builder.now) (IsPushed c.push_range-in-Ipv6Range.new.self)
+    (IsFromTo first last) _ (from_to_in_range first last refl) same) c.push_range-in-Ipv6Range.ensures.added)

@@ -1,4 +1,4 @@
--- Which family the first byte tells is known in each branch, so the error is never that of an unknown family.
+-- In each branch the first byte is the tag of a known family, so the error is never `Variant`.
 use Rattle.std.proofs.Common.{Err, sym, ap, ◌∙◌}
 use Rattle.ipnet_base.specs.Address.{IPv4, IPv6}
 use Rattle.ipnet.proofs.CompactLaws.{no_other_tag}

@@ -1,4 +1,4 @@
--- Of one family by the call on that family's type; a block of the other family lies in none.
+-- In one family, by the call on that family's type; a block of the other family lies in none.
 use Rattle.ipnet_base.specs.Network.{IsSubnetOf}
 use Rattle.ipnet.specs.NetworkOf.{ip_network}
 use Rattle.ipnet.specs.declared.net.IpNet.TheVariants.{V4, V6}

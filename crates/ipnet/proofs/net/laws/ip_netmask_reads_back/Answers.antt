@@ -1,4 +1,4 @@
--- The netmask of a network is that of its prefix length in the words of `IsNetmaskOf`, which reading goes by.
+-- The netmask of a network is the one of its prefix length, in the words of `IsNetmaskOf`; the reader uses these words.
 use Rattle.std.proofs.Common.{sym, subst}
 use Rattle.ipnet_base.specs.Masks.{IsNetmaskOf}
 use Rattle.ipnet.specs.NetworkOf.{ip_network}

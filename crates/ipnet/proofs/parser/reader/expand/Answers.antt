@@ -7,7 +7,7 @@ use Rattle.std.proofs.lemmas.Slice.{put_mid-paste}
 use borrow.Rule.Slice.PartMut.{put_mid}
 use Rattle.ipnet.proofs.parser.reader.expand.Goals as goal
 
--- the head stands at the front of eight zeros, and the tail at their end
+-- the head is at the front of eight zeros, and the tail at their end
 placed : (head tail one two : List ℕ) → length head + length tail ≤ 8 → one ≡ head → two ≡ tail
     → put_mid (8 - length tail) (8 - (8 - length tail)) (one ++ drop (length head) (replicate 8 0)) two
     ≡ head ++ replicate (8 - length head - length tail) 0 ++ tail

@@ -1,4 +1,4 @@
--- The digits that were found are all that stand there: three, or what follows is none.
+-- The digits that were found are the whole run: there are three, or the next byte is not a digit.
 use Rattle.std.proofs.Common.{◌≡◌, ℕ, ◌+◌, ◌<◌, List, length, get_or, take, arith}
 use Rattle.std.proofs.lemmas.Int.Digits.{digits_more}
 use Rattle.std.specs.Char.{digit_value}

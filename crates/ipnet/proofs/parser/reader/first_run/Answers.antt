@@ -1,4 +1,4 @@
--- What four digits write fits a word, and the digits so far are all that stand there.
+-- A number of four digits fits a word, and the digits so far are the whole run.
 use Rattle.std.proofs.Common.{◌<◌, ◌≤◌, get_or, length-take-le, arith}
 use Rattle.std.specs.Char.{digit_value}
 use Rattle.std.proofs.lemmas.Int.Digits.{digits_more, digits_value_more}

@@ -1,4 +1,4 @@
--- What either family reads is the grammar; what follows the first digits tells that the other family reads nothing.
+-- The readers of both families follow the grammar; by the byte after the first digits, the other family reads nothing.
 use Rattle.std.proofs.Common.{sym, subst, inl, inr}
 use Rattle.std.specs.Net.Addr.{ipv4_bits, ipv6_bits}
 use Rattle.ipnet.specs.NetworkTexts.{IsIpv4NetworkText, IsIpv6NetworkText}

@@ -1,4 +1,4 @@
--- Where the decimal digits at the front aren't all, the whole is no decimal number of at most three digits.
+-- If the decimal digits at the front are not all, the whole is not a decimal number of at most three digits.
 use Rattle.std.proofs.Common.{◌≡◌, ℕ, ◌<◌, List, [], length, take, drop, Option, Some, None, refl, ap, ◌∙◌, sym, arith}
 use Rattle.std.proofs.Common.{append-nil, lit≤, length-drop}
 use Rattle.ipnet.specs.declared.parser.Grammar.{Grammar}

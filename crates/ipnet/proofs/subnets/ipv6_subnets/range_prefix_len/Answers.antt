@@ -1,5 +1,5 @@
--- A distance of ones alone fills its block to the end, any other leaves the last bit out (`most_bits_all_ones`,
--- `most_bits_some_zero`).
+-- If all bits of the distance are ones, it fills its block to the end; otherwise the last bit is left out
+-- (`most_bits_all_ones`, `most_bits_some_zero`).
 use Rattle.std.proofs.Common.{◌+◌, ◌∙◌, ap, arith}
 use Rattle.std.specs.Int.{w128, leading_zeros}
 use Rattle.std.specs.Int.Count.{trailing_of_zero}

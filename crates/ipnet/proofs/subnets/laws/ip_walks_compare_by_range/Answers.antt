@@ -1,4 +1,4 @@
--- A walk is told by its family and by the walk of that family, and hashed by these alone.
+-- A walk is its family and the walk of that family, and only these are hashed.
 use Rattle.std.proofs.Common.{rules, refl}
 use Rattle.ipnet.specs.contracts.subnets.IpSubnetsHash.TheImpl as IpSubnetsHash
 use Rattle.ipnet.proofs.WalkValueLaws.{ip_one_to_one, ip_hash}

@@ -1,4 +1,4 @@
--- A walk is told by its stored ends and minimum prefix length, and hashed by these alone.
+-- A walk is its stored ends and its minimum prefix length, and only these are hashed.
 use Rattle.std.proofs.Common.{rules}
 use Rattle.ipnet.proofs.WalkValueLaws.{ipv4_one_to_one, ipv4_hash}
 use Rattle.ipnet.proofs.subnets.laws.ipv4_walks_compare_by_range.Goals as goal

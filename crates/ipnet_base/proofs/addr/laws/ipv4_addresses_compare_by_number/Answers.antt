@@ -1,4 +1,4 @@
--- std compares octets; the order of octets is that of the number that they write (`AddressLaws`).
+-- std compares octets; octets are ordered as the numbers that they write (`AddressLaws`).
 use Rattle.std.proofs.Common.{rules, refl}
 use Rattle.std.specs.Net.Addr.{ipv4_bits}
 use Rattle.std.specs.Cmp.Lexicographic.{lists_agrees}

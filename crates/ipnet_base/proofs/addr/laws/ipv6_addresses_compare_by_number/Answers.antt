@@ -1,4 +1,4 @@
--- std compares groups; the order of groups is that of the number that they write (`AddressLaws`).
+-- std compares groups; groups are ordered as the numbers that they write (`AddressLaws`).
 use Rattle.std.proofs.Common.{rules, refl}
 use Rattle.std.specs.Net.Addr.{ipv6_bits}
 use Rattle.std.specs.Cmp.Lexicographic.{lists_agrees}

@@ -1,4 +1,4 @@
--- What is derived compares the families, then the ends; a hasher is fed the family first (`ValueLaws`).
+-- The derived comparison is by family, then by ends; a hasher is fed the family first (`ValueLaws`).
 use Rattle.std.proofs.Common.{rules, refl}
 use Rattle.ipnet_base.specs.contracts.ipext.ip_range.IpAddrRangeHash.TheImpl as IpAddrRangeHash
 use Rattle.ipnet_base.proofs.ValueLaws.{ip_one_to_one, ip_hash}

@@ -1,4 +1,4 @@
--- What is derived compares the two stored ends, and a hasher is fed both (`ValueLaws`).
+-- The derived comparison is by the two stored ends, and a hasher is fed both (`ValueLaws`).
 use Rattle.std.proofs.Common.{rules}
 use Rattle.ipnet_base.proofs.ValueLaws.{ipv6_one_to_one, ipv6_hash}
 use Rattle.ipnet_base.proofs.ipext.laws.ipv6_ranges_compare_by_ends.Goals as goal

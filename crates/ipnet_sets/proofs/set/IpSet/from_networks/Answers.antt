@@ -1,18 +1,28 @@
--- The numbers of each family are those of the networks of this family, and these have together the list's addresses.
-use Rattle.std.proofs.Common.{map, refl}
-use Rattle.ipnet_base.specs.Address.{IPv4, IPv6}
-use Rattle.ipnet.specs.NetworkOf.{ipv4_network, ipv6_network, ip_network}
-use Rattle.ipnet.specs.NetLaws.{ip_valid}
-use Rattle.ipnet_sets.proofs.LoadLaws.{all_valid, all_of_family, members_of_families}
+use Rattle.std.proofs.Common.{◌↔◌, map, Any, arith}
+use Rattle.std.proofs.lemmas.Result.{IfOk-weaker}
+use Rattle.ipnet_base.specs.Address.{Address}
+use Rattle.ipnet.specs.NetworkOf.{ip_network}
+use Rattle.ipnet_base.specs.Network.{InBlock}
+use Rattle.ipnet_sets.specs.Members.{IsMember}
+use Rattle.ipnet_sets.specs.Pushed.{IsPushed}
+use Rattle.ipnet_sets.proofs.ManyLaws.{first_none, first_more, first_whole, both_ways}
 use Rattle.ipnet_sets.proofs.set.IpSet.from_networks.Goals as goal
+
+pub loop-network-init : goal.loop-network-init
+loop-network-init c =
+    first_none InBlock (map ip_network c.args.networks.now) (IsPushed c.new-builder.result) c.new-builder.ensures
+
+pub loop-network-preserved : goal.loop-network-preserved
+loop-network-preserved c =
+    first_more ip_network InBlock c.args.networks.now c.loop-network.network-index c.network-item.result
+    (IsPushed c.loop-network.builder) (IsPushed c.push_network.new.self) (omega arith) c.network-item.is
+    c.loop-network.invariant c.in_ok-push_network.ensures.added
 
 pub returns-clause-members : goal.returns-clause-members
 returns-clause-members c =
-    let xs = c.args.networks.now in
-    let ipv4 = c.in_ok-families.families.ipv4.items in
-    let ipv6 = c.in_ok-families.families.ipv6.items in
-    members_of_families _ (map ip_network xs) (map ipv4_network ipv4) (map ipv6_network ipv6)
-    (all_valid ip_network ip_valid xs) (all_of_family ipv4_network IPv4 (λ n. refl) ipv4)
-    (all_of_family ipv6_network IPv6 (λ n. refl) ipv6)
-    c.in_ok-families.ensures.addresses
-    c.in_ok-ipv4.ensures.members c.in_ok-ipv6.ensures.members
+    let builder = c.loop-network.builder in
+    IfOk-weaker c.into_set.result (λ s. (x : Address) → IsMember s x ↔ IsPushed builder x)
+    (λ s. (x : Address) → IsMember s x ↔ Any (λ n. InBlock n x) (map ip_network c.args.networks.now))
+    (λ s h x. both_ways (h x)
+    (first_whole ip_network InBlock c.args.networks.now c.loop-network.network-index (IsPushed builder)
+    (omega arith) c.loop-network.invariant x)) c.into_set.ensures

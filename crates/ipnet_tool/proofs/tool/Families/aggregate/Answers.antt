@@ -1,5 +1,5 @@
--- The aggregates of the two families, one after the other, are that of both. No networks are none of either family, and
--- an aggregate is no longer than its list.
+-- The aggregates of the two families, one after the other, are the aggregate of both. An empty list has no network of
+-- either family, and an aggregate is no longer than its list.
 use Rattle.std.proofs.Common.{◌≡◌, ◌≤◌, [], List, length, map, arith}
 use Rattle.std.proofs.lemmas.List.{length-map, nil_from_length}
 use Rattle.ipnet.specs.Network.{Network}

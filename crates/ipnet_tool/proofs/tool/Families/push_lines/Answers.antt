@@ -1,5 +1,5 @@
--- What was read and what is still to be read make the whole text: a line more, empty or a network, moves from the one
--- to the other (`LineLaws`, `cover_moves_on`); where it is bad it is the first bad one (`EarlyLines`).
+-- The lines read and the lines still to be read make the whole text: each line, empty or a network, moves from the rest
+-- to the lines that were read (`LineLaws`, `cover_moves_on`). A bad line is the first bad one (`EarlyLines`).
 use Rattle.std.proofs.Common.{◌≡◌, ◌+◌, ◌<◌, ◌∷◌, ◌++◌, [], length, refl, subst, arith, rules, append-nil}
 use Rattle.std.proofs.Common.{inl, inr, ap, sym, ◌∙◌}
 use Rattle.ipnet.specs.Lines.{lines_of, IsFirstBadLine}

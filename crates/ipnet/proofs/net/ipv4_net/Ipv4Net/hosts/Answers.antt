@@ -1,4 +1,4 @@
--- From prefix length 31 on the whole block; below it the two ends stand apart, so that neither sum nor difference
+-- From prefix length 31 on, the whole block; below it the two ends are apart, so neither sum nor difference
 -- leaves the block (`reserved_ends_are_apart`).
 use Rattle.ipnet_base.specs.Network.{first_of, last_of}
 use Rattle.std.proofs.Common.{◌≡◌, ℕ, ◌+◌, ◌-◌, ◌*◌, ◌/◌, ◌^◌, ◌<◌, ◌≤◌, ◌∙◌, refl, ap, arith}

@@ -1,4 +1,4 @@
--- A block lies in another exactly where its prefix is no shorter and its own address is in the other.
+-- A block lies in another if and only if its prefix is at least as long and the other contains its own address.
 use Rattle.std.proofs.Common.{subst, arith, IsTrue, ◌↔◌}
 use Rattle.ipnet_base.specs.Address.{IPv4, address_at}
 use Rattle.ipnet_base.specs.Network.{InBlock, IsSubnetOf}

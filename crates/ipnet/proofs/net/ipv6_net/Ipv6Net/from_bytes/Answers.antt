@@ -1,4 +1,4 @@
--- The octets and the byte after them are those of one network alone, by `split_bytes` and `ok_at_bytes`.
+-- The octets and the byte after them are the bytes of exactly one network, by `split_bytes` and `ok_at_bytes`.
 use Rattle.std.proofs.Common.{refl, arith}
 use Rattle.ipnet_base.specs.Address.{IPv6}
 use Rattle.ipnet.specs.NetworkOf.{ipv6_network}

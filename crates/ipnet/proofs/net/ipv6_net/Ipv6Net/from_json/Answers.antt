@@ -1,4 +1,4 @@
--- A string is read as a strict text, and one text has one network, so that `json_read` tells all three cases.
+-- A string is read as a strict text, and one text has one network, so `json_read` proves all three cases.
 use Rattle.std.proofs.Common.{◌≡◌, inr, Some, Ok, Err, MatchResult, rules}
 use Rattle.serde_json.specs.Find.{as_str}
 use Rattle.serde_json.specs.View.{view}

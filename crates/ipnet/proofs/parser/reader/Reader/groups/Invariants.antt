@@ -1,4 +1,5 @@
--- What is still to be read, after the groups so far, is what was to be read; each turn adds a group, up to the room.
+-- The groups so far, followed by the groups of the rest, are the groups of the text. Each turn adds a group, up to the
+-- room.
 use Rattle.std.proofs.Common.{◌≡◌, ◌-◌, ◌≤◌, length}
 use Rattle.ipnet.specs.ReaderSteps.{read_groups, after}
 use Rattle.ipnet.specs.ReaderState.{rest_of, IsForward}

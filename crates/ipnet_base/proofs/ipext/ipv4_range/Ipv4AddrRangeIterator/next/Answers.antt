@@ -1,4 +1,4 @@
--- The stored ends tell all that the step does (`RangeCallLaws`), so the ends alone are shown of the code.
+-- The stored ends determine the step (`RangeCallLaws`), so only the ends are proved of the code.
 use Rattle.std.proofs.Common.{rules}
 use Rattle.ipnet_base.proofs.RangeCallLaws.{yields_first, range_step}
 use Rattle.ipnet_base.proofs.ipext.ipv4_range.Ipv4AddrRangeIterator.next.Goals as goal

@@ -1,4 +1,4 @@
--- The stored ends tell the item and what is left (`RangeCallLaws`), so the ends alone are shown of the code.
+-- The stored ends determine the item and the rest (`RangeCallLaws`), so only the ends are proved of the code.
 use Rattle.std.proofs.Common.{Some, None, rules}
 use Rattle.ipnet_base.specs.Address.{ipv6_address}
 use Rattle.ipnet_base.specs.Ranges.{IsNth}

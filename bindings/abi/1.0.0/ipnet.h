@@ -1,0 +1,208 @@
+/* IP networks, with proofs: aggregates, combines and compares lists of networks, and parses and prints single networks.
+ *
+ * Each function in this file has a contract in crates/ipnet_c, with a proof that its code satisfies it. docs/C.md lists
+ * what is proved and what is trusted. The functions take no locks, keep no state between calls, and may run in any
+ * number of threads at once. A call frees all memory that it allocates before it returns. Results are written to memory
+ * that the caller supplies, so the caller never frees anything.
+ *
+ * The caller must ensure:
+ * - A pointer is NULL only if its length is 0. Pointers without a length (`count`, `same`, `covered`, `line`) are never
+ *   NULL.
+ * - A length is at most the number of bytes that may be read, or written, at its pointer.
+ * - The memory that a call writes (`buffer`, `count`, `same`, `covered`, `line`) does not overlap any other argument.
+ * - malloc, realloc and free belong to the same allocator. It aligns a block to each power of two up to 16 that divides
+ *   the size of the block. The allocators of Linux do so.
+ * - No call is made from a signal handler, nor in the child of a process that had several threads when it forked.
+ *
+ * A list of networks is a text with one network per line, such as 10.1.1.0/24 or fd00::/32. Networks may have host
+ * bits, may repeat, and may be in any order. Each line ends with "\n"; the last line may end without one. Empty lines
+ * are skipped. Texts are UTF-8 without a terminating NUL, and their lengths are in bytes.
+ *
+ * There are two grammars:
+ * - The strict grammar (RFC 4632, section 3.1; RFC 4291, sections 2.2 and 2.3) allows no leading zeros in decimal
+ *   numbers, and "::" replaces at least one group of zeros.
+ * - The legacy grammar, used by the functions whose names end in _legacy, also allows leading zeros, as in
+ *   010.0.0.1/08, which are read as decimal. It also allows "::" in an address that already has eight groups.
+ *
+ * The byte form of a network has 6 bytes (IPv4) or 18 bytes (IPv6): the family, 0 for IPv4 and 1 for IPv6; the octets
+ * of the address, including host bits, most significant first; and the prefix length. The byte form of 10.1.1.0/24 is
+ * 0, 10, 1, 1, 0, 24. A single address is a network of full length: 10.1.1.7 is 0, 10, 1, 1, 7, 32.
+ */
+#ifndef IPNET_H
+#define IPNET_H
+
+#include <stddef.h>
+#include <stdint.h>
+
+#ifdef __cplusplus
+extern "C" {
+#endif
+
+/* The version of this header, 1.0.0: a million for each major version, a thousand for each minor version, and one for
+ * each patch. Programs that were compiled with this header run with each library of the same major version that is not
+ * older. docs/C.md says what raises which number. */
+#define IPNET_VERSION 1000000
+
+/* The version of the library, in the form of IPNET_VERSION. */
+uint32_t ipnet_version(void);
+
+/* The statuses that a call returns. A later minor version may add some. */
+typedef enum ipnet_status {
+    IPNET_OK = 0,                 /* success: the result was written */
+    IPNET_BAD_LINE = 1,           /* a line is neither empty nor a network */
+    IPNET_NOT_UTF8 = 2,           /* the text is not UTF-8 */
+    IPNET_OUT_OF_MEMORY = 3,      /* malloc or realloc failed */
+    IPNET_BUFFER_TOO_SHORT = 4,   /* the result does not fit into the buffer */
+    IPNET_NOT_A_NETWORK = 5,      /* the text is not a network */
+    IPNET_WRONG_LENGTH = 6,       /* there are no bytes, or the wrong number for the family in the first byte */
+    IPNET_UNKNOWN_FAMILY = 7,     /* the first byte is neither 0 nor 1 */
+    IPNET_PREFIX_TOO_LONG = 8,    /* the last byte, the prefix length, is above 32 (IPv4) or 128 (IPv6) */
+    IPNET_BAD_LINE_IN_OTHER = 9,  /* a line of `other`, the second list, is neither empty nor a network */
+    IPNET_OTHER_NOT_UTF8 = 10     /* `other` is not UTF-8 */
+} ipnet_status;
+
+/* Returns the meaning of a status, in English. The text is constant; nothing is allocated. */
+static inline const char *ipnet_status_text(ipnet_status status)
+{
+    switch (status) {
+    case IPNET_OK: return "success";
+    case IPNET_BAD_LINE: return "a line is not a network";
+    case IPNET_NOT_UTF8: return "the text is not UTF-8";
+    case IPNET_OUT_OF_MEMORY: return "out of memory";
+    case IPNET_BUFFER_TOO_SHORT: return "the buffer is too short";
+    case IPNET_NOT_A_NETWORK: return "the text is not a network";
+    case IPNET_WRONG_LENGTH: return "the number of bytes is wrong for a network";
+    case IPNET_UNKNOWN_FAMILY: return "the first byte is not a family";
+    case IPNET_PREFIX_TOO_LONG: return "the prefix length is too long";
+    case IPNET_BAD_LINE_IN_OTHER: return "a line of the other list is not a network";
+    case IPNET_OTHER_NOT_UTF8: return "the other text is not UTF-8";
+    }
+    return "unknown status";
+}
+
+/* The maximum number of bytes in the byte form of a network, and in its text. */
+enum { IPNET_MAX_BYTES = 18, IPNET_MAX_TEXT = 43 };
+
+/* Aggregates a list. The result is the shortest list of networks with exactly the same addresses. Its networks have no
+ * host bits and no repeats, and are in ascending order, IPv4 first. Each is in canonical text and ends with "\n".
+ *
+ * OK                `buffer` starts with the result, and `*count` is its length
+ * BUFFER_TOO_SHORT  `*count` is the length of the result
+ * BAD_LINE          `*count` is the number of the first bad line; lines count from 1, including empty ones
+ * NOT_UTF8          if and only if `text` is not UTF-8
+ * OUT_OF_MEMORY     never if all lines are empty, nor if the first non-empty line is bad
+ *
+ * `buffer` is modified only on OK, and only up to the end of the result. `*count` is not modified on NOT_UTF8 and
+ * OUT_OF_MEMORY.
+ *
+ *     "10.0.1.0/24\n\n10.0.0.0/24"   OK, 12, "10.0.0.0/23\n"
+ *     "10.0.0.0/24\n\nx\n"           BAD_LINE, 3
+ */
+ipnet_status ipnet_aggregate_text(const char *text, size_t text_len, char *buffer, size_t buffer_len, size_t *count);
+
+/* Like ipnet_aggregate_text, for a list in the legacy grammar. The result is in the strict grammar. */
+ipnet_status ipnet_aggregate_text_legacy(const char *text, size_t text_len, char *buffer, size_t buffer_len,
+                                         size_t *count);
+
+/* Checks whether two lists, in the strict grammar, cover the same addresses.
+ *
+ * OK                 `*same` is 1 if they do, and 0 if they do not
+ * BAD_LINE           `*line` is the number of the first bad line of `text`
+ * BAD_LINE_IN_OTHER  `*line` is the number of the first bad line of `other`; `text` has no bad line
+ * NOT_UTF8           if and only if `text` is not UTF-8
+ * OTHER_NOT_UTF8     if and only if `text` is UTF-8 and `other` is not
+ * OUT_OF_MEMORY      never if all lines of both lists are empty, nor if the first non-empty line, in `text` and then
+ *                    in `other`, is bad
+ *
+ * `*same` is modified only on OK, `*line` only on BAD_LINE and BAD_LINE_IN_OTHER.
+ *
+ *     "10.0.0.0/25\n10.0.0.128/25" and "10.0.0.7/24"   OK, 1
+ *     "10.0.0.0/25" and "10.0.0.0/24"                  OK, 0
+ */
+ipnet_status ipnet_same_addresses(const char *text, size_t text_len, const char *other, size_t other_len, uint8_t *same,
+                                  size_t *line);
+
+/* Writes the union of two lists, in the strict grammar: the shortest list of networks with exactly the addresses that
+ * are in either list or in both. The result has the form of the result of ipnet_aggregate_text.
+ *
+ * OK                 `buffer` starts with the result, and `*count` is its length
+ * BUFFER_TOO_SHORT   `*count` is the length of the result
+ * BAD_LINE           `*count` is the number of the first bad line of `text`
+ * BAD_LINE_IN_OTHER  `*count` is the number of the first bad line of `other`; `text` has no bad line
+ * NOT_UTF8           if and only if `text` is not UTF-8
+ * OTHER_NOT_UTF8     if and only if `text` is UTF-8 and `other` is not
+ * OUT_OF_MEMORY      never if all lines of both lists are empty, nor if the first non-empty line, in `text` and then
+ *                    in `other`, is bad
+ *
+ * `buffer` is modified only on OK, and only up to the end of the result. `*count` is not modified on NOT_UTF8,
+ * OTHER_NOT_UTF8 and OUT_OF_MEMORY.
+ *
+ *     "10.0.0.0/25" and "10.0.0.128/25"   OK, 12, "10.0.0.0/24\n"
+ *     "10.0.0.0/25" and "\nx"             BAD_LINE_IN_OTHER, 2
+ */
+ipnet_status ipnet_union_text(const char *text, size_t text_len, const char *other, size_t other_len, char *buffer,
+                              size_t buffer_len, size_t *count);
+
+/* Like ipnet_union_text, for the intersection: exactly the addresses that are in both lists.
+ *
+ *     "10.0.0.0/24" and "10.0.0.128/25\n10.0.1.0/24"   OK, 14, "10.0.0.128/25\n"
+ */
+ipnet_status ipnet_intersection_text(const char *text, size_t text_len, const char *other, size_t other_len,
+                                     char *buffer, size_t buffer_len, size_t *count);
+
+/* Like ipnet_union_text, for the difference: exactly the addresses that are in `text` and not in `other`.
+ *
+ *     "10.0.0.0/24" and "10.0.0.0/26"   OK, 27, "10.0.0.64/26\n10.0.0.128/25\n"
+ */
+ipnet_status ipnet_difference_text(const char *text, size_t text_len, const char *other, size_t other_len, char *buffer,
+                                   size_t buffer_len, size_t *count);
+
+/* Checks whether a list, in the strict grammar, covers every address of a network in byte form. Several networks of the
+ * list may cover it together.
+ *
+ * OK               `*covered` is 1 if it does, and 0 if it does not
+ * WRONG_LENGTH, UNKNOWN_FAMILY, PREFIX_TOO_LONG   if and only if the bytes have this fault; checked before the text
+ * BAD_LINE         `*line` is the number of the first bad line
+ * NOT_UTF8         if and only if the bytes are a network and the text is not UTF-8
+ * OUT_OF_MEMORY    never if all lines are empty, nor if the first non-empty line is bad
+ *
+ * `*covered` is modified only on OK, `*line` only on BAD_LINE.
+ *
+ *     "10.0.0.0/25\n10.0.0.128/25" and 0, 10, 0, 0, 0, 24   OK, 1
+ *     "10.0.0.0/25" and 0, 10, 0, 0, 200, 32                OK, 0
+ */
+ipnet_status ipnet_is_covered(const char *text, size_t text_len, const uint8_t *network, size_t network_len,
+                              uint8_t *covered, size_t *line);
+
+/* Parses the text of one network, in the strict grammar, and writes its byte form. Allocates no memory.
+ *
+ * OK                `buffer` starts with the bytes, and `*count` is their number, 6 or 18
+ * BUFFER_TOO_SHORT  `*count` is the number of bytes needed
+ * NOT_A_NETWORK     if and only if the text is UTF-8 and not a network
+ * NOT_UTF8          if and only if the text is not UTF-8
+ *
+ * `buffer` is modified only on OK, and only up to the end of the bytes. `*count` is not modified on NOT_A_NETWORK and
+ * NOT_UTF8.
+ */
+ipnet_status ipnet_parse(const char *text, size_t text_len, uint8_t *buffer, size_t buffer_len, size_t *count);
+
+/* Like ipnet_parse, for a text in the legacy grammar. */
+ipnet_status ipnet_parse_legacy(const char *text, size_t text_len, uint8_t *buffer, size_t buffer_len, size_t *count);
+
+/* Prints a network in byte form as canonical text: its address with the host bits (IPv6 as in RFC 5952), "/", and the
+ * prefix length. Allocates no memory.
+ *
+ * OK                `buffer` starts with the text, and `*count` is its length
+ * BUFFER_TOO_SHORT  `*count` is the length needed
+ * WRONG_LENGTH, UNKNOWN_FAMILY, PREFIX_TOO_LONG   if and only if the bytes have this fault
+ *
+ * `buffer` is modified only on OK, and only up to the end of the text. `*count` is not modified on WRONG_LENGTH,
+ * UNKNOWN_FAMILY and PREFIX_TOO_LONG.
+ */
+ipnet_status ipnet_print(const uint8_t *network, size_t network_len, char *buffer, size_t buffer_len, size_t *count);
+
+#ifdef __cplusplus
+}
+#endif
+
+#endif

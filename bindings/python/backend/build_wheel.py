@@ -1,0 +1,70 @@
+"""Builds the wheel of this package, with the shared library inside. pip calls build_wheel (PEP 517).
+
+The library comes from the folder IPNET_LIB, else from ../build, which builds it if it is not built. Equal files give
+equal wheels: the dates are SOURCE_DATE_EPOCH, or 1980.
+"""
+import base64
+import hashlib
+import os
+import re
+import subprocess
+import time
+import zipfile
+
+TOP = os.path.dirname(os.path.dirname(os.path.abspath(__file__)))
+NAME = "ipnet_proved"
+LICENCES = ("LICENSE-MIT", "LICENSE-APACHE")
+
+
+def read(*path):
+    with open(os.path.join(TOP, *path), "rb") as file:
+        return file.read()
+
+
+def field(file, name):
+    """The text after `name =` in a file of the package."""
+    return re.search(r'(?m)^%s = "(.*)"$' % name, read(*file).decode()).group(1)
+
+
+def library():
+    """The shared library."""
+    folder = os.environ.get("IPNET_LIB")
+    if not folder:
+        built = subprocess.run([os.path.join(TOP, "..", "build")], stdout=subprocess.PIPE, check=False)
+        if built.returncode != 0:
+            raise SystemExit("bindings/build failed; IPNET_LIB may name a folder that has libipnet.so")
+        folder = re.search(r"(?m)^bindings/build: (.*)/libipnet\.a, ", os.fsdecode(built.stdout)).group(1)
+    return read(folder, "libipnet.so")
+
+
+def metadata(version):
+    head = ["Metadata-Version: 2.1", "Name: %s" % field(["pyproject.toml"], "name"), "Version: %s" % version,
+            "Summary: %s" % field(["pyproject.toml"], "description"), "License: MIT OR Apache-2.0",
+            "Requires-Python: %s" % field(["pyproject.toml"], "requires-python")]
+    return "\n".join(head).encode() + b"\n"
+
+
+def build_wheel(wheel_directory, config_settings=None, metadata_directory=None):
+    """Writes the wheel into the folder, and returns its name."""
+    version = field([NAME, "__init__.py"], "__version__")
+    info = "%s-%s.dist-info" % (NAME, version)
+    tag = "py3-none-linux_x86_64"
+    files = {"%s/%s" % (NAME, name): read(NAME, name) for name in os.listdir(os.path.join(TOP, NAME))
+             if name.endswith((".py", ".typed"))}
+    files[NAME + "/libipnet.so"] = library()
+    files.update(("%s/%s" % (info, name), read("..", "..", name)) for name in LICENCES)
+    files[info + "/METADATA"] = metadata(version)
+    files[info + "/WHEEL"] = ("Wheel-Version: 1.0\nGenerator: %s\nRoot-Is-Purelib: false\nTag: %s\n"
+                              % (NAME, tag)).encode()
+    sums = {name: base64.urlsafe_b64encode(hashlib.sha256(data).digest()).rstrip(b"=").decode()
+            for name, data in files.items()}
+    record = ["%s,sha256=%s,%d" % (name, sums[name], len(files[name])) for name in sorted(files)]
+    files[info + "/RECORD"] = "\n".join([*record, info + "/RECORD,,", ""]).encode()
+    date = time.gmtime(max(int(os.environ.get("SOURCE_DATE_EPOCH", 0)), 315532800))[:6]
+    wheel = "%s-%s-%s.whl" % (NAME, version, tag)
+    with zipfile.ZipFile(os.path.join(wheel_directory, wheel), "w") as archive:
+        for name in sorted(files, key=lambda name: (name.startswith(info), name)):
+            entry = zipfile.ZipInfo(name, date)
+            entry.external_attr = 0o100644 << 16
+            archive.writestr(entry, files[name], zipfile.ZIP_DEFLATED)
+    return wheel

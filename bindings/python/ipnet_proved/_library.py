@@ -1,0 +1,113 @@
+"""The shared library libipnet.so: its place, its functions as in include/ipnet.h, and its statuses."""
+import ctypes
+import os
+from typing import Callable, Tuple
+
+OK = 0
+BAD_LINE = 1
+NOT_UTF8 = 2
+OUT_OF_MEMORY = 3
+BUFFER_TOO_SHORT = 4
+NOT_A_NETWORK = 5
+WRONG_LENGTH = 6
+UNKNOWN_FAMILY = 7
+PREFIX_TOO_LONG = 8
+BAD_LINE_IN_OTHER = 9
+OTHER_NOT_UTF8 = 10
+
+MAX_BYTES = 18
+MAX_TEXT = 43
+
+# the major version of the library that this package needs
+MAJOR = 1
+
+
+def _path() -> str:
+    """The path of the library: in the folder IPNET_LIB; else in the package, as pip installs it; else in ../../out, as
+    in a clone and as ./install installs it."""
+    folder = os.environ.get("IPNET_LIB")
+    here = os.path.dirname(os.path.abspath(__file__))
+    places = [folder] if folder else [here, os.path.normpath(os.path.join(here, "..", "..", "out"))]
+    for place in places:
+        path = os.path.join(place, "libipnet.so")
+        if os.path.exists(path):
+            return path
+    raise ImportError(
+        f"libipnet.so is not in {' or '.join(places)}: run bindings/build in the repository, or set the environment "
+        "variable IPNET_LIB to the folder that contains it")
+
+
+def _load() -> ctypes.CDLL:
+    """Loads the library, and declares its functions."""
+    path = _path()
+    try:
+        library = ctypes.CDLL(path)
+    except OSError as error:
+        raise ImportError(f"{path} cannot be loaded: {error}; it runs on x86-64 Linux with glibc. Run bindings/build "
+                          "in the repository to build it again") from error
+    read, size, number = ctypes.c_char_p, ctypes.c_size_t, ctypes.POINTER(ctypes.c_size_t)
+    byte = ctypes.POINTER(ctypes.c_uint8)
+    into_buffer = [read, size, read, size, number]
+    declared = {
+        "ipnet_version": [],
+        "ipnet_aggregate_text": into_buffer,
+        "ipnet_aggregate_text_legacy": into_buffer,
+        "ipnet_union_text": [read, size, read, size, read, size, number],
+        "ipnet_intersection_text": [read, size, read, size, read, size, number],
+        "ipnet_difference_text": [read, size, read, size, read, size, number],
+        "ipnet_same_addresses": [read, size, read, size, byte, number],
+        "ipnet_is_covered": [read, size, read, size, byte, number],
+        "ipnet_parse": into_buffer,
+        "ipnet_parse_legacy": into_buffer,
+        "ipnet_print": into_buffer,
+    }
+    try:
+        for name, types in declared.items():
+            function = getattr(library, name)
+            function.argtypes = types
+            function.restype = ctypes.c_uint32
+    except AttributeError as error:
+        raise ImportError(f"{path} is older than this package: {error}") from error
+    if library.ipnet_version() // 1_000_000 != MAJOR:
+        raise ImportError(f"{path} has version {library.ipnet_version()}, and this package needs version {MAJOR}")
+    return library
+
+
+_library = _load()
+
+
+def version() -> Tuple[int, int, int]:
+    """The version of the library: major, minor, patch."""
+    number: int = _library.ipnet_version()
+    return number // 1_000_000, number // 1000 % 1000, number % 1000
+
+
+def writer(name: str, room: int) -> Callable[..., Tuple[int, int, bytes]]:
+    """The function as one that takes texts or bytes, and returns its status, the number that it writes, and its result.
+    `room` is the length of the first buffer that it gets."""
+    function = getattr(_library, name)
+
+    def call(*given: bytes) -> Tuple[int, int, bytes]:
+        arguments = [each for data in given for each in (data, len(data))]
+        count, length = ctypes.c_size_t(0), max(room, 1)
+        while True:
+            buffer = ctypes.create_string_buffer(length)
+            status = function(*arguments, buffer, length, ctypes.byref(count))
+            if status != BUFFER_TOO_SHORT:
+                return status, count.value, ctypes.string_at(buffer, count.value) if status == OK else b""
+            length = count.value
+
+    return call
+
+
+def asker(name: str) -> Callable[..., Tuple[int, int, bool]]:
+    """The function, whose result is yes or no, as one that takes two texts or bytes, and returns its status, the line
+    that it writes, and its result."""
+    function = getattr(_library, name)
+
+    def call(data: bytes, more: bytes) -> Tuple[int, int, bool]:
+        answer, line = ctypes.c_uint8(0), ctypes.c_size_t(0)
+        status = function(data, len(data), more, len(more), ctypes.byref(answer), ctypes.byref(line))
+        return status, line.value, answer.value == 1
+
+    return call

@@ -1,0 +1,209 @@
+"""Networks and lists in the forms that callers pass, as the texts and bytes that the library takes; and the errors."""
+import re
+from ipaddress import IPv4Address, IPv4Interface, IPv4Network, IPv6Address, IPv6Interface, IPv6Network
+from typing import Any, Callable, Iterable, NoReturn, Sequence, Tuple, TypeVar, Union
+
+from . import _library as library
+
+Text = Union[str, bytes, bytearray, memoryview]
+Address = Union[IPv4Address, IPv6Address]
+Network = Union[IPv4Network, IPv6Network]
+Interface = Union[IPv4Interface, IPv6Interface]
+OneNetwork = Union[Text, Address, Network, Interface]
+Networks = Union[OneNetwork, Iterable[OneNetwork]]
+Answer = TypeVar("Answer")
+
+TEXTS = (str, bytes, bytearray, memoryview)
+OBJECTS = (IPv4Address, IPv6Address, IPv4Network, IPv6Network)
+LONGEST_QUOTE = 100
+
+# lines that are an address without a prefix length
+BARE_IPV4 = re.compile(rb"^[0-9.]+$", re.M)
+BARE_IPV6 = re.compile(rb"^[0-9A-Fa-f.]*:[0-9A-Fa-f:.]*$", re.M)
+
+
+def quoted(text: str) -> str:
+    """The text in quotes, cut if it is long."""
+    return repr(text if len(text) <= LONGEST_QUOTE else text[:LONGEST_QUOTE] + "...")
+
+
+class BadLine(ValueError):
+    """A line of a list is not a network. `line` is its number: lines count from 1, including empty ones, and the items
+    of an iterable count as lines. `text` is the line, `cause` says why it is not a network, and `other` is True if it
+    is in the second of two lists.
+
+    >>> str(BadLine(3, "10.0.0.0/33", "the prefix length is above 32"))
+    "line 3: '10.0.0.0/33': the prefix length is above 32"
+    """
+
+    def __init__(self, line: int, text: str, cause: str, other: bool = False) -> None:
+        super().__init__(line, text, cause, other)
+        self.line = line
+        self.text = text
+        self.cause = cause
+        self.other = other
+
+    def __str__(self) -> str:
+        return f"line {self.line}{' of the other list' if self.other else ''}: {quoted(self.text)}: {self.cause}"
+
+
+class NotANetwork(ValueError):
+    """`text` is not a network, and `cause` says why; or a list is not UTF-8, and `text` is its first line that is not.
+
+    >>> str(NotANetwork("10.0.0.0/33", "the prefix length is above 32"))
+    "'10.0.0.0/33': the prefix length is above 32"
+    """
+
+    def __init__(self, text: str, cause: str) -> None:
+        super().__init__(text, cause)
+        self.text = text
+        self.cause = cause
+
+    def __str__(self) -> str:
+        return f"{quoted(self.text)}: {self.cause}"
+
+
+def shown(data: bytes) -> str:
+    """The bytes as text, with backslashes for those that are not UTF-8."""
+    return data.decode("utf-8", "backslashreplace")
+
+
+def cause_of(data: bytes, legacy: bool) -> str:
+    """Why a text is not a network. The library decides whether the part before the slash is an address."""
+    try:
+        text = data.decode()
+    except UnicodeDecodeError:
+        return "it is not UTF-8"
+    address, _, length = text.partition("/")
+    width = 128 if ":" in address else 32
+    parse = "ipnet_parse_legacy" if legacy else "ipnet_parse"
+    for cause, holds in (
+            ("it is empty", not text),
+            ("it has several lines", "\n" in text),
+            ("it has white space", text.split() != [text]),
+            ("a zone is not part of a network", "%" in address),
+    ):
+        if holds:
+            return cause
+    status, _, _ = library.writer(parse, library.MAX_BYTES)(f"{address}/{width}".encode())
+    if status != library.OK:
+        return f"the IPv{6 if ':' in address else 4} address is not valid"
+    if not length:
+        return "the prefix length is missing"
+    if not re.fullmatch("[0-9]+", length):
+        return "the prefix length is not a number"
+    if len(length.lstrip("0")) > 3 or int(length) > width:
+        return f"the prefix length is above {width}"
+    return "the prefix length has leading zeros"
+
+
+def first_not_utf8(data: bytes) -> bytes:
+    """The first line that is not UTF-8."""
+    for line in data.split(b"\n"):
+        try:
+            line.decode()
+        except UnicodeDecodeError:
+            return line
+    return b""
+
+
+def refuse(status: int, number: int, given: Sequence[bytes], legacy: bool = False) -> NoReturn:
+    """Raises the exception for the status and the line number of a call on the given texts."""
+    other = status in (library.BAD_LINE_IN_OTHER, library.OTHER_NOT_UTF8)
+    text = given[1 if other else 0]
+    if status in (library.BAD_LINE, library.BAD_LINE_IN_OTHER):
+        line = text.split(b"\n")[number - 1]
+        raise BadLine(number, shown(line), cause_of(line, legacy), other)
+    if status in (library.NOT_UTF8, library.OTHER_NOT_UTF8):
+        raise NotANetwork(shown(first_not_utf8(text)), "it is not UTF-8")
+    if status == library.OUT_OF_MEMORY:
+        raise MemoryError("libipnet: out of memory")
+    raise NotANetwork(shown(text), cause_of(text, legacy))
+
+
+def as_bytes(text: Text) -> bytes:
+    """The text, encoded. Surrogates are kept, and the library refuses them, since they are not UTF-8."""
+    return text.encode("utf-8", "surrogatepass") if isinstance(text, str) else bytes(text)
+
+
+def with_lengths(data: bytes) -> bytes:
+    """The list with "/32" or "/128" after each address that has no prefix length."""
+    return BARE_IPV6.sub(rb"\g<0>/128", BARE_IPV4.sub(rb"\g<0>/32", data))
+
+
+def answered(call: Callable[..., Tuple[int, int, Answer]], given: Sequence[bytes], *more: bytes,
+             legacy: bool = False) -> Answer:
+    """The result of the call on the texts and on more arguments. If a text is refused that has addresses without a
+    prefix length, the call is made again with their lengths, so that other texts cost nothing more."""
+    status, number, answer = call(*given, *more)
+    if status in (library.BAD_LINE, library.BAD_LINE_IN_OTHER, library.NOT_A_NETWORK):
+        status, number, answer = call(*map(with_lengths, given), *more)
+    if status != library.OK:
+        refuse(status, number, given, legacy)
+    return answer
+
+
+def octets_of(network: Any) -> Tuple[bytes, int]:
+    """The octets and the prefix length of an object of ipaddress. Raises NotANetwork if it has a zone."""
+    if isinstance(network, (IPv4Network, IPv6Network)):
+        address, length = network.network_address, network.prefixlen
+    elif isinstance(network, (IPv4Interface, IPv6Interface)):
+        address, length = network.ip, network.network.prefixlen
+    else:
+        address, length = network, network.max_prefixlen
+    if getattr(address, "scope_id", None) is not None or getattr(network, "scope_id", None) is not None:
+        raise NotANetwork(str(network), "a zone is not part of a network")
+    return address.packed, length
+
+
+def line_of(network: OneNetwork) -> bytes:
+    """The text of a network. Raises TypeError if it is neither a text nor an object of ipaddress."""
+    if isinstance(network, TEXTS):
+        return as_bytes(network)
+    if not isinstance(network, OBJECTS):
+        raise TypeError(f"a network is a text or an object of ipaddress, and not {network!r}")
+    octets, length = octets_of(network)
+    if len(octets) == 4:
+        return b"%d.%d.%d.%d/%d" % (*octets, length)
+    return f"{octets.hex(':', 2)}/{length}".encode()
+
+
+def text_of(networks: Networks, other: bool = False) -> bytes:
+    """The text of a list. Items are lines: an item that is empty, or that has several lines, is refused."""
+    if isinstance(networks, (*TEXTS, *OBJECTS)):
+        return line_of(networks)
+    try:
+        items = iter(networks)
+    except TypeError:
+        raise TypeError(f"a list of networks is a text, an object of ipaddress or an iterable of these, and not "
+                        f"{networks!r}") from None
+    lines = []
+    for number, item in enumerate(items, 1):
+        try:
+            line = line_of(item)
+        except TypeError as error:
+            raise TypeError(f"item {number}: {error}") from None
+        except NotANetwork as error:
+            raise BadLine(number, error.text, error.cause, other) from None
+        if not line or b"\n" in line:
+            raise BadLine(number, shown(line), cause_of(line, False), other)
+        lines.append(line)
+    return b"\n".join(lines)
+
+
+def bytes_of(network: OneNetwork, legacy: bool = False) -> bytes:
+    """The byte form of a network: a byte for the family, the octets, the prefix length."""
+    if isinstance(network, TEXTS):
+        parse = library.writer("ipnet_parse_legacy" if legacy else "ipnet_parse", library.MAX_BYTES)
+        return answered(parse, [as_bytes(network)], legacy=legacy)
+    if not isinstance(network, OBJECTS):
+        raise TypeError(f"a network is a text or an object of ipaddress, and not {network!r}")
+    octets, length = octets_of(network)
+    return bytes([len(octets) == 16]) + octets + bytes([length])
+
+
+def interface_of(data: bytes) -> Interface:
+    """The interface with this byte form."""
+    if data[0]:
+        return IPv6Interface((data[1:-1], data[-1]))
+    return IPv4Interface((data[1:-1], data[-1]))

