@@ -16,7 +16,7 @@ NAME = re.compile(r"has no field|has no `|is not in scope|is not the name of|unk
 TYPE = re.compile(r"types? (?:first )?differ|no occurrence of the path|expected type|but (?:this )?has type"
                   r"|mismatch|is applied to"
                   r"|is not a function|cannot be applied|is not equal|takes? \d+ argument|too many arguments"
-                  r"|is wanted here")
+                  r"|is wanted here|proves a path .* is not one")
 KINDS = {
     "goal": "refused by a goal",
     "type": "refused only because the type of a hand proof differs",
