@@ -13,8 +13,8 @@ ERROR = re.compile(r"(?:\./)?((?:proofs|src|specs)/\S+?):\d+:\d+: error: (?:`([^
 # an error that only repeats another one
 REPEATED = re.compile(r"declarations? that depends? on|was rejected|was not admitted")
 NAME = re.compile(r"has no field|has no `|is not in scope|is not the name of|unknown name")
-TYPE = re.compile(r"types? (?:first )?differ|no occurrence of the path|expected type|but (?:this )?has type"
-                  r"|mismatch|is applied to"
+TYPE = re.compile(r"types? (?:first )?differ|the two types are `|no occurrence of the path|expected type"
+                  r"|but (?:this )?has type|mismatch|is applied to"
                   r"|is not a function|cannot be applied|is not equal|takes? \d+ argument|too many arguments"
                   r"|is wanted here|proves a path .* is not one")
 KINDS = {
