@@ -93,14 +93,16 @@ def originals():
     return [None, None]
 
 
-def launcher():
-    source, program = os.path.join(BENCH, "launch.c"), os.path.join(CACHE, "launch")
+def compiled(name):
+    """The program of a C file of this folder."""
+    source, program = os.path.join(BENCH, name + ".c"), os.path.join(CACHE, name)
     if is_older(program, [source]):
         compiler = os.environ.get("CC") or "cc"
         if not shutil.which(compiler):
-            sys.exit("bench/run: launch.c needs a C compiler (apt-get install gcc libc6-dev)")
+            sys.exit("bench/run: %s.c needs a C compiler (apt-get install gcc libc6-dev)" % name)
         if subprocess.run([compiler, "-O2", "-Wall", "-o", program, source]).returncode:
-            sys.exit("bench/run: launch.c can't be compiled")
+            sys.exit("bench/run: %s.c can't be compiled" % name)
+    return program
 
 
 def netaddr_sets():
@@ -118,7 +120,7 @@ class Programs:
 
     def __init__(self):
         os.makedirs(CACHE, exist_ok=True)
-        launcher()
+        compiled("launch")
 
     @functools.cached_property
     def our_calls(self):
@@ -144,6 +146,11 @@ class Programs:
     @property
     def original_program(self):
         return self.originals[1]
+
+    @functools.cached_property
+    def plain_c(self):
+        """The job of our program in plain C."""
+        return compiled("floor")
 
     @functools.cached_property
     def iprange(self):

@@ -1,5 +1,5 @@
 """The tables of sets of addresses and of routes. README.md explains the figures."""
-from cells import head, mebibytes, milliseconds, ratio, row, shown
+from cells import head, least, mebibytes, milliseconds, ratio, row, shown
 from lists import path_of
 from programs import figure
 from turns import in_turns
@@ -19,6 +19,7 @@ def sets(bench):
         set_row(bench, name, task)
     asked(bench)
     beside_sets(bench)
+    access_lists(bench)
 
 
 def set_row(bench, name, task):
@@ -63,3 +64,30 @@ def beside_sets(bench):
         part = (peak - peak_before) / before["check"]
         row("%s, %s" % (task, name), mebibytes(before["check"]), mebibytes(peak - peak_before), "%.2f" % part,
             bench.judged("memory, %s, %s" % (task, name), part, 2))
+
+
+# The lists of the access lists' rules, and the number of rules. Both calls have to take at most 50 ms.
+RULE_LISTS = ["random_ipv4", "routing_table", "random_both"]
+RULE_COUNT = 10_000
+
+
+def access_lists(bench):
+    """Access lists: the two calls that compile, and a question, beside a search through the rules by the original."""
+    wanted = [name for name in RULE_LISTS if bench.wants(name, "permitted", "unreached", "verdict")]
+    if wanted:
+        head("Access lists of 10^4 rules", "list", "`permitted` ms", "bound", "`unreached` ms", "bound",
+             "a question of the set ns", "a search ns", "the original's search ns", "answers")
+    for name in wanted:
+        label, source = "rules, " + name, path_of(name, RULE_COUNT)
+        compiled, unreached = (ours_only(bench, task, source) for task in ("permitted", "unreached"))
+        asked_set, _, answers = in_turns(bench, ["compiled_verdict"], ["verdict"], source)
+        searched, theirs, more = in_turns(bench, ["verdict"], ["verdict"], source)
+        row(name, milliseconds(compiled), bench.judged(label + ", permitted", compiled / 1e6, 50),
+            milliseconds(unreached), bench.judged(label + ", unreached", unreached / 1e6, 50),
+            "%.0f" % (asked_set / RULE_COUNT), "%.0f" % (searched / RULE_COUNT),
+            "-" if theirs is None else "%.0f" % (theirs / RULE_COUNT), bench.compared(label, answers + more))
+
+
+def ours_only(bench, task, source):
+    """Our shortest time of a task that the original does not have."""
+    return least([figure(bench.programs.our_calls, [task], source)[0]["min_ns"] for _ in range(bench.rounds)])

@@ -70,14 +70,14 @@ AGGREGATED = ["random_ipv4", "random_ipv6", "random_both", "routing_table", "con
               "aggregated_ipv6"]
 
 PROGRAM = [
-    Program("all IPv4 ranges", "ranges_ipv4", True, 0.5, 0.34, 4, 2.0),
-    Program("all IPv6 ranges", "ranges_ipv6", False, 0.45, 0.33, 5, 2.6),
-    Program("both, in any order", "ranges_both", False, 0.45, 0.31, 25, 20),
-    Program("forty countries, IPv4", "countries_ipv4", True, 0.5, 0.4, 10, 6.7),
+    Program("all IPv4 ranges", "ranges_ipv4", True, 0.38, 0.32, 1.5),
+    Program("all IPv6 ranges", "ranges_ipv6", False, 0.32, 0.28, 2.5),
+    Program("both, in any order", "ranges_both", False, 0.42, 0.38, 19.5),
+    Program("forty countries, IPv4", "countries_ipv4", True, 0.46, 0.42, 7),
     Program("forty countries, both families", "countries_both", False),
-    Program("IPv4 routes", "routes_ipv4", True, 0.5, 0.38, 14, 9.6),
-    Program("descending /32", "descending_hosts", True, 0.4, 0.25, 8, 5.4),
-    Program("/48 inside forty /32", "sites_ipv6", False, 0.45, 0.32, 35, 25),
+    Program("IPv4 routes", "routes_ipv4", True, 0.42, 0.36, 12),
+    Program("descending /32", "descending_hosts", True, 0.32, 0.28, 8.5),
+    Program("/48 inside forty /32", "sites_ipv6", False, 0.36, 0.32, 28),
 ]
 
 # The lengths at which `IpNet::aggregate`, and the program, are measured.
@@ -161,12 +161,18 @@ def text_programs(bench, with_iprange):
     return commands
 
 
+def floors(bench):
+    """The commands that show how little time the job can take: it in plain C, and a copy of the text."""
+    return {"plain C": Command([bench.programs.plain_c]), "cat": Command(["cat"], as_ours=None)}
+
+
 def program(bench):
     wanted = [listed for listed in PROGRAM if bench.wants(listed.label, listed.list_name)]
     if wanted:
         head("The program", "list", "lines", "wall ms", "processor ms", "wall, of the original's",
-             "processor, of the original's", "bound (goal)", "processor, of iprange's", "peak MiB", "bound (goal)",
-             "the original's", "iprange's", "output")
+             "processor, of the original's", "bound (goal)", "processor, of iprange's", "processor, of plain C's",
+             "plain C, processor ms", "cat, processor ms", "peak MiB", "bound (goal)", "the original's", "iprange's",
+             "plain C's", "output")
     for listed in wanted:
         try:
             program_row(bench, listed, path_of(listed.list_name))
@@ -177,15 +183,17 @@ def program(bench):
 
 
 def program_row(bench, listed, source):
-    found = measured(bench, text_programs(bench, listed.iprange), source)
+    found = measured(bench, text_programs(bench, listed.iprange) | floors(bench), source)
     wall, processor, peak = found.least("ours", "wall"), found.least("ours", "processor"), found.peak("ours")
     part = ratio(processor, found.least("original", "processor"))
     row(listed.label, format(lines_of(source), ","), milliseconds(wall), milliseconds(processor),
         shown(ratio(wall, found.least("original", "wall"))), shown(part),
         bench.judged(listed.label + ", time", part, listed.time, listed.time_goal),
-        shown(ratio(processor, found.least("iprange", "processor"))), mebibytes(peak),
-        bench.judged(listed.label + ", peak", round(peak / MIB, 1), listed.peak, listed.peak_goal),
-        mebibytes(found.peak("original")), mebibytes(found.peak("iprange")),
+        shown(ratio(processor, found.least("iprange", "processor"))),
+        shown(ratio(processor, found.least("plain C", "processor"))),
+        milliseconds(found.least("plain C", "processor")), milliseconds(found.least("cat", "processor")),
+        mebibytes(peak), bench.judged(listed.label + ", peak", round(peak / MIB, 1), listed.peak, listed.peak_goal),
+        mebibytes(found.peak("original")), mebibytes(found.peak("iprange")), mebibytes(found.peak("plain C")),
         bench.compared(listed.label, found.outputs))
 
 

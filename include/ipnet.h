@@ -9,7 +9,8 @@
  * - A pointer is NULL only if its length is 0. Pointers without a length (`count`, `same`, `covered`, `line`) are never
  *   NULL.
  * - A length is at most the number of bytes that may be read, or written, at its pointer.
- * - The memory that a call writes (`buffer`, `count`, `same`, `covered`, `line`) does not overlap any other argument.
+ * - The memory that a call writes (`buffer`, `count`, `same`, `covered`, `line`, `answers`) does not overlap any other
+ *   argument.
  * - malloc, realloc and free belong to the same allocator. It aligns a block to each power of two up to 16 that divides
  *   the size of the block. The allocators of Linux do so.
  * - No call is made from a signal handler, nor in the child of a process that had several threads when it forked.
@@ -58,7 +59,10 @@ typedef enum ipnet_status {
     IPNET_UNKNOWN_FAMILY = 7,     /* the first byte is neither 0 nor 1 */
     IPNET_PREFIX_TOO_LONG = 8,    /* the last byte, the prefix length, is above 32 (IPv4) or 128 (IPv6) */
     IPNET_BAD_LINE_IN_OTHER = 9,  /* a line of `other`, the second list, is neither empty nor a network */
-    IPNET_OTHER_NOT_UTF8 = 10     /* `other` is not UTF-8 */
+    IPNET_OTHER_NOT_UTF8 = 10,    /* `other` is not UTF-8 */
+    IPNET_NOT_A_SET = 11,         /* the bytes are not the image of a set */
+    IPNET_OTHER_NOT_A_SET = 12,   /* `other`, the second image, is not the image of a set */
+    IPNET_NOT_A_TABLE = 13        /* the bytes are not the image of a table */
 } ipnet_status;
 
 /* Returns the meaning of a status, in English. The text is constant; nothing is allocated. */
@@ -76,6 +80,9 @@ static inline const char *ipnet_status_text(ipnet_status status)
     case IPNET_PREFIX_TOO_LONG: return "the prefix length is too long";
     case IPNET_BAD_LINE_IN_OTHER: return "a line of the other list is not a network";
     case IPNET_OTHER_NOT_UTF8: return "the other text is not UTF-8";
+    case IPNET_NOT_A_SET: return "the bytes are not the image of a set";
+    case IPNET_OTHER_NOT_A_SET: return "the other bytes are not the image of a set";
+    case IPNET_NOT_A_TABLE: return "the bytes are not the image of a table";
     }
     return "unknown status";
 }
@@ -200,6 +207,175 @@ ipnet_status ipnet_parse_legacy(const char *text, size_t text_len, uint8_t *buff
  * UNKNOWN_FAMILY and PREFIX_TOO_LONG.
  */
 ipnet_status ipnet_print(const uint8_t *network, size_t network_len, char *buffer, size_t buffer_len, size_t *count);
+
+/* ---- Sets of addresses
+ *
+ * A set is kept by the caller, as bytes: its image. ipnet_set_from_text makes the image of a list. It can be stored in a
+ * file, mapped into memory, and sent; it needs no alignment. Nothing is ever freed. Each set has exactly one image, so
+ * two sets are equal if and only if their images are equal bytes. An image has 32 bytes, and 4 (IPv4) or 16 (IPv6) for
+ * each end of a range.
+ *
+ * The questions ipnet_set_contains, ipnet_set_covers and ipnet_set_contains_all allocate nothing, and test only the
+ * header of the image, so that each takes a few memory accesses. If the image comes from outside, test all of it once
+ * with ipnet_set_check. Whatever the bytes are, no call reads outside of them, and every call ends. */
+
+/* Writes the image of the addresses of a list, in the strict grammar.
+ *
+ * OK                `buffer` starts with the image, and `*count` is its length
+ * BUFFER_TOO_SHORT  `*count` is the length of the image
+ * BAD_LINE          `*count` is the number of the first bad line
+ * NOT_UTF8          if and only if `text` is not UTF-8
+ * OUT_OF_MEMORY
+ *
+ * `buffer` is modified only on OK, and only up to the end of the image. `*count` is not modified on NOT_UTF8 and
+ * OUT_OF_MEMORY.
+ *
+ *     "10.0.0.0/31\n10.0.0.2/31"   OK, 40
+ */
+ipnet_status ipnet_set_from_text(const char *text, size_t text_len, void *buffer, size_t buffer_len, size_t *count);
+
+/* Writes the fewest networks of a set, given by its image, as text in the form of the result of ipnet_aggregate_text.
+ *
+ * OK                `buffer` starts with the text, and `*count` is its length
+ * BUFFER_TOO_SHORT  `*count` is the length of the text
+ * NOT_A_SET         if and only if the bytes are not the image of a set
+ * OUT_OF_MEMORY
+ *
+ * `buffer` is modified only on OK, and only up to the end of the text. `*count` is modified only on OK and
+ * BUFFER_TOO_SHORT.
+ */
+ipnet_status ipnet_set_to_text(const void *set, size_t set_len, char *buffer, size_t buffer_len, size_t *count);
+
+/* Returns OK if the bytes are the image of a set, and NOT_A_SET if they are not. Reads all of them once. */
+ipnet_status ipnet_set_check(const void *set, size_t set_len);
+
+/* Returns 1 if the set contains the address, and 0 if it does not. The address is given by its octets, the most
+ * significant first, as inet_pton writes them: 4 for IPv4, 16 for IPv6. Otherwise returns
+ *
+ * WRONG_LENGTH      if and only if there are neither 4 nor 16 octets
+ * NOT_A_SET         if the bytes of the set do not start with the header of an image, or have another length than it
+ *                   states; checked after the address
+ */
+uint32_t ipnet_set_contains(const void *set, size_t set_len, const uint8_t *address, size_t address_len);
+
+/* Returns 1 if the set contains every address of the network, and 0 if it does not. The network is in byte form.
+ * Otherwise returns WRONG_LENGTH, UNKNOWN_FAMILY or PREFIX_TOO_LONG if and only if the bytes of the network have this
+ * fault; else NOT_A_SET, as ipnet_set_contains does.
+ */
+uint32_t ipnet_set_covers(const void *set, size_t set_len, const uint8_t *network, size_t network_len);
+
+/* Writes for each of many addresses 1 if the set contains it, and 0 if it does not. `addresses` has `width` octets for
+ * each address, 4 for IPv4 or 16 for IPv6; `answers` gets one byte for each.
+ *
+ * OK                all answers are written
+ * WRONG_LENGTH      if and only if `width` is neither 4 nor 16, or `addresses_len` is not `width` times `answers_len`
+ * NOT_A_SET         as ipnet_set_contains; checked after the lengths
+ *
+ * `answers` is modified only on OK.
+ */
+ipnet_status ipnet_set_contains_all(const void *set, size_t set_len, const void *addresses, size_t addresses_len,
+                                    size_t width, uint8_t *answers, size_t answers_len);
+
+/* Returns 1 if the second set contains every address of the first, and 0 if it does not. Otherwise returns
+ *
+ * NOT_A_SET         if and only if the first bytes are not the image of a set
+ * OTHER_NOT_A_SET   if and only if the first bytes are the image of a set and the second are not
+ * OUT_OF_MEMORY
+ */
+uint32_t ipnet_set_is_subset(const void *set, size_t set_len, const void *other, size_t other_len);
+
+/* Writes the image of the union of two sets, given by their images.
+ *
+ * OK                `buffer` starts with the image, and `*count` is its length
+ * BUFFER_TOO_SHORT  `*count` is the length of the image
+ * NOT_A_SET         if and only if the first bytes are not the image of a set
+ * OTHER_NOT_A_SET   if and only if the first bytes are the image of a set and the second are not
+ * OUT_OF_MEMORY
+ *
+ * `buffer` is modified only on OK, and only up to the end of the image. `*count` is modified only on OK and
+ * BUFFER_TOO_SHORT. A buffer as long as both images together is always long enough.
+ */
+ipnet_status ipnet_set_union(const void *set, size_t set_len, const void *other, size_t other_len, void *buffer,
+                             size_t buffer_len, size_t *count);
+
+/* Like ipnet_set_union, for the intersection: exactly the addresses that are in both sets. */
+ipnet_status ipnet_set_intersection(const void *set, size_t set_len, const void *other, size_t other_len, void *buffer,
+                                    size_t buffer_len, size_t *count);
+
+/* Like ipnet_set_union, for the difference: exactly the addresses that are in the first set and not in the second. */
+ipnet_status ipnet_set_difference(const void *set, size_t set_len, const void *other, size_t other_len, void *buffer,
+                                  size_t buffer_len, size_t *count);
+
+/* Like ipnet_set_union, for the symmetric difference: exactly the addresses that are in one of the two sets. */
+ipnet_status ipnet_set_symmetric_difference(const void *set, size_t set_len, const void *other, size_t other_len,
+                                            void *buffer, size_t buffer_len, size_t *count);
+
+/* Writes the image of all addresses, IPv4 and IPv6, that are not in the set. Returns the same statuses as
+ * ipnet_set_to_text. A buffer that is 20 bytes longer than the image of the set is always long enough. */
+ipnet_status ipnet_set_complement(const void *set, size_t set_len, void *buffer, size_t buffer_len, size_t *count);
+
+/* ---- Tables of routes
+ *
+ * A table has networks with a number each, its value, and finds the longest network that contains an address. It is kept
+ * by the caller, as a set is: as its image. An image has 32 bytes, 32 for each route, and from 4,096 routes on an index
+ * of 524,292 bytes and 4 for each IPv4 route. The calls on an image allocate nothing and test only its header. If the image comes from outside,
+ * test all of it once with ipnet_table_check. Whatever the bytes are, no call reads outside of them, and every call
+ * ends. */
+
+/* Writes the image of a table of routes. The text is a list of networks, in the strict grammar, and `values` has one
+ * number for each network, in the same order. Networks are equal if they are equal without their host bits; if one is
+ * given twice, the last value counts.
+ *
+ * OK                `buffer` starts with the image, and `*count` is its length
+ * BUFFER_TOO_SHORT  `*count` is the length of the image
+ * BAD_LINE          `*count` is the number of the first bad line
+ * NOT_UTF8          if and only if `text` is not UTF-8
+ * WRONG_LENGTH      there are not as many values as networks
+ * OUT_OF_MEMORY
+ *
+ * `buffer` is modified only on OK, and only up to the end of the image. `*count` is modified only on OK,
+ * BUFFER_TOO_SHORT and BAD_LINE.
+ *
+ *     "10.0.0.0/8\n10.1.0.0/16", 1, 2   OK, 96
+ */
+ipnet_status ipnet_table_from_text(const char *text, size_t text_len, const uint32_t *values, size_t values_len,
+                                   void *buffer, size_t buffer_len, size_t *count);
+
+/* Writes the number of routes of a table into `*count`.
+ *
+ * OK
+ * NOT_A_TABLE       if and only if the bytes do not start with the header of an image, or have another length than it
+ *                   states; `*count` is not modified
+ */
+ipnet_status ipnet_table_count(const void *table, size_t table_len, size_t *count);
+
+/* Returns OK if the bytes are the image of a table, and NOT_A_TABLE if they are not. Reads all of the routes once. */
+ipnet_status ipnet_table_check(const void *table, size_t table_len);
+
+/* Returns 1 if a network of the table contains the address, and writes the value of the longest of them into `*value`;
+ * 0 if none does. The address is given by its octets, as for ipnet_set_contains. Otherwise returns
+ *
+ * WRONG_LENGTH      if and only if there are neither 4 nor 16 octets
+ * NOT_A_TABLE       as ipnet_table_count; checked after the address
+ *
+ * `*value` is modified only on 1.
+ */
+uint32_t ipnet_table_longest_match(const void *table, size_t table_len, const uint8_t *address, size_t address_len,
+                                   uint32_t *value);
+
+/* Writes for each of many addresses the value of the longest network of the table that contains it, or `missing` if none
+ * does. `addresses` has `width` octets for each address, 4 or 16, one address after the other.
+ *
+ * OK                `values` has the value for each address, or `missing`
+ * WRONG_LENGTH      if and only if the width is neither 4 nor 16, or the number of octets is not the width for each
+ *                   number of `values`
+ * NOT_A_TABLE       as ipnet_table_count; checked after the lengths
+ *
+ * `values` is modified only on OK.
+ */
+ipnet_status ipnet_table_longest_match_all(const void *table, size_t table_len, const void *addresses,
+                                           size_t addresses_len, size_t width, uint32_t missing, uint32_t *values,
+                                           size_t values_len);
 
 #ifdef __cplusplus
 }

@@ -76,7 +76,7 @@ class Reach:
     - `is_global`: whether it changes definitions, which any verdict can depend on;
     - `changed` and `read`: for the rest, the types that it can change, and those that its verdict depends on;
     - `traits`: for the rest, which impls it changes, if it changes no other thing: clones, comparisons and hashes
-      (`Compare`), iterators, or those of another trait. The verdict on an impl does not depend on impls of other
+      (`Compare`), iterators, or impls of another trait. The verdict on an impl does not depend on impls of other
       traits.
     """
 

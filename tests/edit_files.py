@@ -69,7 +69,10 @@ class Edit:
                     pairs[-1][2] = re.sub(r"^control: ?", "", line)
         if not pairs:
             return "the edit has no pair of lines old: and new:"
-        return next(filter(None, (self.replace(*pair) for pair in pairs)), None)
+        fault = next(filter(None, (self.replace(*pair) for pair in pairs)), None)
+        if self.is_control and not fault and self.texts == self.originals:
+            return "the control is the text as it is, so it shows nothing of the form"
+        return fault
 
     def replace(self, path, old, new):
         """Puts the new text in the place of the old one, and returns the fault if the old text is not there once."""

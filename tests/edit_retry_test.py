@@ -1,4 +1,5 @@
-"""Whether `tests/wrong_bodies` tries an edit again before it fails: checks with outputs that are written here.
+"""Whether `tests/wrong_bodies` tries an edit again before it fails, and which functions each check asks for: checks
+with outputs that are written here.
 
 This module is not run: `tests/wrong_bodies --self-test` imports it.
 """
@@ -49,9 +50,12 @@ class Written:
     def __init__(self, outputs):
         self.outputs = outputs
         self.checks = 0
+        self.is_asked = True
 
-    def check(self, _crate, batch, _title, _functions):
+    def check(self, _crate, batch, title, functions):
+        wanted = None if title.endswith("again") else {edit.notes["at"] for edit in batch}
         self.checks += 1
+        self.is_asked &= functions == wanted
         return Check(Report(self.outputs[" ".join(edit.name for edit in batch)]), False, 0, 0)
 
 
@@ -66,7 +70,9 @@ def run(trial_class, tally_class):
             while left:
                 left += trial.try_batch(*left.pop(0))
         count = len(next(iter(outputs)).split())
-        if (trial.tally.failing, trial.tally.passed, trial.rooms.checks) == (wanted, count - len(wanted), checks):
+        if not trial.rooms.is_asked:
+            tally.fail(label, "a check asks for other functions than it should")
+        elif (trial.tally.failing, trial.tally.passed, trial.rooms.checks) == (wanted, count - len(wanted), checks):
             tally.passed += 1
         else:
             tally.fail(label, "%s fail, %d pass, in %d checks"

@@ -18,6 +18,7 @@ TOP = os.path.dirname(os.path.dirname(os.path.abspath(__file__)))
 FORMS = [
     re.compile(r"\b(?:alone|tells?|told|stands?(?! for\b)|where)\b", re.I),
     re.compile(r"\b(?:wants? of|but for|so many|(?:that|those) of|(?<!there )(?:is|are) no)\b(?! longer)", re.I),
+    re.compile(r"\b(?:behind|takes? (?:no |the )?memory|gives? back)\b", re.I),
     # a sentence that begins with "Of ..", "Who ..", "What .."
     re.compile(r"(?:^|(?<=[.;:] ))(?:Of|Who|What) [a-z]"),
     # `answers` as a verb

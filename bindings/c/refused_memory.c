@@ -107,6 +107,51 @@ static ipnet_status is_covered(struct lent *lent)
     return ipnet_is_covered(list, strlen(list), network, sizeof network, &lent->yes, &lent->number);
 }
 
+/* The images of the lists, which are made before memory is refused. */
+static struct {
+    uint8_t bytes[128];
+    size_t len;
+} list_set, part_set;
+
+static ipnet_status set_from_text(struct lent *lent)
+{
+    uint8_t image[128];
+    ipnet_status status = ipnet_set_from_text(list, strlen(list), image, sizeof image, &lent->number);
+    lent->yes = status == IPNET_OK ? lent->number == list_set.len && memcmp(image, list_set.bytes, list_set.len) == 0
+                                   : lent->yes;
+    return status;
+}
+
+static ipnet_status set_to_text(struct lent *lent)
+{
+    return ipnet_set_to_text(list_set.bytes, list_set.len, lent->buffer, sizeof lent->buffer, &lent->number);
+}
+
+static ipnet_status set_union(struct lent *lent)
+{
+    uint8_t image[128];
+    ipnet_status status = ipnet_set_union(list_set.bytes, list_set.len, part_set.bytes, part_set.len, image,
+                                          sizeof image, &lent->number);
+    lent->yes = status == IPNET_OK ? lent->number == list_set.len && memcmp(image, list_set.bytes, list_set.len) == 0
+                                   : lent->yes;
+    return status;
+}
+
+static ipnet_status set_complement(struct lent *lent)
+{
+    uint8_t image[128];
+    ipnet_status status = ipnet_set_complement(list_set.bytes, list_set.len, image, sizeof image, &lent->number);
+    lent->yes = status == IPNET_OK ? ipnet_set_check(image, lent->number) == IPNET_OK : lent->yes;
+    return status;
+}
+
+static ipnet_status set_is_subset(struct lent *lent)
+{
+    uint32_t answer = ipnet_set_is_subset(part_set.bytes, part_set.len, list_set.bytes, list_set.len);
+    lent->yes = answer <= 1 ? (uint8_t)answer : lent->yes;
+    return answer <= 1 ? IPNET_OK : (ipnet_status)answer;
+}
+
 /* Each call, and the text that it writes; NULL if its result is yes. */
 static const struct {
     const char *name;
@@ -116,7 +161,9 @@ static const struct {
     {"aggregate_text", aggregate, whole},   {"aggregate_text_legacy", aggregate_legacy, whole},
     {"union_text", union_of, whole},        {"intersection_text", intersection, part},
     {"difference_text", difference, rest},  {"same_addresses", same_addresses, NULL},
-    {"is_covered", is_covered, NULL},
+    {"is_covered", is_covered, NULL},       {"set_from_text", set_from_text, NULL},
+    {"set_to_text", set_to_text, whole},    {"set_union", set_union, NULL},
+    {"set_complement", set_complement, NULL}, {"set_is_subset", set_is_subset, NULL},
 };
 
 static int is_answered(const struct lent *lent, const char *answer)
@@ -246,6 +293,12 @@ static int free_faults(void)
 
 int main(void)
 {
+    granted = -1;
+    if (ipnet_set_from_text(list, strlen(list), list_set.bytes, sizeof list_set.bytes, &list_set.len) != IPNET_OK
+        || ipnet_set_from_text(part, strlen(part), part_set.bytes, sizeof part_set.bytes, &part_set.len) != IPNET_OK) {
+        puts("the images cannot be made");
+        return 1;
+    }
     int faults = free_faults();
     printf("growths:");
     for (size_t i = 0; i < sizeof calls / sizeof *calls; i++) {

@@ -14,7 +14,7 @@ RANDOM_RANGES = 20_000
 
 
 def call(name, number, start, end):
-    """The number that a call on a range of these stored ends answers, or None, and the stored ends after it.
+    """The number that a call on a range with these stored ends returns, or None, and the stored ends after the call.
 
     A range that a call has used up stores 1 and 0. `next` and `next_back` leave an empty range as it is."""
     count = max(end - start + 1, 0)

@@ -140,7 +140,7 @@ def parsed_items(text, code, start, end):
 
 
 def items(text):
-    """The items of the file, in order; the members of a trait, an `impl` or a module are in `.items` of theirs."""
+    """The items of the file, in order. A trait, an `impl` or a module has its members in `.items`."""
     return parsed_items(text, masked(text), 0, len(text))
 
 

@@ -20,6 +20,9 @@ bytearray or memoryview. IPv6 addresses with a zone, as fe80::1%eth0, are refuse
 True
 >>> is_covered(["10.0.0.0/25", "10.0.0.128/25"], "10.0.0.7")
 True
+>>> allowed = IpSet(["10.0.0.0/8"]) - IpSet("10.1.0.0/16")
+>>> "10.2.0.1" in allowed, "10.1.0.1" in allowed
+(True, False)
 >>> aggregate_text("10.0.0.0/24\\n\\nx\\n")
 Traceback (most recent call last):
     ...
@@ -32,8 +35,11 @@ from . import _library as library
 from ._library import version as library_version
 from ._networks import (BadLine, Interface, Network, Networks, NotANetwork, OneNetwork, answered, bytes_of,
                         interface_of, text_of)
+from ._sets import IpSet, NotASet
+from ._tables import NotATable, RouteTable
 
 __all__ = [
+    "IpSet", "NotASet", "RouteTable", "NotATable",
     "aggregate", "aggregate_text", "union", "union_text", "intersection", "intersection_text", "difference",
     "difference_text", "same_addresses", "is_covered", "parse", "canonical_text", "library_version", "BadLine",
     "NotANetwork",
@@ -41,7 +47,8 @@ __all__ = [
 
 __version__ = "1.0.0"
 
-BadLine.__module__ = NotANetwork.__module__ = __name__
+BadLine.__module__ = NotANetwork.__module__ = NotASet.__module__ = IpSet.__module__ = __name__
+RouteTable.__module__ = NotATable.__module__ = __name__
 
 
 def aggregate_text(networks: Networks, legacy: bool = False) -> str:

@@ -14,6 +14,9 @@ UNKNOWN_FAMILY = 7
 PREFIX_TOO_LONG = 8
 BAD_LINE_IN_OTHER = 9
 OTHER_NOT_UTF8 = 10
+NOT_A_SET = 11
+OTHER_NOT_A_SET = 12
+NOT_A_TABLE = 13
 
 MAX_BYTES = 18
 MAX_TEXT = 43
@@ -46,7 +49,8 @@ def _load() -> ctypes.CDLL:
         raise ImportError(f"{path} cannot be loaded: {error}; it runs on x86-64 Linux with glibc. Run bindings/build "
                           "in the repository to build it again") from error
     read, size, number = ctypes.c_char_p, ctypes.c_size_t, ctypes.POINTER(ctypes.c_size_t)
-    byte = ctypes.POINTER(ctypes.c_uint8)
+    byte, words, word = ctypes.POINTER(ctypes.c_uint8), ctypes.c_void_p, ctypes.POINTER(ctypes.c_uint32)
+    value = ctypes.c_uint32
     into_buffer = [read, size, read, size, number]
     declared = {
         "ipnet_version": [],
@@ -60,6 +64,23 @@ def _load() -> ctypes.CDLL:
         "ipnet_parse": into_buffer,
         "ipnet_parse_legacy": into_buffer,
         "ipnet_print": into_buffer,
+        "ipnet_set_from_text": into_buffer,
+        "ipnet_set_to_text": into_buffer,
+        "ipnet_set_check": [read, size],
+        "ipnet_set_contains": [read, size, read, size],
+        "ipnet_set_covers": [read, size, read, size],
+        "ipnet_set_contains_all": [read, size, read, size, size, read, size],
+        "ipnet_set_is_subset": [read, size, read, size],
+        "ipnet_set_union": [read, size, read, size, read, size, number],
+        "ipnet_set_intersection": [read, size, read, size, read, size, number],
+        "ipnet_set_difference": [read, size, read, size, read, size, number],
+        "ipnet_set_symmetric_difference": [read, size, read, size, read, size, number],
+        "ipnet_set_complement": into_buffer,
+        "ipnet_table_from_text": [read, size, words, size, read, size, number],
+        "ipnet_table_check": [read, size],
+        "ipnet_table_count": [read, size, number],
+        "ipnet_table_longest_match": [read, size, read, size, word],
+        "ipnet_table_longest_match_all": [read, size, read, size, size, value, words, size],
     }
     try:
         for name, types in declared.items():
@@ -111,3 +132,9 @@ def asker(name: str) -> Callable[..., Tuple[int, int, bool]]:
         return status, line.value, answer.value == 1
 
     return call
+
+
+def question(name: str) -> Callable[..., int]:
+    """The function, which takes pointers and lengths and returns 0, 1 or a status."""
+    function: Callable[..., int] = getattr(_library, name)
+    return function

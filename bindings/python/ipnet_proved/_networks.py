@@ -17,6 +17,9 @@ TEXTS = (str, bytes, bytearray, memoryview)
 OBJECTS = (IPv4Address, IPv6Address, IPv4Network, IPv6Network)
 LONGEST_QUOTE = 100
 
+PARSE = library.writer("ipnet_parse", library.MAX_BYTES)
+PARSE_LEGACY = library.writer("ipnet_parse_legacy", library.MAX_BYTES)
+
 # lines that are an address without a prefix length
 BARE_IPV4 = re.compile(rb"^[0-9.]+$", re.M)
 BARE_IPV6 = re.compile(rb"^[0-9A-Fa-f.]*:[0-9A-Fa-f:.]*$", re.M)
@@ -194,8 +197,10 @@ def text_of(networks: Networks, other: bool = False) -> bytes:
 def bytes_of(network: OneNetwork, legacy: bool = False) -> bytes:
     """The byte form of a network: a byte for the family, the octets, the prefix length."""
     if isinstance(network, TEXTS):
-        parse = library.writer("ipnet_parse_legacy" if legacy else "ipnet_parse", library.MAX_BYTES)
-        return answered(parse, [as_bytes(network)], legacy=legacy)
+        data = as_bytes(network)
+        parse = PARSE_LEGACY if legacy else PARSE
+        status, _, answer = parse(data if b"/" in data else data + (b"/128" if b":" in data else b"/32"))
+        return answer if status == library.OK else answered(parse, [data], legacy=legacy)
     if not isinstance(network, OBJECTS):
         raise TypeError(f"a network is a text or an object of ipaddress, and not {network!r}")
     octets, length = octets_of(network)

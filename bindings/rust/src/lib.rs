@@ -19,6 +19,11 @@
 #![deny(missing_docs)]
 
 mod raw;
+mod set;
+mod table;
+
+pub use set::IpSet;
+pub use table::RouteTable;
 
 use std::fmt;
 use std::net::{IpAddr, Ipv4Addr, Ipv6Addr};
@@ -36,6 +41,10 @@ pub enum Error {
     NotANetwork,
     /// The prefix length is above 32 (IPv4) or 128 (IPv6).
     PrefixTooLong,
+    /// The bytes are not the image of a set.
+    NotASet,
+    /// The bytes are not the image of a table.
+    NotATable,
     /// `malloc` or `realloc` failed.
     OutOfMemory,
 }
@@ -49,6 +58,8 @@ impl fmt::Display for Error {
             }
             Error::NotANetwork => f.write_str("invalid IP address syntax"),
             Error::PrefixTooLong => f.write_str("invalid IP prefix length"),
+            Error::NotASet => f.write_str("not the image of a set"),
+            Error::NotATable => f.write_str("not the image of a table"),
             Error::OutOfMemory => f.write_str("out of memory"),
         }
     }
@@ -100,7 +111,7 @@ impl Network {
         self.prefix_len
     }
 
-    fn to_bytes(self) -> raw::Bytes {
+    pub(crate) fn to_bytes(self) -> raw::Bytes {
         let mut bytes = raw::Bytes::default();
         match self.address {
             IpAddr::V4(address) => {
@@ -210,7 +221,7 @@ impl fmt::Display for Network {
 /// # Ok::<(), Error>(())
 /// ```
 pub fn aggregate_text(text: &str) -> Result<String, Error> {
-    raw::aggregate(text, raw::ipnet_aggregate_text)
+    raw::text_from(text.as_bytes(), raw::ipnet_aggregate_text)
 }
 
 /// Like [`aggregate_text`], for a text in the legacy grammar. The result is in the strict grammar.
@@ -222,7 +233,7 @@ pub fn aggregate_text(text: &str) -> Result<String, Error> {
 /// # Ok::<(), Error>(())
 /// ```
 pub fn aggregate_text_legacy(text: &str) -> Result<String, Error> {
-    raw::aggregate(text, raw::ipnet_aggregate_text_legacy)
+    raw::text_from(text.as_bytes(), raw::ipnet_aggregate_text_legacy)
 }
 
 /// The union of two lists, in the strict grammar: the shortest list of networks with exactly the addresses that are in
@@ -236,7 +247,7 @@ pub fn aggregate_text_legacy(text: &str) -> Result<String, Error> {
 /// # Ok::<(), Error>(())
 /// ```
 pub fn union_text(text: &str, other: &str) -> Result<String, Error> {
-    raw::combine(text, other, raw::ipnet_union_text)
+    raw::combine_texts(text, other, raw::ipnet_union_text)
 }
 
 /// Like [`union_text`], for the intersection: exactly the addresses that are in both lists.
@@ -248,7 +259,7 @@ pub fn union_text(text: &str, other: &str) -> Result<String, Error> {
 /// # Ok::<(), Error>(())
 /// ```
 pub fn intersection_text(text: &str, other: &str) -> Result<String, Error> {
-    raw::combine(text, other, raw::ipnet_intersection_text)
+    raw::combine_texts(text, other, raw::ipnet_intersection_text)
 }
 
 /// Like [`union_text`], for the difference: exactly the addresses that are in `text` and not in `other`. The result can
@@ -261,7 +272,7 @@ pub fn intersection_text(text: &str, other: &str) -> Result<String, Error> {
 /// # Ok::<(), Error>(())
 /// ```
 pub fn difference_text(text: &str, other: &str) -> Result<String, Error> {
-    raw::combine(text, other, raw::ipnet_difference_text)
+    raw::combine_texts(text, other, raw::ipnet_difference_text)
 }
 
 /// Whether the two lists, in the strict grammar, cover the same addresses.

@@ -9,16 +9,18 @@ const BUFFER_TOO_SHORT: u32 = 4;
 const NOT_A_NETWORK: u32 = 5;
 const PREFIX_TOO_LONG: u32 = 8;
 const BAD_LINE_IN_OTHER: u32 = 9;
+const NOT_A_SET: u32 = 11;
+const NOT_A_TABLE: u32 = 13;
 
 /// The maximum number of bytes in the byte form of a network, and in its text.
 const MAX_BYTES: usize = 18;
 const MAX_TEXT: usize = 43;
 
 /// A function that takes a text and its length, a buffer and its length, and a pointer to a count or line number.
-type IntoBuffer = unsafe extern "C" fn(*const u8, usize, *mut u8, usize, *mut usize) -> u32;
+pub type IntoBuffer = unsafe extern "C" fn(*const u8, usize, *mut u8, usize, *mut usize) -> u32;
 
 /// Like [`IntoBuffer`], with two texts.
-type BothIntoBuffer = unsafe extern "C" fn(*const u8, usize, *const u8, usize, *mut u8, usize, *mut usize) -> u32;
+pub type BothIntoBuffer = unsafe extern "C" fn(*const u8, usize, *const u8, usize, *mut u8, usize, *mut usize) -> u32;
 
 extern "C" {
     fn ipnet_version() -> u32;
@@ -100,6 +102,104 @@ extern "C" {
         buffer_len: usize,
         count: *mut usize,
     ) -> u32;
+    pub fn ipnet_set_from_text(
+        text: *const u8,
+        text_len: usize,
+        buffer: *mut u8,
+        buffer_len: usize,
+        count: *mut usize,
+    ) -> u32;
+    pub fn ipnet_set_to_text(
+        set: *const u8,
+        set_len: usize,
+        buffer: *mut u8,
+        buffer_len: usize,
+        count: *mut usize,
+    ) -> u32;
+    pub fn ipnet_set_complement(
+        set: *const u8,
+        set_len: usize,
+        buffer: *mut u8,
+        buffer_len: usize,
+        count: *mut usize,
+    ) -> u32;
+    pub fn ipnet_set_union(
+        set: *const u8,
+        set_len: usize,
+        other: *const u8,
+        other_len: usize,
+        buffer: *mut u8,
+        buffer_len: usize,
+        count: *mut usize,
+    ) -> u32;
+    pub fn ipnet_set_intersection(
+        set: *const u8,
+        set_len: usize,
+        other: *const u8,
+        other_len: usize,
+        buffer: *mut u8,
+        buffer_len: usize,
+        count: *mut usize,
+    ) -> u32;
+    pub fn ipnet_set_difference(
+        set: *const u8,
+        set_len: usize,
+        other: *const u8,
+        other_len: usize,
+        buffer: *mut u8,
+        buffer_len: usize,
+        count: *mut usize,
+    ) -> u32;
+    pub fn ipnet_set_symmetric_difference(
+        set: *const u8,
+        set_len: usize,
+        other: *const u8,
+        other_len: usize,
+        buffer: *mut u8,
+        buffer_len: usize,
+        count: *mut usize,
+    ) -> u32;
+    fn ipnet_set_check(set: *const u8, set_len: usize) -> u32;
+    fn ipnet_set_contains(set: *const u8, set_len: usize, address: *const u8, address_len: usize) -> u32;
+    fn ipnet_set_covers(set: *const u8, set_len: usize, network: *const u8, network_len: usize) -> u32;
+    fn ipnet_set_contains_all(
+        set: *const u8,
+        set_len: usize,
+        addresses: *const u8,
+        addresses_len: usize,
+        width: usize,
+        answers: *mut u8,
+        answers_len: usize,
+    ) -> u32;
+    fn ipnet_set_is_subset(set: *const u8, set_len: usize, other: *const u8, other_len: usize) -> u32;
+    fn ipnet_table_from_text(
+        text: *const u8,
+        text_len: usize,
+        values: *const u32,
+        values_len: usize,
+        buffer: *mut u8,
+        buffer_len: usize,
+        count: *mut usize,
+    ) -> u32;
+    fn ipnet_table_check(table: *const u8, table_len: usize) -> u32;
+    fn ipnet_table_count(table: *const u8, table_len: usize, count: *mut usize) -> u32;
+    fn ipnet_table_longest_match(
+        table: *const u8,
+        table_len: usize,
+        address: *const u8,
+        address_len: usize,
+        value: *mut u32,
+    ) -> u32;
+    fn ipnet_table_longest_match_all(
+        table: *const u8,
+        table_len: usize,
+        addresses: *const u8,
+        addresses_len: usize,
+        width: usize,
+        missing: u32,
+        values: *mut u32,
+        values_len: usize,
+    ) -> u32;
 }
 
 /// The version of the library as one number.
@@ -139,6 +239,8 @@ fn error_of(status: u32, line: usize) -> Error {
         BAD_LINE_IN_OTHER => Error::BadLineInOther(line),
         OUT_OF_MEMORY => Error::OutOfMemory,
         PREFIX_TOO_LONG => Error::PrefixTooLong,
+        NOT_A_SET => Error::NotASet,
+        NOT_A_TABLE => Error::NotATable,
         _ => Error::NotANetwork,
     }
 }
@@ -153,18 +255,17 @@ fn call(into_buffer: IntoBuffer, text: &[u8], buffer: &mut [u8]) -> (u32, usize)
     (status, count)
 }
 
-/// The text that `call` writes. It is usually not longer than its input of `given_len` bytes. If it is longer, as
-/// `::ffff:0.0.0.0/96` for `::ffff:0:0/96`, the first call reports the length and a second one writes the text.
-fn answer(given_len: usize, call: impl Fn(&mut [u8]) -> (u32, usize)) -> Result<String, Error> {
+/// The bytes that `call` writes. They are usually not more than `expected`. If they are, the first call reports their
+/// number and a second one writes them.
+fn answer(expected: usize, call: impl Fn(&mut [u8]) -> (u32, usize)) -> Result<Vec<u8>, Error> {
     let mut buffer = Vec::new();
-    grow(&mut buffer, given_len.saturating_add(1))?;
+    grow(&mut buffer, expected.saturating_add(1))?;
     loop {
         let (status, count) = call(&mut buffer);
         match status {
             OK => {
                 buffer.truncate(count);
-                // Canonical text is ASCII.
-                return String::from_utf8(buffer).map_err(|_| Error::NotANetwork);
+                return Ok(buffer);
             }
             BUFFER_TOO_SHORT => grow(&mut buffer, count)?,
             _ => return Err(error_of(status, count)),
@@ -172,13 +273,28 @@ fn answer(given_len: usize, call: impl Fn(&mut [u8]) -> (u32, usize)) -> Result<
     }
 }
 
-/// Aggregates a list.
-pub fn aggregate(text: &str, into_buffer: IntoBuffer) -> Result<String, Error> {
-    answer(text.len(), |buffer| call(into_buffer, text.as_bytes(), buffer))
+/// The bytes of canonical text as text, which is ASCII.
+fn text_of(bytes: Vec<u8>) -> Result<String, Error> {
+    String::from_utf8(bytes).map_err(|_| Error::NotANetwork)
+}
+
+/// Aggregates a list, or prints the networks of an image.
+pub fn text_from(given: &[u8], into_buffer: IntoBuffer) -> Result<String, Error> {
+    text_of(bytes_from(given, given.len(), into_buffer)?)
+}
+
+/// Calls a function that makes bytes of bytes.
+pub fn bytes_from(given: &[u8], expected: usize, into_buffer: IntoBuffer) -> Result<Vec<u8>, Error> {
+    answer(expected, |buffer| call(into_buffer, given, buffer))
 }
 
 /// Computes a union, intersection or difference of two lists.
-pub fn combine(text: &str, other: &str, into_buffer: BothIntoBuffer) -> Result<String, Error> {
+pub fn combine_texts(text: &str, other: &str, into_buffer: BothIntoBuffer) -> Result<String, Error> {
+    text_of(combine(text.as_bytes(), other.as_bytes(), into_buffer)?)
+}
+
+/// Calls a function that makes bytes of two texts or two images.
+pub fn combine(text: &[u8], other: &[u8], into_buffer: BothIntoBuffer) -> Result<Vec<u8>, Error> {
     answer(text.len().saturating_add(other.len()), |buffer| {
         let mut count = 0;
         // SAFETY: as in `call`. The two texts are only read, so they may overlap.
@@ -252,5 +368,118 @@ pub fn is_covered(text: &str, network: &[u8]) -> Result<bool, Error> {
     match status {
         OK => Ok(covered == 1),
         _ => Err(error_of(status, line)),
+    }
+}
+
+/// Tests that the bytes are the image of a set.
+pub fn check_set(set: &[u8]) -> Result<(), Error> {
+    // SAFETY: as in `call`.
+    match unsafe { ipnet_set_check(set.as_ptr(), set.len()) } {
+        OK => Ok(()),
+        status => Err(error_of(status, 0)),
+    }
+}
+
+/// Whether the set of a tested image contains the address with these octets, 4 or 16.
+pub fn set_contains(set: &[u8], octets: &[u8]) -> bool {
+    // SAFETY: as in `call`.
+    unsafe { ipnet_set_contains(set.as_ptr(), set.len(), octets.as_ptr(), octets.len()) == 1 }
+}
+
+/// Whether the set of a tested image contains every address of the network in byte form.
+pub fn set_covers(set: &[u8], network: &[u8]) -> bool {
+    // SAFETY: as in `call`.
+    unsafe { ipnet_set_covers(set.as_ptr(), set.len(), network.as_ptr(), network.len()) == 1 }
+}
+
+/// Writes 1 or 0 for each address of `width` octets. The lengths fit.
+pub fn set_contains_all(set: &[u8], addresses: &[u8], width: usize, answers: &mut [u8]) {
+    // SAFETY: as in `call`.
+    unsafe {
+        ipnet_set_contains_all(
+            set.as_ptr(),
+            set.len(),
+            addresses.as_ptr(),
+            addresses.len(),
+            width,
+            answers.as_mut_ptr(),
+            answers.len(),
+        );
+    }
+}
+
+/// Whether the first set is a subset of the second.
+pub fn set_is_subset(set: &[u8], other: &[u8]) -> Result<bool, Error> {
+    // SAFETY: as in `call`. The two images are only read, so they may overlap.
+    match unsafe { ipnet_set_is_subset(set.as_ptr(), set.len(), other.as_ptr(), other.len()) } {
+        answer @ (0 | 1) => Ok(answer == 1),
+        status => Err(error_of(status, 0)),
+    }
+}
+
+/// The image of the table of the networks of a text, each with the value at its place. There are as many values as
+/// networks.
+pub fn table_from(text: &str, values: &[u32]) -> Result<Vec<u8>, Error> {
+    answer(values.len().saturating_mul(32).saturating_add(32), |buffer| {
+        let mut count = 0;
+        // SAFETY: as in `call`.
+        let status = unsafe {
+            ipnet_table_from_text(
+                text.as_ptr(),
+                text.len(),
+                values.as_ptr(),
+                values.len(),
+                buffer.as_mut_ptr(),
+                buffer.len(),
+                &mut count,
+            )
+        };
+        (status, count)
+    })
+}
+
+/// Tests that the bytes are the image of a table.
+pub fn check_table(table: &[u8]) -> Result<(), Error> {
+    // SAFETY: as in `call`.
+    match unsafe { ipnet_table_check(table.as_ptr(), table.len()) } {
+        OK => Ok(()),
+        status => Err(error_of(status, 0)),
+    }
+}
+
+/// The number of routes of the table of an image.
+pub fn table_count(table: &[u8]) -> Result<usize, Error> {
+    let mut count = 0;
+    // SAFETY: as in `call`.
+    match unsafe { ipnet_table_count(table.as_ptr(), table.len(), &mut count) } {
+        OK => Ok(count),
+        status => Err(error_of(status, 0)),
+    }
+}
+
+/// The value of the longest match for the address with these octets, 4 or 16.
+pub fn table_longest_match(table: &[u8], octets: &[u8]) -> Option<u32> {
+    let mut value = 0;
+    // SAFETY: as in `call`.
+    let status = unsafe {
+        ipnet_table_longest_match(table.as_ptr(), table.len(), octets.as_ptr(), octets.len(), &mut value)
+    };
+    (status == 1).then_some(value)
+}
+
+/// Writes the value of the longest match for each address of `width` octets, or `missing`. The lengths fit.
+pub fn table_longest_match_all(table: &[u8], addresses: &[u8], width: usize, missing: u32, values: &mut [u32]) {
+    // SAFETY: as in `call`.
+    unsafe {
+        ipnet_table_longest_match_all(
+            table.as_ptr(),
+            table.len(),
+            addresses.as_ptr(),
+            addresses.len(),
+            width,
+            missing,
+            values.as_mut_ptr(),
+            values.len(),
+        );
     }
 }

@@ -83,7 +83,7 @@ impl Span {
     }
 }
 
-/// Types that have addresses for hosts.
+/// A pool of addresses for hosts.
 pub trait Pool {
     /// The number of addresses for hosts; `u32::MAX` if there are more.
     fn host_count(&self) -> u32;

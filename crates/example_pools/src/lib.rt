@@ -11,6 +11,7 @@ ghost use Rattle.ipnet.specs.SubnetsLeft.{ipv4_subnets_left};
 ghost use Rattle.example_pools.specs.declared.PlanError.TheVariants.{PrefixLen, TooFew, Memory};
 
 pub mod pool;
+pub mod tenants;
 
 use ipnet::{Ipv4Net, Ipv4Subnets, PrefixLenError};
 pub use pool::Pool;

@@ -3,8 +3,9 @@
 #![tactic(auto)]
 
 use anyhow::{Result, bail};
-use example_pools::site_plan;
-use ipnet::Ipv4Net;
+use ipnet::IpNet;
+use ipnet_pools::plan::plan_ipv4;
+use ipnet_sets::IpSet;
 
 fn main(rt: HostRuntime) -> Result<()> {
     let mut lines = rt.lines(rt.alloc());
@@ -15,14 +16,20 @@ fn main(rt: HostRuntime) -> Result<()> {
     let Some((block, prefix_len)) = first.as_str().split_once(' ') else {
         bail!("{first}: a block and a prefix length are wanted");
     };
-    let block = block.parse::<Ipv4Net>()?;
+    let block = block.parse::<IpNet>()?;
     let prefix_len = prefix_len.parse::<u8>()?;
     let mut sites = Vec::new(rt.alloc());
+    let mut lengths = Vec::new(rt.alloc());
     for site in lines {
         sites.push(site?)?;
+        lengths.push(prefix_len)?;
     }
-    let plan = site_plan(rt.alloc(), &block, prefix_len, sites.len())?;
+    let set = IpSet::from_network(rt.alloc(), &block)?;
+    let plan = plan_ipv4(rt.alloc(), &set, &lengths)?;
     for (site, subnet) in sites.iter().zip(&plan) {
+        let IpNet::V4(subnet) = subnet else {
+            bail!("{subnet}: an IPv4 network is wanted");
+        };
         let hosts = subnet.hosts().count();
         println!(rt; "{site} {subnet} {hosts} hosts")?;
     }

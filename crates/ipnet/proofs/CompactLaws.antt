@@ -96,7 +96,7 @@ ok_at_bytes network_of family of_family valid one value bytes e = λ n. (
       (valid value) (valid n) (sym e ∙ e'))),
 )
 
--- Behind a byte for a family the variant is never refused.
+-- If the first byte stands for a family, the variant is never refused.
 pub no_other_tag : {P : Type 0} (family : Family) (bytes rest : List ℕ) (tag : ℕ) → bytes ≡ tag ∷ rest
     → tag ≡ family_index family → ¬ P → P ↔ HasUnknownVariant bytes
 no_other_tag family bytes rest tag e is never =

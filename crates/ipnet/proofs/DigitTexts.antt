@@ -34,7 +34,7 @@ pub digit_run-append : (radix room : ℕ) (ds rest : List ℕ) → AllDigits rad
     → digit_run radix room (ds ++ rest) ≡ (ds, rest)
 digit_run-append radix room ds rest all fits stop = digit_run_stop radix room ds rest all fits (λ _. stop)
 
--- what the run is
+-- `ds` are digits at the front of the text, at most `room` of them, and `rest` is the text after them
 pub record IsRun (radix room : ℕ) (text ds rest : List ℕ) : Type 0 where
   pub spelled : text ≡ ds ++ rest
   pub all : AllDigits radix ds

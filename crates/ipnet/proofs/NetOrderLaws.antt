@@ -108,7 +108,7 @@ ipv6_ranks x y =
     (x.prefix_len < y.prefix_len) (x.prefix_len ≡ y.prefix_len) (y.prefix_len < x.prefix_len)
     (ranks x.low y.low) (ranks x.prefix_len y.prefix_len)))
 
--- what a hasher is fed of a network
+-- the bytes that a network feeds a hasher
 abbrev pub ipv4_fed : Ipv4Net → List (List ℕ)
 ipv4_fed n = le_bytes 8 n.word ∷ []
 

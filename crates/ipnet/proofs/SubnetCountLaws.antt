@@ -1,5 +1,5 @@
--- The walk over a network's own block: under a minimum prefix length from the network's own on, it gives exactly the
--- subnets of that length.
+-- The walk over a network's own block. If the minimum prefix length is at least the network's own, the walk yields
+-- exactly the subnets of that length.
 use Rattle.std.proofs.Common.{◌≡◌, ℕ, zero, suc, ◌+◌, ◌-◌, ◌*◌, ◌/◌, ◌^◌, ◌<◌, ◌≤◌, List, [], ◌∷◌, length, All}
 use Rattle.std.proofs.Common.{Contains, refl, sym, ap, ◌∙◌, subst, arith, inl, inr, pow_pos, pow-add, add-one}
 use Rattle.std.proofs.Math.Nat.{mul_assoc, mul-div_cancel}
@@ -72,7 +72,7 @@ walk_of_length f q e q_fits fits (suc count) a networks ends blocks =
         fits q_fits (omega arith)
         (aligned, omega (arith, ends_after)) (λ c c_fits good. c_fits) q (omega (arith, q_fits))
 
--- the walk over the block of a network, by networks of a length from its own on
+-- the walk over the block of a network, by networks of a length that is at least its own
 subnets_of_length : (n : Network) (q : ℕ) (networks : List Network) → IsNetwork n → n.prefix_len ≤ q
     → q ≤ width n.family
     → AreMaximalBlocks (IsBetween n.family (first_of n) (last_of n)) q networks

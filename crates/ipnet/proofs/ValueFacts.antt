@@ -149,7 +149,7 @@ past_end [] n h = refl
 past_end (x ∷ list) zero h = absurd (omega arith)
 past_end (x ∷ list) (suc n) h = past_end list n (omega arith)
 
--- what `nth` gives and leaves if each call gives the first of a list
+-- the item and the rest of `nth`, if each call returns the first item of a list
 module _ {S A : Type 0} (network : A → Network) (left : S → List Network) where
   walked : (s t : S) (xs : List A) → Yields (YieldsFirstBy network left) s xs t → left s ≡ map network xs ++ left t
   walked s t [] y = ap left y
@@ -180,7 +180,7 @@ contains_from_get : (networks : List Network) (n : ℕ) (k : Network) → slice_
     → Contains networks k
 contains_from_get networks n k e = (n, slice_get_within networks n k e, get_or_from_slice_get networks n k k e)
 
--- so what `nth` gives is in the list
+-- so the item that `nth` returns is in the list
 pub member_from_nth : {S A : Type 0} (network : A → Network) (left : S → List Network) (old new : S) (n : ℕ)
     (answer : Option A) → SkipsThenYields (YieldsFirstBy network left) old n answer new
     → IfSome answer (λ k. Contains (left old) (network k))

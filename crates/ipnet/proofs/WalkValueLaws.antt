@@ -45,7 +45,7 @@ ip_one_to_one (Ip.V4 r) (Ip.V6 s) e = let apart = ap (λ x. x.family) e in cc
 ip_one_to_one (Ip.V6 r) (Ip.V4 s) e = let apart = ap (λ x. x.family) e in cc
 ip_one_to_one (Ip.V6 r) (Ip.V6 s) e = ap Ip.V6 (ipv6_one_to_one r s e)
 
--- what a hasher is fed of a walk
+-- the bytes that a walk feeds a hasher
 abbrev pub ipv4_fed : Ipv4Subnets → List (List ℕ)
 ipv4_fed s = le_bytes 4 s.start ∷ le_bytes 4 s.end ∷ le_bytes 4 s.min_prefix_len ∷ []
 

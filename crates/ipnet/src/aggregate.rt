@@ -76,8 +76,8 @@ fn push_on_stack<N: Net>(list: &mut [N], stacked: usize, network: N) -> usize
     top + 1
 }
 
-/// Pushes the networks of a sorted list, one after the other, on a stack in its own front: the stack never has more
-/// networks than were read, so nothing unread is overwritten. Returns the number of networks on the stack at the end.
+/// Pushes the networks of a sorted list, one after the other, on a stack at the front of the same list. The stack never
+/// has more networks than were read, so nothing unread is overwritten. Returns the height of the stack at the end.
 fn sweep<N: Net>(list: &mut [N]) -> usize
     requires truncated { All IsTruncated (map N.network list.old) }
     requires order { IsInOrder (map N.network list.old) }
@@ -236,12 +236,12 @@ impl Ipv6Net {
 }
 
 impl IpNet {
-    /// The aggregate: the one shortest list of networks over exactly the addresses of these networks, truncated
-    /// and in order.
+    /// Returns the aggregate: the shortest list of networks with exactly the addresses of these networks, truncated and
+    /// in order.
     ///
-    /// It holds, once each, the truncated networks whose block lies in what the networks cover and in no larger such
-    /// block, IPv4 before IPv6 and by ascending first address. Order, repeats and host bits of the input do not
-    /// matter, and lists over the same addresses have the same aggregate.
+    /// It has the truncated networks of the maximal blocks, each once, IPv4 before IPv6 and by ascending first address.
+    /// Order, repeats and host bits of the input do not matter, and lists with the same addresses have the same
+    /// aggregate.
     ///
     /// Allocates once: room for as many networks as the input has. Fails only when memory runs out; an empty list needs
     /// none.

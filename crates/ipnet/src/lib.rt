@@ -21,7 +21,7 @@ pub use ipnet_base::{
     ipv6_mask_to_prefix, laws, mask,
 };
 pub use json::JsonError;
-pub use net::{Contains, IpNet, Ipv4Net, Ipv6Net};
+pub use net::{Contains, IpNet, Ipv4Net, Ipv6Net, Net};
 pub use parser::{AddrParseError, Grammar};
 pub use print::{ipv4_addr_text, ipv6_addr_text};
 pub use subnets::{IpSubnets, Ipv4Subnets, Ipv6Subnets};

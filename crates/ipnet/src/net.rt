@@ -34,8 +34,24 @@ pub trait Contains<T> {
         ensures { IsTrue result ↔ holds self.now other };
 }
 
-/// A type whose values stand for networks, one value for each network of its families.
-pub(crate) trait Net: Copy + Ord {
+mod sealed {
+    /// A trait that only this crate can name, so that only its types have a trait above it.
+    pub trait Sealed {}
+
+    impl Sealed for crate::net::Ipv4Net {}
+
+    impl Sealed for crate::net::Ipv6Net {}
+
+    impl Sealed for crate::net::IpNet {}
+}
+
+/// A type whose values stand for networks, one value for each network of its families: [`Ipv4Net`], [`Ipv6Net`] and
+/// [`IpNet`], and no other. A function over any of them has this bound.
+///
+/// ```text
+/// 10.0.0.1/24 truncated is 10.0.0.0/24; 10.0.0.0/25 and 10.0.0.128/25 are two halves, joined 10.0.0.0/24
+/// ```
+pub trait Net: sealed::Sealed + Copy + Ord {
     /// The network that a value stands for.
     ghost network: { Self → Network };
 
@@ -50,7 +66,7 @@ pub(crate) trait Net: Copy + Ord {
     fn covers(&self, other: &Self) -> bool
         ensures { IsTrue result ↔ IsSubnetOf (network other.now) (network self.now) };
 
-    /// Whether the two are the two different halves of one supernet.
+    /// Whether the two are the two different halves of one supernet; host bits do not matter.
     fn is_other_half(&self, other: &Self) -> bool
         ensures { IsTrue result ↔ AreHalves (network self.now) (network other.now) };
 

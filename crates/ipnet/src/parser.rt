@@ -75,39 +75,6 @@ pub enum Grammar {
     Legacy,
 }
 
-/// The network of either family that the whole text writes in this grammar.
-fn ip_net(text: &str, grammar: Grammar) -> Result<IpNet, AddrParseError>
-    ensures { ReadsNetwork ip_network (IsNetworkText grammar) text.now result }
-{
-    reader::read_network(text.as_bytes(), grammar).ok_or(AddrParseError(()))
-}
-
-/// The IPv4 network that the whole text writes in this grammar. No text is both an IPv4 and an IPv6 network.
-fn ipv4_net(text: &str, grammar: Grammar) -> Result<Ipv4Net, AddrParseError>
-    ensures { ReadsNetwork ipv4_network (IsIpv4NetworkText grammar) text.now result }
-{
-    let Ok(read) = ip_net(text, grammar) else {
-        return Err(AddrParseError(()));
-    };
-    match read {
-        IpNet::V4(net) => Ok(net),
-        IpNet::V6(_) => Err(AddrParseError(())),
-    }
-}
-
-/// The IPv6 network that the whole text writes in this grammar.
-fn ipv6_net(text: &str, grammar: Grammar) -> Result<Ipv6Net, AddrParseError>
-    ensures { ReadsNetwork ipv6_network (IsIpv6NetworkText grammar) text.now result }
-{
-    let Ok(read) = ip_net(text, grammar) else {
-        return Err(AddrParseError(()));
-    };
-    match read {
-        IpNet::V4(_) => Err(AddrParseError(())),
-        IpNet::V6(net) => Ok(net),
-    }
-}
-
 impl FromStr for Ipv4Net {
     type Err = AddrParseError;
 
@@ -123,11 +90,31 @@ impl FromStr for Ipv4Net {
     /// fd00::9/32     Err(AddrParseError)
     /// ```
     fn from_str(text: &str) -> Result<Ipv4Net, AddrParseError> {
-        ipv4_net(text, Grammar::Strict)
+        Ipv4Net::parse_as(text, Grammar::Strict)
     }
 }
 
 impl Ipv4Net {
+    /// Reads a text of this grammar: as `from_str` if it is strict, and as `parse_legacy` if it is legacy. An error for
+    /// every other text, and for the text of an IPv6 network.
+    ///
+    /// ```text
+    /// 10.1.1.9/24 in either grammar     Ok(10.1.1.9/24)
+    /// 010.0.0.1/08 in the legacy one    Ok(10.0.0.1/8)
+    /// 010.0.0.1/08 in the strict one    Err(AddrParseError)
+    /// ```
+    pub fn parse_as(text: &str, grammar: Grammar) -> Result<Ipv4Net, AddrParseError>
+        ensures { ReadsNetwork ipv4_network (IsIpv4NetworkText grammar) text.now result }
+    {
+        let Ok(read) = IpNet::parse_as(text, grammar) else {
+            return Err(AddrParseError(()));
+        };
+        match read {
+            IpNet::V4(net) => Ok(net),
+            IpNet::V6(_) => Err(AddrParseError(())),
+        }
+    }
+
     /// Reads a text of the legacy grammar, described in the module `parser`: a dotted address, "/" and a prefix length
     /// (RFC 4632, section 3.1), whose numbers may have leading zeros. What `from_str` reads is read alike.
     ///
@@ -145,7 +132,7 @@ impl Ipv4Net {
     pub fn parse_legacy(text: &str) -> Result<Ipv4Net, AddrParseError>
         ensures { ReadsNetwork ipv4_network (IsIpv4NetworkText Legacy) text.now result }
     {
-        ipv4_net(text, Grammar::Legacy)
+        Ipv4Net::parse_as(text, Grammar::Legacy)
     }
 }
 
@@ -165,14 +152,34 @@ impl FromStr for Ipv6Net {
     /// 10.1.1.9/24           Err(AddrParseError)
     /// ```
     fn from_str(text: &str) -> Result<Ipv6Net, AddrParseError> {
-        ipv6_net(text, Grammar::Strict)
+        Ipv6Net::parse_as(text, Grammar::Strict)
     }
 }
 
 impl Ipv6Net {
+    /// Reads a text of this grammar: as `from_str` if it is strict, and as `parse_legacy` if it is legacy. An error for
+    /// every other text, and for the text of an IPv4 network.
+    ///
+    /// ```text
+    /// fd00::9/32 in either grammar             Ok(fd00::9/32)
+    /// 1:2:3:4:5:6:7::8/64 in the legacy one    Ok(1:2:3:4:5:6:7:8/64)
+    /// 1:2:3:4:5:6:7::8/64 in the strict one    Err(AddrParseError)
+    /// ```
+    pub fn parse_as(text: &str, grammar: Grammar) -> Result<Ipv6Net, AddrParseError>
+        ensures { ReadsNetwork ipv6_network (IsIpv6NetworkText grammar) text.now result }
+    {
+        let Ok(read) = IpNet::parse_as(text, grammar) else {
+            return Err(AddrParseError(()));
+        };
+        match read {
+            IpNet::V4(_) => Err(AddrParseError(())),
+            IpNet::V6(net) => Ok(net),
+        }
+    }
+
     /// Reads a text of the legacy grammar, described in the module `parser`: an address (RFC 4291, section 2.2), "/"
     /// and a prefix length (section 2.3). All numbers may have leading zeros, and a "::" may replace no group. A text
-    /// that `from_str` reads gives the same network.
+    /// that `from_str` reads has the same network here.
     ///
     /// Fails for every other text: if there are not eight groups, including the groups that "::" replaces and the two
     /// that an IPv4 address at the end replaces; if eight groups come before a "::"; if a group has more than 4 digits;
@@ -191,7 +198,7 @@ impl Ipv6Net {
     pub fn parse_legacy(text: &str) -> Result<Ipv6Net, AddrParseError>
         ensures { ReadsNetwork ipv6_network (IsIpv6NetworkText Legacy) text.now result }
     {
-        ipv6_net(text, Grammar::Legacy)
+        Ipv6Net::parse_as(text, Grammar::Legacy)
     }
 }
 
@@ -208,11 +215,25 @@ impl FromStr for IpNet {
     /// 010.0.0.1/08   Err(AddrParseError)
     /// ```
     fn from_str(text: &str) -> Result<IpNet, AddrParseError> {
-        ip_net(text, Grammar::Strict)
+        IpNet::parse_as(text, Grammar::Strict)
     }
 }
 
 impl IpNet {
+    /// Reads a text of either family in this grammar: as `from_str` if it is strict, and as `parse_legacy` if it is
+    /// legacy. An error for every other text.
+    ///
+    /// ```text
+    /// fd00::9/32 in either grammar      Ok(fd00::9/32)
+    /// 010.0.0.1/08 in the legacy one    Ok(10.0.0.1/8)
+    /// 010.0.0.1/08 in the strict one    Err(AddrParseError)
+    /// ```
+    pub fn parse_as(text: &str, grammar: Grammar) -> Result<IpNet, AddrParseError>
+        ensures { ReadsNetwork ip_network (IsNetworkText grammar) text.now result }
+    {
+        reader::read_network(text.as_bytes(), grammar).ok_or(AddrParseError(()))
+    }
+
     /// Reads a text of either family by the legacy grammar, described in the module `parser`, as `parse_legacy` of
     /// [`Ipv4Net`] or [`Ipv6Net`] does. No text is one of both. An error for a text of neither.
     ///
@@ -225,6 +246,6 @@ impl IpNet {
     pub fn parse_legacy(text: &str) -> Result<IpNet, AddrParseError>
         ensures { ReadsNetwork ip_network (IsNetworkText Legacy) text.now result }
     {
-        ip_net(text, Grammar::Legacy)
+        IpNet::parse_as(text, Grammar::Legacy)
     }
 }

@@ -1,6 +1,6 @@
 //! The canonical text of addresses and networks (RFC 4632, section 3.1; RFC 4291, section 2.3; RFC 5952).
 //!
-//! Every text is made in a buffer of fixed capacity, so printing takes no memory.
+//! Every text is made in a buffer of fixed capacity, so printing allocates nothing.
 ghost use Rattle.std.specs.Prelude.{◌≡◌, ◌+◌, ◌-◌, ◌*◌, ◌≤◌, ◌<◌, [], ◌∷◌, ◌++◌, length, codes, decimal, Some};
 ghost use Rattle.std.specs.Char.{digit_char};
 ghost use Rattle.std.specs.Fmt.{DisplaysOnOk, DisplaysStyledOnOk};
@@ -64,22 +64,51 @@ fn digit(value: u16) -> &'static str
     }
 }
 
+// The three digits of each byte, one byte after the other. A table, because one copy of a whole text is faster than a
+// division and a copy for each digit.
+const DECIMALS: &str = "\
+000001002003004005006007008009010011012013014015016017018019020021022023024025026027028029030031\
+032033034035036037038039040041042043044045046047048049050051052053054055056057058059060061062063\
+064065066067068069070071072073074075076077078079080081082083084085086087088089090091092093094095\
+096097098099100101102103104105106107108109110111112113114115116117118119120121122123124125126127\
+128129130131132133134135136137138139140141142143144145146147148149150151152153154155156157158159\
+160161162163164165166167168169170171172173174175176177178179180181182183184185186187188189190191\
+192193194195196197198199200201202203204205206207208209210211212213214215216217218219220221222223\
+224225226227228229230231232233234235236237238239240241242243244245246247248249250251252253254255";
+
+/// The number of digits of the number in decimal, without leading zeros.
+#[tactic(auto, using(crate::proofs::PrintedDigits::decimal_count))]
+fn decimal_width(n: u8) -> usize
+    ensures value { result ≡ length (decimal n) }
+    ensures short { result ≤ 3 }
+{
+    if n < 10 {
+        1
+    } else if n < 100 {
+        2
+    } else {
+        3
+    }
+}
+
+/// The number in decimal, without leading zeros.
+fn decimal_text(n: u8) -> &'static str
+    ensures { result.now ≡ decimal n }
+{
+    let end = usize::from(n) * 3 + 3;
+    let start = end - decimal_width(n);
+    &DECIMALS[start..end]
+}
+
 /// Appends the number in decimal, without leading zeros.
-#[tactic(auto, using(crate::proofs::PrintedDigits::decimal_after))]
+#[tactic(auto, using(crate::proofs::PrintedDigits::decimal_short))]
 fn push_decimal(out: &mut Buffer, n: u8)
     requires { array_string_len out.old + 3 ≤ IPV6_NETWORK_LEN }
     ensures bytes { out.new.bytes ≡ out.old.bytes ++ decimal n }
     ensures short { array_string_len out.new ≤ array_string_len out.old + 3 }
     ensures shorter { n < 100 → array_string_len out.new ≤ array_string_len out.old + 2 }
 {
-    let n = u16::from(n);
-    if n >= 100 {
-        out.push_str(digit(n / 100));
-    }
-    if n >= 10 {
-        out.push_str(digit(n / 10 % 10));
-    }
-    out.push_str(digit(n % 10));
+    out.push_str(decimal_text(n));
 }
 
 /// Appends the octets in decimal, joined by ".".

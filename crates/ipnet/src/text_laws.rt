@@ -67,10 +67,7 @@ pub fn ipv4_text_reads_back(network: &Ipv4Net, grammar: Grammar) -> Result<Ipv4N
     ensures { result ≡ Ok network.now }
 {
     let text = network.to_text();
-    match grammar {
-        Grammar::Strict => text.as_str().parse(),
-        Grammar::Legacy => Ipv4Net::parse_legacy(text.as_str()),
-    }
+    Ipv4Net::parse_as(text.as_str(), grammar)
 }
 
 /// The canonical text of an IPv6 network reads back as that network, by the reader of either grammar.
@@ -78,10 +75,7 @@ pub fn ipv6_text_reads_back(network: &Ipv6Net, grammar: Grammar) -> Result<Ipv6N
     ensures { result ≡ Ok network.now }
 {
     let text = network.to_text();
-    match grammar {
-        Grammar::Strict => text.as_str().parse(),
-        Grammar::Legacy => Ipv6Net::parse_legacy(text.as_str()),
-    }
+    Ipv6Net::parse_as(text.as_str(), grammar)
 }
 
 /// The canonical text of a network of either family reads back as that network, by the reader of either grammar.
@@ -89,10 +83,7 @@ pub fn ip_text_reads_back(network: &IpNet, grammar: Grammar) -> Result<IpNet, Ad
     ensures { result ≡ Ok network.now }
 {
     let text = network.to_text();
-    match grammar {
-        Grammar::Strict => text.as_str().parse(),
-        Grammar::Legacy => IpNet::parse_legacy(text.as_str()),
-    }
+    IpNet::parse_as(text.as_str(), grammar)
 }
 
 /// Two networks have the same canonical text exactly when they are equal.

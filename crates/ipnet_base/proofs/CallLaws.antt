@@ -207,7 +207,7 @@ next_back_spends r (Some x) t h =
     (IsPermutation-sym (addresses_of t ++ x ∷ []) (x ∷ addresses_of t) (IsPermutation-to_front (addresses_of t) x))
     (same_list (sym h))
 
--- at 0 `nth` gives what `next` gives
+-- `nth(0)` returns the same as `next`
 IsNth-is_next : (n : ℕ) (r : AddressRange) (answer : Option Address) (t : AddressRange) → n ≡ 0 → IsNth n r answer t
     → MatchOption answer ((addresses_of r ≡ []) × (addresses_of t ≡ [])) (λ x. addresses_of r ≡ x ∷ addresses_of t)
 IsNth-is_next n r answer t zero_is h = elim (cases_lt n (address_count r)) [

@@ -167,11 +167,11 @@ octets_back n fits = ap (from_be_bytes w128) (octets_of-segments_of 8 n) ∙ num
 
 -- ---- bytes, the lowest first
 
--- what is left of a number above its byte i
+-- a number without its bytes up to byte i
 above_byte : (i x : ℕ) → x / 256 ^ suc i ≡ x / 256 ^ i / 256
 above_byte i x = ap (λ p. x / p) (pow-suc 256 i) ∙ sym (div-div-eq-div-mul x (256 ^ i) 256)
 
--- numbers with the same n bytes from byte i on, and the same above these, are the same from byte i on
+-- two numbers agree from byte i on if they agree in n bytes from there, and above these
 same_above : (n i top x y : ℕ) → top ≡ i + n → x / 256 ^ top ≡ y / 256 ^ top
     → bytes_low_first i n x ≡ bytes_low_first i n y → x / 256 ^ i ≡ y / 256 ^ i
 same_above zero i top x y at high e = let here : top ≡ i = omega (arith, at) in rw (sym here) high

@@ -1,4 +1,4 @@
--- The list that a range gives: its length, its ends, the item at a place, what lies between two places, its members.
+-- The list that a range yields: its length, its ends, the item at a place, the items between two places, its members.
 use Rattle.std.proofs.Common.{◌≡◌, ℕ, ◌+◌, ◌-◌, ◌<◌, ◌≤◌, Some, None, [], ◌∷◌, ◌++◌, length, map, take, drop, reverse}
 use Rattle.std.proofs.Common.{slice_get, slice_index_or, Contains, AllPairs, refl, sym, ap, ap₂, ◌∙◌, subst, arith}
 use Rattle.std.proofs.Common.{zero, suc}

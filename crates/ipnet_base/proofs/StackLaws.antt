@@ -161,7 +161,7 @@ stack_of_first_more networks i came stack new sorted l e h p = record {
       | inr b ↦ inr b
     ])
 
--- the stack of the whole sorted list covers what the list covers that was sorted
+-- the stack of the whole sorted list covers the same addresses as the list before it was sorted
 pub stack_of_first_whole : {X : Type 0} (net : X → Network) (made sorted answer : List X) → IsPermutation made sorted
     → IsStackOfFirst (map net sorted) (length sorted) (map net answer)
     → HaveSameCover (map net answer) (map net made)

@@ -1,4 +1,4 @@
--- Values of the range types: equal if their ends are, and if a hasher is fed the same bytes.
+-- Values of the range types are equal if their ends are equal, and if they feed a hasher the same bytes.
 use Rattle.std.proofs.Common.{◌≡◌, ◌↔◌, ℕ, ◌^◌, ◌<◌, List, [], ◌∷◌, refl, sym, ap, ◌∙◌, arith}
 use mathlib.Core.HLevel.{is_prop→PathP}
 use Rattle.std.specs.Coded.{le_prop}

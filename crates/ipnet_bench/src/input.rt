@@ -1,7 +1,7 @@
 //! The inputs of the tasks: texts and networks that are read, and data derived from them.
 
 use crate::error::BenchError;
-use ipnet::{IpAddr, IpNet, Ipv4Net, Ipv6Net};
+use ipnet::{IpAddr, IpNet, Ipv4Addr, Ipv4Net, Ipv6Net};
 use ipnet_sets::RouteTable;
 use std::alloc::{AllocError, Global};
 use std::io::{BufRead, BufReader};
@@ -106,6 +106,17 @@ pub fn last_addresses(alloc: Global, networks: &[IpNet]) -> Result<Vec<IpAddr>, 
     Ok(addresses)
 }
 
+/// Random IPv4 addresses from 1.0.0.0 to 223.255.255.255.
+pub fn random_addresses(alloc: Global, count: usize) -> Result<Vec<IpAddr>, AllocError> {
+    let mut numbers = SplitMix(11);
+    let mut addresses = Vec::with_capacity(alloc, count)?;
+    for _ in 0..count {
+        let number = (0x0100_0000 + numbers.next() % 0xdf00_0000) as u32;
+        addresses.push(IpAddr::V4(Ipv4Addr::from_bits(number)))?;
+    }
+    Ok(addresses)
+}
+
 /// A route to each network, with its position as value.
 pub fn routes(alloc: Global, networks: &[IpNet]) -> Result<Vec<(IpNet, u64)>, AllocError> {
     let mut routes = Vec::with_capacity(alloc, networks.len())?;
@@ -133,4 +144,9 @@ pub fn long_texts(alloc: Global, piece: &str, length: u32) -> Result<Vec<String>
         texts.push(text)?;
     }
     Ok(texts)
+}
+
+/// Adds a value to the checksum (FNV-1a, 64 bits at a time).
+pub fn mixed(before: u64, number: u64) -> u64 {
+    (before ^ number).wrapping_mul(0x0000_0100_0000_01b3)
 }

@@ -7,7 +7,10 @@
 
 mod error;
 mod input;
+mod maps;
 mod measure;
+mod pools;
+mod rules;
 mod work;
 
 use crate::error::BenchError;
@@ -34,6 +37,35 @@ fn ipv6_address(arguments: &[String], index: usize) -> Result<Ipv6Addr, BenchErr
     let text = arguments.get(index).ok_or(BenchError::Addresses)?;
     let address = text.as_str().parse::<Ipv6Addr>();
     address.map_err(|_| BenchError::Addresses)
+}
+
+/// The tasks over address pools, which take a number of leases or requests.
+fn over_pools(
+    rt: &(impl Print + Clock),
+    alloc: Global,
+    task: &str,
+    arguments: &[String],
+) -> Result<bool, BenchError> {
+    let Some(count) = arguments.first() else {
+        return Ok(false);
+    };
+    let Ok(count) = count.as_str().parse::<usize>() else {
+        return Ok(false);
+    };
+    match task {
+        "pool_assign" => measure::report(rt, alloc, task, pools::PoolAssign { alloc, count })?,
+        "pool_turn" => {
+            let leased = pools::Leased::new(alloc, count)?;
+            measure::report(rt, alloc, task, pools::PoolTurn { leased })?
+        }
+        "pool_lookup" => {
+            let leased = pools::Leased::new(alloc, count)?;
+            measure::report(rt, alloc, task, pools::PoolLookup { leased })?
+        }
+        "plan" => measure::report(rt, alloc, task, pools::Plan::new(alloc, count)?)?,
+        _ => return Ok(false),
+    }
+    Ok(true)
 }
 
 /// The tasks that only use the arguments.
@@ -88,6 +120,11 @@ fn over_sets(
     if task == "routes" {
         return measure::report(rt, alloc, task, work::Routes { alloc, networks });
     }
+    if task == "random_match" {
+        let addresses = input::random_addresses(alloc, networks.len())?;
+        let table = input::route_table(alloc, networks.as_slice())?;
+        return measure::report(rt, alloc, task, work::LongestMatch { table, addresses });
+    }
     if task == "hold_routes" {
         let routes = input::routes(alloc, networks.as_slice())?;
         return measure::report(rt, alloc, task, work::HoldRoutes { networks, routes });
@@ -119,6 +156,54 @@ fn over_sets(
         second,
     };
     measure::report(rt, alloc, task, work)
+}
+
+/// The tasks over the access list of the networks. Its questions are the last addresses of the networks.
+fn over_rules(
+    rt: &(impl Print + Clock),
+    alloc: Global,
+    task: &str,
+    networks: &[IpNet],
+) -> Result<(), BenchError> {
+    let rules = rules::access_list(alloc, networks)?;
+    match task {
+        "permitted" => measure::report(rt, alloc, task, rules::Permitted { alloc, rules }),
+        "unreached" => measure::report(rt, alloc, task, rules::Unreached { alloc, rules }),
+        "verdict" => {
+            let addresses = input::last_addresses(alloc, networks)?;
+            measure::report(rt, alloc, task, rules::Verdict { rules, addresses })
+        }
+        "compiled_verdict" => {
+            let permitted = rules.permitted(alloc)?;
+            let addresses = input::last_addresses(alloc, networks)?;
+            let work = rules::CompiledVerdict {
+                permitted,
+                addresses,
+            };
+            measure::report(rt, alloc, task, work)
+        }
+        _ => Err(BenchError::Task),
+    }
+}
+
+/// The tasks over maps of routes. Queries look up an address of each network in a map of every second network.
+fn over_maps(
+    rt: &(impl Print + Clock),
+    alloc: Global,
+    task: &str,
+    networks: Vec<IpNet>,
+) -> Result<(), BenchError> {
+    if task == "fill_map" {
+        return measure::report(rt, alloc, task, maps::FillMap { alloc, networks });
+    }
+    if task == "update_map" {
+        let map = maps::route_map(alloc, networks.as_slice())?;
+        return measure::report(rt, alloc, task, maps::UpdateMap { map, networks });
+    }
+    let (first, _) = input::halves(alloc, networks.as_slice())?;
+    let addresses = input::last_addresses(alloc, networks.as_slice())?;
+    let map = maps::route_map(alloc, first.as_slice())?;
+    measure::report(rt, alloc, task, maps::MapLongestMatch { map, addresses })
 }
 
 /// The tasks over the networks of the input.
@@ -164,6 +249,10 @@ fn over_networks(
             let text = String::new(alloc);
             measure::report(rt, alloc, task, work::ToText { networks, text })
         }
+        "permitted" | "unreached" | "verdict" | "compiled_verdict" => {
+            over_rules(rt, alloc, task, networks.as_slice())
+        }
+        "fill_map" | "update_map" | "map_longest_match" => over_maps(rt, alloc, task, networks),
         _ => over_sets(rt, alloc, task, networks),
     }
 }
@@ -175,7 +264,9 @@ fn run(rt: &HostRuntime) -> Result<(), BenchError> {
     let Some((task, rest)) = arguments.as_slice().split_first() else {
         return println!(rt; "{USAGE}").map_err(BenchError::Output);
     };
-    if without_input(rt, rt.alloc(), task.as_str(), rest)? {
+    if without_input(rt, rt.alloc(), task.as_str(), rest)?
+        || over_pools(rt, rt.alloc(), task.as_str(), rest)?
+    {
         return Ok(());
     }
     over_networks(rt, rt.alloc(), task.as_str())

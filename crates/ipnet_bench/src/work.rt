@@ -1,6 +1,6 @@
 //! The measured tasks, each over public calls of this repository.
 
-use crate::input;
+use crate::input::{self, mixed};
 use crate::measure::Work;
 use ipnet::{IpNet, Ipv4Net, Ipv4Subnets, Ipv6Net, Ipv6Subnets};
 use ipnet_base::{IpAddr, Ipv4Addr, Ipv4AddrRange, Ipv6Addr, Ipv6AddrRange};
@@ -17,11 +17,6 @@ fn folded(addr: IpAddr) -> u64 {
             ((bits ^ (bits >> 64)) & 0xffff_ffff_ffff_ffff) as u64
         }
     }
-}
-
-/// Adds a value to the checksum (FNV-1a, 64 bits at a time).
-fn mixed(before: u64, number: u64) -> u64 {
-    (before ^ number).wrapping_mul(0x0000_0100_0000_01b3)
 }
 
 /// All addresses of an IPv4 range, from its start.

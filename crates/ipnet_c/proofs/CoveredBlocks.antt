@@ -31,7 +31,7 @@ covered_iff_in_one networks blocks n valid aggregate = (to, from)
         any_from_contains (λ block. IsSubnetOf n block) blocks m ((aggregate.members m).1 max)
         (λ x h. sub x (in_truncation n x h))
 
--- where no block contains the network, it lies in none
+-- if no block contains the network, then it lies in no block
 pub in_none : (n : Network) (blocks : List IpNet)
     → ((i : ℕ) (d : IpNet) → i < length blocks → ¬ (IsSubnetOf n (ip_network (slice_index_or blocks i d))))
     → ¬ (Any (λ block. IsSubnetOf n block) (map ip_network blocks))

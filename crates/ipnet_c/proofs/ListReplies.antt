@@ -32,7 +32,7 @@ pub good_at_once : (grammar : Grammar) (text : List ℕ) (networks : List Networ
     → AreNetworksOf grammar (lines_of text) networks → IsGoodAtOnce grammar text
 good_at_once grammar text networks written number h = none_bad grammar (lines_of text) networks number written h.first
 
--- the text has empty lines alone
+-- all lines of the text are empty
 abbrev pub IsBlank : List ℕ → Type 0
 IsBlank text = All (λ line. line ≡ []) (lines_of text)
 
@@ -46,7 +46,7 @@ none_of_none ((b ∷ line) ∷ lines) list written h =
     let none : b ∷ line ≡ [] = All-head (λ line. line ≡ []) (b ∷ line) lines h in
     absurd cc
 
--- a text of empty lines alone is ASCII, and so UTF-8
+-- a text with only empty lines is ASCII, and so UTF-8
 not_blank : (b : ℕ) (lines : List (List ℕ)) → ¬ (All (λ line. line ≡ []) (onto_first_line b lines))
 not_blank b [] h =
     let none : b ∷ [] ≡ [] = All-head (λ line. line ≡ []) (b ∷ []) [] h in
@@ -72,7 +72,7 @@ blank_is_utf8 text h = IsUtf8-from_ascii text (blank_is_ascii text h)
 
 -- ---- a list aggregated
 
--- the tool's answer, written where there is room
+-- the tool's result is written if the buffer is long enough
 pub aggregated : (grammar : Grammar) (text bytes old new : List ℕ) (count_old count status : ℕ) (answer : String Global)
     → IsUtf8 text → IsTextAnswer grammar text (Ok answer) → bytes ≡ string_bytes answer
     → (status ≡ 0) ⊎ (status ≡ 4)
@@ -196,7 +196,7 @@ not_compared text other same line utf8 utf8_other some good good_other = record 
 
 -- ---- a list asked for a network
 
--- what reading bytes tells of their faults
+-- the errors of reading bytes
 pub record TellsFaults (bytes : List ℕ) (result : Result IpNet CompactError) : Type 0 where
   pub length : (result ≡ Err Length) ↔ HasWrongTaggedLen bytes
   pub variant : (result ≡ Err Variant) ↔ HasUnknownVariant bytes

@@ -21,7 +21,7 @@ refused grammar text buffer count utf8 none = record {
   count_kept = λ e. refl;
 }
 
--- a text that writes one, whose bytes are written where there is room
+-- the text is a network, and its bytes are written if the buffer is long enough
 pub parsed : (grammar : Grammar) (text bytes old new : List ℕ) (count_old count status : ℕ) (n : Network) → IsUtf8 text
     → IsNetworkText grammar text n → bytes ≡ tagged_network_bytes n → (status ≡ 0) ⊎ (status ≡ 4)
     → (status ≡ 0 → IsWritten bytes old new count) → (status ≡ 4 → IsTooLong bytes old new count)

@@ -10,9 +10,11 @@ use Rattle.ipnet_base.proofs.UniqueLaws.{AreMaximalBlocks-same_set, AreMaximalBl
 use Rattle.ipnet_sets.specs.declared.set.IpSet.{IpSet}
 use Rattle.ipnet_sets.specs.Members.{IsMember}
 use Rattle.ipnet_c.specs.Buffers.{IsWritten, IsTooLong}
-use Rattle.ipnet_c.specs.Replies.{IsCombined, AreBlocksOfBoth, IsSetText, IsSetReply}
-use Rattle.ipnet_c.specs.declared.sets.Operation.{Operation}
-use Rattle.ipnet_c.specs.declared.sets.Operation.TheVariants.{Union, Intersection, Difference}
+use Rattle.ipnet_c.specs.Replies.{AreBlocksOfBoth, IsSetText, IsSetReply}
+use Rattle.ipnet_sets.specs.Members.{IsCombined}
+use Rattle.ipnet_sets.specs.declared.operation.Operation.{Operation}
+use Rattle.ipnet_sets.specs.declared.operation.Operation.TheVariants.{Union, Intersection, Difference}
+use Rattle.ipnet_sets.specs.declared.operation.Operation.TheVariants.{SymmetricDifference}
 use Rattle.ipnet_c.proofs.StatusLaws.{differ, not_other}
 use Rattle.ipnet_c.proofs.ListReplies.{IsGoodAtOnce, good_at_once, IsBlank, blank_is_utf8}
 
@@ -23,6 +25,8 @@ IsCombined-same Union A B C D first second (inl a) = inl (first.0 a)
 IsCombined-same Union A B C D first second (inr b) = inr (second.0 b)
 IsCombined-same Intersection A B C D first second (a, b) = (first.0 a, second.0 b)
 IsCombined-same Difference A B C D first second (a, none) = (first.0 a, λ d. none (second.1 d))
+IsCombined-same SymmetricDifference A B C D first second (inl a) = inl (first.0 a.0, λ d. a.1 (second.1 d))
+IsCombined-same SymmetricDifference A B C D first second (inr b) = inr (second.0 b.0, λ c. b.1 (first.1 c))
 
 -- the maximal blocks of the set that the operation makes of the sets of two lists
 pub blocks_of_both : (operation : Operation) (networks others blocks : List Network) (set first second : IpSet)
@@ -40,13 +44,15 @@ blocks_of_both operation networks others blocks set first second of_networks of_
           (IsMember second x) ((of_networks x).1, (of_networks x).0) ((of_others x).1, (of_others x).0) m),
     ))
 
--- of two lists with no network every operation makes nothing
+-- every operation on two empty lists has an empty result
 nothing_of_nothing : (operation : Operation) (x : Address) → ¬ (IsCoveredBy [] x)
     → ¬ (IsCombined operation (IsCoveredBy [] x) (IsCoveredBy [] x))
 nothing_of_nothing Union x none (inl a) = none a
 nothing_of_nothing Union x none (inr b) = none b
 nothing_of_nothing Intersection x none (a, b) = none a
 nothing_of_nothing Difference x none (a, b) = none a
+nothing_of_nothing SymmetricDifference x none (inl a) = none a.0
+nothing_of_nothing SymmetricDifference x none (inr b) = none b.0
 
 -- so of two texts that write none the answer is empty
 pub empty_of_empty : (operation : Operation) (text other : List ℕ) → AreNetworksOf Strict (lines_of text) []
@@ -63,9 +69,9 @@ empty_of_empty operation text other written written_other = record {
   spelled = refl;
 }
 
--- ---- what a call tells
+-- ---- the replies of a call
 
--- the answer, written where there is room
+-- the result is written if the buffer is long enough
 pub combined : (operation : Operation) (text other answer old new : List ℕ) (count_old count status : ℕ) → IsUtf8 text
     → IsUtf8 other → IsSetText operation text other answer → (status ≡ 0) ⊎ (status ≡ 4)
     → (status ≡ 0 → IsWritten answer old new count) → (status ≡ 4 → IsTooLong answer old new count)
@@ -91,7 +97,7 @@ combined operation text other answer old new count_old count status utf8 utf8_ot
   bad_at_once_in_other = λ number none b h. absurd (good_at_once Strict other is.others is.written_other number h);
 }
 
--- the first text is no text
+-- the first text is not UTF-8
 pub first_not_utf8 : (operation : Operation) (text other buffer : List ℕ) (count : ℕ) → ¬ (IsUtf8 text)
     → IsSetReply operation text other buffer buffer count count 2
 first_not_utf8 operation text other buffer count invalid = record {

@@ -1,10 +1,10 @@
--- Statuses that differ, and what every call tells alike.
+-- Statuses differ, and facts about the statuses of all calls.
 use Rattle.std.proofs.Common.{◌≡◌, ◌≢◌, ℕ, ◌⊎◌, ◌↔◌, ◌==◌, Bool, true, false, IsTrue, inl, inr, refl, sym, ◌∙◌, eq-eqb}
 use Rattle.std.proofs.lemmas.Bool.{false≢true}
 use Rattle.std.specs.Int.{from_bool}
 use Rattle.ipnet_c.specs.Replies.{IsYesExactlyAt}
 
--- two numbers that a test tells apart
+-- two numbers differ if the test says so
 pub differ : (m n : ℕ) → (m == n) ≡ false → m ≢ n
 differ m n test e = false≢true (sym test ∙ eq-eqb m n e)
 
@@ -14,7 +14,7 @@ pub not_other : (status other : ℕ) → (status ≡ 0) ⊎ (status ≡ 4) → (
 not_other status other (inl e) zero four same = differ 0 other zero (sym e ∙ same)
 not_other status other (inr e) zero four same = differ 4 other four (sym e ∙ same)
 
--- an answer that is no yes is a no
+-- the byte 1 means yes, and the byte 0 no
 pub yes_exactly : (P : Type 0) (answer : Bool) (told : ℕ) → IsTrue answer ↔ P → told ≡ from_bool answer
     → IsYesExactlyAt P told
 yes_exactly P true told h e = inl (e, h.0 refl)

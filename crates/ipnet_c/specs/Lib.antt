@@ -2,4 +2,6 @@
 pub mod Statuses
 pub mod Buffers
 pub mod Replies
+pub mod SetReplies
 pub mod Version
+pub mod TableReplies

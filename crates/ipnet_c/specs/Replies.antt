@@ -10,11 +10,12 @@ use Rattle.ipnet.specs.declared.parser.Grammar.{Grammar}
 use Rattle.ipnet.specs.declared.parser.Grammar.TheVariants.{Strict}
 use Rattle.ipnet.specs.Lines.{lines_of, AreNetworksOf, IsGoodLine, IsFirstBadLine}
 use Rattle.ipnet.specs.NetworkTexts.{IsNetworkText, WritesNone}
-use Rattle.ipnet_tool.specs.Answers.{IsAnswerTo, StartsWithBadLine, text_of_lines}
+use Rattle.ipnet_text.specs.LineTexts.{text_of_lines}
+use Rattle.ipnet_tool.specs.Answers.{IsAnswerTo, StartsWithBadLine}
 use Rattle.ipnet_c.specs.Statuses as statuses
 use Rattle.ipnet_c.specs.Buffers.{IsWritten, IsTooLong}
-use Rattle.ipnet_c.specs.declared.sets.Operation.{Operation}
-use Rattle.ipnet_c.specs.declared.sets.Operation.TheVariants.{Union, Intersection, Difference}
+use Rattle.ipnet_sets.specs.Members.{IsCombined}
+use Rattle.ipnet_sets.specs.declared.operation.Operation.{Operation}
 
 -- ---- lists
 
@@ -68,12 +69,6 @@ pub record IsSameAddressesReply (text other : List ℕ) (same_old same line_old 
       → StartsWithBadLine Strict (lines_of other) number → status ≡ statuses.bad_line_in_other
 
 -- ---- sets made of two lists
-
--- Whether an address is in the result of the operation, given whether it is in the first set and in the second.
-abbrev pub IsCombined : Operation → Type 0 → Type 0 → Type 0
-IsCombined Union first second = first ⊎ second
-IsCombined Intersection first second = first × second
-IsCombined Difference first second = first × ¬ second
 
 -- The maximal blocks of the result of the operation on the addresses of the two lists.
 abbrev pub AreBlocksOfBoth : Operation → List Network → List Network → List Network → Type 0

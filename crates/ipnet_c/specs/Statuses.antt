@@ -47,6 +47,18 @@ bad_line_in_other = 9
 abbrev pub other_not_utf8 : ℕ
 other_not_utf8 = 10
 
+-- The bytes are not the image of a set.
+abbrev pub not_a_set : ℕ
+not_a_set = 11
+
+-- The second of two images is not the image of a set.
+abbrev pub other_not_a_set : ℕ
+other_not_a_set = 12
+
+-- The bytes do not begin with the header of the image of a table.
+abbrev pub not_a_table : ℕ
+not_a_table = 13
+
 -- The status for bytes that are not a network.
 abbrev pub status_of_bytes : CompactError → ℕ
 status_of_bytes Length = wrong_length

@@ -10,7 +10,7 @@ use ipnet_tool::{ToolError, aggregate_text, aggregate_text_legacy};
 use std::alloc::Global;
 use std::str;
 
-/// What the text tool gives for a text in this grammar.
+/// Returns the result of the text tool for a text in this grammar.
 fn tool_answer(alloc: Global, text: &str, grammar: Grammar) -> Result<String, ToolError>
     ensures { IsTextAnswer grammar text.now result }
 {
@@ -20,7 +20,7 @@ fn tool_answer(alloc: Global, text: &str, grammar: Grammar) -> Result<String, To
     }
 }
 
-/// The aggregate of a text in this grammar, into the buffer.
+/// Writes the aggregate of a text in this grammar into the buffer.
 fn aggregate(
     alloc: Global,
     text: &[u8],
@@ -43,17 +43,17 @@ fn aggregate(
     }
 }
 
-/// The shortest list of networks over exactly the addresses of the text's networks, as canonical text, one a line,
-/// into the buffer, and its length in bytes into `count`.
+/// Writes the shortest list of networks with exactly the addresses of the text's networks into the buffer, as canonical
+/// text with one network per line, and its length in bytes into `count`.
 ///
-/// The text has one network a line, in the strict grammar (RFC 4632, section 3.1; RFC 4291, sections 2.2 and 2.3);
-/// empty lines are skipped. The answer is what `aggregate_text` of `ipnet_tool` gives: the maximal aligned blocks of
-/// the addresses, IPv4 first, ascending, each followed by "\n".
+/// The text has one network per line, in the strict grammar (RFC 4632, section 3.1; RFC 4291, sections 2.2 and 2.3);
+/// empty lines are skipped. `aggregate_text` of `ipnet_tool` makes the result: the maximal aligned blocks of the
+/// addresses, IPv4 first, ascending, each followed by "\n".
 ///
-/// The status is 0, or 4 where the buffer is too short, with the length needed in `count`; 1 where a line is no
-/// network, with the number of the first such line, counted from 1 with the empty ones, in `count`; 2 where the text is
-/// not UTF-8; 3 where memory is short, which never comes where all lines are empty, nor where the first line that is
-/// not empty is bad. The buffer changes at 0 alone, `count` at 0, 1 and 4.
+/// Returns 0; 4 if the buffer is too short, with the length needed in `count`; 1 if a line is not a network, with the
+/// number of the first such line in `count`, counted from 1 with the empty ones; 2 if the text is not UTF-8; 3 if
+/// memory runs out, but never if all lines are empty, nor if the first line that is not empty is bad. The buffer
+/// changes only at 0, `count` only at 0, 1 and 4.
 ///
 /// ```text
 /// "10.0.1.0/24\n\n10.0.0.0/24"    0, and the text "10.0.0.0/23\n"
@@ -71,8 +71,8 @@ pub extern "C" fn ipnet_aggregate_text(
     aggregate(alloc, text, Grammar::Strict, buffer, count)
 }
 
-/// The same for a text of the legacy grammar, whose octets and lengths may have leading zeros, and whose "::" may stand
-/// for no group. The answer is strict text.
+/// Like `ipnet_aggregate_text`, for a text of the legacy grammar: octets and lengths may have leading zeros, and "::"
+/// may replace no group. The result is strict text.
 ///
 /// ```text
 /// "10.0.0.0/24\n10.0.01.0/24\n"    0, and the text "10.0.0.0/23\n"

@@ -5,7 +5,7 @@ ghost use Rattle.ipnet_c.specs.Buffers.{IsWritten, IsTooLong};
 
 use crate::statuses::{BUFFER_TOO_SHORT, OK};
 
-/// Puts the answer at the start of the buffer, where it has room; `count` gets the answer's length in any case.
+/// Writes the answer to the start of the buffer if there is room, and its length into `count` in any case.
 pub(crate) fn write_answer(answer: &[u8], buffer: &mut [u8], count: &mut usize) -> u32
     ensures known { (result ≡ statuses.ok) ⊎ (result ≡ statuses.buffer_too_short) }
     ensures ok { result ≡ statuses.ok → IsWritten answer.now buffer.old buffer.new count.new }

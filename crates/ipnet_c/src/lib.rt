@@ -3,10 +3,14 @@
 #![tactic(auto)]
 
 pub mod aggregates;
+mod blocks;
 mod buffers;
 pub mod covers;
 mod lists;
 pub mod networks;
+pub mod set_images;
+pub mod set_questions;
 pub mod sets;
 mod statuses;
+pub mod tables;
 pub mod version;

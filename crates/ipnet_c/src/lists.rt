@@ -1,29 +1,16 @@
 //! Lists of networks read from text.
-ghost use Rattle.std.specs.Prelude.{◌≡◌, ℕ, ◌<◌, [], ◌∷◌, length, map, All, Err, IfOk, IsOk};
+ghost use Rattle.std.specs.Prelude.{◌≡◌, ℕ, [], map, All, Err, IfOk, IsOk};
 ghost use Rattle.ipnet.specs.declared.parser.Grammar.TheVariants.{Strict};
 ghost use Rattle.ipnet.specs.Lines.{lines_of, AreNetworksOf, IsFirstBadLine};
 ghost use Rattle.ipnet.specs.NetworkOf.{ip_network};
 ghost use Rattle.ipnet_tool.specs.Answers.{StartsWithBadLine};
 
-use crate::networks::read_network;
 use ipnet::{Grammar, IpNet};
+use ipnet_text::first_line;
 use ipnet_tool::ToolError;
 use std::alloc::Global;
 
-/// The first line of a text that is not empty, and what stands after its end.
-fn first_line(text: &str) -> (&str, &str)
-    requires { 0 < length text.now }
-    ensures lines { lines_of text.now ≡ result.0.now ∷ lines_of result.1.now }
-    ensures shorter { length result.1.now < length text.now }
-{
-    match text.split_once('\n') {
-        Some(cut) => cut,
-        None => (text, ""),
-    }
-}
-
-/// The networks that the lines write, in their order, in the strict grammar. A text of empty lines alone takes no
-/// memory, nor does one whose first line that is not empty is bad.
+/// Returns the networks of the lines, in order, in the strict grammar. Allocates only after the first network was read.
 pub(crate) fn read_networks(alloc: Global, text: &str) -> Result<Vec<IpNet>, ToolError>
     ensures networks { IfOk result (λ list. AreNetworksOf Strict (lines_of text.now) (map ip_network list.items)) }
     ensures bad_line { (number : ℕ) → result ≡ Err (ToolError.Line number)
@@ -40,7 +27,7 @@ pub(crate) fn read_networks(alloc: Global, text: &str) -> Result<Vec<IpNet>, Too
         rest = after;
         number += 1;
         if !line.is_empty() {
-            let Ok(network) = read_network(line, Grammar::Strict) else {
+            let Ok(network) = IpNet::parse_as(line, Grammar::Strict) else {
                 return Err(ToolError::Line(number));
             };
             let Ok(()) = networks.push(network) else {

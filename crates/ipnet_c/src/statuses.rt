@@ -1,10 +1,10 @@
-//! The statuses that the calls return. What each means stands in `specs/Statuses`, and in `include/ipnet.h`.
+//! The statuses that the calls return. `specs/Statuses` and `include/ipnet.h` say what each means.
 ghost use Rattle.std.specs.Prelude.{◌≡◌};
 ghost use Rattle.ipnet_c.specs.Statuses.{status_of_bytes};
 
 use ipnet::CompactError;
 
-/// The answer stands in the memory that the caller lent.
+/// The result is in the memory that the caller lent.
 pub(crate) const OK: u32 = 0;
 
 /// A line of the text is neither empty nor a network.
@@ -19,13 +19,13 @@ pub(crate) const OUT_OF_MEMORY: u32 = 3;
 /// There is an answer, and the buffer is too short for it.
 pub(crate) const BUFFER_TOO_SHORT: u32 = 4;
 
-/// The text writes no network.
+/// The text is not a network.
 pub(crate) const NOT_A_NETWORK: u32 = 5;
 
-/// The bytes are too few or too many for a network, or none.
+/// The number of bytes is wrong for a network.
 pub(crate) const WRONG_LENGTH: u32 = 6;
 
-/// The first byte stands for no family.
+/// The first byte is not the byte of a family.
 pub(crate) const UNKNOWN_FAMILY: u32 = 7;
 
 /// The last byte, the prefix length, is above the width of the address.
@@ -37,7 +37,16 @@ pub(crate) const BAD_LINE_IN_OTHER: u32 = 9;
 /// The second of two texts is not UTF-8.
 pub(crate) const OTHER_NOT_UTF8: u32 = 10;
 
-/// Why bytes are not those of a network.
+/// The bytes are not the image of a set.
+pub(crate) const NOT_A_SET: u32 = 11;
+
+/// The second of two images is not the image of a set.
+pub(crate) const OTHER_NOT_A_SET: u32 = 12;
+
+/// The bytes do not begin with the header of the image of a table.
+pub(crate) const NOT_A_TABLE: u32 = 13;
+
+/// Returns the status for bytes that are not a network.
 pub(crate) fn status_of(error: CompactError) -> u32
     ensures { result ≡ status_of_bytes error }
 {

@@ -26,7 +26,7 @@ abbrev Before : IpNet → IpNet → Type 0
 Before a b = IsBefore (ip_network a) (ip_network b)
 
 -- the comparison says how the networks are ordered
-abbrev IsRanking : (IpNet → IpNet → Ordering) → Type 0
+abbrev pub IsRanking : (IpNet → IpNet → Ordering) → Type 0
 IsRanking cmp = (a b : IpNet) → MatchOrdering (cmp a b) (Before a b) (ip_network a ≡ ip_network b) (Before b a)
 
 same_value : (r : Ordering) (a b : IpNet) → MatchOrdering r (Before a b) (ip_network a ≡ ip_network b) (Before b a)
@@ -142,6 +142,16 @@ module _ (cmp : IpNet → IpNet → Ordering) (ranking : IsRanking cmp) where
     borrowed_missing (Some b) e = tt
     borrowed_missing None e = value_missing None e
 
+  some_value : {X : Type 0} (v w : X) → Some v ≡ Some w → v ≡ w
+  some_value v w e = cc
+
+  -- a network of an ordered map has one value
+  pub one_value : {V : Type 0} (m : BTreeMap IpNet V) → IsOrdered cmp m → (n : IpNet) (v w : V)
+      → Contains m.entries (n, v) → Contains m.entries (n, w) → v ≡ w
+  one_value m ordered n v w c d =
+      some_value v w (sym ((btree_map_get_iff total exact m ordered n v).1 c)
+      ∙ (btree_map_get_iff total exact m ordered n w).1 d)
+
   not_greater : (a b : IpNet) → is_gt (cmp a b) ≡ false → ¬ (Before b a)
   not_greater a b e h = by_ranked (Before a b) (a ≡ b) (Before b a) (cmp a b) (ranks a b)
       (λ _ before. IsBefore-asymmetric (ip_network a) (ip_network b) before h)
@@ -154,9 +164,14 @@ module _ (cmp : IpNet → IpNet → Ordering) (ranking : IsRanking cmp) where
       (λ _ same. never_before b (subst (λ z. Before z b) same h))
       (λ _ after. IsBefore-asymmetric (ip_network a) (ip_network b) h after)
 
-  up_to : (a b : IpNet) → ¬ (Before b a) → is_gt (cmp a b) ≡ false
+  pub up_to : (a b : IpNet) → ¬ (Before b a) → is_gt (cmp a b) ≡ false
   up_to a b h = by_ranked (Before a b) (a ≡ b) (Before b a) (cmp a b) (ranks a b)
       (λ f _. ap is_gt f) (λ f _. ap is_gt f) (λ _ after. absurd (h after))
+
+  -- if the first network is not after the second, they are one or the first is before the second
+  pub order_after : (a b : IpNet) → is_gt (cmp a b) ≡ false → (ip_network b ≡ ip_network a) ⊎ Before a b
+  order_after a b e = by_ranked (Before a b) (a ≡ b) (Before b a) (cmp a b) (ranks a b) (λ _ before. inr before)
+      (λ _ same. inl (ap ip_network (sym same))) (λ _ after. absurd (not_greater a b e after))
 
   before_or_not : (a b : IpNet) → Before b a ⊎ ¬ (Before b a)
   before_or_not a b = by_ranked (Before a b) (a ≡ b) (Before b a) (cmp a b) (ranks a b)

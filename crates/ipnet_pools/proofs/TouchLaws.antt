@@ -6,6 +6,7 @@ use Rattle.std.proofs.lemmas.Bool.{cases_lt}
 use Rattle.ipnet_base.specs.Address.{Address, width, family_index}
 use Rattle.ipnet_base.specs.Network.{Network, InBlock, AreDisjoint, IsBefore, IsGreatestOf}
 use Rattle.ipnet_base.proofs.BlockLaws.{own, own_in, between_from_block, block_from_between}
+use Rattle.ipnet_base.proofs.ExactCoverLaws.{single}
 use Rattle.ipnet_base.proofs.FamilyLaws.{same_family_from_index}
 use Rattle.ipnet_base.proofs.NestingLaws.{nested, nested_or_disjoint}
 use Rattle.ipnet.specs.declared.net.IpNet.{IpNet}
@@ -18,7 +19,7 @@ use Rattle.ipnet_pools.specs.Refusals.{IsNotFree, IsNotFreeAnd}
 use Rattle.ipnet_pools.proofs.PoolLaws.{Leased}
 
 -- what lies between two addresses of a block lies in it
-convex : (n : Network) (a b c : Address) → InBlock n a → InBlock n b → c.family ≡ n.family → a.number ≤ c.number
+pub convex : (n : Network) (a b c : Address) → InBlock n a → InBlock n b → c.family ≡ n.family → a.number ≤ c.number
     → c.number ≤ b.number → InBlock n c
 convex n a b c in_a in_b family low high = block_from_between n c (record {
   of_family = family;
@@ -89,19 +90,15 @@ module _ {V : Type 0} (leases : List (IpNet × V)) (l : AreLeases leases) (n : N
               (convex kn (own kn) z (own mn) (own_in kn) (n_in_k z greatest.inside) family low high) (own_in mn)
         ]
 
--- the network of this one address
-abbrev host_of : Address → Network
-host_of x = record { family = x.family; number = x.number; prefix_len = width x.family }
-
-touches_address : (m : Network) (x : Address) → ¬ (AreDisjoint m (host_of x)) → InBlock m x
-touches_address m x shares = elim (nested_or_disjoint m (host_of x)) [
+touches_address : (m : Network) (x : Address) → ¬ (AreDisjoint m (single x)) → InBlock m x
+touches_address m x shares = elim (nested_or_disjoint m (single x)) [
   | inl s ↦
-      nested (host_of x) m (own m) (s (own m) (own_in m)) (own_in m) (omega arith) x (own_in (host_of x))
-  | inr (inl s) ↦ s x (own_in (host_of x))
+      nested (single x) m (own m) (s (own m) (own_in m)) (own_in m) (omega arith) x (own_in (single x))
+  | inr (inl s) ↦ s x (own_in (single x))
   | inr (inr d) ↦ absurd (shares d)
 ]
 
-module _ {V : Type 0} (leases : List (IpNet × V)) (x : Address) (h : Network) (is : h ≡ host_of x) where
+module _ {V : Type 0} (leases : List (IpNet × V)) (x : Address) (h : Network) (is : h ≡ single x) where
   pub found_address : (o : Option (Bor IpNet × Bor V))
       → IfSome o (λ r. Contains leases (r.0.now, r.1.now) × ¬ (AreDisjoint (ip_network r.0.now) h))
       → IfSome o (λ r. Leased leases (ip_network r.0.now) r.1.now × InBlock (ip_network r.0.now) x)
@@ -116,7 +113,7 @@ module _ {V : Type 0} (leases : List (IpNet × V)) (x : Address) (h : Network) (
       → IfNone o ((n : Network) (v : V) → Leased leases n v → ¬ (InBlock n x))
   missing_address (Some r) none = tt
   missing_address None none = λ n v leased a.
-      none x (subst (λ z. InBlock z x) (sym is) (own_in (host_of x)))
+      none x (subst (λ z. InBlock z x) (sym is) (own_in (single x)))
       (leased.0, (v, leased.2), subst (λ z. InBlock z x) (sym leased.1) a)
 
 -- a lease that touches a network shows that not all of the network is free, and without one all of it is

@@ -1,14 +1,19 @@
--- The free addresses of a pool, as its private steps see them. Private contracts alone cite these.
+-- The free addresses of a pool, as its private steps see them. Only private contracts cite these.
 use Rattle.std.specs.Prelude.{◌↔◌, ◌⊎◌}
 use Rattle.ipnet_base.specs.Address.{Address}
 use Rattle.ipnet_base.specs.Network.{Network, InBlock}
-use Rattle.ipnet_sets.specs.Members.{IsMember}
+use Rattle.ipnet_base.specs.Blocks.{IsCoveredBy}
+use Rattle.ipnet_pools.specs.BlocksOf.{blocks_of}
 use Rattle.ipnet_pools.specs.Fits.{Without}
 use Rattle.ipnet_pools.specs.declared.free.FreeBlocks.{FreeBlocks}
 
 -- the address is free
 abbrev pub IsIn : FreeBlocks → Address → Type 0
-IsIn blocks = IsMember blocks.set
+IsIn free = IsCoveredBy (blocks_of free.blocks)
+
+-- the same addresses are free
+abbrev pub HaveSameFree : FreeBlocks → FreeBlocks → Type 0
+HaveSameFree old new = (x : Address) → IsIn new x ↔ IsIn old x
 
 -- the network's addresses were free, and are not free now; all others are as they were
 pub record IsCut (old new : FreeBlocks) (n : Network) : Type 0 where

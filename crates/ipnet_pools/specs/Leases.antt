@@ -1,5 +1,5 @@
 -- Leases: networks with a value each, as a list. The invariants of a pool cite these.
--- Private contracts alone cite these.
+-- Only private contracts cite these.
 use Rattle.std.specs.Prelude.{◌≡◌, ◌↔◌, List, Contains}
 use Rattle.ipnet_base.specs.Address.{Address}
 use Rattle.ipnet_base.specs.Network.{InBlock, IsTruncated, AreDisjoint, IsBefore}
@@ -27,6 +27,13 @@ LieIn leases InSet = (x : Address) → IsInLease leases x → InSet x
 -- the free addresses are the addresses of the set that lie in no lease
 abbrev pub IsRest : {V : Type 0} → (Address → Type 0) → List (IpNet × V) → (Address → Type 0) → Type 0
 IsRest Free leases InSet = (x : Address) → Free x ↔ (InSet x × ¬ (IsInLease leases x))
+
+-- the same, as an invariant: a free address may be in several places of a list
+pub record IsRestOf {V : Type 0} (Free : Address → Type 0) (leases : List (IpNet × V)) (InSet : Address → Type 0)
+    : Type 0 where
+  pub inside : (x : Address) → Free x → InSet x
+  pub beside : (x : Address) → Free x → ¬ (IsInLease leases x)
+  pub others : (x : Address) → InSet x → ¬ (IsInLease leases x) → ¬ (¬ (Free x))
 
 -- the lease is not after the network `at`, and it is the last such lease
 pub record IsLastNotAfter {V : Type 0} (leases : List (IpNet × V)) (at k : IpNet) : Type 0 where

@@ -1,4 +1,4 @@
--- The steps of a plan. Private contracts alone cite these.
+-- The steps of a plan. Only private contracts cite these.
 use Rattle.std.specs.Prelude.{◌≡◌, ℕ, List, map, All, drop, ◌++◌}
 use Rattle.ipnet_base.specs.Address.{Family, Address}
 use Rattle.ipnet_base.specs.Network.{Network}

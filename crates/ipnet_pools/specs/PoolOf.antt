@@ -1,9 +1,10 @@
 -- The addresses of a pool, its free addresses and its leases: everything that contracts say about a pool.
 use Rattle.std.specs.Prelude.{◌≡◌, ◌↔◌, ◌⊎◌, List, Contains}
-use Rattle.ipnet_base.specs.Address.{Address}
+use Rattle.ipnet_base.specs.Address.{Family, Address}
 use Rattle.ipnet_base.specs.Network.{Network, InBlock}
 use Rattle.ipnet.specs.declared.net.IpNet.{IpNet}
 use Rattle.ipnet.specs.NetworkOf.{ip_network}
+use Rattle.ipnet_sets.specs.declared.set.IpSet.{IpSet}
 use Rattle.ipnet_sets.specs.Members.{IsMember}
 use Rattle.ipnet_pools.specs.FreeOf.{IsIn}
 use Rattle.ipnet_pools.specs.declared.pool.IpPool.{IpPool}
@@ -15,6 +16,22 @@ IsOfPool pool = IsMember pool.whole
 -- the address is free
 abbrev pub IsFree : {V : Type 0} → IpPool V → Address → Type 0
 IsFree pool = IsIn pool.free
+
+-- the address belongs to the pool and is of the family
+abbrev pub IsOfPoolIn : {V : Type 0} → Family → IpPool V → Address → Type 0
+IsOfPoolIn f pool x = (x.family ≡ f) × IsOfPool pool x
+
+-- the address is free and of the family
+abbrev pub IsFreeIn : {V : Type 0} → Family → IpPool V → Address → Type 0
+IsFreeIn f pool x = (x.family ≡ f) × IsFree pool x
+
+-- the address belongs to the pool and is not free: it is leased
+abbrev pub IsInUse : {V : Type 0} → IpPool V → Address → Type 0
+IsInUse pool x = IsOfPool pool x × ¬ (IsFree pool x)
+
+-- the address is leased and of the family
+abbrev pub IsLeasedIn : {V : Type 0} → Family → IpPool V → Address → Type 0
+IsLeasedIn f pool x = (x.family ≡ f) × IsInUse pool x
 
 -- the leases: networks with a value each, in the order of the networks
 abbrev pub leases_of : {V : Type 0} → IpPool V → List (IpNet × V)
@@ -47,3 +64,18 @@ pub record IsReleased {V : Type 0} (old new : IpPool V) (n : Network) (v : V) : 
   pub whole : (x : Address) → IsOfPool new x ↔ IsOfPool old x
   pub free : (x : Address) → IsFree new x ↔ (IsFree old x ⊎ InBlock n x)
   pub leases : (m : Network) (w : V) → IsLeased new m w ↔ (IsLeased old m w × ¬ (m ≡ n))
+
+-- The set's addresses belong to the pool now. Those that did not belong to it are free, and everything else is as it
+-- was. Example: 10.0.0.0/25 with the lease 10.0.0.0/26, extended by 10.0.0.0/24, has 10.0.0.64 to 10.0.0.255 free.
+pub record IsExtended {V : Type 0} (old new : IpPool V) (set : IpSet) : Type 0 where
+  pub whole : (x : Address) → IsOfPool new x ↔ (IsOfPool old x ⊎ IsMember set x)
+  pub free : (x : Address) → IsFree new x ↔ (IsFree old x ⊎ (IsMember set x × ¬ (IsOfPool old x)))
+  pub leases : (n : Network) (v : V) → IsLeased new n v ↔ IsLeased old n v
+
+-- No address of the set was leased, and none belongs to the pool now; everything else is as it was.
+-- Example: 10.0.0.0/24 with the lease 10.0.0.0/26, without 10.0.0.128/25, has 10.0.0.64/26 free.
+pub record IsShrunk {V : Type 0} (old new : IpPool V) (set : IpSet) : Type 0 where
+  pub was_free : (x : Address) → IsMember set x → IsOfPool old x → IsFree old x
+  pub whole : (x : Address) → IsOfPool new x ↔ (IsOfPool old x × ¬ (IsMember set x))
+  pub free : (x : Address) → IsFree new x ↔ (IsFree old x × ¬ (IsMember set x))
+  pub leases : (n : Network) (v : V) → IsLeased new n v ↔ IsLeased old n v

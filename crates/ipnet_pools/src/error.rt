@@ -15,7 +15,7 @@ pub enum PoolError {
     /// No network of this prefix length is free.
     #[error("no free block is large enough")]
     Exhausted,
-    /// The network is not free: it shares an address with this lease.
+    /// The network, or the set that was to be removed, is not free: it shares an address with this lease.
     #[error("the network is not free")]
     NotFree(IpNet),
     /// The network is not a lease.

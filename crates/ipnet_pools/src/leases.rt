@@ -67,6 +67,14 @@ pub(crate) fn contains<V>(leases: &BTreeMap<IpNet, V>, network: &IpNet) -> bool
     }
 }
 
+/// No network has two leases. The function computes nothing; its contract is a fact for callers.
+pub(crate) fn have_one_value<V>(leases: &BTreeMap<IpNet, V>)
+    ensures { (n : Net) (v w : V) → Contains leases.now.entries (n, v) → Contains leases.now.entries (n, w) → v ≡ w }
+{
+    ip_nets_compare_by_network();
+    let _ = leases.iter();
+}
+
 /// Returns the last lease that is not after the network `at` in the order of networks.
 fn last_not_after<'a, V>(leases: &'a BTreeMap<IpNet, V>, at: &IpNet) -> Option<(&'a IpNet, &'a V)>
     ensures found { IfSome result (λ r. Contains leases.now.entries (r.0.now, r.1.now)

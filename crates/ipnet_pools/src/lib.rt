@@ -3,11 +3,12 @@
 //! The free addresses and the addresses in use share no address, and together they are the pool. Every call keeps this.
 #![tactic(auto)]
 
+mod block_set;
 pub mod error;
-mod fit;
 mod free;
 pub mod laws;
 mod leases;
+mod pieces;
 pub mod plan;
 pub mod pool;
 

@@ -35,11 +35,11 @@ fn plan(alloc: Global, set: &IpSet, family: IpNet, lengths: &[u8]) -> Result<Vec
     if has_too_long(lengths, &family) {
         return Err(PoolError::PrefixLen);
     }
-    let mut free = FreeBlocks::new(set)?;
+    let mut free = FreeBlocks::new(alloc, set)?;
     let mut networks = Vec::new(alloc);
     for index in 0..lengths.len() {
         let request = IpNet::new(family.addr(), lengths[index])?;
-        let network = free.assign(alloc, &request)?;
+        let network = free.assign(&request)?;
         networks.push(network)?;
     }
     Ok(networks)

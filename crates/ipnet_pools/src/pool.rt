@@ -1,5 +1,5 @@
 //! Pools of addresses.
-ghost use Rattle.std.specs.Prelude.{◌≡◌, ◌↔◌, ◌⊎◌, ◌<◌, ◌∷◌, List, Err, map, length, IfOk, OnOk, IfErr, IsErr};
+ghost use Rattle.std.specs.Prelude.{◌≡◌, ◌↔◌, ◌⊎◌, ◌<◌, ◌≤◌, ◌∷◌, List, Err, map, length, IfOk, OnOk, IfErr, IsErr};
 ghost use Rattle.std.specs.Prelude.{IfSome, IfNone, IsTrue};
 ghost use Rattle.ipnet_base.specs.Address.{Address, IPv4, IPv6, ip_address};
 ghost use Rattle.ipnet_base.specs.Network.{Network, InBlock, AreDisjoint, IsTruncated, truncation};
@@ -8,10 +8,12 @@ ghost use Rattle.ipnet.specs.NetworkOf.{ip_network};
 ghost use Rattle.ipnet_sets.specs.Members.{IsMember};
 ghost use Rattle.ipnet_pools.specs.Fits.{HasRoom, IsBestFit};
 ghost use Rattle.ipnet_pools.specs.FreeOf.{IsIn};
-ghost use Rattle.ipnet_pools.specs.Leases.{HasLeaseOf, AreLeases, LieIn, IsRest};
+ghost use Rattle.ipnet_pools.specs.Leases.{HasLeaseOf, AreLeases, LieIn, IsRestOf};
 ghost use Rattle.ipnet_pools.specs.Placements.{Request, CanPlace};
 ghost use Rattle.ipnet_pools.specs.declared.error.PoolError.TheVariants.{PrefixLen, Exhausted, NotLeased};
 ghost use Rattle.ipnet_pools.specs.declared.error.PoolError.TheVariants.{NotInPool, Memory};
+
+pub mod addresses;
 
 use crate::error::{PoolError, Refused};
 use crate::free::FreeBlocks;
@@ -21,6 +23,7 @@ use ipnet_sets::IpSet;
 use std::alloc::{AllocError, Global};
 use std::collections::BTreeMap;
 use std::collections::btree_map::Iter;
+use std::fmt;
 
 /// A set of addresses, and leases: networks inside it, each with a value. The addresses outside all leases are free.
 ///
@@ -34,7 +37,7 @@ pub struct IpPool<V> {
     leases: BTreeMap<IpNet, V>,
     ghost apart: { AreLeases leases.entries },
     ghost within: { LieIn leases.entries (IsMember whole) },
-    ghost rest: { IsRest (IsIn free) leases.entries (IsMember whole) },
+    ghost rest: { IsRestOf (IsIn free) leases.entries (IsMember whole) },
 }
 
 impl<V: Drop> IpPool<V> {
@@ -53,7 +56,7 @@ impl<V: Drop> IpPool<V> {
         ensures leases { IfOk result (λ pool. (n : Network) (v : V) → ¬ (IsLeased pool n v)) }
     {
         let whole = set.clone()?;
-        let free = FreeBlocks::new(set)?;
+        let free = FreeBlocks::new(alloc, set)?;
         let leases = BTreeMap::new(alloc);
         Ok(IpPool {
             whole,
@@ -63,7 +66,7 @@ impl<V: Drop> IpPool<V> {
     }
 
     /// Leases the network, which is free and has no host bits.
-    fn lease(&mut self, alloc: Global, network: IpNet, value: V) -> Result<(), Refused<V>>
+    fn lease(&mut self, network: IpNet, value: V) -> Result<(), Refused<V>>
         requires truncated { IsTruncated (ip_network network) }
         requires free { (x : Address) → InBlock (ip_network network) x → IsFree self.old x }
         ensures taken { OnOk result (IsTaken self.old self.new (ip_network network) value) }
@@ -77,7 +80,7 @@ impl<V: Drop> IpPool<V> {
                 value,
             });
         }
-        match self.free.cut(alloc, &network) {
+        match self.free.cut(&network) {
             Ok(()) => Ok(()),
             Err(_) => match leases::remove(&mut self.leases, &network) {
                 Some(value) => Err(Refused {
@@ -90,13 +93,14 @@ impl<V: Drop> IpPool<V> {
     }
 
     /// Ends the lease of the network, and returns its value.
-    fn end(&mut self, alloc: Global, network: &IpNet) -> Result<V, PoolError>
-        requires { HasLeaseOf self.old.leases.entries network.now }
+    fn end(&mut self, network: &IpNet) -> Result<V, PoolError>
+        requires truncated { IsTruncated (ip_network network.now) }
+        requires leased { HasLeaseOf self.old.leases.entries network.now }
         ensures released { IfOk result (λ v. IsReleased self.old self.new (ip_network network.now) v) }
         ensures unchanged { IsErr result → IsSamePool self.old self.new }
         ensures error { IsErr result → result ≡ Err Memory }
     {
-        self.free.add(alloc, network)?;
+        self.free.add(network)?;
         match leases::remove(&mut self.leases, network) {
             Some(value) => Ok(value),
             None => unreachable!(),
@@ -112,7 +116,7 @@ impl<V: Drop> IpPool<V> {
     /// ```text
     /// take 10.0.0.64/26 from 10.0.0.0/24: then 10.0.0.0/26 and 10.0.0.128/25 are free
     /// ```
-    pub fn take(&mut self, alloc: Global, network: &IpNet, value: V) -> Result<(), Refused<V>>
+    pub fn take(&mut self, network: &IpNet, value: V) -> Result<(), Refused<V>>
         ensures taken { OnOk result (IsTaken self.old self.new (truncation (ip_network network.now)) value) }
         ensures not_in_pool { IsErrorOf result NotInPool
             ↔ ¬ ((x : Address) → InBlock (ip_network network.now) x → IsOfPool self.old x) }
@@ -138,7 +142,7 @@ impl<V: Drop> IpPool<V> {
                 value,
             });
         }
-        self.lease(alloc, network.trunc(), value)
+        self.lease(network.trunc(), value)
     }
 
     /// Ends the lease of the network, and returns its value. The network's host bits do not count.
@@ -149,7 +153,7 @@ impl<V: Drop> IpPool<V> {
     /// ```text
     /// after take 10.0.0.64/26: release 10.0.0.64/27 is NotLeased, and release 10.0.0.64/26 returns the value
     /// ```
-    pub fn release(&mut self, alloc: Global, network: &IpNet) -> Result<V, PoolError>
+    pub fn release(&mut self, network: &IpNet) -> Result<V, PoolError>
         ensures released { IfOk result (λ v. IsReleased self.old self.new (truncation (ip_network network.now)) v) }
         ensures not_leased { (result ≡ Err NotLeased)
             ↔ ((v : V) → ¬ (IsLeased self.old (truncation (ip_network network.now)) v)) }
@@ -160,33 +164,27 @@ impl<V: Drop> IpPool<V> {
         if !leases::contains(&self.leases, &network) {
             return Err(PoolError::NotLeased);
         }
-        self.end(alloc, &network)
+        self.end(&network)
     }
 
     /// Leases the best fit for the request. Only the family and the prefix length of `request` count.
-    fn assign(&mut self, alloc: Global, request: &IpNet, value: V) -> Result<IpNet, Refused<V>>
+    fn assign(&mut self, request: &IpNet, value: V) -> Result<IpNet, Refused<V>>
         ensures taken { IfOk result (λ n. IsTaken self.old self.new (ip_network n) value) }
         ensures best { IfOk result (λ n. IsBestFit (IsFree self.old) (ip_network request.now).family
             (ip_network request.now).prefix_len (ip_network n)) }
-        ensures exhausted { IsErrorOf result Exhausted → ¬ (HasRoom (IsFree self.old) (ip_network request.now).family
+        ensures exhausted { IsErrorOf result Exhausted ↔ ¬ (HasRoom (IsFree self.old) (ip_network request.now).family
             (ip_network request.now).prefix_len) }
         ensures unchanged { IsErr result → IsSamePool self.old self.new }
         ensures value { IfErr result (λ refused. refused.value ≡ value) }
         ensures errors { IfErr result (λ refused. (refused.error ≡ Exhausted) ⊎ (refused.error ≡ Memory)) }
     {
-        let Ok(best) = self.free.best(alloc, request) else {
-            return Err(Refused {
-                error: PoolError::Memory,
-                value,
-            });
-        };
-        let Some(network) = best else {
+        let Some(network) = self.free.best(request) else {
             return Err(Refused {
                 error: PoolError::Exhausted,
                 value,
             });
         };
-        match self.lease(alloc, network, value) {
+        match self.lease(network, value) {
             Ok(()) => Ok(network),
             Err(refused) => Err(refused),
         }
@@ -201,25 +199,21 @@ impl<V: Drop> IpPool<V> {
     /// ```text
     /// from 10.0.0.0/25 and 10.0.0.192/26: a /27 is 10.0.0.192/27, and then a /25 is 10.0.0.0/25
     /// ```
-    pub fn assign_ipv4(
-        &mut self,
-        alloc: Global,
-        prefix_len: u8,
-        value: V,
-    ) -> Result<IpNet, Refused<V>>
+    pub fn assign_ipv4(&mut self, prefix_len: u8, value: V) -> Result<IpNet, Refused<V>>
         ensures taken { IfOk result (λ n. IsTaken self.old self.new (ip_network n) value) }
         ensures best { IfOk result (λ n. IsBestFit (IsFree self.old) IPv4 prefix_len (ip_network n)) }
         ensures keeps { IfOk result (λ n. (requests : List Request)
             → CanPlace (IsFree self.old) ((IPv4, prefix_len) ∷ requests) → CanPlace (IsFree self.new) requests) }
         ensures prefix_len { IsErrorOf result PrefixLen ↔ (32 < prefix_len) }
-        ensures exhausted { IsErrorOf result Exhausted → ¬ (HasRoom (IsFree self.old) IPv4 prefix_len) }
+        ensures exhausted { IsErrorOf result Exhausted
+            ↔ ((prefix_len ≤ 32) × ¬ (HasRoom (IsFree self.old) IPv4 prefix_len)) }
         ensures unchanged { IsErr result → IsSamePool self.old self.new }
         ensures value { IfErr result (λ refused. refused.value ≡ value) }
         ensures errors { IfErr result (λ refused.
             (refused.error ≡ PrefixLen) ⊎ ((refused.error ≡ Exhausted) ⊎ (refused.error ≡ Memory))) }
     {
         match Ipv4Net::new(Ipv4Addr::new(0, 0, 0, 0), prefix_len) {
-            Ok(request) => self.assign(alloc, &IpNet::V4(request), value),
+            Ok(request) => self.assign(&IpNet::V4(request), value),
             Err(_) => Err(Refused {
                 error: PoolError::PrefixLen,
                 value,
@@ -233,25 +227,21 @@ impl<V: Drop> IpPool<V> {
     /// ```text
     /// from 2001:db8::/32: a /48 is 2001:db8::/48
     /// ```
-    pub fn assign_ipv6(
-        &mut self,
-        alloc: Global,
-        prefix_len: u8,
-        value: V,
-    ) -> Result<IpNet, Refused<V>>
+    pub fn assign_ipv6(&mut self, prefix_len: u8, value: V) -> Result<IpNet, Refused<V>>
         ensures taken { IfOk result (λ n. IsTaken self.old self.new (ip_network n) value) }
         ensures best { IfOk result (λ n. IsBestFit (IsFree self.old) IPv6 prefix_len (ip_network n)) }
         ensures keeps { IfOk result (λ n. (requests : List Request)
             → CanPlace (IsFree self.old) ((IPv6, prefix_len) ∷ requests) → CanPlace (IsFree self.new) requests) }
         ensures prefix_len { IsErrorOf result PrefixLen ↔ (128 < prefix_len) }
-        ensures exhausted { IsErrorOf result Exhausted → ¬ (HasRoom (IsFree self.old) IPv6 prefix_len) }
+        ensures exhausted { IsErrorOf result Exhausted
+            ↔ ((prefix_len ≤ 128) × ¬ (HasRoom (IsFree self.old) IPv6 prefix_len)) }
         ensures unchanged { IsErr result → IsSamePool self.old self.new }
         ensures value { IfErr result (λ refused. refused.value ≡ value) }
         ensures errors { IfErr result (λ refused.
             (refused.error ≡ PrefixLen) ⊎ ((refused.error ≡ Exhausted) ⊎ (refused.error ≡ Memory))) }
     {
         match Ipv6Net::new(Ipv6Addr::new(0, 0, 0, 0, 0, 0, 0, 0), prefix_len) {
-            Ok(request) => self.assign(alloc, &IpNet::V6(request), value),
+            Ok(request) => self.assign(&IpNet::V6(request), value),
             Err(_) => Err(Refused {
                 error: PoolError::PrefixLen,
                 value,
@@ -310,6 +300,19 @@ impl<V: Drop> IpPool<V> {
         self.leases.len()
     }
 
+    /// No address is in two leases of the pool. The call computes nothing; its contract is a fact for the proofs of its
+    /// callers.
+    ///
+    /// ```text
+    /// after take 10.0.0.64/26 with value 7: no other lease contains 10.0.0.70, and no lease of it has another value
+    /// ```
+    pub fn has_one_lease_of_each_address(&self)
+        ensures { (n m : Network) (v w : V) (x : Address) → IsLeased self.now n v → IsLeased self.now m w
+            → InBlock n x → InBlock m x → (n ≡ m) × (v ≡ w) }
+    {
+        leases::have_one_value(&self.leases);
+    }
+
     /// Whether every address of the network is free.
     ///
     /// ```text
@@ -318,7 +321,10 @@ impl<V: Drop> IpPool<V> {
     pub fn is_free(&self, network: &IpNet) -> bool
         ensures { IsTrue result ↔ ((x : Address) → InBlock (ip_network network.now) x → IsFree self.now x) }
     {
-        self.free.covers(network)
+        match leases::touching(&self.leases, network) {
+            Some(_) => false,
+            None => self.whole.covers(network),
+        }
     }
 
     /// Returns the free addresses as the fewest networks. Fails only if memory runs out.
@@ -329,6 +335,14 @@ impl<V: Drop> IpPool<V> {
     pub fn free_networks(&self, alloc: Global) -> Result<Vec<IpNet>, AllocError>
         ensures { IfOk result (λ list. AreMaximalBlocks (IsFree self.now) 0 (map ip_network list.items)) }
     {
-        self.free.networks(alloc)
+        let free = self.free.set(alloc)?;
+        free.networks(alloc)
+    }
+}
+
+/// Writes the addresses of the pool and its leases, as `{10.0.0.0-10.0.0.255} {10.0.0.64/26: 7}`.
+impl<V: Drop + fmt::Debug> fmt::Debug for IpPool<V> {
+    fn fmt<W: fmt::Write>(&self, f: &mut fmt::Formatter<W>) -> fmt::Result {
+        write!(f, "{:?} {:?}", self.whole, self.leases)
     }
 }

@@ -23,6 +23,7 @@ pub fn ask(
         "covering" => ask_covering(alloc, &table, part),
         "matches" => ask_matches(alloc, &table, part),
         "within" => ask_within(alloc, &table, part),
+        "removed" | "put" => ask_changes(alloc, call, &table, part),
         "into_routes" => Ok(Some(show(alloc, table.into_routes())?)),
         "map" => Ok(Some(show(alloc, table.map(alloc, |value| value.len())?.routes())?)),
         _ => ask_table(alloc, call, &table),
@@ -125,6 +126,25 @@ fn ask_within(
         return Ok(None);
     };
     Ok(Some(show(alloc, table.within(&network))?))
+}
+
+/// The routes that are removed or put on the way to the table of other routes; `None` if the text is not a list of
+/// routes.
+fn ask_changes(
+    alloc: Global,
+    call: &str,
+    table: &RouteTable<String>,
+    routes: &str,
+) -> Result<Option<String>, AllocError> {
+    let Some(routes) = read_routes(alloc, routes)? else {
+        return Ok(None);
+    };
+    let new = RouteTable::from_routes(alloc, routes)?;
+    let changes = table.changes(alloc, &new)?;
+    if call == "put" {
+        return Ok(Some(show(alloc, changes.put)?));
+    }
+    Ok(Some(show(alloc, changes.removed)?))
 }
 
 /// The routes of the table, by a loop over it.

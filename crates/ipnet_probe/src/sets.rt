@@ -112,7 +112,7 @@ fn ask_ranges(alloc: Global, text: &str) -> Result<Option<String>, AllocError> {
     Ok(Some(show(alloc, IpSet::from_ranges(alloc, ranges.as_slice())?)?))
 }
 
-/// The set that the call makes of the sets between `;`, of none for `none`; `None` if one of them is not a set.
+/// The result of the call on the sets between `;`, or on no set for `none`; `None` if a text is not a set.
 fn ask_many(alloc: Global, call: &str, text: &str) -> Result<Option<String>, AllocError> {
     let mut sets = Vec::new(alloc);
     if text != "none" {

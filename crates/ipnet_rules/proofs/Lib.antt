@@ -3,3 +3,6 @@ pub mod VerdictLaws
 pub mod FirstLaws
 pub mod UnreachedLaws
 pub mod RouteLaws
+pub mod CellLaws
+pub mod PaintingLaws
+pub mod OwnerLaws

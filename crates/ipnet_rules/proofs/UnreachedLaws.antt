@@ -1,21 +1,17 @@
 -- Rules that decide on no address: what earlier rules match, rule by rule.
-use Rattle.std.proofs.Common.{◌≡◌, ℕ, ◌+◌, ◌<◌, ◌≤◌, ◌⊎◌, ◌↔◌, List, [], ◌∷◌, ◌++◌, length, get_or, All, Any}
-use Rattle.std.proofs.Common.{AllPairs, Contains, arith, refl, sym, subst, ◌∙◌, inl, inr}
+use Rattle.std.proofs.Common.{◌≡◌, ℕ, ◌+◌, ◌<◌, ◌≤◌, ◌↔◌, List, [], ◌∷◌, ◌++◌, length, get_or, All, Any}
+use Rattle.std.proofs.Common.{AllPairs, Contains, Result, Ok, Err, true, arith, refl, sym, subst, ◌∙◌, inl, inr}
+use Rattle.std.specs.Result.{MatchResult, is_ok}
 use Rattle.std.proofs.lemmas.Bool.{cases_lt}
-use Rattle.std.proofs.lemmas.List.Elements.{All-push, Contains-append_left, Contains-append_right}
-use Rattle.std.proofs.lemmas.List.Elements.{Contains-append_cases}
+use Rattle.std.proofs.lemmas.List.Elements.{All-push}
 use Rattle.std.proofs.lemmas.List.Quantifiers.{all_pairs_push}
 use Rattle.ipnet_base.specs.Address.{Address}
-use Rattle.ipnet_base.proofs.ListLaws.{at_place, contains_nil, contains_here, contains_cases}
+use Rattle.ipnet_base.proofs.ListLaws.{at_place}
 use Rattle.ipnet_rules.specs.declared.rules.Rule.{Rule}
 use Rattle.ipnet_rules.specs.declared.unreached.Unreached.{Unreached}
 use Rattle.ipnet_rules.specs.Rules.{Matches}
-use Rattle.ipnet_rules.specs.UnreachedRules.{MatchesAt, Decides, IsUnreached, AreDeciders, AreUnreached}
-use Rattle.ipnet_rules.proofs.VerdictLaws.{any_push}
-
--- some rule before the place matches the address
-abbrev pub IsMatchedBefore : List Rule → ℕ → Address → Type 0
-IsMatchedBefore rules place x = (earlier : ℕ) × (earlier < place) × MatchesAt rules earlier x
+use Rattle.ipnet_rules.specs.UnreachedRules.{MatchesAt, IsUnreached, AreDeciders, AreUnreached}
+use Rattle.ipnet_rules.proofs.VerdictLaws.{any_nil, any_push}
 
 -- the rule at a place matches what the list has there
 pub matches_at : (rules : List Rule) (place : ℕ) (d : Rule) (x : Address) → place < length rules
@@ -25,159 +21,33 @@ matches_at rules place d x within = (
   λ m. (get_or rules place d, within, at_place rules place (get_or rules place d) d within, m),
 )
 
--- one rule more
-before_next : (rules : List Rule) (place : ℕ) (x : Address)
-    → IsMatchedBefore rules (place + 1) x ↔ (IsMatchedBefore rules place x ⊎ MatchesAt rules place x)
-before_next rules place x = (
-  λ b. elim (cases_lt b.0 place) [
-    | inl less ↦ inl (b.0, less, b.2)
-    | inr not ↦ let same : b.0 ≡ place = omega (arith, b.1, not) in inr (subst (λ i. MatchesAt rules i x) same b.2)
-  ],
-  λ h. elim h [
-    | inl b ↦ (b.0, omega (arith, b.1), b.2)
-    | inr m ↦ (place, omega arith, m)
-  ],
+-- what a binary search says of the place
+pub found_or_not : (xs : List ℕ) (x : ℕ) (r : Result ℕ ℕ) → MatchResult r (λ i. (i < length xs) × (get_or xs i 0 ≡ x))
+    (λ i. (i ≤ length xs) × ((k : ℕ) → k < i → get_or xs k 0 < x) × ((k : ℕ) → i ≤ k → k < length xs
+    → x < get_or xs k 0)) → (is_ok r ≡ true) ↔ Contains xs x
+found_or_not xs x (Ok i) h = (λ _. (i, h.0, at_place xs i x 0 h.0 ∙ h.1), λ _. refl)
+found_or_not xs x (Err i) h = (
+  λ no. absurd (cc),
+  λ c. absurd (
+      let is : get_or xs c.0 0 ≡ x = at_place xs c.0 0 x c.1 ∙ c.2 in
+      elim (cases_lt c.0 i) [
+        | inl less ↦ let below = h.1 c.0 less in let wrong : ⊥ = omega (arith, below, is) in wrong
+        | inr not ↦ let above = h.2 c.0 (omega (arith, not)) c.1 in let wrong : ⊥ = omega (arith, above, is) in wrong
+      ]
+      ),
 )
 
--- a rule is unreached if earlier rules match all that it matches
-unreached_from_matched : (rules : List Rule) (place : ℕ) → place < length rules
-    → ((x : Address) → MatchesAt rules place x → IsMatchedBefore rules place x) → IsUnreached rules place
-unreached_from_matched rules place within covered = record {
-  within = within;
-  never = λ x d. let b = covered x d.matches in d.first b.0 b.1 b.2;
-}
-
--- the first rule that matches an address decides on it
-pub decides_from_first : (rules : List Rule) (place : ℕ) (x : Address) → MatchesAt rules place x
-    → (IsMatchedBefore rules place x → ⊥) → Decides rules place x
-decides_from_first rules place x m unmatched = record {
-  matches = m;
-  first = λ earlier less at. unmatched (earlier, less, at);
-}
-
--- After the rules below the index, `Left` has the addresses of the rule at the place that none of them matches. The
--- list has each rule below the index that decides on an address of the rule at the place.
-pub record AreDecidersTo (rules : List Rule) (place index : ℕ) (Left : Address → Type 0) (found : List ℕ) : Type 0 where
-  pub within : index ≤ place
-  pub left : (x : Address) → Left x ↔ (MatchesAt rules place x × (IsMatchedBefore rules index x → ⊥))
-  pub ascending : AllPairs (λ i j. i < j) found
-  pub members : (earlier : ℕ) → Contains found earlier
-      ↔ ((earlier < index) × (x : Address) × MatchesAt rules place x × Decides rules earlier x)
-
--- what is left after one rule more
-left_next : (rules : List Rule) (place index : ℕ) (Left New : Address → Type 0)
-    → ((x : Address) → Left x ↔ (MatchesAt rules place x × (IsMatchedBefore rules index x → ⊥)))
-    → ((x : Address) → New x ↔ (Left x × (MatchesAt rules index x → ⊥)))
-    → (x : Address) → New x ↔ (MatchesAt rules place x × (IsMatchedBefore rules (index + 1) x → ⊥))
-left_next rules place index Left New left new x = (
-  λ n. let l = (left x).0 ((new x).0 n).0 in (
-    l.0,
-    λ b. elim ((before_next rules index x).0 b) [
-      | inl before ↦ l.1 before
-      | inr at ↦ ((new x).0 n).1 at
-    ],
-  ),
-  λ h. (new x).1 (
-    (left x).1 (h.0, λ before. h.1 ((before_next rules index x).1 (inl before))),
-    λ at. h.1 ((before_next rules index x).1 (inr at)),
-  ),
-)
-
--- the rule at the index decides on an address of the rule at the place
-pub deciders_push : (rules : List Rule) (place index : ℕ) (Left New : Address → Type 0) (found : List ℕ) (x : Address)
-    → AreDecidersTo rules place index Left found → index < place → Left x → MatchesAt rules index x
-    → ((y : Address) → New y ↔ (Left y × (MatchesAt rules index y → ⊥)))
-    → AreDecidersTo rules place (index + 1) New (found ++ index ∷ [])
-deciders_push rules place index Left New found x h less l m new = record {
-  within = omega (arith, less);
-  left = left_next rules place index Left New h.left new;
-  ascending = all_pairs_push (λ i j. i < j) found index h.ascending
-      (λ k d in_list. ((h.members (get_or found k d)).0 (k, in_list, at_place found k (get_or found k d) d in_list)).0);
-  members = λ earlier. (
-    λ c. elim (Contains-append_cases found (index ∷ []) earlier c) [
-      | inl old ↦ let known = (h.members earlier).0 old in (omega (arith, known.0), known.1, known.2, known.3)
-      | inr last ↦ elim (contains_cases index [] earlier last) [
-        | inl same ↦ (
-          omega (arith, same),
-          x,
-          ((h.left x).0 l).0,
-          subst (λ i. Decides rules i x) same (decides_from_first rules index x m ((h.left x).0 l).1),
-        )
-        | inr none ↦ absurd (contains_nil earlier none)
-      ]
-    ],
-    λ known. elim (cases_lt earlier index) [
-      | inl old ↦ Contains-append_left found (index ∷ []) earlier
-          ((h.members earlier).1 (old, known.1, known.2, known.3))
-      | inr not ↦ let same : index ≡ earlier = omega (arith, known.0, not) in
-          subst (Contains (found ++ index ∷ [])) same
-          (Contains-append_right found (index ∷ []) index (contains_here index []))
-    ],
-  );
-}
-
--- the rule at the index matches none of the addresses that are left
-pub deciders_skip : (rules : List Rule) (place index : ℕ) (Left : Address → Type 0) (found : List ℕ)
-    → AreDecidersTo rules place index Left found → index < place
-    → ((x : Address) → Left x → MatchesAt rules index x → ⊥) → AreDecidersTo rules place (index + 1) Left found
-deciders_skip rules place index Left found h less none = record {
-  within = omega (arith, less);
-  left = left_next rules place index Left Left h.left (λ x. (λ l. (l, λ at. none x l at), λ both. both.0));
-  ascending = h.ascending;
-  members = λ earlier. (
-    λ c. let known = (h.members earlier).0 c in (omega (arith, known.0), known.1, known.2, known.3),
-    λ known. elim (cases_lt earlier index) [
-      | inl old ↦ (h.members earlier).1 (old, known.1, known.2, known.3)
-      | inr not ↦ let same : earlier ≡ index = omega (arith, known.0, not) in
-          let decides : Decides rules index known.1 = subst (λ i. Decides rules i known.1) same known.3 in
-          absurd (none known.1 ((h.left known.1).1 (known.2, λ b. decides.first b.0 b.1 b.2)) decides.matches)
-    ],
-  );
-}
-
--- at the end all earlier rules were asked, or no address is left that a later one could decide
-pub deciders_end : (rules : List Rule) (place index : ℕ) (Left : Address → Type 0) (found : List ℕ)
-    → AreDecidersTo rules place index Left found → (place ≤ index) ⊎ ((x : Address) → Left x → ⊥)
-    → AreDeciders rules place found
-deciders_end rules place index Left found h ended = record {
-  ascending = h.ascending;
-  members = λ earlier. (
-    λ c. let known = (h.members earlier).0 c in (omega (arith, known.0, h.within), known.1, known.2, known.3),
-    λ known. elim (cases_lt earlier index) [
-      | inl old ↦ (h.members earlier).1 (old, known.1, known.2, known.3)
-      | inr not ↦ elim ended [
-        | inl all ↦ absurd (let wrong : ⊥ = omega (arith, all, known.0, not) in wrong)
-        | inr none ↦ absurd (none known.1 ((h.left known.1).1 (
-          known.2,
-          λ b.
-              known.3.first b.0 (omega (arith, b.1, not)) b.2,
-        )))
-      ]
-    ],
-  );
-}
-
--- `Matched` has the addresses that the rules below the place match, and the list has each unreached rule below it.
-pub record AreUnreachedTo (rules : List Rule) (place : ℕ) (Matched : Address → Type 0) (found : List Unreached)
-    : Type 0 where
-  pub matched : (x : Address) → Matched x ↔ IsMatchedBefore rules place x
+-- The list has each unreached rule below the place.
+pub record AreUnreachedTo (rules : List Rule) (place : ℕ) (found : List Unreached) : Type 0 where
   pub ascending : AllPairs (λ u v. u.rule < v.rule) found
   pub members : (i : ℕ) → Any (λ u. u.rule ≡ i) found ↔ ((i < place) × IsUnreached rules i)
   pub deciders : All (λ u. AreDeciders rules u.rule u.deciders.items) found
 
 -- the rule at the place is unreached
-pub unreached_push : (rules : List Rule) (place : ℕ) (Matched : Address → Type 0) (found : List Unreached)
-    (u : Unreached) → AreUnreachedTo rules place Matched found → place < length rules
-    → ((x : Address) → MatchesAt rules place x → Matched x) → u.rule ≡ place
-    → AreDeciders rules place u.deciders.items → AreUnreachedTo rules (place + 1) Matched (found ++ u ∷ [])
-unreached_push rules place Matched found u h within covered is deciders = record {
-  matched = λ x. (
-    λ m. (before_next rules place x).1 (inl ((h.matched x).0 m)),
-    λ b. elim ((before_next rules place x).0 b) [
-      | inl before ↦ (h.matched x).1 before
-      | inr at ↦ covered x at
-    ],
-  );
+pub unreached_push : (rules : List Rule) (place : ℕ) (found : List Unreached) (u : Unreached)
+    → AreUnreachedTo rules place found → IsUnreached rules place → u.rule ≡ place
+    → AreDeciders rules place u.deciders.items → AreUnreachedTo rules (place + 1) (found ++ u ∷ [])
+unreached_push rules place found u h never is deciders = record {
   ascending = all_pairs_push (λ v w. v.rule < w.rule) found u h.ascending (λ k d in_list.
       let v = get_or found k d in
       let below = ((h.members v.rule).0 (k, v, in_list, at_place found k v d in_list, refl)).0 in
@@ -185,11 +55,7 @@ unreached_push rules place Matched found u h within covered is deciders = record
   members = λ i. (
     λ a. elim ((any_push (λ v. v.rule ≡ i) found u).0 a) [
       | inl old ↦ let known = (h.members i).0 old in (omega (arith, known.0), known.1)
-      | inr last ↦ (
-        omega (arith, last, is),
-        subst (IsUnreached rules) (sym is ∙ last)
-            (unreached_from_matched rules place within (λ x m. (h.matched x).0 (covered x m))),
-      )
+      | inr last ↦ (omega (arith, last, is), subst (IsUnreached rules) (sym is ∙ last) never)
     ],
     λ known. (any_push (λ v. v.rule ≡ i) found u).1 (elim (cases_lt i place) [
       | inl old ↦ inl ((h.members i).1 (old, known.1))
@@ -201,20 +67,9 @@ unreached_push rules place Matched found u h within covered is deciders = record
 }
 
 -- the rule at the place decides on some address
-pub unreached_skip : (rules : List Rule) (place : ℕ) (Matched New : Address → Type 0) (found : List Unreached)
-    → AreUnreachedTo rules place Matched found → (IsUnreached rules place → ⊥)
-    → ((x : Address) → New x ↔ (Matched x ⊎ MatchesAt rules place x)) → AreUnreachedTo rules (place + 1) New found
-unreached_skip rules place Matched New found h reached new = record {
-  matched = λ x. (
-    λ n. (before_next rules place x).1 (elim ((new x).0 n) [
-      | inl m ↦ inl ((h.matched x).0 m)
-      | inr at ↦ inr at
-    ]),
-    λ b. (new x).1 (elim ((before_next rules place x).0 b) [
-      | inl before ↦ inl ((h.matched x).1 before)
-      | inr at ↦ inr at
-    ]),
-  );
+pub unreached_skip : (rules : List Rule) (place : ℕ) (found : List Unreached) → AreUnreachedTo rules place found
+    → (IsUnreached rules place → ⊥) → AreUnreachedTo rules (place + 1) found
+unreached_skip rules place found h reached = record {
   ascending = h.ascending;
   members = λ i. (
     λ a. let known = (h.members i).0 a in (omega (arith, known.0), known.1),
@@ -228,9 +83,9 @@ unreached_skip rules place Matched New found h reached new = record {
 }
 
 -- all rules were asked
-pub unreached_end : (rules : List Rule) (place : ℕ) (Matched : Address → Type 0) (found : List Unreached)
-    → AreUnreachedTo rules place Matched found → (place < length rules → ⊥) → AreUnreached rules found
-unreached_end rules place Matched found h ended = record {
+pub unreached_end : (rules : List Rule) (place : ℕ) (found : List Unreached) → AreUnreachedTo rules place found
+    → (place < length rules → ⊥) → AreUnreached rules found
+unreached_end rules place found h ended = record {
   ascending = h.ascending;
   members = λ i. (
     λ a. ((h.members i).0 a).1,

@@ -10,7 +10,7 @@ pub any_nil : {E : Type 0} (P : E → Type 0) → Any P [] → ⊥
 any_nil P a = contains_nil a.1 (a.0, a.2, a.3)
 
 -- one element in front
-any_cons : {E : Type 0} (P : E → Type 0) (e : E) (es : List E) → Any P (e ∷ es) ↔ (P e ⊎ Any P es)
+pub any_cons : {E : Type 0} (P : E → Type 0) (e : E) (es : List E) → Any P (e ∷ es) ↔ (P e ⊎ Any P es)
 any_cons {E} P e es = (to, from)
   where
     to : Any P (e ∷ es) → P e ⊎ Any P es

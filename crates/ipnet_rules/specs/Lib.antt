@@ -2,5 +2,6 @@
 pub mod Verdicts
 pub mod Rules
 pub mod UnreachedRules
+pub mod Cells
 pub mod PrefixLists
 pub mod RoutesOfLength

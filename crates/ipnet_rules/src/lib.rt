@@ -1,6 +1,7 @@
 //! Ordered rules for addresses, and prefix lists for routes: the first match decides.
 #![tactic(auto)]
 
+mod cells;
 pub mod prefix_list;
 mod route_sets;
 pub mod rules;

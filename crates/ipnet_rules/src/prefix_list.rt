@@ -120,6 +120,50 @@ impl PrefixRule {
         })
     }
 
+    /// Returns the action of the rule.
+    ///
+    /// ```text
+    /// permit 10.0.0.0/8 ge 16 le 24: Permit
+    /// ```
+    pub fn action(&self) -> Action
+        ensures { result ≡ self.now.action }
+    {
+        self.action
+    }
+
+    /// Returns the network of the rule, as it was given: with its host bits.
+    ///
+    /// ```text
+    /// permit 10.0.0.0/8 ge 16 le 24: 10.0.0.0/8
+    /// ```
+    pub fn network(&self) -> IpNet
+        ensures { ip_network result ≡ ip_network self.now.network }
+    {
+        self.network
+    }
+
+    /// Returns the least prefix length that the rule asks for, if it was given.
+    ///
+    /// ```text
+    /// permit 10.0.0.0/8 ge 16 le 24: Some(16); permit 10.0.0.0/8 le 24: None
+    /// ```
+    pub fn ge(&self) -> Option<u8>
+        ensures { result ≡ self.now.ge }
+    {
+        self.ge
+    }
+
+    /// Returns the greatest prefix length that the rule asks for, if it was given.
+    ///
+    /// ```text
+    /// permit 10.0.0.0/8 ge 16 le 24: Some(24); permit 10.0.0.0/8 ge 16: None
+    /// ```
+    pub fn le(&self) -> Option<u8>
+        ensures { result ≡ self.now.le }
+    {
+        self.le
+    }
+
     /// Returns whether the rule asks for this prefix length.
     fn asks_for(&self, prefix_len: u8) -> bool
         ensures { IsTrue result

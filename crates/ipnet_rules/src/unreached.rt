@@ -1,9 +1,12 @@
 //! Rules that decide on no address, because earlier rules match all of theirs.
-ghost use Rattle.std.specs.Prelude.{◌<◌, length, IfOk};
-ghost use Rattle.ipnet_rules.specs.UnreachedRules.{AreDeciders, AreUnreached};
+ghost use Rattle.std.specs.Prelude.{◌⊎◌, ◌↔◌, ℕ, Contains, IsTrue, IfOk};
+ghost use Rattle.std.specs.List.Sorted.{IsNonDecreasing};
+ghost use Rattle.ipnet_base.specs.Address.{IPv4, IPv6};
+ghost use Rattle.ipnet_rules.specs.Cells.{AreCells};
+ghost use Rattle.ipnet_rules.specs.UnreachedRules.{IsUnreached, AreDeciders, AreUnreached};
 
+use crate::cells::{self, Cells, Family};
 use crate::rules::Rule;
-use ipnet_sets::IpSet;
 use std::alloc::{AllocError, Global};
 
 /// A rule that decides on no address.
@@ -20,26 +23,48 @@ pub struct Unreached {
     pub deciders: Vec<usize>,
 }
 
-/// Returns the indexes of the earlier rules that decide on addresses of the rule at the place.
-fn deciders(alloc: Global, rules: &[Rule], place: usize) -> Result<Vec<usize>, AllocError>
-    requires { place < length rules.now }
+/// Returns the rules that own a cell, in ascending order.
+fn reached_rules(alloc: Global, ipv4: &Cells, ipv6: &Cells) -> Result<Vec<usize>, AllocError>
+    ensures ascending { IfOk result (λ reached. IsNonDecreasing reached.items) }
+    ensures members { IfOk result (λ reached. (place : ℕ) → Contains reached.items place
+        ↔ (Contains ipv4.now.owners.items place ⊎ Contains ipv6.now.owners.items place)) }
+{
+    let mut reached = Vec::new(alloc);
+    reached.extend_from_slice(ipv4.owners.as_slice())?;
+    reached.extend_from_slice(ipv6.owners.as_slice())?;
+    reached.sort_unstable();
+    Ok(reached)
+}
+
+/// Returns whether the list, which ascends, has the place.
+fn has_place(reached: &[usize], place: usize) -> bool
+    requires { IsNonDecreasing reached.now }
+    ensures { IsTrue result ↔ Contains reached.now place }
+{
+    reached.binary_search(&place).is_ok()
+}
+
+/// Returns the indexes of the earlier rules that decide on addresses of the rule at the place, which decides on none.
+fn deciders(
+    alloc: Global,
+    rules: &[Rule],
+    place: usize,
+    ipv4: &Cells,
+    ipv6: &Cells,
+) -> Result<Vec<usize>, AllocError>
+    requires unreached { IsUnreached rules.now place }
+    requires ipv4 { AreCells IPv4 rules.now ipv4.now }
+    requires ipv6 { AreCells IPv6 rules.now ipv6.now }
     ensures { IfOk result (λ list. AreDeciders rules.now place list.items) }
 {
+    let addresses = &rules[place].addresses;
+    let ipv4_pieces = cells::pieces_of(alloc, addresses, Family::Ipv4)?;
+    let ipv6_pieces = cells::pieces_of(alloc, addresses, Family::Ipv6)?;
     let mut found = Vec::new(alloc);
-    let mut left = rules[place].addresses.to_set(alloc)?;
-    let mut index = 0;
-    while index < place && !left.is_empty() {
-        let earlier = rules[index].addresses.to_set(alloc)?;
-        let shared = left.intersection(alloc, &earlier)?;
-        match shared.first() {
-            Some(_) => {
-                found.push(index)?;
-                left = left.difference(alloc, &earlier)?;
-            }
-            None => {}
-        }
-        index += 1;
-    }
+    cells::push_owners(&mut found, ipv4, ipv4_pieces.as_slice())?;
+    cells::push_owners(&mut found, ipv6, ipv6_pieces.as_slice())?;
+    found.sort_unstable();
+    found.dedup();
     Ok(found)
 }
 
@@ -47,18 +72,17 @@ fn deciders(alloc: Global, rules: &[Rule], place: usize) -> Result<Vec<usize>, A
 pub(crate) fn unreached_rules(alloc: Global, rules: &[Rule]) -> Result<Vec<Unreached>, AllocError>
     ensures { IfOk result (λ found. AreUnreached rules.now found.items) }
 {
+    let ipv4 = cells::cells_of(alloc, rules, Family::Ipv4)?;
+    let ipv6 = cells::cells_of(alloc, rules, Family::Ipv6)?;
+    let reached = reached_rules(alloc, &ipv4, &ipv6)?;
     let mut found = Vec::new(alloc);
-    let mut matched = IpSet::new(alloc);
     for place in 0..rules.len() {
-        let addresses = rules[place].addresses.to_set(alloc)?;
-        if addresses.is_subset(&matched) {
-            let deciders = deciders(alloc, rules, place)?;
+        if !has_place(reached.as_slice(), place) {
+            let deciders = deciders(alloc, rules, place, &ipv4, &ipv6)?;
             found.push(Unreached {
                 rule: place,
                 deciders,
             })?;
-        } else {
-            matched = matched.union(alloc, &addresses)?;
         }
     }
     Ok(found)

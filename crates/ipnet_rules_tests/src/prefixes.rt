@@ -19,6 +19,19 @@ fn bounds_are_above_the_prefix_length(rt: HostRuntime) -> Result<(), Fail> {
 }
 
 #[test]
+fn parts_of_a_rule(rt: HostRuntime) -> Result<(), Fail> {
+    let network = "10.0.0.9/8".parse::<IpNet>()?;
+    let rule = PrefixRule::new(Action::Permit, network, Some(16), Some(24))?;
+    assert_eq!(rt; rule.action(), Action::Permit);
+    assert_eq!(rt; rule.network(), network);
+    assert_eq!(rt; (rule.ge(), rule.le()), (Some(16), Some(24)));
+    let rule = PrefixRule::new(Action::Deny, network, None, None)?;
+    assert_eq!(rt; rule.action(), Action::Deny);
+    assert_eq!(rt; (rule.ge(), rule.le()), (None, None));
+    Ok(())
+}
+
+#[test]
 fn lists_that_differ(rt: HostRuntime) -> Result<(), Fail> {
     let network = "10.0.0.0/8".parse::<IpNet>()?;
     let mut ours = Vec::new(rt.alloc());

@@ -14,12 +14,13 @@ use Rattle.ipnet_base.proofs.ListLaws.{partners_no_more}
 use Rattle.ipnet_base.proofs.RangeLaws.{length-addresses_of, between_from_contains, contains_from_between}
 use Rattle.ipnet_base.proofs.RangeLaws.{addresses_ascend}
 use Rattle.ipnet_sets.specs.declared.set.IpSet.{IpSet}
-use Rattle.ipnet_sets.specs.Turns.{is_inside, AreTurns}
-use Rattle.ipnet_sets.specs.Members.{turns_of, IsMember, IsMemberOf, IsCountOf}
+use Rattle.ipnet_sets.specs.Boundaries.{is_inside, AreBoundaries}
+use Rattle.ipnet_sets.specs.Members.{boundaries_of, IsMember, IsMemberOf, IsCountOf}
 use Rattle.ipnet_sets.specs.SetRanges.{range_of, IsInRange, LiesApart}
-use Rattle.ipnet_sets.specs.TurnRanges.{IsInTurns, ranges_of, count_of}
-use Rattle.ipnet_sets.proofs.SetRangeLaws.{IsInRanges, any_cases, any_here, any_there, tail_turns, later, in_ranges}
-use Rattle.ipnet_sets.proofs.SetRangeLaws.{ranges_apart, ranges_some, members_of_family, after_turns}
+use Rattle.ipnet_sets.specs.BoundaryRanges.{IsInBoundaries, ranges_of, count_of}
+use Rattle.ipnet_sets.proofs.SetRangeLaws.{IsInRanges, any_cases, any_here, any_there, tail_boundaries, later}
+use Rattle.ipnet_sets.proofs.SetRangeLaws.{in_ranges}
+use Rattle.ipnet_sets.proofs.SetRangeLaws.{ranges_apart, ranges_some, members_of_family, after_boundaries}
 use Rattle.ipnet_sets.proofs.InsideLaws.{inside_before}
 use Rattle.ipnet_sets.proofs.SetEqualLaws.{member_or_not}
 use Rattle.ipnet_sets.proofs.MemberLaws.{fits_below, fits_to}
@@ -63,61 +64,62 @@ counted (r ∷ rs) apart =
     apart_addresses q s x y (inr lt) b c e =
         omega (arith, lt.1, b.to_end, c.from_start, ap (λ z. z.number) e)
 
--- those of a family of a set
-pub count_of_family : (s : IpSet) (f : Family) (turns : List ℕ) → turns_of s f ≡ turns → AreTurns f turns
-    → IsCountOf (IsMemberOf f s) (count_of (ranges_of f turns))
-count_of_family s f turns e h =
-    let all : IsCountOf (IsInRanges (ranges_of f turns)) (count_of (ranges_of f turns))
-    = counted (ranges_of f turns) (ranges_apart f turns h) in
+-- the count of the ranges of one family of a set is the count of its addresses
+pub count_of_family : (s : IpSet) (f : Family) (boundaries : List ℕ) → boundaries_of s f ≡ boundaries
+    → AreBoundaries f boundaries
+    → IsCountOf (IsMemberOf f s) (count_of (ranges_of f boundaries))
+count_of_family s f boundaries e h =
+    let all : IsCountOf (IsInRanges (ranges_of f boundaries)) (count_of (ranges_of f boundaries))
+    = counted (ranges_of f boundaries) (ranges_apart f boundaries h) in
     record {
       addresses = all.addresses;
       once = all.once;
       members = λ x. (
         λ c.
-            let i : IsInTurns f turns x = (in_ranges f turns h x).1 ((all.members x).0 c) in (
+            let i : IsInBoundaries f boundaries x = (in_ranges f boundaries h x).1 ((all.members x).0 c) in (
               i.of_family,
-              (members_of_family s x).1 (subst (λ g. IsInTurns g (turns_of s g) x) (sym i.of_family)
-                  (subst (λ z. IsInTurns f z x) (sym e) i)),
+              (members_of_family s x).1 (subst (λ g. IsInBoundaries g (boundaries_of s g) x) (sym i.of_family)
+                  (subst (λ z. IsInBoundaries f z x) (sym e) i)),
             ),
         λ m.
-            let i : IsInTurns f turns x = subst (λ z. IsInTurns f z x) e
-            (subst (λ g. IsInTurns g (turns_of s g) x) m.0 ((members_of_family s x).0 m.1)) in
-            (all.members x).1 ((in_ranges f turns h x).0 i),
+            let i : IsInBoundaries f boundaries x = subst (λ z. IsInBoundaries f z x) e
+            (subst (λ g. IsInBoundaries g (boundaries_of s g) x) m.0 ((members_of_family s x).0 m.1)) in
+            (all.members x).1 ((in_ranges f boundaries h x).0 i),
       );
       count = all.count;
     }
 
--- no more numbers than lie from the first turn on
-count_from : (f : Family) (ts : List ℕ) (b : ℕ) → AreTurns f ts → All (λ t. b ≤ t) ts
+-- no more numbers than lie from the first boundary on
+count_from : (f : Family) (ts : List ℕ) (b : ℕ) → AreBoundaries f ts → All (λ t. b ≤ t) ts
     → b ≤ greatest_number f + 1 → count_of (ranges_of f ts) + b ≤ greatest_number f + 1
 count_from f [] b h up le = omega (arith, le)
 count_from f (s ∷ []) b h up le = omega (arith, h.fits 0 s (omega arith), up 0 s (omega arith))
 count_from f (s ∷ u ∷ ts) b h up le =
-    let after : All (λ t. u < t) ts = later f u ts (tail_turns f s (u ∷ ts) h) in
+    let after : All (λ t. u < t) ts = later f u ts (tail_boundaries f s (u ∷ ts) h) in
     let first : s < u = later f s (u ∷ ts) h 0 u (omega arith) in
     let rest : count_of (ranges_of f ts) + (u + 1) ≤ greatest_number f + 1
-    = count_from f ts (u + 1) (tail_turns f u ts (tail_turns f s (u ∷ ts) h))
+    = count_from f ts (u + 1) (tail_boundaries f u ts (tail_boundaries f s (u ∷ ts) h))
     (λ k d l. omega (arith, after k d l)) (omega (arith, h.fits 1 u (omega arith))) in
     omega (arith, rest, first, up 0 s (omega arith))
 
-pub count_fits : (f : Family) (ts : List ℕ) → AreTurns f ts → count_of (ranges_of f ts) ≤ greatest_number f + 1
+pub count_fits : (f : Family) (ts : List ℕ) → AreBoundaries f ts → count_of (ranges_of f ts) ≤ greatest_number f + 1
 count_fits f ts h = omega (arith, count_from f ts 0 h (λ k d l. omega arith) (omega arith))
 
--- all numbers are inside exactly where the one turn is at 0
-pub whole_has_one : (f : Family) (ts : List ℕ) → AreTurns f ts → count_of (ranges_of f ts) ≡ greatest_number f + 1
+-- all numbers are inside if and only if the only boundary is 0
+pub whole_has_one : (f : Family) (ts : List ℕ) → AreBoundaries f ts → count_of (ranges_of f ts) ≡ greatest_number f + 1
     → (length ts ≡ 1) × ((d : ℕ) → get_or ts 0 d ≡ 0)
 whole_has_one f [] h e = absurd (omega (arith, e))
 whole_has_one f (s ∷ []) h e = (refl, λ d. omega (arith, e, h.fits 0 s (omega arith)))
 whole_has_one f (s ∷ u ∷ ts) h e =
-    let after : All (λ t. u < t) ts = later f u ts (tail_turns f s (u ∷ ts) h) in
+    let after : All (λ t. u < t) ts = later f u ts (tail_boundaries f s (u ∷ ts) h) in
     let first : s < u = later f s (u ∷ ts) h 0 u (omega arith) in
     let rest : count_of (ranges_of f ts) + (u + 1) ≤ greatest_number f + 1
-    = count_from f ts (u + 1) (tail_turns f u ts (tail_turns f s (u ∷ ts) h))
+    = count_from f ts (u + 1) (tail_boundaries f u ts (tail_boundaries f s (u ∷ ts) h))
     (λ k d l. omega (arith, after k d l)) (omega (arith, h.fits 1 u (omega arith))) in
     absurd (omega (arith, rest, first, e))
 
--- and exactly where every number of the family is inside
-whole_inside : (f : Family) (ts : List ℕ) → AreTurns f ts → count_of (ranges_of f ts) ≡ greatest_number f + 1
+-- and if and only if every number of the family is inside
+whole_inside : (f : Family) (ts : List ℕ) → AreBoundaries f ts → count_of (ranges_of f ts) ≡ greatest_number f + 1
     → (x : ℕ) → is_inside ts x ≡ true
 whole_inside f [] h e x = absurd (omega (arith, e))
 whole_inside f (s ∷ []) h e x =
@@ -125,7 +127,7 @@ whole_inside f (s ∷ []) h e x =
     rw (le-leb s x (omega (arith, zero_first))) refl
 whole_inside f (s ∷ u ∷ ts) h e x = absurd (omega (arith, (whole_has_one f (s ∷ u ∷ ts) h e).0))
 
-inside_whole : (f : Family) (ts : List ℕ) → AreTurns f ts
+inside_whole : (f : Family) (ts : List ℕ) → AreBoundaries f ts
     → ((x : ℕ) → x ≤ greatest_number f → is_inside ts x ≡ true) → count_of (ranges_of f ts) ≡ greatest_number f + 1
 inside_whole f [] h all = let some : false ≡ true = all 0 (omega arith) in absurd (cc)
 inside_whole f (s ∷ []) h all = elim (cases_lt 0 s) [
@@ -137,28 +139,29 @@ inside_whole f (s ∷ []) h all = elim (cases_lt 0 s) [
 ]
 inside_whole f (s ∷ u ∷ ts) h all =
     let first : s < u = later f s (u ∷ ts) h 0 u (omega arith) in
-    let after : All (λ t. u < t) ts = later f u ts (tail_turns f s (u ∷ ts) h) in
+    let after : All (λ t. u < t) ts = later f u ts (tail_boundaries f s (u ∷ ts) h) in
     let some : is_inside (s ∷ u ∷ ts) u ≡ true = all u (h.fits 1 u (omega arith)) in
     let none : is_inside (s ∷ u ∷ ts) u ≡ is_inside ts u
-    = after_turns s u ts u (omega (arith, first)) (omega arith) in
+    = after_boundaries s u ts u (omega (arith, first)) (omega arith) in
     let rest : is_inside ts u ≡ false = inside_before ts u after in
     absurd (cc)
 
 -- the family's part of a set has all of its addresses
-pub all_of_family : (s : IpSet) (f : Family) (turns : List ℕ) → turns_of s f ≡ turns → AreTurns f turns
-    → (count_of (ranges_of f turns) ≡ greatest_number f + 1)
+pub all_of_family : (s : IpSet) (f : Family) (boundaries : List ℕ) → boundaries_of s f ≡ boundaries
+    → AreBoundaries f boundaries
+    → (count_of (ranges_of f boundaries) ≡ greatest_number f + 1)
     ↔ ((x : Address) → IsAddress x → x.family ≡ f → IsMember s x)
-all_of_family s f turns e h = (
+all_of_family s f boundaries e h = (
   λ whole x fits same. record {
     fits = fits;
-    inside = subst (λ g. is_inside (turns_of s g) x.number ≡ true) (sym same)
-        (ap (λ z. is_inside z x.number) e ∙ whole_inside f turns h whole x.number);
+    inside = subst (λ g. is_inside (boundaries_of s g) x.number ≡ true) (sym same)
+        (ap (λ z. is_inside z x.number) e ∙ whole_inside f boundaries h whole x.number);
   },
-  λ all. inside_whole f turns h (λ x le. ap (λ z. is_inside z x) (sym e)
+  λ all. inside_whole f boundaries h (λ x le. ap (λ z. is_inside z x) (sym e)
       ∙ (all (record { family = f; number = x }) (fits_below f x le) refl).inside),
 )
 
--- what is counted so far, with what is left
+-- the count so far and the count of the ranges that are left
 pub counting_more : (f : Family) (total first last distance : ℕ) (left later : List AddressRange) (all : ℕ)
     → left ≡ range_of f first last ∷ later → distance + first ≡ last → total + count_of left ≡ all
     → total + (distance + 1) + count_of later ≡ all
@@ -166,14 +169,14 @@ counting_more f total first last distance left rest all e d h =
     let more : count_of left ≡ (last + 1 - first) + count_of rest = ap count_of e in
     omega (arith, more, d, h)
 
-pub first_ordered : (f : Family) (ts : List ℕ) (r : AddressRange) (rest : List AddressRange) → AreTurns f ts
+pub first_ordered : (f : Family) (ts : List ℕ) (r : AddressRange) (rest : List AddressRange) → AreBoundaries f ts
     → ranges_of f ts ≡ r ∷ rest → r.start ≤ r.end
 first_ordered f ts r rest h e =
     (ranges_some f ts h r (subst (λ z. Contains z r) (sym e) (contains_here r rest))).1
 
 -- what is not whole fits a number of 128 bits
 pub not_whole_fits : (items slice other : List ℕ) → slice ≡ items → other ≡ items
-    → AreTurns IPv6 (map (λ n. n) items)
+    → AreBoundaries IPv6 (map (λ n. n) items)
     → (count_of (ranges_of IPv6 (map (λ n. n) slice)) ≡ greatest_number IPv6 + 1 → ⊥)
     → count_of (ranges_of IPv6 (map (λ n. n) other)) < 2 ^ 128
 not_whole_fits items slice other e g h out =

@@ -9,7 +9,7 @@ use Rattle.ipnet_base.specs.Ranges.{AddressRange, address_count}
 use Rattle.ipnet_base.proofs.ListLaws.{pairs_append}
 use Rattle.ipnet_sets.specs.Members.{IsCountOf}
 use Rattle.ipnet_sets.specs.SetRanges.{AreRangesOf}
-use Rattle.ipnet_sets.specs.TurnRanges.{count_of}
+use Rattle.ipnet_sets.specs.BoundaryRanges.{count_of}
 use Rattle.ipnet_sets.proofs.CountLaws.{counted, same_length}
 
 -- a set has one count

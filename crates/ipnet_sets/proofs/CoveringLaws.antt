@@ -1,4 +1,4 @@
--- The longest network of a table that holds the block of a network.
+-- The longest network of a table that contains the block of a network.
 use Rattle.std.proofs.Common.{◌≡◌, ℕ, ◌+◌, ◌<◌, ◌≤◌, List, Contains, All, sym, ap, ◌∙◌, arith, inl, inr}
 use Rattle.std.proofs.lemmas.Bool.{cases_order, cases_lt}
 use Rattle.ipnet_base.specs.Address.{Address, width, family_index}
@@ -40,7 +40,7 @@ none_contains networks valid table n valid_n limit place e after found k c sub =
   found.nearest k c (holder_before networks valid table n valid_n limit after k c sub) sub,
 )
 
--- of two networks without host bits that hold an address the one that stands later is no shorter
+-- if two networks without host bits contain an address, the later one is at least as long
 pub no_longer : (networks : List Network) → IsTable networks → (x : Address) (k e : Network) → Contains networks e
     → InBlock k x → InBlock e x → IsBefore k e → k.prefix_len ≤ e.prefix_len
 no_longer networks table x k e c b a before = elim (cases_lt e.prefix_len k.prefix_len) [

@@ -1,5 +1,5 @@
--- Sets feed a hasher the same only if they have the same addresses: the IPv4 count of turns tells where the IPv6 turns
--- begin.
+-- Sets feed a hasher the same bytes only if they have the same addresses: the number of IPv4 boundaries fixes the place
+-- of the first IPv6 boundary.
 use Rattle.std.proofs.Common.{◌≡◌, ℕ, suc, ◌^◌, ◌<◌, List, [], ◌∷◌, ◌++◌, length, map, All}
 use Rattle.std.proofs.Common.{refl, ap, ap₂, subst, arith}
 use Rattle.std.specs.Hash.{le_bytes}
@@ -7,12 +7,12 @@ use Rattle.std.specs.List.{flat_map}
 use Rattle.ipnet_base.specs.Address.{Family, IPv4, IPv6}
 use Rattle.ipnet_base.proofs.DigitLaws.{same_by_bytes}
 use Rattle.ipnet_sets.specs.declared.set.IpSet.{IpSet}
-use Rattle.ipnet_sets.specs.Turns.{AreTurns}
+use Rattle.ipnet_sets.specs.Boundaries.{AreBoundaries}
 use Rattle.ipnet_sets.specs.Members.{HaveSameAddresses}
-use Rattle.ipnet_sets.proofs.RangeEndLaws.{turns_fit}
+use Rattle.ipnet_sets.proofs.RangeEndLaws.{boundaries_fit}
 use Rattle.ipnet_sets.proofs.SetEqualLaws.{words_are_numbers, same_addresses}
 
--- what is fed of words of so many bytes
+-- the bytes that a list of words of this size feeds
 abbrev pub fed : ℕ → List ℕ → List (List ℕ)
 fed size words = flat_map (λ n. le_bytes size n ∷ []) words
 
@@ -20,7 +20,7 @@ length-fed : (size : ℕ) (words : List ℕ) → length (fed size words) ≡ len
 length-fed size [] = refl
 length-fed size (w ∷ ws) = omega (arith, length-fed size ws)
 
--- as many words, and then the same
+-- if two lists of equally many words feed the same bytes, the words are the same, and so are the bytes after them
 same_fed : (size : ℕ) (xs ys : List ℕ) (more other : List (List ℕ)) → length xs ≡ length ys
     → All (λ n. n < 256 ^ size) xs → All (λ n. n < 256 ^ size) ys → fed size xs ++ more ≡ fed size ys ++ other
     → (xs ≡ ys) × (more ≡ other)
@@ -39,18 +39,18 @@ abbrev pub hashed : IpSet → List (List ℕ)
 hashed s = le_bytes 8 (length s.ipv4.items) ∷ (fed 4 s.ipv4.items
     ++ le_bytes 8 (length s.ipv6.items) ∷ fed 16 s.ipv6.items)
 
--- the words are turns
-word_turns : (f : Family) (words : List ℕ) → AreTurns f (map (λ n. n) words) → AreTurns f words
-word_turns f words h = subst (AreTurns f) (words_are_numbers words) h
+-- the words are boundaries
+word_boundaries : (f : Family) (words : List ℕ) → AreBoundaries f (map (λ n. n) words) → AreBoundaries f words
+word_boundaries f words h = subst (AreBoundaries f) (words_are_numbers words) h
 
 ipv4_words : (s : IpSet) → All (λ n. n < 256 ^ 4) s.ipv4.items
-ipv4_words s k d l = omega (arith, (word_turns IPv4 s.ipv4.items s.ipv4_turns).fits k d l)
+ipv4_words s k d l = omega (arith, (word_boundaries IPv4 s.ipv4.items s.ipv4_boundaries).fits k d l)
 
 ipv6_words : (s : IpSet) → All (λ n. n < 256 ^ 16) s.ipv6.items
-ipv6_words s k d l = omega (arith, (word_turns IPv6 s.ipv6.items s.ipv6_turns).fits k d l)
+ipv6_words s k d l = omega (arith, (word_boundaries IPv6 s.ipv6.items s.ipv6_boundaries).fits k d l)
 
 ipv4_length : (s : IpSet) → length s.ipv4.items < 256 ^ 8
-ipv4_length s = omega (arith, turns_fit IPv4 s.ipv4.items (word_turns IPv4 s.ipv4.items s.ipv4_turns))
+ipv4_length s = omega (arith, boundaries_fit IPv4 s.ipv4.items (word_boundaries IPv4 s.ipv4.items s.ipv4_boundaries))
 
 pub hashed_apart : (a b : IpSet) → hashed a ≡ hashed b → HaveSameAddresses a b
 hashed_apart a b e =

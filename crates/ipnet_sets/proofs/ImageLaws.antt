@@ -9,7 +9,7 @@ use Rattle.std.proofs.lemmas.Nat.{from_le_bytes-to_le_bytes_4, from_le_bytes-to_
 use Rattle.std.proofs.Math.Nat.{mul-le-mul_right, pow-succ'}
 use Rattle.std.proofs.lemmas.List.Elements.{All-push, All-weaker}
 use Rattle.ipnet_base.specs.Address.{Family, greatest_number}
-use Rattle.ipnet_sets.specs.Turns.{AreTurns}
+use Rattle.ipnet_sets.specs.Boundaries.{AreBoundaries}
 use Rattle.ipnet_sets.proofs.InsideLaws.{AreAscending, ascending_push}
 use Rattle.ipnet_sets.specs.Images.{number_from, numbers_from, IsAppended, AreAppended}
 
@@ -71,15 +71,6 @@ numbers_push w zero xs ys at e =
 numbers_push w (suc m) xs ys at e =
     ap₂ (λ b r. b ∷ r) (number_front w xs ys at (omega (arith, e)))
     (numbers_push w m xs ys (at + w) (omega (arith, e)))
-
--- no number is appended
-pub appended_none : (w : ℕ) (old : List ℕ) → AreAppended w [] old old
-appended_none w old = record {
-  added = [];
-  width_is = omega arith;
-  numbers_are = refl;
-  bytes_are = sym (append-nil old);
-}
 
 -- one number more
 pub appended_more : (w : ℕ) (ns : List ℕ) (n : ℕ) (old mid new : List ℕ) → AreAppended w ns old mid
@@ -178,7 +169,7 @@ appended_sixteen n old mid new a b = record {
   bytes_are = b.bytes_are ∙ ap (λ z. z ++ b.added) a.bytes_are ∙ append_assoc old a.added b.added;
 }
 
--- ---- whether stored numbers are turns
+-- ---- whether stored numbers are boundaries
 
 -- The numbers before the index ascend and fit, and the previous number is the last of them.
 pub record IsRising (greatest : ℕ) (ns : List ℕ) (index previous : ℕ) : Type 0 where
@@ -213,20 +204,20 @@ rising_more greatest ns index previous x l at le lt h =
     (All-weaker (λ t. t ≤ previous) (λ t. t < x) (λ t m. omega (arith, m, lt)) (take index ns) h.up_to)
 
 pub rising_all : (f : Family) (ns : List ℕ) (index previous : ℕ) → length ns ≤ index
-    → IsRising (greatest_number f) ns index previous → AreTurns f ns
+    → IsRising (greatest_number f) ns index previous → AreBoundaries f ns
 rising_all f ns index previous le h = record {
   ascending = subst AreAscending (take_all index ns le) h.ascending;
   fits = subst (All (λ t. t ≤ greatest_number f)) (take_all index ns le) h.fits;
 }
 
-pub no_turns : (f : Family) (ns : List ℕ) → length ns ≡ 0 → AreTurns f ns
-no_turns f ns e = record {
+pub no_boundaries : (f : Family) (ns : List ℕ) → length ns ≡ 0 → AreBoundaries f ns
+no_boundaries f ns e = record {
   ascending = λ i j d l m. absurd (omega (arith, m, e));
   fits = λ k d l. absurd (omega (arith, l, e));
 }
 
 pub not_rising : (f : Family) (ns : List ℕ) (index previous x : ℕ) → 0 < index → index < length ns
     → ((d : ℕ) → get_or ns (index - 1) d ≡ previous) → ((d : ℕ) → get_or ns index d ≡ x) → x ≤ previous
-    → ¬ (AreTurns f ns)
+    → ¬ (AreBoundaries f ns)
 not_rising f ns index previous x some l before at le h =
     omega (arith, h.ascending (index - 1) index 0 (omega (arith, some)) l, before 0, at 0, le)

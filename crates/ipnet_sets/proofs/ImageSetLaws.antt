@@ -1,91 +1,93 @@
 -- Images of sets: what the bytes of an image say of the addresses of its set, and the bytes that make an image.
 use Rattle.std.proofs.Common.{◌≡◌, ℕ, ◌+◌, ◌*◌, ◌≤◌, ◌↔◌, Bool, true, IsTrue, List, [], ◌++◌, length, map}
-use Rattle.std.proofs.Common.{refl, sym, ap, ap₂, ◌∙◌, subst, arith, append_assoc}
+use Rattle.std.proofs.Common.{sym, ap, ap₂, ◌∙◌, subst, arith, append_assoc}
 use Rattle.std.proofs.lemmas.List.{length-append, append-nil}
 use Rattle.ipnet_base.specs.Address.{Family, IPv4, IPv6, Address, greatest_number}
 use Rattle.ipnet_base.specs.Network.{Network, IsNetwork, InBlock, IsLeastOf, IsGreatestOf}
 use Rattle.ipnet_sets.specs.declared.set.IpSet.{IpSet}
-use Rattle.ipnet_sets.specs.Turns.{is_inside, AreTurns}
-use Rattle.ipnet_sets.specs.Members.{turns_of, IsMember, IsFromTo}
-use Rattle.ipnet_sets.specs.Images.{number_from, numbers_from, stated_count, stored_turns, image_magic}
+use Rattle.ipnet_sets.specs.Boundaries.{is_inside, AreBoundaries}
+use Rattle.ipnet_sets.specs.Members.{boundaries_of, IsMember, IsFromTo}
+use Rattle.ipnet_sets.specs.Images.{number_from, numbers_from, stated_count, stored_boundaries, image_magic}
 use Rattle.ipnet_sets.specs.Images.{HasHeader, IsImage, IsImageOf, IsAppended, AreAppended}
 use Rattle.ipnet_sets.proofs.MemberLaws.{covers_block, covers_from_to}
 use Rattle.ipnet_sets.proofs.SetEqualLaws.{words_are_numbers}
 use Rattle.ipnet_sets.proofs.ImageLaws.{number_front, number_later, numbers_front, numbers_later}
 
-turns_are : (s : IpSet) (f : Family) → AreTurns f (turns_of s f)
-turns_are s IPv4 = s.ipv4_turns
-turns_are s IPv6 = s.ipv6_turns
+boundaries_are : (s : IpSet) (f : Family) → AreBoundaries f (boundaries_of s f)
+boundaries_are s IPv4 = s.ipv4_boundaries
+boundaries_are s IPv6 = s.ipv6_boundaries
 
--- what a search says of the stored numbers holds of the turns of the set
-told : (f : Family) (ns turns : List ℕ) (first last : ℕ) (answer : Bool) → ns ≡ turns → AreTurns f turns
-    → (AreTurns f ns → IsTrue answer ↔ ((x : ℕ) → first ≤ x → x ≤ last → is_inside ns x ≡ true))
-    → IsTrue answer ↔ ((x : ℕ) → first ≤ x → x ≤ last → is_inside (map (λ n. n) turns) x ≡ true)
-told f ns turns first last answer same good h =
+-- what a search says of the stored numbers holds of the boundaries of the set
+told : (f : Family) (ns boundaries : List ℕ) (first last : ℕ) (answer : Bool) → ns ≡ boundaries
+    → AreBoundaries f boundaries
+    → (AreBoundaries f ns → IsTrue answer ↔ ((x : ℕ) → first ≤ x → x ≤ last → is_inside ns x ≡ true))
+    → IsTrue answer ↔ ((x : ℕ) → first ≤ x → x ≤ last → is_inside (map (λ n. n) boundaries) x ≡ true)
+told f ns boundaries first last answer same good h =
     subst (λ ts. IsTrue answer ↔ ((x : ℕ) → first ≤ x → x ≤ last → is_inside ts x ≡ true))
-    (same ∙ sym (words_are_numbers turns)) (h (subst (AreTurns f) (sym same) good))
+    (same ∙ sym (words_are_numbers boundaries)) (h (subst (AreBoundaries f) (sym same) good))
 
 pub covers_image : (s : IpSet) (n : Network) (low high : Address) (ns : List ℕ) (first last : ℕ) (answer : Bool)
     → IsNetwork n → IsLeastOf n low → IsGreatestOf n high → first ≡ low.number → last ≡ high.number
-    → ns ≡ turns_of s n.family
-    → (AreTurns n.family ns → IsTrue answer ↔ ((x : ℕ) → first ≤ x → x ≤ last → is_inside ns x ≡ true))
+    → ns ≡ boundaries_of s n.family
+    → (AreBoundaries n.family ns → IsTrue answer ↔ ((x : ℕ) → first ≤ x → x ≤ last → is_inside ns x ≡ true))
     → IsTrue answer ↔ ((x : Address) → InBlock n x → IsMember s x)
 covers_image s n low high ns first last answer valid least greatest e f same h =
-    covers_block s n low high (turns_of s n.family) first last answer valid least greatest e f
-    (words_are_numbers (turns_of s n.family))
-    (told n.family ns (turns_of s n.family) first last answer same (turns_are s n.family) h)
+    covers_block s n low high (boundaries_of s n.family) first last answer valid least greatest e f
+    (words_are_numbers (boundaries_of s n.family))
+    (told n.family ns (boundaries_of s n.family) first last answer same (boundaries_are s n.family) h)
 
 pub covers_range_image : (s : IpSet) (f : Family) (start end : Address) (ns : List ℕ) (first last : ℕ) (answer : Bool)
     → start.family ≡ f → end.family ≡ f → last ≤ greatest_number f → first ≡ start.number → last ≡ end.number
-    → ns ≡ turns_of s f
-    → (AreTurns f ns → IsTrue answer ↔ ((x : ℕ) → first ≤ x → x ≤ last → is_inside ns x ≡ true))
+    → ns ≡ boundaries_of s f
+    → (AreBoundaries f ns → IsTrue answer ↔ ((x : ℕ) → first ≤ x → x ≤ last → is_inside ns x ≡ true))
     → IsTrue answer ↔ ((x : Address) → IsFromTo start end x → IsMember s x)
 covers_range_image s f start end ns first last answer d e fits g h same told_of =
-    covers_from_to s f start end (turns_of s f) first last answer d e fits g h (words_are_numbers (turns_of s f))
-    (told f ns (turns_of s f) first last answer same (turns_are s f) told_of)
+    covers_from_to s f start end (boundaries_of s f) first last answer d e fits g h
+    (words_are_numbers (boundaries_of s f))
+    (told f ns (boundaries_of s f) first last answer same (boundaries_are s f) told_of)
 
-pub image_from : (bytes : List ℕ) → HasHeader bytes → AreTurns IPv4 (stored_turns bytes IPv4)
-    → AreTurns IPv6 (stored_turns bytes IPv6) → IsImage bytes
-image_from bytes header ipv4 ipv6 = record { header = header; turns = go }
+pub image_from : (bytes : List ℕ) → HasHeader bytes → AreBoundaries IPv4 (stored_boundaries bytes IPv4)
+    → AreBoundaries IPv6 (stored_boundaries bytes IPv6) → IsImage bytes
+image_from bytes header ipv4 ipv6 = record { header = header; boundaries = go }
   where
-    go : (f : Family) → AreTurns f (stored_turns bytes f)
+    go : (f : Family) → AreBoundaries f (stored_boundaries bytes f)
     go IPv4 = ipv4
     go IPv6 = ipv6
 
-image_of_from : (bytes : List ℕ) (s : IpSet) → HasHeader bytes → stored_turns bytes IPv4 ≡ turns_of s IPv4
-    → stored_turns bytes IPv6 ≡ turns_of s IPv6 → IsImageOf bytes s
-image_of_from bytes s header ipv4 ipv6 = record { header = header; turns = go }
+image_of_from : (bytes : List ℕ) (s : IpSet) → HasHeader bytes → stored_boundaries bytes IPv4 ≡ boundaries_of s IPv4
+    → stored_boundaries bytes IPv6 ≡ boundaries_of s IPv6 → IsImageOf bytes s
+image_of_from bytes s header ipv4 ipv6 = record { header = header; boundaries = go }
   where
-    go : (f : Family) → stored_turns bytes f ≡ turns_of s f
+    go : (f : Family) → stored_boundaries bytes f ≡ boundaries_of s f
     go IPv4 = ipv4
     go IPv6 = ipv6
 
 -- ---- bytes that grow
 
-record IsLonger (old new : List ℕ) : Type 0 where
-  more : List ℕ
-  is : new ≡ old ++ more
+pub record IsLonger (old new : List ℕ) : Type 0 where
+  pub more : List ℕ
+  pub is : new ≡ old ++ more
 
-longer : (a b c : List ℕ) → IsLonger a b → IsLonger b c → IsLonger a c
+pub longer : (a b c : List ℕ) → IsLonger a b → IsLonger b c → IsLonger a c
 longer a b c f g = record {
   more = f.more ++ g.more;
   is = g.is ∙ ap (λ z. z ++ g.more) f.is ∙ append_assoc a f.more g.more;
 }
 
-by_one : (w n : ℕ) (old new : List ℕ) → IsAppended w n old new → IsLonger old new
+pub by_one : (w n : ℕ) (old new : List ℕ) → IsAppended w n old new → IsLonger old new
 by_one w n old new h = record { more = h.added; is = h.bytes_are }
 
-by_many : (w : ℕ) (ns old new : List ℕ) → AreAppended w ns old new → IsLonger old new
+pub by_many : (w : ℕ) (ns old new : List ℕ) → AreAppended w ns old new → IsLonger old new
 by_many w ns old new h = record { more = h.added; is = h.bytes_are }
 
-size_one : (w n : ℕ) (old new : List ℕ) → IsAppended w n old new → length new ≡ length old + w
+pub size_one : (w n : ℕ) (old new : List ℕ) → IsAppended w n old new → length new ≡ length old + w
 size_one w n old new h = omega (arith, ap length h.bytes_are, length-append old h.added, h.width_is)
 
-size_many : (w : ℕ) (ns old new : List ℕ) → AreAppended w ns old new → length new ≡ length old + length ns * w
+pub size_many : (w : ℕ) (ns old new : List ℕ) → AreAppended w ns old new → length new ≡ length old + length ns * w
 size_many w ns old new h = omega (arith, ap length h.bytes_are, length-append old h.added, h.width_is)
 
 -- an appended number is read back, also after more bytes
-read_back : (w n at : ℕ) (old new all : List ℕ) → IsAppended w n old new → length old ≡ at → IsLonger new all
+pub read_back : (w n at : ℕ) (old new all : List ℕ) → IsAppended w n old new → length old ≡ at → IsLonger new all
     → number_from w all at ≡ n
 read_back w n at old new all h e l =
     let here : at + 0 ≡ at = omega arith in
@@ -107,14 +109,14 @@ read_all_back w at count ns old new all h e size l =
     ∙ ap (λ m. numbers_from w m h.added 0) (sym size)
     ∙ h.numbers_are
 
-same_bytes : (bytes : List ℕ) → IsLonger bytes bytes
+pub same_bytes : (bytes : List ℕ) → IsLonger bytes bytes
 same_bytes bytes = record { more = []; is = sym (append-nil bytes) }
 
 -- the bytes that are appended one after the other are the image
 pub image_made : (s : IpSet) (ns4 ns6 : List ℕ) (c4 c6 : ℕ) (b0 b1 b2 b3 b4 b5 b6 : List ℕ) → b0 ≡ []
     → IsAppended 8 image_magic b0 b1 → IsAppended 8 1 b1 b2 → IsAppended 8 c4 b2 b3 → IsAppended 8 c6 b3 b4
     → AreAppended 16 ns6 b4 b5 → AreAppended 4 ns4 b5 b6 → length ns4 ≡ c4 → length ns6 ≡ c6
-    → ns4 ≡ turns_of s IPv4 → ns6 ≡ turns_of s IPv6 → IsImageOf b6 s
+    → ns4 ≡ boundaries_of s IPv4 → ns6 ≡ boundaries_of s IPv6 → IsImageOf b6 s
 image_made s ns4 ns6 c4 c6 b0 b1 b2 b3 b4 b5 b6 none h1 h2 h3 h4 h5 h6 size4 size6 is4 is6 =
     image_of_from b6 s
     (record {

@@ -1,13 +1,13 @@
--- Which numbers are inside a list of turns.
+-- Which numbers are inside a list of boundaries.
 use Rattle.std.proofs.Common.{◌≡◌, ℕ, zero, suc, ◌+◌, ◌-◌, ◌%◌, ◌<◌, ◌≤◌, Bool, true, false, not, eqb}
 use Rattle.std.proofs.Common.{List, [], ◌∷◌, ◌++◌, length, take, get_or, map, All, AllPairs}
 use Rattle.std.proofs.Common.{refl, sym, ap, ◌∙◌, subst₂, arith, inl, inr, le-leb, eq-eqb}
 use Rattle.std.proofs.lemmas.Bool.{cases_lt, cases_Bool, eqb-true, eqb-false, lt-leb, ne_eqb}
 use Rattle.std.proofs.lemmas.List.{length-map, get_or-map, length_push, get_or_push, get_or_append_left}
-use Rattle.ipnet_sets.specs.Turns.{is_inside}
+use Rattle.ipnet_sets.specs.Boundaries.{is_inside}
 
 abbrev pub AreAscending : List ℕ → Type 0
-AreAscending turns = AllPairs (λ t u. t < u) turns
+AreAscending boundaries = AllPairs (λ t u. t < u) boundaries
 
 -- the number in the word at a place of a list
 pub number_at : {X : Type 0} (f : X → ℕ) (xs : List X) (i d : ℕ) (x : X) → i < length xs → x ≡ get_or xs i x
@@ -43,7 +43,7 @@ pub not_twice : (b : Bool) → not (not b) ≡ b
 not_twice true = refl
 not_twice false = refl
 
--- one turn more at the end
+-- one boundary more at the end
 pub inside_push_at : (ts : List ℕ) (t x : ℕ) → t ≤ x → is_inside (ts ++ t ∷ []) x ≡ not (is_inside ts x)
 inside_push_at [] t x le = rw (le-leb t x le) refl
 inside_push_at (u ∷ ts) t x le = elim (cases_lt x u) [
@@ -58,13 +58,13 @@ inside_push_before (u ∷ ts) t x le = elim (cases_lt x u) [
   | inr ge ↦ rw (le-leb u x ge) (ap not (inside_push_before ts t x le))
 ]
 
--- before the first turn nothing is inside
+-- before the first boundary nothing is inside
 pub inside_before : (ts : List ℕ) (x : ℕ) → All (λ t. x < t) ts → is_inside ts x ≡ false
 inside_before [] x h = refl
 inside_before (t ∷ ts) x h =
     rw (lt-leb t x (h 0 t (omega arith))) (inside_before ts x (λ k d l. h (suc k) d (omega arith)))
 
--- from the last turn on a number is inside where their count is odd
+-- from the last boundary on, a number is inside if the number of boundaries is odd
 pub inside_from : (ts : List ℕ) (x : ℕ) → All (λ t. t ≤ x) ts → is_inside ts x ≡ is_odd (length ts)
 inside_from [] x h = refl
 inside_from (t ∷ ts) x h =
@@ -72,7 +72,7 @@ inside_from (t ∷ ts) x h =
     let more : length (t ∷ ts) ≡ length ts + 1 = omega arith in
     rw (le-leb t x (h 0 t (omega arith))) (ap not rest ∙ sym (odd_more (length ts)) ∙ sym (ap is_odd more))
 
--- the turns in the front tell of a number before the rest
+-- the boundaries at the front decide for a number below the others
 pub inside_front : (ts : List ℕ) (p x : ℕ) → ((k d : ℕ) → p ≤ k → k < length ts → x < get_or ts k d)
     → is_inside ts x ≡ is_inside (take p ts) x
 inside_front [] zero x h = refl

@@ -13,15 +13,15 @@ use Rattle.ipnet_base.specs.Address.{Family, greatest_number}
 use Rattle.ipnet_base.proofs.ListLaws.{any_from_contains, at_place}
 use Rattle.ipnet_sets.specs.declared.number.NumberRange.{NumberRange}
 use Rattle.ipnet_sets.specs.Gather.{IsHeld, BeginsBy, IsJoined}
-use Rattle.ipnet_sets.specs.Turns.{is_inside, AreTurns}
-use Rattle.ipnet_sets.proofs.EndLaws.{front_turns, front_below, turns_push, split_last}
+use Rattle.ipnet_sets.specs.Boundaries.{is_inside, AreBoundaries}
+use Rattle.ipnet_sets.proofs.EndLaws.{front_boundaries, front_below, boundaries_push, split_last}
 use Rattle.ipnet_sets.proofs.InsideLaws.{not_twice, inside_push_at, inside_push_before, inside_from}
 use Rattle.ipnet_sets.proofs.SetRangeLaws.{any_cases, any_here, any_there}
 
--- ---- where ranges begin
+-- ---- the first numbers of ranges
 
 -- the last range begins by the number, so all do
-pub begins_by_last : (family : Family) (ts : List ℕ) (n : ℕ) → AreTurns family ts → 0 < length ts
+pub begins_by_last : (family : Family) (ts : List ℕ) (n : ℕ) → AreBoundaries family ts → 0 < length ts
     → ((d : ℕ) → get_or ts ((length ts - 1) / 2 * 2) d ≤ n) → BeginsBy ts n
 begins_by_last family ts n h some last k d l even = elim (cases_lt k ((length ts - 1) / 2 * 2)) [
   | inl lt ↦ omega (arith, h.ascending k ((length ts - 1) / 2 * 2) d lt (omega (arith, some)), last d)
@@ -39,7 +39,7 @@ begins_front ts t n h k d l even =
     let same = get_or_append_left ts (t ∷ []) d k l in
     omega (arith, h k d (omega (arith, l, size)) even, same)
 
--- one turn more, which ends a range, or begins one
+-- one boundary more, which ends a range, or begins one
 begins_end : (ts : List ℕ) (t n : ℕ) → length ts % 2 ≡ 1 → BeginsBy ts n → BeginsBy (ts ++ t ∷ []) n
 begins_end ts t n odd h k d l even =
     let size = length_push ts t in
@@ -59,8 +59,8 @@ begins_all ts t n below le k d l even =
       | inr ge ↦ omega (arith, le, get_or_push ts t d k (omega (arith, l, size, ge)))
     ]
 
--- with an odd count of turns the last one begins a range, so all turns are at most the number
-up_to_odd : (family : Family) (ts : List ℕ) (n : ℕ) → AreTurns family ts → length ts % 2 ≡ 1 → BeginsBy ts n
+-- with an odd count of boundaries the last one begins a range, so all boundaries are at most the number
+up_to_odd : (family : Family) (ts : List ℕ) (n : ℕ) → AreBoundaries family ts → length ts % 2 ≡ 1 → BeginsBy ts n
     → All (λ t. t ≤ n) ts
 up_to_odd family ts n h odd begins k d l = elim (cases_lt k (length ts - 1)) [
   | inl lt ↦ omega (
@@ -84,8 +84,8 @@ outside_even ts n x even below le =
     inside_from ts x (All-weaker (λ t. t < n) (λ t. t ≤ x) (λ t l. omega (arith, l, le)) ts below)
     ∙ ne_eqb (length ts % 2) 1 (λ e. omega (arith, e, even))
 
--- all turns are below the number where the last one is
-pub below_by_last : (family : Family) (ts : List ℕ) (n : ℕ) → AreTurns family ts
+-- all boundaries are below the number if the last one is
+pub below_by_last : (family : Family) (ts : List ℕ) (n : ℕ) → AreBoundaries family ts
     → ((d : ℕ) → get_or ts (length ts - 1) d < n) → All (λ u. u < n) ts
 below_by_last family ts n h last k d l = elim (cases_lt k (length ts - 1)) [
   | inl lt ↦ omega (arith, h.ascending k (length ts - 1) d lt (omega (arith, l)), last d)
@@ -94,16 +94,16 @@ below_by_last family ts n h last k d l = elim (cases_lt k (length ts - 1)) [
 
 -- ---- the numbers of a range, added
 
--- The new set has the numbers from `first` to `last`, and elsewhere those of the old set.
+-- The new set has the numbers of the old set, and the numbers from `first` to `last`.
 record IsFilled (family : Family) (old : List ℕ) (first last : ℕ) (new : List ℕ) : Type 0 where
   before : (x : ℕ) → x < first → is_inside new x ≡ is_inside old x
   within : (x : ℕ) → first ≤ x → x ≤ last → is_inside new x ≡ true
   after : (x : ℕ) → last < x → x ≤ greatest_number family → is_inside new x ≡ is_inside old x
 
-joined_from_filled : (family : Family) (old : List ℕ) (first last : ℕ) (new : List ℕ) → AreTurns family new
+joined_from_filled : (family : Family) (old : List ℕ) (first last : ℕ) (new : List ℕ) → AreBoundaries family new
     → BeginsBy new first → IsFilled family old first last new → IsJoined family old first last new
-joined_from_filled family old first last new turns begins h = record {
-  turns = turns;
+joined_from_filled family old first last new boundaries begins h = record {
+  boundaries = boundaries;
   begins = begins;
   members = λ x fits. elim (cases_lt x first) [
     | inl lt ↦ (
@@ -121,41 +121,41 @@ joined_from_filled family old first last new turns begins h = record {
 }
 
 -- a range without a number
-pub joined_none : (family : Family) (ts : List ℕ) (first last : ℕ) → AreTurns family ts → BeginsBy ts first
+pub joined_none : (family : Family) (ts : List ℕ) (first last : ℕ) → AreBoundaries family ts → BeginsBy ts first
     → last < first → IsJoined family ts first last ts
-joined_none family ts first last turns begins none = record {
-  turns = turns;
+joined_none family ts first last boundaries begins none = record {
+  boundaries = boundaries;
   begins = begins;
   members = λ x fits. (λ e. inl e, elim [ inl e ↦ e | inr b ↦ absurd (omega (arith, none, b.0, b.1)) ]);
 }
 
 -- a set that runs to the family's last number has all numbers of the range
-pub joined_open : (family : Family) (ts : List ℕ) (first last : ℕ) → AreTurns family ts → BeginsBy ts first
+pub joined_open : (family : Family) (ts : List ℕ) (first last : ℕ) → AreBoundaries family ts → BeginsBy ts first
     → length ts % 2 ≡ 1 → IsJoined family ts first last ts
-joined_open family ts first last turns begins odd =
-    joined_from_filled family ts first last ts turns begins (record {
+joined_open family ts first last boundaries begins odd =
+    joined_from_filled family ts first last ts boundaries begins (record {
       before = λ x lt. refl;
-      within = λ x ge le. inside_odd ts first x odd (up_to_odd family ts first turns odd begins) ge;
+      within = λ x ge le. inside_odd ts first x odd (up_to_odd family ts first boundaries odd begins) ge;
       after = λ x late fits. refl;
     })
 
--- a set whose turns are all below the range
-pub joined_new_open : (family : Family) (ts : List ℕ) (first last : ℕ) → AreTurns family ts → length ts % 2 ≡ 0
+-- a set whose boundaries are all below the range
+pub joined_new_open : (family : Family) (ts : List ℕ) (first last : ℕ) → AreBoundaries family ts → length ts % 2 ≡ 0
     → All (λ t. t < first) ts → first ≤ last → last ≡ greatest_number family
     → IsJoined family ts first last (ts ++ first ∷ [])
-joined_new_open family ts first last turns even below ordered end =
+joined_new_open family ts first last boundaries even below ordered end =
     joined_from_filled family ts first last (ts ++ first ∷ [])
-    (turns_push family ts first turns below (omega (arith, ordered, end)))
+    (boundaries_push family ts first boundaries below (omega (arith, ordered, end)))
     (begins_all ts first first below (omega arith)) (record {
       before = λ x lt. inside_push_before ts first x lt;
       within = λ x ge le. inside_push_at ts first x ge ∙ ap not (outside_even ts first x even below ge);
       after = λ x late fits. absurd (omega (arith, late, fits, end));
     })
 
-pub joined_new : (family : Family) (ts : List ℕ) (first last : ℕ) → AreTurns family ts → length ts % 2 ≡ 0
+pub joined_new : (family : Family) (ts : List ℕ) (first last : ℕ) → AreBoundaries family ts → length ts % 2 ≡ 0
     → All (λ t. t < first) ts → first ≤ last → last < greatest_number family
     → IsJoined family ts first last ((ts ++ first ∷ []) ++ (last + 1) ∷ [])
-joined_new family ts first last turns even below ordered room =
+joined_new family ts first last boundaries even below ordered room =
     let opened : List ℕ = ts ++ first ∷ [] in
     let size : length opened ≡ length ts + 1 = length_push ts first in
     let up : All (λ t. t < last + 1) opened = λ k d l. elim (cases_lt k (length ts)) [
@@ -163,7 +163,8 @@ joined_new family ts first last turns even below ordered room =
       | inr ge ↦ omega (arith, get_or_push ts first d k (omega (arith, l, size, ge)), ordered)
     ] in
     joined_from_filled family ts first last (opened ++ (last + 1) ∷ [])
-    (turns_push family opened (last + 1) (turns_push family ts first turns below (omega (arith, ordered, room))) up
+    (boundaries_push family opened (last + 1)
+    (boundaries_push family ts first boundaries below (omega (arith, ordered, room))) up
     (omega (arith, room)))
     (begins_end opened (last + 1) first (omega (arith, size, even)) (begins_all ts first first below (omega arith)))
     (record {
@@ -175,26 +176,28 @@ joined_new family ts first last turns even below ordered room =
           ∙ ap not (inside_push_at ts first x (omega (arith, late, ordered))) ∙ not_twice (is_inside ts x);
     })
 
--- ---- a set of an even count of turns, whose last turn is not below the range
+-- ---- a set of an even count of boundaries, whose last boundary is not below the range
 
-module _ (family : Family) (ts : List ℕ) (end first last : ℕ) (turns : AreTurns family (ts ++ end ∷ []))
+module _ (family : Family) (ts : List ℕ) (end first last : ℕ) (boundaries : AreBoundaries family (ts ++ end ∷ []))
     (odd : length ts % 2 ≡ 1) (begins : BeginsBy (ts ++ end ∷ []) first) (touches : first ≤ end) where
   front_up_to : All (λ t. t ≤ first) ts
-  front_up_to = up_to_odd family ts first (front_turns family ts end turns) odd (begins_front ts end first begins)
+  front_up_to =
+      up_to_odd family ts first (front_boundaries family ts end boundaries) odd (begins_front ts end first begins)
 
   front_inside : (x : ℕ) → first ≤ x → is_inside ts x ≡ true
   front_inside x le = inside_odd ts first x odd front_up_to le
 
   joined_inside : last < end → IsJoined family (ts ++ end ∷ []) first last (ts ++ end ∷ [])
-  joined_inside early = joined_from_filled family (ts ++ end ∷ []) first last (ts ++ end ∷ []) turns begins (record {
-    before = λ x lt. refl;
-    within = λ x ge le. inside_push_before ts end x (omega (arith, le, early)) ∙ front_inside x ge;
-    after = λ x late fits. refl;
-  })
+  joined_inside early =
+      joined_from_filled family (ts ++ end ∷ []) first last (ts ++ end ∷ []) boundaries begins (record {
+        before = λ x lt. refl;
+        within = λ x ge le. inside_push_before ts end x (omega (arith, le, early)) ∙ front_inside x ge;
+        after = λ x late fits. refl;
+      })
 
   joined_to_the_end : last ≡ greatest_number family → IsJoined family (ts ++ end ∷ []) first last ts
   joined_to_the_end whole = joined_from_filled family (ts ++ end ∷ []) first last ts
-      (front_turns family ts end turns) (begins_front ts end first begins) (record {
+      (front_boundaries family ts end boundaries) (begins_front ts end first begins) (record {
         before = λ x lt. sym (inside_push_before ts end x (omega (arith, lt, touches)));
         within = λ x ge le. front_inside x ge;
         after = λ x late fits. absurd (omega (arith, late, fits, whole));
@@ -204,9 +207,9 @@ module _ (family : Family) (ts : List ℕ) (end first last : ℕ) (turns : AreTu
       → IsJoined family (ts ++ end ∷ []) first last (ts ++ (last + 1) ∷ [])
   joined_longer longer room =
       let below : All (λ t. t < last + 1) ts = All-weaker (λ t. t < end) (λ t. t < last + 1)
-      (λ t l. omega (arith, l, longer)) ts (front_below family ts end turns) in
+      (λ t l. omega (arith, l, longer)) ts (front_below family ts end boundaries) in
       joined_from_filled family (ts ++ end ∷ []) first last (ts ++ (last + 1) ∷ [])
-      (turns_push family ts (last + 1) (front_turns family ts end turns) below (omega (arith, room)))
+      (boundaries_push family ts (last + 1) (front_boundaries family ts end boundaries) below (omega (arith, room)))
       (begins_end ts (last + 1) first odd (begins_front ts end first begins)) (record {
         before = λ x lt. inside_push_before ts (last + 1) x (omega (arith, lt, touches, longer))
             ∙ sym (inside_push_before ts end x (omega (arith, lt, touches)));
@@ -216,7 +219,7 @@ module _ (family : Family) (ts : List ℕ) (end first last : ℕ) (turns : AreTu
       })
 
 -- the same, of a list whose last element is `end`
-module _ (family : Family) (ts : List ℕ) (end first last : ℕ) (turns : AreTurns family ts)
+module _ (family : Family) (ts : List ℕ) (end first last : ℕ) (boundaries : AreBoundaries family ts)
     (even : length ts % 2 ≡ 0) (begins : BeginsBy ts first) (some : 0 < length ts)
     (at : (d : ℕ) → get_or ts (length ts - 1) d ≡ end) (touches : first ≤ end) where
   abbrev front : List ℕ
@@ -228,26 +231,26 @@ module _ (family : Family) (ts : List ℕ) (end first last : ℕ) (turns : AreTu
   odd : length front % 2 ≡ 1
   odd = omega (arith, ap length whole, length_push front end, even)
 
-  front_turns_of : AreTurns family (front ++ end ∷ [])
-  front_turns_of = subst (AreTurns family) whole turns
+  front_boundaries_of : AreBoundaries family (front ++ end ∷ [])
+  front_boundaries_of = subst (AreBoundaries family) whole boundaries
 
   front_begins : BeginsBy (front ++ end ∷ []) first
   front_begins = subst (λ z. BeginsBy z first) whole begins
 
   pub end_inside : last < end → IsJoined family ts first last ts
   end_inside early = subst (λ z. IsJoined family z first last z) (sym whole)
-      (joined_inside family front end first last front_turns_of odd front_begins touches early)
+      (joined_inside family front end first last front_boundaries_of odd front_begins touches early)
 
   pub end_open : last ≡ greatest_number family → IsJoined family ts first last (take (length ts - 1) ts)
   end_open e = subst (λ z. IsJoined family z first last front) (sym whole)
-      (joined_to_the_end family front end first last front_turns_of odd front_begins touches e)
+      (joined_to_the_end family front end first last front_boundaries_of odd front_begins touches e)
 
   pub end_longer : end ≤ last → last < greatest_number family
       → IsJoined family ts first last (take (length ts - 1) ts ++ (last + 1) ∷ [])
   end_longer longer room = subst (λ z. IsJoined family z first last (front ++ (last + 1) ∷ [])) (sym whole)
-      (joined_longer family front end first last front_turns_of odd front_begins touches longer room)
+      (joined_longer family front end first last front_boundaries_of odd front_begins touches longer room)
 
--- the last turn, replaced
+-- the last boundary, replaced
 pub set_last : (ts : List ℕ) (n : ℕ) → 0 < length ts
     → set ts (length ts - 1) n ≡ take (length ts - 1) ts ++ n ∷ []
 set_last ts n some =
@@ -291,20 +294,21 @@ any_permutation P xs ys h a =
 -- The first ranges of the list, as many as `i`, are in the set, no range of which begins after those that are left.
 pub record IsGathered {R : Type 0} (start end : R → ℕ) (family : Family) (ranges : List R) (i : ℕ) (kept : List ℕ)
     : Type 0 where
-  pub turns : AreTurns family kept
+  pub boundaries : AreBoundaries family kept
   pub begins : (k : ℕ) (d : R) → i ≤ k → k < length ranges → BeginsBy kept (start (get_or ranges k d))
   pub members : (x : ℕ) → x ≤ greatest_number family
       → (is_inside kept x ≡ true) ↔ Any (λ r. (start r ≤ x) × (x ≤ end r)) (take i ranges)
 
-pub gathered_more : {R : Type 0} (start end : R → ℕ) (family : Family) (ranges : List R) (i : ℕ) (turns new : List ℕ)
+pub gathered_more : {R : Type 0} (start end : R → ℕ) (family : Family) (ranges : List R) (i : ℕ)
+    (boundaries new : List ℕ)
     (r : R) → IsNonDecreasingBy start ranges → i < length ranges → r ≡ get_or ranges i r
-    → IsJoined family turns (start r) (end r) new → IsGathered start end family ranges i turns
+    → IsJoined family boundaries (start r) (end r) new → IsGathered start end family ranges i boundaries
     → IsGathered start end family ranges (i + 1) new
-gathered_more start end family ranges i turns new r sorted l e joined h =
+gathered_more start end family ranges i boundaries new r sorted l e joined h =
     let more : take (i + 1) ranges ≡ take i ranges ++ r ∷ []
     = take_more ranges i r l ∙ ap (λ z. take i ranges ++ z ∷ []) (sym e) in
     record {
-      turns = joined.turns;
+      boundaries = joined.boundaries;
       begins = λ k d le m. begins_later new (start r) (start (get_or ranges k d))
           (omega (arith, sorted i k d (omega (arith, le)) m, ap start (at_place ranges i d r l ∙ sym e)))
           joined.begins;
@@ -324,18 +328,20 @@ gathered_more start end family ranges i turns new r sorted l e joined h =
       );
     }
 
-pub gathered_whole : {R : Type 0} (start end : R → ℕ) (family : Family) (ranges : List R) (i : ℕ) (turns : List ℕ)
-    → length ranges ≤ i → IsGathered start end family ranges i turns → (x : ℕ) → x ≤ greatest_number family
-    → (is_inside turns x ≡ true) ↔ Any (λ r. (start r ≤ x) × (x ≤ end r)) ranges
-gathered_whole start end family ranges i turns le h x fits =
-    subst (λ z. (is_inside turns x ≡ true) ↔ Any (λ r. (start r ≤ x) × (x ≤ end r)) z) (take_all i ranges le)
+pub gathered_whole : {R : Type 0} (start end : R → ℕ) (family : Family) (ranges : List R) (i : ℕ) (boundaries : List ℕ)
+    → length ranges ≤ i → IsGathered start end family ranges i boundaries → (x : ℕ) → x ≤ greatest_number family
+    → (is_inside boundaries x ≡ true) ↔ Any (λ r. (start r ≤ x) × (x ≤ end r)) ranges
+gathered_whole start end family ranges i boundaries le h x fits =
+    subst (λ z. (is_inside boundaries x ≡ true) ↔ Any (λ r. (start r ≤ x) × (x ≤ end r)) z) (take_all i ranges le)
     (h.members x fits)
 
 -- one range more that waits
-pub held_push : {T : Type 0} (number : T → ℕ) (turns : List T) (waiting new : List (NumberRange T)) (r : NumberRange T)
+pub held_push : {T : Type 0} (number : T → ℕ) (boundaries : List T) (waiting new : List (NumberRange T))
+    (r : NumberRange T)
     → new ≡ waiting ++ r ∷ [] → (x : ℕ)
-    → IsHeld number turns new x ↔ (IsHeld number turns waiting x ⊎ ((number r.first ≤ x) × (x ≤ number r.last)))
-held_push number turns waiting new r e x =
+    → IsHeld number boundaries new x ↔ (IsHeld number boundaries waiting x
+    ⊎ ((number r.first ≤ x) × (x ≤ number r.last)))
+held_push number boundaries waiting new r e x =
     let one = any_push (λ q. (number q.first ≤ x) × (x ≤ number q.last)) waiting r in
     rw e (
       λ h. elim h [

@@ -1,6 +1,6 @@
 -- Lemmas that the proofs of this crate share.
 pub mod InsideLaws
-pub mod TurnLaws
+pub mod BoundaryLaws
 pub mod SplitLaws
 pub mod EndLaws
 pub mod MemberLaws
@@ -22,5 +22,14 @@ pub mod RouteOrderLaws
 pub mod RouteMatchLaws
 pub mod RouteWithinLaws
 pub mod RouteChangeLaws
+pub mod RouteLackingLaws
+pub mod ChunkLaws
+pub mod RouteMapLaws
+pub mod ClimbLaws
+pub mod SharedBitLaws
+pub mod RouteMapParts
+pub mod RouteMapMatches
 pub mod ImageLaws
 pub mod ImageSetLaws
+pub mod TableImageLaws
+pub mod TableCheckLaws

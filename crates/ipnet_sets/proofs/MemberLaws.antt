@@ -1,4 +1,4 @@
--- Facts of the addresses of a set, from those of the numbers of each family.
+-- Facts about the addresses of a set, from facts about the numbers of each family.
 use Rattle.std.proofs.Common.{◌+◌, ◌≡◌, ℕ, ◌^◌, ◌<◌, ◌≤◌, ◌↔◌, Bool, true, false, IsTrue, List, length, map}
 use Rattle.std.proofs.Common.{refl, sym, ap, ◌∙◌, subst, subst₂, arith}
 use Rattle.std.proofs.lemmas.List.{length-map}
@@ -6,9 +6,9 @@ use Rattle.ipnet_base.specs.Address.{Family, IPv4, IPv6, Address, IsAddress, IsB
 use Rattle.ipnet_base.specs.Network.{Network, IsNetwork, InBlock, IsLeastOf, IsGreatestOf}
 use Rattle.ipnet_base.proofs.BlockLaws.{block_is_between, between_from_block, last_fits}
 use Rattle.ipnet_sets.specs.declared.set.IpSet.{IpSet}
-use Rattle.ipnet_sets.specs.declared.turns.Operation.{Operation}
-use Rattle.ipnet_sets.specs.Turns.{is_inside, combined, IsLeastInside, IsGreatestInside, by_family}
-use Rattle.ipnet_sets.specs.Members.{turns_of, is_member, IsMember, IsFromTo}
+use Rattle.ipnet_sets.specs.declared.operation.Operation.{Operation}
+use Rattle.ipnet_sets.specs.Boundaries.{is_inside, combined, IsLeastInside, IsGreatestInside, by_family}
+use Rattle.ipnet_sets.specs.Members.{boundaries_of, is_member, IsMember, IsFromTo}
 
 pub fits_below : (f : Family) (x : ℕ) → x ≤ greatest_number f → x < 2 ^ width f
 fits_below IPv4 x le = omega arith
@@ -19,7 +19,7 @@ fits_to IPv4 x lt = omega arith
 fits_to IPv6 x lt = omega arith
 
 -- each address of a network's block is one of its family
-pub block_fits : (n : Network) → IsNetwork n → (x : Address) → InBlock n x → IsAddress x
+block_fits : (n : Network) → IsNetwork n → (x : Address) → InBlock n x → IsAddress x
 block_fits n valid x a =
     omega (arith, (between_from_block n x a).to_end, last_fits n valid, ap (λ f. 2 ^ width f) a.same_family)
 
@@ -43,44 +43,44 @@ block_from_to n low high least greatest x =
       }),
     )
 
--- the numbers of a slice that holds the turns of a family
-abbrev pub HasTurns : IpSet → Family → List ℕ → Type 0
-HasTurns s f slice = map (λ n. n) slice ≡ turns_of s f
+-- the numbers of a slice that holds the boundaries of a family
+abbrev pub HasBoundaries : IpSet → Family → List ℕ → Type 0
+HasBoundaries s f slice = map (λ n. n) slice ≡ boundaries_of s f
 
-member_at : (s : IpSet) (f : Family) (slice : List ℕ) (n : ℕ) → HasTurns s f slice → n ≤ greatest_number f
+member_at : (s : IpSet) (f : Family) (slice : List ℕ) (n : ℕ) → HasBoundaries s f slice → n ≤ greatest_number f
     → is_inside (map (λ n. n) slice) n ≡ true → IsMember s (record { family = f; number = n })
 member_at s f slice n e le h = record {
   fits = fits_below f n le;
   inside = subst (λ z. is_inside z n ≡ true) e h;
 }
 
-pub some_from_least : (s : IpSet) (f : Family) (slice : List ℕ) (n : ℕ) → HasTurns s f slice
+pub some_from_least : (s : IpSet) (f : Family) (slice : List ℕ) (n : ℕ) → HasBoundaries s f slice
     → IsLeastInside f (map (λ n. n) slice) n → ((x : Address) → ¬ (IsMember s x)) → ⊥
 some_from_least s f slice n e h none =
     none (record { family = f; number = n }) (member_at s f slice n e h.fits h.inside)
 
-pub some_from_greatest : (s : IpSet) (f : Family) (slice : List ℕ) (n : ℕ) → HasTurns s f slice
+pub some_from_greatest : (s : IpSet) (f : Family) (slice : List ℕ) (n : ℕ) → HasBoundaries s f slice
     → IsGreatestInside f (map (λ n. n) slice) n → ((x : Address) → ¬ (IsMember s x)) → ⊥
 some_from_greatest s f slice n e h none =
     none (record { family = f; number = n }) (member_at s f slice n e h.fits h.inside)
 
--- a block lies in the set where its numbers are inside
+-- a block lies in the set if its numbers are inside
 pub covers_block : (s : IpSet) (n : Network) (low high : Address) (slice : List ℕ) (first last : ℕ) (answer : Bool)
     → IsNetwork n → IsLeastOf n low → IsGreatestOf n high → first ≡ low.number → last ≡ high.number
-    → HasTurns s n.family slice
+    → HasBoundaries s n.family slice
     → (IsTrue answer ↔ ((x : ℕ) → first ≤ x → x ≤ last → is_inside (map (λ n. n) slice) x ≡ true))
     → IsTrue answer ↔ ((x : Address) → InBlock n x → IsMember s x)
-covers_block s n low high slice first last answer valid least greatest e f turns h = (
+covers_block s n low high slice first last answer valid least greatest e f boundaries h = (
   λ t x a.
       let between : IsBetween n.family low.number high.number x = (block_is_between n low high x least greatest).0 a in
-      let inside : is_inside (turns_of s n.family) x.number ≡ true
-      = subst (λ z. is_inside z x.number ≡ true) turns
+      let inside : is_inside (boundaries_of s n.family) x.number ≡ true
+      = subst (λ z. is_inside z x.number ≡ true) boundaries
       (h.0 t x.number (omega (arith, e, between.from_start)) (omega (arith, f, between.to_end))) in
       record {
         fits = block_fits n valid x a;
-        inside = ap (λ g. is_inside (turns_of s g) x.number) a.same_family ∙ inside;
+        inside = ap (λ g. is_inside (boundaries_of s g) x.number) a.same_family ∙ inside;
       },
-  λ all. h.1 (λ x le lf. ap (λ z. is_inside z x) turns ∙ (all (record { family = n.family; number = x })
+  λ all. h.1 (λ x le lf. ap (λ z. is_inside z x) boundaries ∙ (all (record { family = n.family; number = x })
       ((block_is_between n low high (record { family = n.family; number = x }) least greatest).1
       (record { of_family = refl; from_start = omega (arith, e, le); to_end = omega (arith, f, lf) }))).inside),
 )
@@ -88,21 +88,21 @@ covers_block s n low high slice first last answer valid least greatest e f turns
 -- the addresses from one to another are in the set if the numbers between are inside
 pub covers_from_to : (s : IpSet) (f : Family) (start end : Address) (slice : List ℕ) (first last : ℕ) (answer : Bool)
     → start.family ≡ f → end.family ≡ f → last ≤ greatest_number f → first ≡ start.number → last ≡ end.number
-    → HasTurns s f slice
+    → HasBoundaries s f slice
     → (IsTrue answer ↔ ((x : ℕ) → first ≤ x → x ≤ last → is_inside (map (λ n. n) slice) x ≡ true))
     → IsTrue answer ↔ ((x : Address) → IsFromTo start end x → IsMember s x)
-covers_from_to s f start end slice first last answer d e fits g h turns inside = (
+covers_from_to s f start end slice first last answer d e fits g h boundaries inside = (
   λ t x a.
       let same : x.family ≡ f = a.family_of_start ∙ d in
-      let here : is_inside (turns_of s f) x.number ≡ true
-      = subst (λ z. is_inside z x.number ≡ true) turns
+      let here : is_inside (boundaries_of s f) x.number ≡ true
+      = subst (λ z. is_inside z x.number ≡ true) boundaries
       (inside.0 t x.number (omega (arith, g, a.from_start)) (omega (arith, h, a.to_end))) in
       record {
         fits = subst (λ k. x.number < 2 ^ width k) (sym same)
             (fits_below f x.number (omega (arith, fits, h, a.to_end)));
-        inside = ap (λ k. is_inside (turns_of s k) x.number) same ∙ here;
+        inside = ap (λ k. is_inside (boundaries_of s k) x.number) same ∙ here;
       },
-  λ all. inside.1 (λ x le lf. ap (λ z. is_inside z x) turns ∙ (all (record { family = f; number = x }) (record {
+  λ all. inside.1 (λ x le lf. ap (λ z. is_inside z x) boundaries ∙ (all (record { family = f; number = x }) (record {
     family_of_start = sym d;
     family_of_end = sym e;
     from_start = omega (arith, g, le);
@@ -110,44 +110,44 @@ covers_from_to s f start end slice first last answer d e fits g h turns inside =
   })).inside),
 )
 
--- what an operation makes of two sets is empty where it makes nothing of the numbers of either family
+-- the result of an operation on two sets is empty if it has no number of either family
 pub nothing_in_families : (operation : Operation) (s t : IpSet)
     → ((x : ℕ) → x ≤ greatest_number IPv4
-    → combined operation (is_inside (turns_of s IPv4) x) (is_inside (turns_of t IPv4) x) ≡ false)
+    → combined operation (is_inside (boundaries_of s IPv4) x) (is_inside (boundaries_of t IPv4) x) ≡ false)
     → ((x : ℕ) → x ≤ greatest_number IPv6
-    → combined operation (is_inside (turns_of s IPv6) x) (is_inside (turns_of t IPv6) x) ≡ false)
+    → combined operation (is_inside (boundaries_of s IPv6) x) (is_inside (boundaries_of t IPv6) x) ≡ false)
     → (x : Address) → IsAddress x → combined operation (is_member s x) (is_member t x) ≡ false
 nothing_in_families operation s t h k x fits = go x.family x.number fits
   where
     go : (f : Family) (n : ℕ) → n < 2 ^ width f
-        → combined operation (is_inside (turns_of s f) n) (is_inside (turns_of t f) n) ≡ false
+        → combined operation (is_inside (boundaries_of s f) n) (is_inside (boundaries_of t f) n) ≡ false
     go IPv4 n l = h n (fits_to IPv4 n l)
     go IPv6 n l = k n (fits_to IPv6 n l)
 
 pub nothing_of_family : (operation : Operation) (s t : IpSet) (f : Family)
     → ((x : Address) → IsAddress x → combined operation (is_member s x) (is_member t x) ≡ false)
     → (x : ℕ) → x ≤ greatest_number f
-    → combined operation (is_inside (turns_of s f) x) (is_inside (turns_of t f) x) ≡ false
+    → combined operation (is_inside (boundaries_of s f) x) (is_inside (boundaries_of t f) x) ≡ false
 nothing_of_family operation s t f h x le = h (record { family = f; number = x }) (fits_below f x le)
 
--- the same of the slices that hold the turns
+-- the same of the slices that hold the boundaries
 pub nothing_in_slices : (operation : Operation) (s t : IpSet) (f : Family) (slice other : List ℕ) (answer : Bool)
-    → HasTurns s f slice → HasTurns t f other
+    → HasBoundaries s f slice → HasBoundaries t f other
     → (IsTrue answer ↔ ((x : ℕ) → x ≤ greatest_number f
     → combined operation (is_inside (map (λ n. n) slice) x) (is_inside (map (λ n. n) other) x) ≡ false))
     → IsTrue answer ↔ ((x : ℕ) → x ≤ greatest_number f
-    → combined operation (is_inside (turns_of s f) x) (is_inside (turns_of t f) x) ≡ false)
+    → combined operation (is_inside (boundaries_of s f) x) (is_inside (boundaries_of t f) x) ≡ false)
 nothing_in_slices operation s t f slice other answer e g h =
     subst₂ (λ a b. IsTrue answer ↔ ((x : ℕ) → x ≤ greatest_number f
     → combined operation (is_inside a x) (is_inside b x) ≡ false)) e g h
 
--- the turns of what is made of two sets, by the lists that hold them
-pub no_more_turns : (a b : IpSet) (ipv4 ipv6 first4 first6 second4 second6 : List ℕ) → first4 ≡ a.ipv4.items
+-- the boundaries of what is made of two sets, by the lists that hold them
+pub no_more_boundaries : (a b : IpSet) (ipv4 ipv6 first4 first6 second4 second6 : List ℕ) → first4 ≡ a.ipv4.items
     → first6 ≡ a.ipv6.items → second4 ≡ b.ipv4.items → second6 ≡ b.ipv6.items
     → length ipv4 ≤ length first4 + length second4 → length ipv6 ≤ length first6 + length second6
     → (f : Family) → length (by_family (map (λ n. n) ipv4) (map (λ n. n) ipv6) f)
-    ≤ length (turns_of a f) + length (turns_of b f)
-no_more_turns a b ipv4 ipv6 first4 first6 second4 second6 e4 e6 g4 g6 h k IPv4 =
+    ≤ length (boundaries_of a f) + length (boundaries_of b f)
+no_more_boundaries a b ipv4 ipv6 first4 first6 second4 second6 e4 e6 g4 g6 h k IPv4 =
     omega (
       arith,
       h,
@@ -157,7 +157,7 @@ no_more_turns a b ipv4 ipv6 first4 first6 second4 second6 e4 e6 g4 g6 h k IPv4 =
       length-map a.ipv4.items (λ n. n),
       length-map b.ipv4.items (λ n. n),
     )
-no_more_turns a b ipv4 ipv6 first4 first6 second4 second6 e4 e6 g4 g6 h k IPv6 =
+no_more_boundaries a b ipv4 ipv6 first4 first6 second4 second6 e4 e6 g4 g6 h k IPv6 =
     omega (
       arith,
       k,

@@ -5,9 +5,9 @@ use Rattle.ipnet_base.specs.Address.{Family, IPv4, IPv6, Address, greatest_numbe
 use Rattle.ipnet_sets.specs.declared.set.IpSet.{IpSet}
 use Rattle.ipnet_sets.specs.declared.set.builder.IpSetBuilder.{IpSetBuilder}
 use Rattle.ipnet_sets.specs.Gather.{IsInSomeRange}
-use Rattle.ipnet_sets.specs.Members.{turns_of, IsMember, IsUnion}
+use Rattle.ipnet_sets.specs.Members.{boundaries_of, IsMember, IsUnion}
 use Rattle.ipnet_sets.specs.Pushed.{IsHeldOf, IsPushed}
-use Rattle.ipnet_sets.specs.Turns.{is_inside}
+use Rattle.ipnet_sets.specs.Boundaries.{is_inside}
 use Rattle.ipnet_sets.proofs.MemberLaws.{fits_to}
 
 module _ (b : IpSetBuilder) (in_order others : IpSet) (e4 : in_order.ipv4.items ≡ b.ipv4.items)
@@ -17,14 +17,14 @@ module _ (b : IpSetBuilder) (in_order others : IpSet) (e4 : in_order.ipv4.items 
     (six : (x : ℕ) → x ≤ greatest_number IPv6
     → (is_inside (map (λ n. n) others.ipv6.items) x ≡ true) ↔ IsInSomeRange (λ n. n) b.ipv6_waiting.items x) where
   to_held : (f : Family) (n : ℕ) → n ≤ greatest_number f
-      → (is_inside (turns_of in_order f) n ≡ true) ⊎ (is_inside (turns_of others f) n ≡ true) → IsHeldOf b f n
+      → (is_inside (boundaries_of in_order f) n ≡ true) ⊎ (is_inside (boundaries_of others f) n ≡ true) → IsHeldOf b f n
   to_held IPv4 n le (inl h) = inl (subst (λ z. is_inside (map (λ n. n) z) n ≡ true) e4 h)
   to_held IPv4 n le (inr h) = inr ((four n le).0 h)
   to_held IPv6 n le (inl h) = inl (subst (λ z. is_inside (map (λ n. n) z) n ≡ true) e6 h)
   to_held IPv6 n le (inr h) = inr ((six n le).0 h)
 
   from_held : (f : Family) (n : ℕ) → n ≤ greatest_number f → IsHeldOf b f n
-      → (is_inside (turns_of in_order f) n ≡ true) ⊎ (is_inside (turns_of others f) n ≡ true)
+      → (is_inside (boundaries_of in_order f) n ≡ true) ⊎ (is_inside (boundaries_of others f) n ≡ true)
   from_held IPv4 n le (inl h) = inl (subst (λ z. is_inside (map (λ n. n) z) n ≡ true) (sym e4) h)
   from_held IPv4 n le (inr h) = inr ((four n le).1 h)
   from_held IPv6 n le (inl h) = inl (subst (λ z. is_inside (map (λ n. n) z) n ≡ true) (sym e6) h)

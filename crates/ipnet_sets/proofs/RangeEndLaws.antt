@@ -1,18 +1,18 @@
--- The last range of a set that is kept by its turns, and the number of its ranges.
+-- The last range of a set that is kept by its boundaries, and the number of its ranges.
 use Rattle.std.proofs.Common.{◌≡◌, ℕ, ◌+◌, ◌-◌, ◌/◌, ◌%◌, ◌<◌, ◌≤◌, List, [], ◌∷◌, ◌++◌, length, map, take}
 use Rattle.std.proofs.Common.{get_or, All, refl, sym, ap, ◌∙◌, subst, arith, inl, inr, append_assoc}
 use Rattle.std.proofs.lemmas.List.{take_more, take_all, get_or-take, length-take-le, length-map, take-map}
 use Rattle.std.proofs.lemmas.List.Elements.{All-take}
 use Rattle.std.proofs.lemmas.Bool.{cases_lt}
 use Rattle.ipnet_base.specs.Address.{Family, greatest_number}
-use Rattle.ipnet_sets.specs.Turns.{AreTurns}
+use Rattle.ipnet_sets.specs.Boundaries.{AreBoundaries}
 use Rattle.ipnet_sets.specs.SetRanges.{range_of}
-use Rattle.ipnet_sets.specs.TurnRanges.{ranges_of, before_last}
-use Rattle.ipnet_sets.proofs.SetRangeLaws.{tail_turns, later}
+use Rattle.ipnet_sets.specs.BoundaryRanges.{ranges_of, before_last}
+use Rattle.ipnet_sets.proofs.SetRangeLaws.{tail_boundaries, later}
 
--- the first turns are turns
-take_turns : (f : Family) (ts : List ℕ) (k : ℕ) → k ≤ length ts → AreTurns f ts → AreTurns f (take k ts)
-take_turns f ts k le h = record {
+-- the first boundaries are boundaries
+take_boundaries : (f : Family) (ts : List ℕ) (k : ℕ) → k ≤ length ts → AreBoundaries f ts → AreBoundaries f (take k ts)
+take_boundaries f ts k le h = record {
   ascending = λ i j d l m.
       let fits : j < k = omega (arith, m, length-take-le k ts le) in
       let lower : get_or (take k ts) i d ≡ get_or ts i d = get_or-take k ts i d (omega (arith, l, fits)) in
@@ -22,13 +22,13 @@ take_turns f ts k le h = record {
 }
 
 -- as they are read from words
-pub turns_before : {X : Type 0} (number : X → ℕ) (f : Family) (xs left : List X) → left ≡ take (before_last xs) xs
-    → AreTurns f (map number xs) → AreTurns f (map number left)
-turns_before number f xs left e h =
-    subst (AreTurns f) (take-map number (before_last xs) xs ∙ ap (map number) (sym e))
-    (take_turns f (map number xs) (before_last xs) (omega (arith, length-map xs number)) h)
+pub boundaries_before : {X : Type 0} (number : X → ℕ) (f : Family) (xs left : List X) → left ≡ take (before_last xs) xs
+    → AreBoundaries f (map number xs) → AreBoundaries f (map number left)
+boundaries_before number f xs left e h =
+    subst (AreBoundaries f) (take-map number (before_last xs) xs ∙ ap (map number) (sym e))
+    (take_boundaries f (map number xs) (before_last xs) (omega (arith, length-map xs number)) h)
 
--- the ranges between an even count of turns, and those between the turns after them
+-- the ranges between an even count of boundaries, and those between the boundaries after them
 ranges_append : (f : Family) (ts us : List ℕ) → length ts % 2 ≡ 0
     → ranges_of f (ts ++ us) ≡ ranges_of f ts ++ ranges_of f us
 ranges_append f [] us e = refl
@@ -73,16 +73,17 @@ odd_from_not n odd = elim (cases_lt (n % 2) 1) [
   | inr ge ↦ omega (arith, ge)
 ]
 
--- no more turns than numbers from the first turn on
-turns_from : (f : Family) (ts : List ℕ) (b : ℕ) → AreTurns f ts → All (λ t. b ≤ t) ts → b ≤ greatest_number f + 1
+-- no more boundaries than numbers from the first boundary on
+boundaries_from : (f : Family) (ts : List ℕ) (b : ℕ) → AreBoundaries f ts → All (λ t. b ≤ t) ts
+    → b ≤ greatest_number f + 1
     → length ts + b ≤ greatest_number f + 1
-turns_from f [] b h up le = omega (arith, le)
-turns_from f (t ∷ ts) b h up le =
+boundaries_from f [] b h up le = omega (arith, le)
+boundaries_from f (t ∷ ts) b h up le =
     let after : All (λ u. t < u) ts = later f t ts h in
     let rest : length ts + (t + 1) ≤ greatest_number f + 1
-    = turns_from f ts (t + 1) (tail_turns f t ts h) (λ k d l. omega (arith, after k d l))
+    = boundaries_from f ts (t + 1) (tail_boundaries f t ts h) (λ k d l. omega (arith, after k d l))
     (omega (arith, h.fits 0 t (omega arith))) in
     omega (arith, rest, up 0 t (omega arith))
 
-pub turns_fit : (f : Family) (ts : List ℕ) → AreTurns f ts → length ts ≤ greatest_number f + 1
-turns_fit f ts h = omega (arith, turns_from f ts 0 h (λ k d l. omega arith) (omega arith))
+pub boundaries_fit : (f : Family) (ts : List ℕ) → AreBoundaries f ts → length ts ≤ greatest_number f + 1
+boundaries_fit f ts h = omega (arith, boundaries_from f ts 0 h (λ k d l. omega arith) (omega arith))

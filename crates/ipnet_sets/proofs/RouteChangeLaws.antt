@@ -1,6 +1,6 @@
 -- Tables of the same networks with other values.
-use Rattle.std.proofs.Common.{◌≡◌, ℕ, ◌+◌, ◌<◌, List, [], ◌∷◌, ◌++◌, length, get_or, Contains, sym, ap, ap₂, ◌∙◌}
-use Rattle.std.proofs.Common.{subst, subst₂, arith, inl, inr}
+use Rattle.std.proofs.Common.{◌≡◌, ◌<◌, List, [], ◌∷◌, ◌++◌, length, get_or, Contains, sym, ap, ap₂, ◌∙◌}
+use Rattle.std.proofs.Common.{subst₂, arith, inl, inr}
 use Rattle.std.proofs.lemmas.Bool.{cases_order, cases_lt}
 use Rattle.std.proofs.lemmas.List.{length-map, get_or-map, length_push, get_or_push, get_or_append_left, map-append}
 use Rattle.ipnet_base.specs.Network.{Network, IsBefore}
@@ -32,7 +32,7 @@ changed_push made xs ys x y h same fits = record {
   ];
 }
 
--- the value of a network is made of its old value
+-- the value of a network is made from its old value
 pub changed_value : {V W : Type 0} (made : V → W → Type 0) (old : List (IpNet × V)) (new : List (IpNet × W))
     → IsTable (ip_networks old) → AreChanged made old new → (n : Network) (v : V) (w : W)
     → Contains (ip_routes old) (n, v) → Contains (ip_routes new) (n, w) → made v w

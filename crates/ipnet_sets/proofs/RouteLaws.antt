@@ -1,4 +1,4 @@
--- The search for the longest network that holds an address, in a table of routes.
+-- The search for the longest network that contains an address, in a table of routes.
 use Rattle.std.proofs.Common.{◌≡◌, ℕ, ◌+◌, ◌-◌, ◌<◌, ◌≤◌, List, length, map, get_or, Contains, All}
 use Rattle.std.proofs.Common.{[], ◌∷◌, Bool, true, false, Less, Equal, Greater, Ordering, Option}
 use Rattle.std.proofs.Common.{refl, sym, ap, ◌∙◌, subst, arith, inl, inr}
@@ -48,7 +48,7 @@ table_of networks truncated ascending = record {
   ascending = pairs_weaker IsBefore (λ n k. IsBeforeOrEqual k n → ⊥) not_back networks ascending;
 }
 
--- the networks before low stand no later than the network, those from high on after it
+-- the networks before `low` are at most the network, and the networks from `high` on are above it
 pub record IsPlaceBetween (networks : List Network) (n : Network) (low high : ℕ) : Type 0 where
   pub ordered : low ≤ high
   pub within : high ≤ length networks
@@ -102,13 +102,12 @@ place_end networks n low high le h = record {
   above = λ k c l. h.above k c (omega (arith, le, l));
 }
 
--- The search for the nearest network that contains another: it stands before the place.
+-- The search for the nearest network that contains another: the network is before the place.
 pub record IsSearchedTo (networks : List Network) (n : Network) (limit place : ℕ) : Type 0 where
   pub within : place ≤ limit
   pub nearest : (k : Network) (c : Contains networks k) → c.0 < limit → IsSubnetOf n k → c.0 < place
 
--- a network that stands before another, which stands no later than the network, and contains the network, has the own
--- address of the other
+-- if `k` comes before `e`, and `e` not after `n`, and `k` contains `n`, then `k` contains the own address of `e`
 holds_between : (k e n : Network) → IsBefore k e → IsBeforeOrEqual e n → IsSubnetOf n k → InBlock k (own e)
 holds_between k e n before le sub = go before le (sub (own n) (own_in n))
   where
@@ -120,7 +119,7 @@ holds_between k e n before le sub = go before le (sub (own n) (own_in n))
     go (inr h) (inr (inr l)) a = block_between k (own n) (own e) a (sym h.0) (omega (arith, h.1)) (omega (arith, l.1))
 
 -- so it encloses the other, where that does not contain the network
-encloses : (k e n : Network) → IsBefore k e → IsBeforeOrEqual e n → IsSubnetOf n k → (IsSubnetOf n e → ⊥)
+pub encloses : (k e n : Network) → IsBefore k e → IsBeforeOrEqual e n → IsSubnetOf n k → (IsSubnetOf n e → ⊥)
     → IsSubnetOf e k
 encloses k e n before le sub out = elim (nested_or_disjoint e k) [
   | inl inside ↦ inside
@@ -181,15 +180,15 @@ links_more networks links more link l size old new nearest h = record {
 abbrev pub host : Address → Network
 host x = record { family = x.family; number = x.number; prefix_len = width x.family }
 
--- a network contains it where it holds the address
+-- a network contains it if it contains the address
 pub host_in : (k : Network) (x : Address) → InBlock k x → IsSubnetOf (host x) k
 host_in k x a = nested (host x) k x (own_in (host x)) a (omega arith)
 
 pub in_from_host : (k : Network) (x : Address) → IsSubnetOf (host x) k → InBlock k x
 in_from_host k x sub = sub x (own_in (host x))
 
--- a network of the table stands just before the place after it
-own_place : (networks : List Network) → IsTable networks → (n : Network) (place : ℕ)
+-- the place of a network of the table is just before the place after it
+pub own_place : (networks : List Network) → IsTable networks → (n : Network) (place : ℕ)
     → IsPlaceAfter networks n place → (c : Contains networks n) → c.0 + 1 ≡ place
 own_place networks table n place after c = elim (cases_order (c.0 + 1) place) [
   | inl same ↦ same
@@ -247,7 +246,7 @@ module _ {view : IpNet → Network} {eq : IpNet → IpNet → Bool} {cmp : IpNet
       go Equal p e = inl (sym p)
       go Greater p e = inr p
 
-  -- the order tells them apart as networks are told apart
+  -- the order of the values is the order of their networks
   pub before_is_less : (a b : IpNet) → ComparesBy view IsBefore eq cmp partial_cmp a b → IsBefore (view a) (view b)
       → cmp a b ≡ Less
   before_is_less a b h before = go (cmp a b) h.order

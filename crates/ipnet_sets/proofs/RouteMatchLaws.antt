@@ -1,13 +1,13 @@
 -- The way along the links from the nearest network that contains another has all routes that contain it.
 use Rattle.std.proofs.Common.{◌≡◌, ℕ, zero, suc, ◌+◌, ◌<◌, ◌≤◌, ◌↔◌, List, [], ◌∷◌, ◌++◌, length, get_or, take, drop}
-use Rattle.std.proofs.Common.{Contains, All, AllPairs, refl, sym, ap, ◌∙◌, subst, arith, inl, inr}
+use Rattle.std.proofs.Common.{Contains, AllPairs, refl, sym, ap, ◌∙◌, subst, arith, inl, inr}
 use Rattle.std.proofs.Math.Seq.{drop-cons}
 use Rattle.std.proofs.lemmas.Bool.{cases_order, cases_lt}
 use Rattle.std.proofs.lemmas.List.{length-map, get_or-map}
 use Rattle.ipnet_base.specs.Address.{Address, width}
 use Rattle.ipnet_base.specs.Network.{Network, IsNetwork, host_bits, InBlock, IsSubnetOf, IsTruncated, IsBefore}
 use Rattle.ipnet_base.proofs.BlockLaws.{own, own_in}
-use Rattle.ipnet_base.proofs.NestingLaws.{nested, longer_from_subnet}
+use Rattle.ipnet_base.proofs.NestingLaws.{nested}
 use Rattle.ipnet_base.proofs.NetworkLaws.{same_from_block}
 use Rattle.ipnet_base.proofs.ListLaws.{contains_nil, contains_here, contains_there, contains_cases}
 use Rattle.ipnet_base.proofs.ListLaws.{pairs_cons, pairs_head}

@@ -132,7 +132,7 @@ found_last test (x ∷ xs) r (suc place) l is hit last =
     (λ j d lt m. last (suc j) d (omega (arith, lt)) (omega (arith, m))) in
     rw (rest) refl
 
--- a list that is put in order, where those of one network stay in their order, keeps the last of each
+-- a list that is sorted, and that keeps the order of routes with one network, keeps the last route of each network
 pub latest_kept : {V : Type 0} (test : IpNet × V → IpNet × V → Bool)
     → ((r x : IpNet × V) → (test r x ≡ true) ↔ (ip_network r.0 ≡ ip_network x.0))
     → (xs ys : List (IpNet × V)) → ((r : IpNet × V) → filter (test r) ys ≡ filter (test r) xs)
@@ -173,7 +173,7 @@ latest_kept {V} test same xs ys stable q h = record {
         ∙ last_of_filter (test r) xs
         ∙ found_last (test r) xs r h.place some is ((same r r).1 refl) last)
 
--- one route more is the last of its network, and those of other networks stay the last of theirs
+-- a route at the end is the last of its network, and the last routes of the other networks stay the last
 latest_push : {V : Type 0} (given : List (Route V)) (r q : Route V)
     → IsLatest (given ++ r ∷ []) q ↔ ((r ≡ q) ⊎ (IsLatest given q × (q.0 ≢ r.0)))
 latest_push {V} given r q = (to, from)
@@ -231,7 +231,7 @@ latest_more given old front r members others q = (
   ],
 )
 
--- a list in order, of which some were taken: what is kept of these stands no later than the next
+-- a sorted list of which some were taken: the kept ones are at most the next
 pub kept_before : {V : Type 0} (all kept : List (IpNet × V)) (n : ℕ) (r : IpNet × V) → IsInOrder (ip_networks all)
     → n < length all → get_or all n r ≡ r
     → ((q : Route V) → Contains (ip_routes kept) q ↔ IsLatest (ip_routes (take n all)) q)
@@ -286,7 +286,7 @@ same_by_order a b Less p e = absurd (not_back (ip_network a) (ip_network b) p (i
 same_by_order a b Equal p e = refl
 same_by_order a b Greater p e = refl
 
--- neighbours tie where they are of one network
+-- two networks that tie in the order are equal
 equal_by_order : (n k : Network) → IsBeforeOrEqual k n → IsBeforeOrEqual n k → n ≡ k
 equal_by_order n k (inl e) h = sym e
 equal_by_order n k (inr before) h = absurd (not_back k n before h)
@@ -330,7 +330,7 @@ end_of networks n k size (front, e) =
     ap (λ z. get_or z k n) e
     ∙ get_or_push front n n k (omega (arith, size, ap length e, length_push front n))
 
--- all before the last stand before it
+-- all networks before the last are below it
 before_last : (networks : List Network) (n : Network) → IsAscending networks → EndsWith networks n → (k : ℕ)
     (d : Network) → k + 1 < length networks → IsBefore (get_or networks k d) n
 before_last networks n ascending ends k d l =
@@ -339,7 +339,7 @@ before_last networks n ascending ends k d l =
     ∙ end_of networks n (length networks - 1) (omega (arith, l)) ends)
     (ascending k (length networks - 1) d (omega (arith, l)) (omega (arith, l)))
 
--- where the network is not the last, and none stands after it, all stand before it
+-- if the network is not the last, and no network is above it, then all are below it
 before_all : (networks : List Network) (n : Network) → IsAscending networks → All (λ m. IsBeforeOrEqual m n) networks
     → (EndsWith networks n → ⊥) → All (λ m. IsBefore m n) networks
 before_all networks n ascending order out k d l = elim (order k d l) [
@@ -352,7 +352,7 @@ before_all networks n ascending order out k d l = elim (order k d l) [
   ]
 ]
 
--- routes of networks that stand before another are none of it
+-- routes of networks below another have a different network
 other_network : {V : Type 0} (list : List (IpNet × V)) (n : Network) → All (λ m. IsBefore m n) (ip_networks list)
     → (q : Route V) → Contains (ip_routes list) q → q.0 ≢ n
 other_network list n before q c e =
@@ -433,7 +433,7 @@ others_front {V} list n k size ends before q = (to, from)
           ∙ end_of (ip_networks list) n k (omega (arith, size, length-map list (λ z. ip_network z.0))) ends))
     ]
 
--- the list without its last route, where that is of the network, and else the list
+-- the list without its last route, if that has the network; otherwise the list
 pub dropped : {V : Type 0} (old new : List (IpNet × V)) (n : Network) → IsAscending (ip_networks old)
     → All (λ m. IsBeforeOrEqual m n) (ip_networks old)
     → ((EndsWith (ip_networks old) n → ⊥) × (new ≡ old))
@@ -456,7 +456,7 @@ dropped {V} old new n ascending order (inr (ends, e)) =
       others_front old n (length old - 1) size ends before,
     )
 
--- lists that are told alike, element by element
+-- two lists with equal images, element by element
 pub same_map : {X Y : Type 0} (f g : X → Y) (xs ys : List X) → length xs ≡ length ys
     → ((k : ℕ) (d : X) → k < length xs → f (get_or xs k d) ≡ g (get_or ys k d)) → map f xs ≡ map g ys
 same_map f g [] [] size h = refl
@@ -507,7 +507,7 @@ table_members given cut sorted kept e same last q =
     subst (λ z. Contains (ip_routes kept) q ↔ IsLatest z q) e
     (λ h. (same q).0 ((last q).0 h), λ h. (last q).1 ((same q).1 h))
 
--- a route more, of a network that stands after the others
+-- one more route, with a network above the others
 pub ascending_push : {V : Type 0} (front : List (IpNet × V)) (r : IpNet × V) → IsAscending (ip_networks front)
     → All (λ m. IsBefore m (ip_network r.0)) (ip_networks front) → IsAscending (ip_networks (front ++ r ∷ []))
 ascending_push front r ascending before =

@@ -1,6 +1,6 @@
 -- The routes within a network are next to each other in a table.
 use Rattle.std.proofs.Common.{◌≡◌, ℕ, ◌+◌, ◌-◌, ◌<◌, ◌≤◌, ◌↔◌, List, length, get_or, take, drop, map}
-use Rattle.std.proofs.Common.{Contains, All, AllPairs, refl, sym, ap, ◌∙◌, subst, subst₂, arith, inl, inr}
+use Rattle.std.proofs.Common.{Contains, AllPairs, sym, ap, ◌∙◌, subst, subst₂, arith, inl, inr}
 use Rattle.std.proofs.lemmas.Bool.{cases_order, cases_lt}
 use Rattle.std.proofs.lemmas.List.{length-map, get_or-take, get_or-drop, length-take-le, length-drop}
 use Rattle.std.proofs.lemmas.List.{take-map, drop-map}
@@ -16,7 +16,7 @@ use Rattle.ipnet_base.proofs.ListLaws.{pair_at, one_place, all_at, contains_at}
 use Rattle.ipnet_base.proofs.OrderLaws.{IsBefore-transitive}
 use Rattle.ipnet.specs.declared.net.IpNet.{IpNet}
 use Rattle.ipnet.specs.NetworkOf.{ip_network}
-use Rattle.ipnet_sets.specs.Routes.{Route, networks_of, ip_routes, ip_networks, AreWithin}
+use Rattle.ipnet_sets.specs.Routes.{Route, ip_routes, ip_networks, AreWithin}
 use Rattle.ipnet_sets.specs.RouteSteps.{IsTable, IsPlaceAfter, IsPlaceOf}
 use Rattle.ipnet_sets.proofs.RouteLaws.{not_back, ascending_of, all_valid, same_networks}
 use Rattle.ipnet_sets.proofs.RouteLaws.{network_of_route, host, host_in}
@@ -45,7 +45,7 @@ place_next networks n place after out = record {
   from = λ k b l. inr (after.above k b l);
 }
 
--- the first place of a network's block is not after the place behind its last address
+-- the place of a block's first address is at most the place after its last address
 pub places_in_order : (networks : List Network) (t h : Network) (start end : ℕ) → IsBeforeOrEqual t h
     → IsPlaceOf networks t start → IsPlaceAfter networks h end → start ≤ end
 places_in_order networks t h start end le first after = elim (cases_lt end start) [

@@ -1,4 +1,4 @@
--- Sets are equal where they have the same addresses.
+-- Sets are equal if and only if they have the same addresses.
 use Rattle.std.proofs.Common.{◌≡◌, ℕ, ◌^◌, ◌<◌, ◌≤◌, ◌⊎◌, ◌↔◌, ◌&&◌, Bool, true, false}
 use Rattle.std.proofs.Common.{not, IsTrue, length}
 use Rattle.std.proofs.Common.{List, [], ◌∷◌, map, Less, Equal, Greater, Ordering, Option, Some}
@@ -11,11 +11,11 @@ use Rattle.std.specs.Cmp.Lexicographic.{slice_cmp, slice_partial_cmp}
 use Rattle.ipnet_base.specs.Address.{Family, IPv4, IPv6, Address, IsAddress, width, greatest_number}
 use Rattle.ipnet.proofs.EqualLaws.{lists_equal}
 use Rattle.ipnet_sets.specs.declared.set.IpSet.{IpSet}
-use Rattle.ipnet_sets.specs.Turns.{is_inside, AreTurns}
-use Rattle.ipnet_sets.specs.Members.{turns_of, is_member, IsMember, HaveSameAddresses, HasFamily}
+use Rattle.ipnet_sets.specs.Boundaries.{is_inside, AreBoundaries}
+use Rattle.ipnet_sets.specs.Members.{boundaries_of, is_member, IsMember, HaveSameAddresses, HasFamily}
 use Rattle.ipnet_sets.proofs.InsideLaws.{not_twice, inside_before}
 use Rattle.ipnet_sets.proofs.EndLaws.{least_inside_at}
-use Rattle.ipnet_sets.proofs.SetRangeLaws.{tail_turns, later}
+use Rattle.ipnet_sets.proofs.SetRangeLaws.{tail_boundaries, later}
 use Rattle.ipnet_sets.proofs.MemberLaws.{fits_below}
 use lib.Pointwise.{pointwise}
 
@@ -23,29 +23,30 @@ same_answer : (a b : Bool) → ((a ≡ true) ↔ (b ≡ true)) → a ≡ b
 same_answer true b h = sym (h.0 refl)
 same_answer false b h = elim (cases_Bool b) [ inl e ↦ let never = h.1 e in absurd (cc) | inr e ↦ sym e ]
 
--- at its first turn a set begins
-first_inside : (f : Family) (t : ℕ) (ts : List ℕ) → AreTurns f (t ∷ ts) → is_inside (t ∷ ts) t ≡ true
+-- at its first boundary a set begins
+first_inside : (f : Family) (t : ℕ) (ts : List ℕ) → AreBoundaries f (t ∷ ts) → is_inside (t ∷ ts) t ≡ true
 first_inside f t ts h = (least_inside_at f (t ∷ ts) t h (omega arith) (λ d. refl)).inside
 
 -- and nothing is inside before it
-outside_first : (f : Family) (t : ℕ) (ts : List ℕ) (x : ℕ) → AreTurns f (t ∷ ts) → x < t → is_inside (t ∷ ts) x ≡ false
+outside_first : (f : Family) (t : ℕ) (ts : List ℕ) (x : ℕ) → AreBoundaries f (t ∷ ts) → x < t
+    → is_inside (t ∷ ts) x ≡ false
 outside_first f t ts x h lt =
     rw (lt-leb t x lt) (inside_before ts x (λ k d l. omega (arith, later f t ts h k d l, lt)))
 
--- there is one list of turns for each set of numbers
-same_turns : (f : Family) (ts us : List ℕ) → AreTurns f ts → AreTurns f us
+-- there is one list of boundaries for each set of numbers
+same_boundaries : (f : Family) (ts us : List ℕ) → AreBoundaries f ts → AreBoundaries f us
     → ((x : ℕ) → x ≤ greatest_number f → is_inside ts x ≡ is_inside us x) → ts ≡ us
-same_turns f [] [] a b same = refl
-same_turns f [] (u ∷ us) a b same =
+same_boundaries f [] [] a b same = refl
+same_boundaries f [] (u ∷ us) a b same =
     let some = first_inside f u us b in
     let none : false ≡ is_inside (u ∷ us) u = same u (b.fits 0 u (omega arith)) in
     absurd (cc)
-same_turns f (t ∷ ts) [] a b same =
+same_boundaries f (t ∷ ts) [] a b same =
     let some = first_inside f t ts a in
     let none : is_inside (t ∷ ts) t ≡ false = same t (a.fits 0 t (omega arith)) in
     absurd (cc)
-same_turns f (t ∷ ts) (u ∷ us) a b same = elim (cases_order t u) [
-  | inl e ↦ ap₂ (λ z zs. z ∷ zs) e (same_turns f ts us (tail_turns f t ts a) (tail_turns f u us b)
+same_boundaries f (t ∷ ts) (u ∷ us) a b same = elim (cases_order t u) [
+  | inl e ↦ ap₂ (λ z zs. z ∷ zs) e (same_boundaries f ts us (tail_boundaries f t ts a) (tail_boundaries f u us b)
       (λ x le. elim (cases_lt x t) [
         | inl lt ↦ inside_before ts x (λ k d l. omega (arith, later f t ts a k d l, lt))
             ∙ sym (inside_before us x (λ k d l. omega (arith, later f u us b k d l, lt, e)))
@@ -66,13 +67,14 @@ same_turns f (t ∷ ts) (u ∷ us) a b same = elim (cases_order t u) [
       absurd (cc)
 ]
 
-same_turns_of : (a b : IpSet) (f : Family) → AreTurns f (turns_of a f) → AreTurns f (turns_of b f)
-    → HaveSameAddresses a b → turns_of a f ≡ turns_of b f
-same_turns_of a b f h k same = same_turns f (turns_of a f) (turns_of b f) h k
+same_boundaries_of : (a b : IpSet) (f : Family) → AreBoundaries f (boundaries_of a f)
+    → AreBoundaries f (boundaries_of b f)
+    → HaveSameAddresses a b → boundaries_of a f ≡ boundaries_of b f
+same_boundaries_of a b f h k same = same_boundaries f (boundaries_of a f) (boundaries_of b f) h k
     (λ x le.
     let at : Address = record { family = f; number = x } in
     let fits : IsAddress at = fits_below f x le in
-    same_answer (is_inside (turns_of a f) x) (is_inside (turns_of b f) x) (
+    same_answer (is_inside (boundaries_of a f) x) (is_inside (boundaries_of b f) x) (
       λ e. ((same at).0 (record { fits = fits; inside = e })).inside,
       λ e. ((same at).1 (record { fits = fits; inside = e })).inside,
     ))
@@ -89,26 +91,28 @@ same_numbers xs ys e = sym (words_are_numbers xs) ∙ e ∙ words_are_numbers ys
 pub same_words : (a b : IpSet) → HaveSameAddresses a b → (a.ipv4.items ≡ b.ipv4.items) × (a.ipv6.items ≡ b.ipv6.items)
 same_words a b same = (
   same_numbers a.ipv4.items b.ipv4.items
-      (same_turns_of a b IPv4 a.ipv4_turns b.ipv4_turns same),
+      (same_boundaries_of a b IPv4 a.ipv4_boundaries b.ipv4_boundaries same),
   same_numbers a.ipv6.items b.ipv6.items
-      (same_turns_of a b IPv6 a.ipv6_turns b.ipv6_turns same),
+      (same_boundaries_of a b IPv6 a.ipv6_boundaries b.ipv6_boundaries same),
 )
 
 -- a set without address has none
 pub no_words : (s : IpSet) → ((x : Address) → ¬ (IsMember s x)) → (s.ipv4.items ≡ []) × (s.ipv6.items ≡ [])
 no_words s none = (
-  same_numbers s.ipv4.items [] (same_turns IPv4 (turns_of s IPv4) [] s.ipv4_turns (empty IPv4) (outside IPv4)),
-  same_numbers s.ipv6.items [] (same_turns IPv6 (turns_of s IPv6) [] s.ipv6_turns (empty IPv6) (outside IPv6)),
+  same_numbers s.ipv4.items [] (same_boundaries IPv4 (boundaries_of s IPv4) [] s.ipv4_boundaries (empty IPv4)
+      (outside IPv4)),
+  same_numbers s.ipv6.items [] (same_boundaries IPv6 (boundaries_of s IPv6) [] s.ipv6_boundaries (empty IPv6)
+      (outside IPv6)),
 )
   where
-    empty : (f : Family) → AreTurns f []
+    empty : (f : Family) → AreBoundaries f []
     empty f = record {
       ascending = λ i j d lt l. absurd (omega (arith, l));
       fits = λ k d l. absurd (omega (arith, l));
     }
 
-    outside : (f : Family) (n : ℕ) → n ≤ greatest_number f → is_inside (turns_of s f) n ≡ false
-    outside f n le = elim (cases_Bool (is_inside (turns_of s f) n)) [
+    outside : (f : Family) (n : ℕ) → n ≤ greatest_number f → is_inside (boundaries_of s f) n ≡ false
+    outside f n le = elim (cases_Bool (is_inside (boundaries_of s f) n)) [
       | inl e ↦ absurd (none (record { family = f; number = n }) (record { fits = fits_below f n le; inside = e }))
       | inr e ↦ e
     ]
@@ -119,7 +123,7 @@ same_addresses a b e g x = (
   λ m. record { fits = m.fits; inside = both x.family x.number ∙ m.inside },
 )
   where
-    both : (f : Family) (n : ℕ) → is_inside (turns_of a f) n ≡ is_inside (turns_of b f) n
+    both : (f : Family) (n : ℕ) → is_inside (boundaries_of a f) n ≡ is_inside (boundaries_of b f) n
     both IPv4 n = ap (λ z. is_inside (map (λ n. n) z) n) e
     both IPv6 n = ap (λ z. is_inside (map (λ n. n) z) n) g
 
@@ -180,27 +184,27 @@ member_or_not s x = elim (cases_lt x.number (2 ^ width x.family)) [
   | inr out ↦ inr (λ m. omega (arith, out, m.fits))
 ]
 
--- a set has an address of a family if it has a turn there
-pub has_family : (s : IpSet) (f : Family) (words : List ℕ) (empty : Bool) → map (λ n. n) words ≡ turns_of s f
-    → AreTurns f (turns_of s f) → empty ≡ nat_eq (length words) 0 → IsTrue (not empty) ↔ HasFamily f s
+-- a set has an address of a family if it has a boundary there
+pub has_family : (s : IpSet) (f : Family) (words : List ℕ) (empty : Bool) → map (λ n. n) words ≡ boundaries_of s f
+    → AreBoundaries f (boundaries_of s f) → empty ≡ nat_eq (length words) 0 → IsTrue (not empty) ↔ HasFamily f s
 has_family s f [] empty e h is = (
   λ t. absurd (cc),
   λ m.
-      let some : is_inside (turns_of s f) m.0.number ≡ true
-      = subst (λ g. is_inside (turns_of s g) m.0.number ≡ true) m.1.0 m.1.1.inside in
-      let none : is_inside (turns_of s f) m.0.number ≡ false = ap (λ z. is_inside z m.0.number) (sym e) in
+      let some : is_inside (boundaries_of s f) m.0.number ≡ true
+      = subst (λ g. is_inside (boundaries_of s g) m.0.number ≡ true) m.1.0 m.1.1.inside in
+      let none : is_inside (boundaries_of s f) m.0.number ≡ false = ap (λ z. is_inside z m.0.number) (sym e) in
       absurd (cc),
 )
 has_family s f (w ∷ ws) empty e h is =
     let rest : List ℕ = map (λ n. n) ws in
-    let turns : AreTurns f (w ∷ rest) = subst (AreTurns f) (sym e) h in (
+    let boundaries : AreBoundaries f (w ∷ rest) = subst (AreBoundaries f) (sym e) h in (
       λ t. (
         record { family = f; number = w },
         (
           refl,
           record {
-            fits = fits_below f w (turns.fits 0 w (omega arith));
-            inside = ap (λ z. is_inside z w) (sym e) ∙ first_inside f w rest turns;
+            fits = fits_below f w (boundaries.fits 0 w (omega arith));
+            inside = ap (λ z. is_inside z w) (sym e) ∙ first_inside f w rest boundaries;
           },
         ),
       ),

@@ -1,5 +1,5 @@
--- The ranges of a set that is kept by its turns, and their networks. `ts` are the turns of the family `f`; the first
--- two of them are `s`, where a range starts, and `u`, the number after its end.
+-- The ranges of a set that is stored by its boundaries, and their networks. `ts` are the boundaries of the family `f`;
+-- the first two of them are `s`, the first number of a range, and `u`, the number after its last one.
 use Rattle.std.proofs.Common.{◌≡◌, ℕ, suc, ◌+◌, ◌-◌, ◌<◌, ◌≤◌, ◌⊎◌, ◌↔◌, true, false, not}
 use Rattle.std.proofs.Common.{List, [], ◌∷◌, ◌++◌, drop, map, Contains, All, AllPairs, Any}
 use Rattle.std.proofs.Common.{refl, sym, ap, ◌∙◌, subst, arith, inl, inr, le-leb, append_assoc}
@@ -15,11 +15,11 @@ use Rattle.ipnet_base.proofs.ListLaws.{pairs_tail, pairs_cons, all_from_members,
 use Rattle.ipnet_base.proofs.SeparationLaws.{AreMaximalBlocks-append}
 use Rattle.ipnet_base.proofs.UniqueLaws.{AreMaximalBlocks-same_set, AreMaximalBlocks-nil}
 use Rattle.ipnet_sets.specs.declared.set.IpSet.{IpSet}
-use Rattle.ipnet_sets.specs.Turns.{is_inside, AreTurns}
-use Rattle.ipnet_sets.specs.Members.{turns_of, IsMember}
+use Rattle.ipnet_sets.specs.Boundaries.{is_inside, AreBoundaries}
+use Rattle.ipnet_sets.specs.Members.{boundaries_of, IsMember}
 use Rattle.ipnet_sets.specs.SetRanges.{range_of, IsInRange, LiesApart, AreRangesOf}
-use Rattle.ipnet_sets.specs.TurnRanges.{IsInTurns, ranges_of}
-use Rattle.ipnet_sets.specs.TurnRanges.{AreBlocksOfRanges, HasBlocksAdded}
+use Rattle.ipnet_sets.specs.BoundaryRanges.{IsInBoundaries, ranges_of}
+use Rattle.ipnet_sets.specs.BoundaryRanges.{AreBlocksOfRanges, HasBlocksAdded}
 use Rattle.ipnet_sets.proofs.InsideLaws.{not_twice, inside_before}
 use Rattle.ipnet_sets.proofs.MemberLaws.{fits_below, fits_to}
 
@@ -40,25 +40,25 @@ any_there P y xs a = (suc a.0, a.1, omega (arith, a.2), a.3, a.4)
 abbrev pub IsInRanges : List AddressRange → Address → Type 0
 IsInRanges ranges x = Any (λ r. IsInRange r x) ranges
 
-pub tail_turns : (f : Family) (t : ℕ) (ts : List ℕ) → AreTurns f (t ∷ ts) → AreTurns f ts
-tail_turns f t ts h = record {
+pub tail_boundaries : (f : Family) (t : ℕ) (ts : List ℕ) → AreBoundaries f (t ∷ ts) → AreBoundaries f ts
+tail_boundaries f t ts h = record {
   ascending = λ i j d l m. h.ascending (suc i) (suc j) d (omega (arith, l)) (omega (arith, m));
   fits = λ k d l. h.fits (suc k) d (omega (arith, l));
 }
 
-pub later : (f : Family) (t : ℕ) (ts : List ℕ) → AreTurns f (t ∷ ts) → All (λ u. t < u) ts
+pub later : (f : Family) (t : ℕ) (ts : List ℕ) → AreBoundaries f (t ∷ ts) → All (λ u. t < u) ts
 later f t ts h k d l = h.ascending 0 (suc k) d (omega arith) (omega (arith, l))
 
--- inside between two turns, and after them as the rest says
-between_turns : (s u : ℕ) (ts : List ℕ) (x : ℕ) → s ≤ x → x < u → All (λ t. u < t) ts
+-- inside between two boundaries, and after them as the rest says
+between_boundaries : (s u : ℕ) (ts : List ℕ) (x : ℕ) → s ≤ x → x < u → All (λ t. u < t) ts
     → is_inside (s ∷ u ∷ ts) x ≡ true
-between_turns s u ts x le lt h =
+between_boundaries s u ts x le lt h =
     rw (le-leb s x le) (rw (lt-leb u x lt) (ap not (inside_before ts x (λ k d l. omega (arith, h k d l, lt)))))
 
-pub after_turns : (s u : ℕ) (ts : List ℕ) (x : ℕ) → s ≤ x → u ≤ x → is_inside (s ∷ u ∷ ts) x ≡ is_inside ts x
-after_turns s u ts x le lf = rw (le-leb s x le) (rw (le-leb u x lf) (not_twice (is_inside ts x)))
+pub after_boundaries : (s u : ℕ) (ts : List ℕ) (x : ℕ) → s ≤ x → u ≤ x → is_inside (s ∷ u ∷ ts) x ≡ is_inside ts x
+after_boundaries s u ts x le lf = rw (le-leb s x le) (rw (le-leb u x lf) (not_twice (is_inside ts x)))
 
--- what is inside comes after all numbers before the first turn
+-- what is inside comes after all numbers before the first boundary
 inside_after : (s : ℕ) (ts : List ℕ) (x : ℕ) → All (λ t. s < t) ts → is_inside ts x ≡ true → s < x
 inside_after s ts x h e = elim (cases_lt s x) [
   | inl lt ↦ lt
@@ -66,19 +66,19 @@ inside_after s ts x h e = elim (cases_lt s x) [
       let none : is_inside ts x ≡ false = inside_before ts x (λ k d l. omega (arith, h k d l, ge)) in absurd (cc)
 ]
 
--- the range between two turns, and those of the rest
-in_ranges_more : (f : Family) (s u : ℕ) (ts : List ℕ) → AreTurns f (s ∷ u ∷ ts) → (x : Address)
-    → IsInTurns f ts x ↔ IsInRanges (ranges_of f ts) x
-    → IsInTurns f (s ∷ u ∷ ts) x ↔ IsInRanges (ranges_of f (s ∷ u ∷ ts)) x
+-- the range between two boundaries, and the ranges of the rest
+in_ranges_more : (f : Family) (s u : ℕ) (ts : List ℕ) → AreBoundaries f (s ∷ u ∷ ts) → (x : Address)
+    → IsInBoundaries f ts x ↔ IsInRanges (ranges_of f ts) x
+    → IsInBoundaries f (s ∷ u ∷ ts) x ↔ IsInRanges (ranges_of f (s ∷ u ∷ ts)) x
 in_ranges_more f s u ts h x rest = (to, from)
   where
     after : All (λ t. u < t) ts
-    after = later f u ts (tail_turns f s (u ∷ ts) h)
+    after = later f u ts (tail_boundaries f s (u ∷ ts) h)
 
     first : s < u
     first = later f s (u ∷ ts) h 0 u (omega arith)
 
-    to : IsInTurns f (s ∷ u ∷ ts) x → IsInRanges (ranges_of f (s ∷ u ∷ ts)) x
+    to : IsInBoundaries f (s ∷ u ∷ ts) x → IsInRanges (ranges_of f (s ∷ u ∷ ts)) x
     to i = elim (cases_lt x.number s) [
       | inl early ↦
           let none : is_inside (s ∷ u ∷ ts) x.number ≡ false
@@ -92,33 +92,33 @@ in_ranges_more f s u ts h x rest = (to, from)
         | inr le ↦ any_there (λ r. IsInRange r x) (range_of f s (u - 1)) (ranges_of f ts) (rest.0 (record {
           of_family = i.of_family;
           fits = i.fits;
-          inside = sym (after_turns s u ts x.number ge le) ∙ i.inside;
+          inside = sym (after_boundaries s u ts x.number ge le) ∙ i.inside;
         }))
       ]
     ]
 
-    from : IsInRanges (ranges_of f (s ∷ u ∷ ts)) x → IsInTurns f (s ∷ u ∷ ts) x
+    from : IsInRanges (ranges_of f (s ∷ u ∷ ts)) x → IsInBoundaries f (s ∷ u ∷ ts) x
     from a = elim (any_cases (λ r. IsInRange r x) (range_of f s (u - 1)) (ranges_of f ts) a) [
       | inl b ↦
           let lt : x.number < u = omega (arith, b.to_end, first) in
           record {
             of_family = b.of_family;
             fits = omega (arith, lt, h.fits 1 u (omega arith));
-            inside = between_turns s u ts x.number b.from_start lt after;
+            inside = between_boundaries s u ts x.number b.from_start lt after;
           }
       | inr c ↦
-          let i : IsInTurns f ts x = rest.1 c in
+          let i : IsInBoundaries f ts x = rest.1 c in
           let over : u < x.number = inside_after u ts x.number after i.inside in
           record {
             of_family = i.of_family;
             fits = i.fits;
-            inside = after_turns s u ts x.number (omega (arith, over, first)) (omega (arith, over)) ∙ i.inside;
+            inside = after_boundaries s u ts x.number (omega (arith, over, first)) (omega (arith, over)) ∙ i.inside;
           }
     ]
 
 -- the addresses of the ranges are those inside
-pub in_ranges : (f : Family) (ts : List ℕ) → AreTurns f ts → (x : Address)
-    → IsInTurns f ts x ↔ IsInRanges (ranges_of f ts) x
+pub in_ranges : (f : Family) (ts : List ℕ) → AreBoundaries f ts → (x : Address)
+    → IsInBoundaries f ts x ↔ IsInRanges (ranges_of f ts) x
 in_ranges f [] h x = (λ i. let none = i.inside in absurd (cc), λ a. absurd (contains_nil a.1 (a.0, a.2, a.3)))
 in_ranges f (s ∷ []) h x = (
   λ i. any_here (λ r. IsInRange r x) (range_of f s (greatest_number f)) [] (elim (cases_lt x.number s) [
@@ -134,10 +134,10 @@ in_ranges f (s ∷ []) h x = (
   ],
 )
 in_ranges f (s ∷ u ∷ ts) h x =
-    in_ranges_more f s u ts h x (in_ranges f ts (tail_turns f u ts (tail_turns f s (u ∷ ts) h)) x)
+    in_ranges_more f s u ts h x (in_ranges f ts (tail_boundaries f u ts (tail_boundaries f s (u ∷ ts) h)) x)
 
--- each range has an address, is of the family, and begins at a turn
-range_facts : (f : Family) (ts : List ℕ) (b : ℕ) → AreTurns f ts → All (λ t. b < t) ts → (r : AddressRange)
+-- each range has an address, is of the family, and begins at a boundary
+range_facts : (f : Family) (ts : List ℕ) (b : ℕ) → AreBoundaries f ts → All (λ t. b < t) ts → (r : AddressRange)
     → Contains (ranges_of f ts) r → (r.family ≡ f) × (b < r.start) × (r.start ≤ r.end)
 range_facts f [] b h up r c = absurd (contains_nil r c)
 range_facts f (s ∷ []) b h up r c = elim (contains_cases (range_of f s (greatest_number f)) [] r c) [
@@ -150,12 +150,12 @@ range_facts f (s ∷ u ∷ ts) b h up r c =
     elim (contains_cases (range_of f s (u - 1)) (ranges_of f ts) r c) [
       | inl e ↦ subst (λ z. (z.family ≡ f) × (b < z.start) × (z.start ≤ z.end)) e
           (refl, up 0 s (omega arith), omega (arith, first))
-      | inr d ↦ range_facts f ts b (tail_turns f u ts (tail_turns f s (u ∷ ts) h))
+      | inr d ↦ range_facts f ts b (tail_boundaries f u ts (tail_boundaries f s (u ∷ ts) h))
           (λ k e l. up (suc (suc k)) e (omega (arith, l))) r d
     ]
 
 -- each range is of the family, and has an address
-pub ranges_some : (f : Family) (ts : List ℕ) → AreTurns f ts → (r : AddressRange) → Contains (ranges_of f ts) r
+pub ranges_some : (f : Family) (ts : List ℕ) → AreBoundaries f ts → (r : AddressRange) → Contains (ranges_of f ts) r
     → (r.family ≡ f) × (r.start ≤ r.end)
 ranges_some f [] h r c = absurd (contains_nil r c)
 ranges_some f (s ∷ []) h r c = elim (contains_cases (range_of f s (greatest_number f)) [] r c) [
@@ -166,16 +166,17 @@ ranges_some f (s ∷ u ∷ ts) h r c =
     let first : s < u = later f s (u ∷ ts) h 0 u (omega arith) in
     elim (contains_cases (range_of f s (u - 1)) (ranges_of f ts) r c) [
       | inl e ↦ subst (λ z. (z.family ≡ f) × (z.start ≤ z.end)) e (refl, omega (arith, first))
-      | inr d ↦ ranges_some f ts (tail_turns f u ts (tail_turns f s (u ∷ ts) h)) r d
+      | inr d ↦ ranges_some f ts (tail_boundaries f u ts (tail_boundaries f s (u ∷ ts) h)) r d
     ]
 
--- Ranges do not touch: the number u after a range's end is in none, as turns ascend and the next range starts later.
-pub ranges_apart : (f : Family) (ts : List ℕ) → AreTurns f ts → AllPairs LiesApart (ranges_of f ts)
+-- Ranges do not touch: the number u after a range's end is in none, as boundaries ascend and the next range starts
+-- later.
+pub ranges_apart : (f : Family) (ts : List ℕ) → AreBoundaries f ts → AllPairs LiesApart (ranges_of f ts)
 ranges_apart f [] h = λ i j d l m. absurd (omega (arith, m))
 ranges_apart f (s ∷ []) h = λ i j d l m. absurd (omega (arith, l, m))
 ranges_apart f (s ∷ u ∷ ts) h =
-    let rest : AreTurns f ts = tail_turns f u ts (tail_turns f s (u ∷ ts) h) in
-    let after : All (λ t. u < t) ts = later f u ts (tail_turns f s (u ∷ ts) h) in
+    let rest : AreBoundaries f ts = tail_boundaries f u ts (tail_boundaries f s (u ∷ ts) h) in
+    let after : All (λ t. u < t) ts = later f u ts (tail_boundaries f s (u ∷ ts) h) in
     let first : s < u = later f s (u ∷ ts) h 0 u (omega arith) in
     pairs_cons LiesApart (range_of f s (u - 1)) (ranges_of f ts)
     (λ r c.
@@ -183,15 +184,15 @@ ranges_apart f (s ∷ u ∷ ts) h =
     inr (sym same, omega (arith, over, first)))
     (ranges_apart f ts rest)
 
--- the members of a set are those of its two families
-pub members_of_family : (s : IpSet) (x : Address) → IsMember s x ↔ IsInTurns x.family (turns_of s x.family) x
+-- an address is in a set if and only if the boundaries of its family contain it
+pub members_of_family : (s : IpSet) (x : Address) → IsMember s x ↔ IsInBoundaries x.family (boundaries_of s x.family) x
 members_of_family s x = (
   λ m. record { of_family = refl; fits = fits_to x.family x.number m.fits; inside = m.inside },
   λ i. record { fits = fits_below x.family x.number i.fits; inside = i.inside },
 )
 
-pub ranges_of_set : (s : IpSet) (ipv4 ipv6 : List ℕ) → turns_of s IPv4 ≡ ipv4 → turns_of s IPv6 ≡ ipv6
-    → AreTurns IPv4 ipv4 → AreTurns IPv6 ipv6
+pub ranges_of_set : (s : IpSet) (ipv4 ipv6 : List ℕ) → boundaries_of s IPv4 ≡ ipv4 → boundaries_of s IPv6 ≡ ipv6
+    → AreBoundaries IPv4 ipv4 → AreBoundaries IPv6 ipv6
     → AreRangesOf (IsMember s) (ranges_of IPv4 ipv4 ++ ranges_of IPv6 ipv6)
 ranges_of_set s ipv4 ipv6 e g h k = record {
   some = all_from_members (λ r. r.start ≤ r.end) (ranges_of IPv4 ipv4 ++ ranges_of IPv6 ipv6)
@@ -208,20 +209,20 @@ ranges_of_set s ipv4 ipv6 e g h k = record {
   members = λ x. (λ m. to x ((members_of_family s x).0 m), λ a. from x a);
 }
   where
-    to : (x : Address) → IsInTurns x.family (turns_of s x.family) x
+    to : (x : Address) → IsInBoundaries x.family (boundaries_of s x.family) x
         → IsInRanges (ranges_of IPv4 ipv4 ++ ranges_of IPv6 ipv6) x
     to x i = go x.family refl
       where
         go : (f : Family) → x.family ≡ f → IsInRanges (ranges_of IPv4 ipv4 ++ ranges_of IPv6 ipv6) x
         go IPv4 same =
-            let j : IsInTurns IPv4 ipv4 x = subst (λ z. IsInTurns IPv4 z x) e
-            (subst (λ f. IsInTurns f (turns_of s f) x) same i) in
+            let j : IsInBoundaries IPv4 ipv4 x = subst (λ z. IsInBoundaries IPv4 z x) e
+            (subst (λ f. IsInBoundaries f (boundaries_of s f) x) same i) in
             let a = (in_ranges IPv4 ipv4 h x).0 j in
             any_from_contains (λ r. IsInRange r x) (ranges_of IPv4 ipv4 ++ ranges_of IPv6 ipv6) a.1
             (Contains-append_left (ranges_of IPv4 ipv4) (ranges_of IPv6 ipv6) a.1 (a.0, a.2, a.3)) a.4
         go IPv6 same =
-            let j : IsInTurns IPv6 ipv6 x = subst (λ z. IsInTurns IPv6 z x) g
-            (subst (λ f. IsInTurns f (turns_of s f) x) same i) in
+            let j : IsInBoundaries IPv6 ipv6 x = subst (λ z. IsInBoundaries IPv6 z x) g
+            (subst (λ f. IsInBoundaries f (boundaries_of s f) x) same i) in
             let a = (in_ranges IPv6 ipv6 k x).0 j in
             any_from_contains (λ r. IsInRange r x) (ranges_of IPv4 ipv4 ++ ranges_of IPv6 ipv6) a.1
             (Contains-append_right (ranges_of IPv4 ipv4) (ranges_of IPv6 ipv6) a.1 (a.0, a.2, a.3)) a.4
@@ -229,23 +230,23 @@ ranges_of_set s ipv4 ipv6 e g h k = record {
     from : (x : Address) → IsInRanges (ranges_of IPv4 ipv4 ++ ranges_of IPv6 ipv6) x → IsMember s x
     from x a = elim (Contains-append_cases (ranges_of IPv4 ipv4) (ranges_of IPv6 ipv6) a.1 (a.0, a.2, a.3)) [
       | inl c ↦
-          let i : IsInTurns IPv4 ipv4 x = (in_ranges IPv4 ipv4 h x).1
+          let i : IsInBoundaries IPv4 ipv4 x = (in_ranges IPv4 ipv4 h x).1
           (any_from_contains (λ r. IsInRange r x) (ranges_of IPv4 ipv4) a.1 c a.4) in
-          (members_of_family s x).1 (subst (λ f. IsInTurns f (turns_of s f) x) (sym i.of_family)
-          (subst (λ z. IsInTurns IPv4 z x) (sym e) i))
+          (members_of_family s x).1 (subst (λ f. IsInBoundaries f (boundaries_of s f) x) (sym i.of_family)
+          (subst (λ z. IsInBoundaries IPv4 z x) (sym e) i))
       | inr c ↦
-          let i : IsInTurns IPv6 ipv6 x = (in_ranges IPv6 ipv6 k x).1
+          let i : IsInBoundaries IPv6 ipv6 x = (in_ranges IPv6 ipv6 k x).1
           (any_from_contains (λ r. IsInRange r x) (ranges_of IPv6 ipv6) a.1 c a.4) in
-          (members_of_family s x).1 (subst (λ f. IsInTurns f (turns_of s f) x) (sym i.of_family)
-          (subst (λ z. IsInTurns IPv6 z x) (sym g) i))
+          (members_of_family s x).1 (subst (λ f. IsInBoundaries f (boundaries_of s f) x) (sym i.of_family)
+          (subst (λ z. IsInBoundaries IPv6 z x) (sym g) i))
     ]
 
-drop_turns : (f : Family) (ts : List ℕ) → AreTurns f ts → AreTurns f (drop 2 ts)
-drop_turns f [] h = h
-drop_turns f (t ∷ []) h = tail_turns f t [] h
-drop_turns f (t ∷ u ∷ ts) h = tail_turns f u ts (tail_turns f t (u ∷ ts) h)
+drop_boundaries : (f : Family) (ts : List ℕ) → AreBoundaries f ts → AreBoundaries f (drop 2 ts)
+drop_boundaries f [] h = h
+drop_boundaries f (t ∷ []) h = tail_boundaries f t [] h
+drop_boundaries f (t ∷ u ∷ ts) h = tail_boundaries f u ts (tail_boundaries f t (u ∷ ts) h)
 
--- the maximal blocks of ranges that lie apart, one range after the other, are those of all of them
+-- the maximal blocks of separated ranges are the blocks of the first, then the blocks of the next, and so on
 blocks_by_ranges : (ranges : List AddressRange) (networks : List Network) → AllPairs LiesApart ranges
     → AreBlocksOfRanges ranges networks → AreMaximalBlocks (IsInRanges ranges) 0 networks
 blocks_by_ranges [] networks apart e = subst (AreMaximalBlocks (IsInRanges []) 0) (sym e)
@@ -299,14 +300,14 @@ blocks_append [] second xs ys e k = subst (λ z. AreBlocksOfRanges second (z ++ 
 blocks_append (r ∷ rs) second xs ys (front, rest, h, g, e) k =
     (front, rest ++ ys, h, blocks_append rs second rest ys g k, ap (λ z. z ++ ys) e ∙ append_assoc front rest ys)
 
--- the networks of a set, by those of its ranges
+-- the networks of a set are the networks of its ranges
 blocks_of_set : (s : IpSet) (ranges : List AddressRange) (networks : List Network)
     → AreRangesOf (IsMember s) ranges → AreBlocksOfRanges ranges networks → AreMaximalBlocks (IsMember s) 0 networks
 blocks_of_set s ranges networks h k =
     AreMaximalBlocks-same_set (IsInRanges ranges) (IsMember s) 0 networks (λ x. ((h.members x).1, (h.members x).0))
     (blocks_by_ranges ranges networks h.apart k)
 
--- What is pushed so far: with the networks of the ranges that are left it is those of all.
+-- The networks pushed so far, followed by the networks of the ranges that are left, are the networks of all ranges.
 pub record IsPushing (all left : List AddressRange) (old now : List Network) : Type 0 where
   pub front : List Network
   pub now_is : now ≡ old ++ front
@@ -332,9 +333,9 @@ pushing_end all left old now e p = (
   p.now_is,
 )
 
--- the networks of the one family, and after them those of the other
-pub networks_of_set : (s : IpSet) (ipv4 ipv6 : List ℕ) (start middle end : List Network) → turns_of s IPv4 ≡ ipv4
-    → turns_of s IPv6 ≡ ipv6 → AreTurns IPv4 ipv4 → AreTurns IPv6 ipv6 → start ≡ []
+-- the networks of one family, followed by the networks of the other
+pub networks_of_set : (s : IpSet) (ipv4 ipv6 : List ℕ) (start middle end : List Network) → boundaries_of s IPv4 ≡ ipv4
+    → boundaries_of s IPv6 ≡ ipv6 → AreBoundaries IPv4 ipv4 → AreBoundaries IPv6 ipv6 → start ≡ []
     → HasBlocksAdded (ranges_of IPv4 ipv4) start middle → HasBlocksAdded (ranges_of IPv6 ipv6) middle end
     → AreMaximalBlocks (IsMember s) 0 end
 networks_of_set s ipv4 ipv6 start middle end e g h k none (xs, first, is_first) (ys, second, is_second) =
@@ -343,8 +344,8 @@ networks_of_set s ipv4 ipv6 start middle end e g h k none (xs, first, is_first) 
     (blocks_of_set s (ranges_of IPv4 ipv4 ++ ranges_of IPv6 ipv6) (xs ++ ys) (ranges_of_set s ipv4 ipv6 e g h k)
     (blocks_append (ranges_of IPv4 ipv4) (ranges_of IPv6 ipv6) xs ys first second))
 
--- the turns after the first range, as they are read from words
-pub turns_after : {X : Type 0} (number : X → ℕ) (f : Family) (xs left : List X) → left ≡ drop 2 xs
-    → AreTurns f (map number xs) → AreTurns f (map number left)
-turns_after number f xs left e h =
-    subst (AreTurns f) (drop-map number 2 xs ∙ ap (map number) (sym e)) (drop_turns f (map number xs) h)
+-- the boundaries after the first range, as they are read from words
+pub boundaries_after : {X : Type 0} (number : X → ℕ) (f : Family) (xs left : List X) → left ≡ drop 2 xs
+    → AreBoundaries f (map number xs) → AreBoundaries f (map number left)
+boundaries_after number f xs left e h =
+    subst (AreBoundaries f) (drop-map number 2 xs ∙ ap (map number) (sym e)) (drop_boundaries f (map number xs) h)

@@ -3,26 +3,26 @@
 use Rattle.std.specs.Prelude.{◌≡◌, ℕ, ◌%◌, ◌<◌, ◌≤◌, ◌⊎◌, ◌↔◌, true, List, length, map, get_or, Any}
 use Rattle.ipnet_base.specs.Address.{Family, greatest_number}
 use Rattle.ipnet_sets.specs.declared.number.NumberRange.{NumberRange}
-use Rattle.ipnet_sets.specs.Turns.{is_inside, AreTurns}
+use Rattle.ipnet_sets.specs.Boundaries.{is_inside, AreBoundaries}
 
 -- The number lies in one of the ranges. Example: 4 lies in one of 3 to 5 and 9 to 9.
 abbrev pub IsInSomeRange : {T : Type 0} → (T → ℕ) → List (NumberRange T) → ℕ → Type 0
 IsInSomeRange number ranges x = Any (λ r. (number r.first ≤ x) × (x ≤ number r.last)) ranges
 
--- The number is in the set of these turns, or in one of the ranges that wait to be added to it.
--- Example: with the turns 3, 6 and the range 1 to 1 that waits, the numbers 1, 3, 4 and 5.
+-- The number is in the set of these boundaries, or in one of the ranges that wait to be added to it.
+-- Example: with the boundaries 3, 6 and the range 1 to 1 that waits, the numbers 1, 3, 4 and 5.
 abbrev pub IsHeld : {T : Type 0} → (T → ℕ) → List T → List (NumberRange T) → ℕ → Type 0
-IsHeld number turns waiting x = (is_inside (map number turns) x ≡ true) ⊎ IsInSomeRange number waiting x
+IsHeld number boundaries waiting x = (is_inside (map number boundaries) x ≡ true) ⊎ IsInSomeRange number waiting x
 
--- No range of the set begins after the number. Example: the turns 3, 6, 9 begin ranges at 3 and 9, so 9 is such a
+-- No range of the set begins after the number. Example: the boundaries 3, 6, 9 begin ranges at 3 and 9, so 9 is such a
 -- number, and 8 is not.
 abbrev pub BeginsBy : List ℕ → ℕ → Type 0
-BeginsBy turns n = (k d : ℕ) → k < length turns → k % 2 ≡ 0 → get_or turns k d ≤ n
+BeginsBy boundaries n = (k d : ℕ) → k < length boundaries → k % 2 ≡ 0 → get_or boundaries k d ≤ n
 
 -- The old set with the numbers from `first` to `last` added. No range of the new set begins after `first`.
--- Example: the turns 3, 6 with the numbers from 5 to 8 are the turns 3, 9.
+-- Example: the boundaries 3, 6 with the numbers from 5 to 8 are the boundaries 3, 9.
 pub record IsJoined (family : Family) (old : List ℕ) (first last : ℕ) (new : List ℕ) : Type 0 where
-  pub turns : AreTurns family new
+  pub boundaries : AreBoundaries family new
   pub begins : BeginsBy new first
   pub members : (x : ℕ) → x ≤ greatest_number family
       → (is_inside new x ≡ true) ↔ ((is_inside old x ≡ true) ⊎ ((first ≤ x) × (x ≤ last)))

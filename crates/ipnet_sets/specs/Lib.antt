@@ -1,14 +1,19 @@
 -- The definitions that the contracts of this crate use.
-pub mod Turns
+pub mod Boundaries
 pub mod Members
 pub mod SetRanges
 pub mod Gather
 pub mod Pushed
 pub mod ManySets
-pub mod TurnRanges
+pub mod BoundaryRanges
 pub mod RangesLeft
 pub mod Routes
 pub mod RouteSteps
 pub mod RoutesOf
 pub mod MatchesLeft
+pub mod RouteMaps
+pub mod RouteMapSteps
+pub mod RouteMapsOf
+pub mod RouteMapsLeft
 pub mod Images
+pub mod TableImages

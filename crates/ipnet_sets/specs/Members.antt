@@ -7,26 +7,29 @@ use Rattle.ipnet_base.specs.Network.{Network}
 use Rattle.ipnet_base.specs.Blocks.{IsCoveredBy}
 use Rattle.ipnet_base.specs.Ranges.{AddressRange}
 use Rattle.ipnet_sets.specs.declared.set.IpSet.{IpSet}
+use Rattle.ipnet_sets.specs.declared.operation.Operation.{Operation}
+use Rattle.ipnet_sets.specs.declared.operation.Operation.TheVariants.{Union, Intersection, Difference}
+use Rattle.ipnet_sets.specs.declared.operation.Operation.TheVariants.{SymmetricDifference}
 use Rattle.ipnet_sets.specs.SetRanges.{AreRangesOf}
-use Rattle.ipnet_sets.specs.Turns.{is_inside, by_family}
+use Rattle.ipnet_sets.specs.Boundaries.{is_inside, by_family}
 
--- The turns of the set in a family: the ascending numbers at which it begins or ends. An end after the family's last
--- address is left out. Example: for IPv4, a has the turns 10.0.0.0 and 10.0.0.6; 255.255.255.254/31 has one,
+-- The boundaries of the set in a family: the ascending numbers at which it begins or ends. An end after the family's
+-- last address is left out. Example: for IPv4, a has the boundaries 10.0.0.0 and 10.0.0.6; 255.255.255.254/31 has one,
 -- 255.255.255.254.
-abbrev pub turns_of : IpSet → Family → List ℕ
-turns_of s = by_family (map (λ n. n) s.ipv4.items) (map (λ n. n) s.ipv6.items)
+abbrev pub boundaries_of : IpSet → Family → List ℕ
+boundaries_of s = by_family (map (λ n. n) s.ipv4.items) (map (λ n. n) s.ipv6.items)
 
--- Whether the set contains the address: the number of turns up to it is odd.
--- Example: the set a has one turn up to 10.0.0.5, so it contains 10.0.0.5, and two turns up to 10.0.0.6.
+-- Whether the set contains the address: the number of boundaries up to it is odd.
+-- Example: the set a has one boundary up to 10.0.0.5, so it contains 10.0.0.5, and two boundaries up to 10.0.0.6.
 abbrev pub is_member : IpSet → Address → Bool
-is_member s x = is_inside (turns_of s x.family) x.number
+is_member s x = is_inside (boundaries_of s x.family) x.number
 
 -- The set contains the address, which is valid. Example: the set a contains 10.0.0.5, and not 10.0.0.6.
 pub record IsMember (s : IpSet) (x : Address) : Type 0 where
   pub fits : IsAddress x
   pub inside : is_member s x ≡ true
 
--- The sets have the same addresses. Example: the set of 10.0.0.0/30, 10.0.0.4/31 and the set a.
+-- The sets have the same addresses. Example: the set a, and the set of 10.0.0.0/30 and 10.0.0.4/31.
 abbrev pub HaveSameAddresses : IpSet → IpSet → Type 0
 HaveSameAddresses s t = (x : Address) → IsMember s x ↔ IsMember t x
 
@@ -55,6 +58,17 @@ IsDifference s a b = (x : Address) → IsMember s x ↔ (IsMember a x × ¬ (IsM
 abbrev pub IsSymmetricDifference : IpSet → IpSet → IpSet → Type 0
 IsSymmetricDifference s a b = (x : Address) → IsMember s x
     ↔ ((IsMember a x × ¬ (IsMember b x)) ⊎ (IsMember b x × ¬ (IsMember a x)))
+
+-- Whether an address is in the result of the operation, given whether it is in the first set and in the second.
+abbrev pub IsCombined : Operation → Type 0 → Type 0 → Type 0
+IsCombined Union first second = first ⊎ second
+IsCombined Intersection first second = first × second
+IsCombined Difference first second = first × ¬ second
+IsCombined SymmetricDifference first second = (first × ¬ second) ⊎ (second × ¬ first)
+
+-- `s` is the result of the operation on `a` and `b`. Example: for `Union` the set is 10.0.0.0 to 10.0.0.9.
+abbrev pub IsResultOf : Operation → IpSet → IpSet → IpSet → Type 0
+IsResultOf operation s a b = (x : Address) → IsMember s x ↔ IsCombined operation (IsMember a x) (IsMember b x)
 
 -- `s` is all addresses of both families that are not in `a`. Example: 0.0.0.0 to 9.255.255.255, 10.0.0.6 to
 -- 255.255.255.255 and all IPv6 addresses.

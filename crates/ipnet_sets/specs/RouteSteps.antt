@@ -2,7 +2,7 @@
 -- network that contains it.
 -- Only private contracts use these.
 use Rattle.std.specs.Prelude.{◌≡◌, ◌≢◌, ℕ, zero, suc, ◌+◌, ◌<◌, ◌≤◌, ◌↔◌, List, [], ◌∷◌, ◌++◌, length, get_or}
-use Rattle.std.specs.Prelude.{take, drop}
+use Rattle.std.specs.Prelude.{Bool, true, false, take, drop}
 use Rattle.std.specs.Prelude.{Contains, All, AllPairs}
 use Rattle.ipnet_base.specs.Network.{Network, IsSubnetOf, IsTruncated, IsBefore}
 use Rattle.ipnet_base.specs.Stack.{IsBeforeOrEqual}
@@ -65,3 +65,8 @@ pub record AreChanged {V W : Type 0} (made : V → W → Type 0) (old : List (Ip
     pub size : length new ≡ length old
     pub networks : ip_networks new ≡ ip_networks old
     pub values : (i : ℕ) (d : IpNet × V) (e : IpNet × W) → i < length old → made (get_or old i d).1 (get_or new i e).1
+
+-- Whether two values count as the same: by `eq` if values count, else always.
+abbrev pub same_value : {V : Type 0} → Bool → (V → V → Bool) → V → V → Bool
+same_value true eq w v = eq w v
+same_value false eq w v = true

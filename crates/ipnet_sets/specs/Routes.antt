@@ -1,5 +1,6 @@
 -- Routes, route tables, and the longest match for an address (RFC 1812, section 5.2.4.3; RFC 4632, section 5.1).
-use Rattle.std.specs.Prelude.{◌≡◌, ◌≢◌, ℕ, ◌<◌, ◌≤◌, ◌↔◌, List, map, length, slice_index_or, Contains, AllPairs}
+use Rattle.std.specs.Prelude.{◌≡◌, ◌≢◌, ℕ, Bool, true, false, ◌<◌, ◌≤◌, ◌↔◌, List, map, length, slice_index_or}
+use Rattle.std.specs.Prelude.{Contains, AllPairs}
 use Rattle.std.specs.Borrow.{Bor}
 use Rattle.ipnet_base.specs.Address.{Address}
 use Rattle.ipnet_base.specs.Network.{Network, InBlock, IsSubnetOf, truncation}
@@ -73,3 +74,19 @@ pub record AreMatches {V : Type 0} (routes : List (Route V)) (x : Address) (matc
 pub record AreWithin {V : Type 0} (routes : List (Route V)) (n : Network) (within : List (Route V)) : Type 0 where
   pub ascending : IsAscending (networks_of within)
   pub members : (route : Route V) → Contains within route ↔ (Contains routes route × IsSubnetOf route.0 n)
+
+-- The routes of the first list that the other lacks, in the order of their networks: the other does not have the
+-- network, or `same` is false for its value there.
+-- Example: 10.0.0.0/8 with 1 lacks 10.0.0.0/8 with 3 and 11.0.0.0/8 with 1, if `same` is equality.
+pub record AreLacking {V : Type 0} (same : V → V → Bool) (routes other lacking : List (Route V)) : Type 0 where
+  pub ascending : IsAscending (networks_of lacking)
+  pub members : (route : Route V) → Contains lacking route
+      ↔ (Contains routes route × ((w : V) → Contains other (route.0, w) → same w route.1 ≡ false))
+
+-- The changes from an old list of routes to a new one: the routes whose network the new list lacks are removed, and the
+-- routes are put whose network the old list lacks, or has with a value that is not equal by `eq`.
+-- Example: from 10.0.0.0/8 with 1 and 10.1.0.0/16 with 2 to 10.0.0.0/8 with 3, 10.1.0.0/16 with 2 is removed, and
+-- 10.0.0.0/8 with 3 is put.
+pub record AreChanges {V : Type 0} (eq : V → V → Bool) (old new removed put : List (Route V)) : Type 0 where
+  pub removes : AreLacking (λ w v. true) old new removed
+  pub puts : AreLacking eq new old put

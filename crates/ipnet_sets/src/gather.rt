@@ -4,112 +4,117 @@ ghost use Rattle.std.specs.Prelude.{get_or, IfOk, OnOk, OnErr};
 ghost use Rattle.std.specs.List.Sorted.{IsNonDecreasingBy};
 ghost use Rattle.ipnet_base.specs.Address.{greatest_number};
 ghost use Rattle.ipnet_sets.specs.Gather.{IsInSomeRange, IsHeld, BeginsBy, IsJoined};
-ghost use Rattle.ipnet_sets.specs.Turns.{is_inside, AreTurns};
+ghost use Rattle.ipnet_sets.specs.Boundaries.{is_inside, AreBoundaries};
 
 use crate::number::{Number, NumberRange};
 use std::alloc::{AllocError, Global};
 
 /// Returns whether no range of the set begins after the number.
-fn begins_by<T: Number>(turns: &[T], first: T) -> bool
-    requires { AreTurns T.family (map T.number turns.now) }
-    ensures { IsTrue result ↔ BeginsBy (map T.number turns.now) (T.number first) }
+fn begins_by<T: Number>(boundaries: &[T], first: T) -> bool
+    requires { AreBoundaries T.family (map T.number boundaries.now) }
+    ensures { IsTrue result ↔ BeginsBy (map T.number boundaries.now) (T.number first) }
 {
-    turns.is_empty() || !first.is_below(turns[(turns.len() - 1) / 2 * 2])
+    boundaries.is_empty() || !first.is_below(boundaries[(boundaries.len() - 1) / 2 * 2])
 }
 
-/// Returns whether all turns of the set are below the number.
-fn ends_before<T: Number>(turns: &[T], first: T) -> bool
-    requires { AreTurns T.family (map T.number turns.now) }
-    ensures before { result ≡ true → All (λ t. t < T.number first) (map T.number turns.now) }
-    ensures later { result ≡ false → (0 < length turns.now) × ((d : ℕ)
-        → T.number first ≤ get_or (map T.number turns.now) (length turns.now - 1) d) }
+/// Returns whether all boundaries of the set are below the number.
+fn ends_before<T: Number>(boundaries: &[T], first: T) -> bool
+    requires { AreBoundaries T.family (map T.number boundaries.now) }
+    ensures before { result ≡ true → All (λ t. t < T.number first) (map T.number boundaries.now) }
+    ensures later { result ≡ false → (0 < length boundaries.now) × ((d : ℕ)
+        → T.number first ≤ get_or (map T.number boundaries.now) (length boundaries.now - 1) d) }
 {
-    turns.is_empty() || turns[turns.len() - 1].is_below(first)
+    boundaries.is_empty() || boundaries[boundaries.len() - 1].is_below(first)
 }
 
-/// Adds the numbers from the first to the last, which come after those of the set and do not touch them.
-fn push_range<T: Number>(turns: &mut Vec<T>, first: T, last: T) -> Result<(), AllocError>
-    requires turns { AreTurns T.family (map T.number turns.old.items) }
-    requires even { length turns.old.items % 2 ≡ 0 }
-    requires after { All (λ t. t < T.number first) (map T.number turns.old.items) }
+/// Adds the numbers from the first to the last. They come after the numbers of the set, and do not touch them.
+fn push_range<T: Number>(boundaries: &mut Vec<T>, first: T, last: T) -> Result<(), AllocError>
+    requires boundaries { AreBoundaries T.family (map T.number boundaries.old.items) }
+    requires even { length boundaries.old.items % 2 ≡ 0 }
+    requires after { All (λ t. t < T.number first) (map T.number boundaries.old.items) }
     requires ordered { T.number first ≤ T.number last }
     requires fits { T.number last ≤ greatest_number T.family }
-    ensures joined { OnOk result (IsJoined T.family (map T.number turns.old.items) (T.number first) (T.number last)
-        (map T.number turns.new.items)) }
-    ensures err { OnErr result (turns.new.items ≡ turns.old.items) }
+    ensures joined { OnOk result (IsJoined T.family (map T.number boundaries.old.items) (T.number first) (T.number last)
+        (map T.number boundaries.new.items)) }
+    ensures err { OnErr result (boundaries.new.items ≡ boundaries.old.items) }
 {
-    // With room for both turns, a failure leaves the set as it is.
-    turns.reserve(2)?;
-    turns.push(first)?;
+    // With room for both boundaries, a failure leaves the set as it is.
+    boundaries.reserve(2)?;
+    boundaries.push(first)?;
     if last.is_below(T::last()) {
-        turns.push(last.next())?;
+        boundaries.push(last.next())?;
     }
     Ok(())
 }
 
-/// Lets the last range of the set, which holds the number before the first one or begins by it, run to the last number.
-fn extend_last<T: Number>(turns: &mut Vec<T>, first: T, last: T)
-    requires turns { AreTurns T.family (map T.number turns.old.items) }
-    requires even { length turns.old.items % 2 ≡ 0 }
-    requires begins { BeginsBy (map T.number turns.old.items) (T.number first) }
-    requires some { 0 < length turns.old.items }
+/// Extends the last range of the set to `last`, if it ends before that. It begins at or before `first`, and touches it.
+fn extend_last<T: Number>(boundaries: &mut Vec<T>, first: T, last: T)
+    requires boundaries { AreBoundaries T.family (map T.number boundaries.old.items) }
+    requires even { length boundaries.old.items % 2 ≡ 0 }
+    requires begins { BeginsBy (map T.number boundaries.old.items) (T.number first) }
+    requires some { 0 < length boundaries.old.items }
     requires touches { (d : ℕ)
-        → T.number first ≤ get_or (map T.number turns.old.items) (length turns.old.items - 1) d }
+        → T.number first ≤ get_or (map T.number boundaries.old.items) (length boundaries.old.items - 1) d }
     requires ordered { T.number first ≤ T.number last }
     requires fits { T.number last ≤ greatest_number T.family }
-    ensures { IsJoined T.family (map T.number turns.old.items) (T.number first) (T.number last)
-        (map T.number turns.new.items) }
+    ensures { IsJoined T.family (map T.number boundaries.old.items) (T.number first) (T.number last)
+        (map T.number boundaries.new.items) }
 {
-    let slice = turns.as_slice();
+    let slice = boundaries.as_slice();
     let end = slice.len() - 1;
     if last.is_below(slice[end]) {
         return;
     }
     if last.is_below(T::last()) {
-        turns[end] = last.next();
+        boundaries[end] = last.next();
     } else {
-        turns.pop();
+        boundaries.pop();
     }
 }
 
 /// Adds the numbers from the first to the last to a set of which no range begins after the first; none if the first is
 /// above the last.
-pub(crate) fn join_range<T: Number>(turns: &mut Vec<T>, first: T, last: T) -> Result<(), AllocError>
-    requires turns { AreTurns T.family (map T.number turns.old.items) }
-    requires begins { BeginsBy (map T.number turns.old.items) (T.number first) }
+pub(crate) fn join_range<T: Number>(
+    boundaries: &mut Vec<T>,
+    first: T,
+    last: T,
+) -> Result<(), AllocError>
+    requires boundaries { AreBoundaries T.family (map T.number boundaries.old.items) }
+    requires begins { BeginsBy (map T.number boundaries.old.items) (T.number first) }
     requires fits { T.number last ≤ greatest_number T.family }
-    ensures joined { OnOk result (IsJoined T.family (map T.number turns.old.items) (T.number first) (T.number last)
-        (map T.number turns.new.items)) }
-    ensures err { OnErr result (turns.new.items ≡ turns.old.items) }
+    ensures joined { OnOk result (IsJoined T.family (map T.number boundaries.old.items) (T.number first) (T.number last)
+        (map T.number boundaries.new.items)) }
+    ensures err { OnErr result (boundaries.new.items ≡ boundaries.old.items) }
 {
-    if last.is_below(first) || turns.len() % 2 == 1 {
+    if last.is_below(first) || boundaries.len() % 2 == 1 {
         return Ok(());
     }
-    if ends_before(turns.as_slice(), first) {
-        return push_range(turns, first, last);
+    if ends_before(boundaries.as_slice(), first) {
+        return push_range(boundaries, first, last);
     }
-    extend_last(turns, first, last);
+    extend_last(boundaries, first, last);
     Ok(())
 }
 
 /// Adds the numbers from the first to the last: to the set, if no range of it begins after the first, and else to the
 /// ranges that wait.
 pub(crate) fn push<T: Number>(
-    turns: &mut Vec<T>,
+    boundaries: &mut Vec<T>,
     waiting: &mut Vec<NumberRange<T>>,
     first: T,
     last: T,
 ) -> Result<(), AllocError>
-    requires turns { AreTurns T.family (map T.number turns.old.items) }
+    requires boundaries { AreBoundaries T.family (map T.number boundaries.old.items) }
     requires fits { T.number last ≤ greatest_number T.family }
-    ensures turns { AreTurns T.family (map T.number turns.new.items) }
+    ensures boundaries { AreBoundaries T.family (map T.number boundaries.new.items) }
     ensures members { OnOk result ((x : ℕ) → x ≤ greatest_number T.family
-        → IsHeld T.number turns.new.items waiting.new.items x
-        ↔ (IsHeld T.number turns.old.items waiting.old.items x ⊎ ((T.number first ≤ x) × (x ≤ T.number last)))) }
-    ensures err { OnErr result ((turns.new.items ≡ turns.old.items) × (waiting.new.items ≡ waiting.old.items)) }
+        → IsHeld T.number boundaries.new.items waiting.new.items x
+        ↔ (IsHeld T.number boundaries.old.items waiting.old.items x ⊎ ((T.number first ≤ x) × (x ≤ T.number last)))) }
+    ensures err { OnErr result ((boundaries.new.items ≡ boundaries.old.items)
+        × (waiting.new.items ≡ waiting.old.items)) }
 {
-    if begins_by(turns.as_slice(), first) {
-        return join_range(turns, first, last);
+    if begins_by(boundaries.as_slice(), first) {
+        return join_range(boundaries, first, last);
     }
     waiting.push(NumberRange { first, last })?;
     Ok(())
@@ -118,26 +123,26 @@ pub(crate) fn push<T: Number>(
 /// The set of the numbers of ranges that are sorted by their first numbers.
 fn join_sorted<T: Number>(alloc: Global, ranges: &[NumberRange<T>]) -> Result<Vec<T>, AllocError>
     requires { IsNonDecreasingBy (λ r. T.number r.first) ranges.now }
-    ensures turns { IfOk result (λ turns. AreTurns T.family (map T.number turns.items)) }
-    ensures members { IfOk result (λ turns. (x : ℕ) → x ≤ greatest_number T.family
-        → (is_inside (map T.number turns.items) x ≡ true) ↔ IsInSomeRange T.number ranges.now x) }
+    ensures boundaries { IfOk result (λ boundaries. AreBoundaries T.family (map T.number boundaries.items)) }
+    ensures members { IfOk result (λ boundaries. (x : ℕ) → x ≤ greatest_number T.family
+        → (is_inside (map T.number boundaries.items) x ≡ true) ↔ IsInSomeRange T.number ranges.now x) }
 {
-    let mut turns = Vec::new(alloc);
+    let mut boundaries = Vec::new(alloc);
     for range in ranges {
         range.last.fits();
-        join_range(&mut turns, range.first, range.last)?;
+        join_range(&mut boundaries, range.first, range.last)?;
     }
-    Ok(turns)
+    Ok(boundaries)
 }
 
-/// The set of the numbers of the ranges.
+/// Returns the set of the numbers of the ranges.
 pub(crate) fn join_all<T: Number>(
     alloc: Global,
     ranges: Vec<NumberRange<T>>,
 ) -> Result<Vec<T>, AllocError>
-    ensures turns { IfOk result (λ turns. AreTurns T.family (map T.number turns.items)) }
-    ensures members { IfOk result (λ turns. (x : ℕ) → x ≤ greatest_number T.family
-        → (is_inside (map T.number turns.items) x ≡ true) ↔ IsInSomeRange T.number ranges.items x) }
+    ensures boundaries { IfOk result (λ boundaries. AreBoundaries T.family (map T.number boundaries.items)) }
+    ensures members { IfOk result (λ boundaries. (x : ℕ) → x ≤ greatest_number T.family
+        → (is_inside (map T.number boundaries.items) x ≡ true) ↔ IsInSomeRange T.number ranges.items x) }
 {
     let mut ranges = ranges;
     T::sort(&mut ranges);
@@ -147,11 +152,11 @@ pub(crate) fn join_all<T: Number>(
 /// The set of the numbers from the first to the last; it is empty if the first is above the last.
 pub(crate) fn from_range<T: Number>(alloc: Global, first: T, last: T) -> Result<Vec<T>, AllocError>
     requires { T.number last ≤ greatest_number T.family }
-    ensures turns { IfOk result (λ turns. AreTurns T.family (map T.number turns.items)) }
-    ensures members { IfOk result (λ turns. (x : ℕ) → x ≤ greatest_number T.family
-        → (is_inside (map T.number turns.items) x ≡ true) ↔ ((T.number first ≤ x) × (x ≤ T.number last))) }
+    ensures boundaries { IfOk result (λ boundaries. AreBoundaries T.family (map T.number boundaries.items)) }
+    ensures members { IfOk result (λ boundaries. (x : ℕ) → x ≤ greatest_number T.family
+        → (is_inside (map T.number boundaries.items) x ≡ true) ↔ ((T.number first ≤ x) × (x ≤ T.number last))) }
 {
-    let mut turns = Vec::new(alloc);
-    join_range(&mut turns, first, last)?;
-    Ok(turns)
+    let mut boundaries = Vec::new(alloc);
+    join_range(&mut boundaries, first, last)?;
+    Ok(boundaries)
 }

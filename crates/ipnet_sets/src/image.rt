@@ -1,7 +1,7 @@
 //! Images of sets: the bytes of a set, which a caller can store, send and map, and which can be asked in place.
 //!
-//! The format is in `specs/Images`: a header of 32 bytes, then the turns of each family, all little-endian. Each set
-//! has exactly one image, so sets are equal if and only if their images are equal bytes.
+//! The format is in `specs/Images`: a header of 32 bytes, then the boundaries of each family, all little-endian. Each
+//! set has exactly one image, so sets are equal if and only if their images are equal bytes.
 ghost use Rattle.std.specs.Prelude.{◌≡◌, ◌+◌, ◌*◌, ◌↔◌, IsTrue, IfOk, MatchResult};
 ghost use Rattle.ipnet_base.specs.Address.{Address, IPv4, IPv6, ip_address};
 ghost use Rattle.ipnet_base.specs.Network.{InBlock};
@@ -9,7 +9,7 @@ ghost use Rattle.ipnet.specs.NetworkOf.{ip_network};
 ghost use Rattle.ipnet_sets.specs.Members.{IsMember, IsFromTo};
 ghost use Rattle.ipnet_sets.specs.Images.{stated_count, HasHeader, IsImage, IsImageOf, IsRefusal};
 
-mod stored;
+pub(crate) mod stored;
 
 use crate::set::IpSet;
 use ipnet::{IpAddr, IpNet};
@@ -194,8 +194,8 @@ impl<'a> IpSetImage<'a> {
     fn is_checked(&self) -> bool
         ensures { IsTrue result ↔ IsImage self.now.bytes.now }
     {
-        stored::are_turns::<u32>(self.bytes, self.ipv4_place())
-            && stored::are_turns::<u128>(self.bytes, self.ipv6_place())
+        stored::are_boundaries::<u32>(self.bytes, self.ipv4_place())
+            && stored::are_boundaries::<u128>(self.bytes, self.ipv6_place())
     }
 }
 
@@ -273,8 +273,8 @@ impl IpSet {
         }
     }
 
-    /// Returns the image of the set: 32 bytes, 4 for each IPv4 turn and 16 for each IPv6 turn. A range has two turns,
-    /// or one if it ends at the family's last address. Fails only if memory runs out.
+    /// Returns the image of the set: 32 bytes, 4 for each IPv4 boundary and 16 for each IPv6 boundary. A range has two
+    /// boundaries, or one if it ends at the family's last address. Fails only if memory runs out.
     ///
     /// ```text
     /// of 10.0.0.0/30: 40 bytes, of which the last eight are 0, 0, 0, 10, 4, 0, 0, 10

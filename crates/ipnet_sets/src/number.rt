@@ -35,16 +35,16 @@ pub(crate) trait Number: Copy {
     fn last() -> Self
         ensures { number result ≡ greatest_number family };
 
-    /// The number is at most that of the last address. Computes nothing.
+    /// A law: the number is at most the number of the last address. Computes nothing.
     fn fits(self)
         ensures { number self ≤ greatest_number family };
 
-    /// The number after this one, which is not that of the last address.
+    /// Returns the next number. This one must not be the number of the last address.
     fn next(self) -> Self
         requires { number self < greatest_number family }
         ensures { number result ≡ number self + 1 };
 
-    /// The number before this one, which is not that of the first address.
+    /// Returns the number before this one, which must not be the number of the first address.
     fn previous(self) -> Self
         requires { 0 < number self }
         ensures { number result + 1 ≡ number self };
@@ -53,7 +53,7 @@ pub(crate) trait Number: Copy {
     fn is_below(self, other: Self) -> bool
         ensures { IsTrue result ↔ (number self < number other) };
 
-    /// How far the last number, which is not below this one, lies after it.
+    /// Returns the distance from this number to the last one, which must not be below it.
     fn distance_to(self, last: Self) -> u128
         requires { number self ≤ number last }
         ensures { result + number self ≡ number last };

@@ -1,4 +1,4 @@
-//! Routes: networks with a value each, and the longest of them that holds an address.
+//! Route tables: networks with a value each, and the longest network that contains an address.
 ghost use Rattle.std.specs.Prelude.{◌≡◌, ℕ, ◌<◌, ◌≤◌, ◌↔◌, IsTrue, [], length, IsOk, IfOk, OnOk, IsNone, IfSome};
 ghost use Rattle.std.specs.Prelude.{All, Any, Contains, IsPermutation, take, drop, ◌-◌, ◌^◌};
 ghost use Rattle.std.specs.Slice.Iter.{iter_rest};
@@ -14,12 +14,16 @@ ghost use Rattle.ipnet_sets.specs.Routes.{IsTableOf, IsLongestMatch, IsLongestHo
 ghost use Rattle.ipnet_sets.specs.RouteSteps.{EndsWith, AreOthers, IsTable, IsPlaceAfter, IsPlaceOf, IsNearest};
 ghost use Rattle.ipnet_sets.specs.RouteSteps.{AreLinks, AreChanged};
 
+use index::{Bucket, RouteIndex, probe};
 use ipnet::net::laws::ip_nets_compare_by_network;
 use ipnet::{IpAddr, IpNet};
 use matches::RouteMatches;
 use std::alloc::{AllocError, Global};
 use std::slice;
 
+pub mod changes;
+pub mod image;
+pub(crate) mod index;
 pub mod laws;
 pub mod matches;
 
@@ -35,20 +39,21 @@ pub mod matches;
 pub struct RouteTable<V> {
     routes: Vec<(IpNet, V)>,
     enclosing: Vec<usize>,
+    index: RouteIndex,
     ghost table: { IsTable (ip_networks routes.items) },
     ghost links: { AreLinks (ip_networks routes.items) enclosing.items },
     ghost all: { length enclosing.items ≡ length routes.items },
 }
 
 /// Whether the two are one network.
-fn is_same(network: &IpNet, other: &IpNet) -> bool
+pub(crate) fn is_same(network: &IpNet, other: &IpNet) -> bool
     ensures { IsTrue result ↔ (ip_network network.now ≡ ip_network other.now) }
 {
     ip_nets_compare_by_network();
     network == other
 }
 
-/// Takes the host bits of all networks away.
+/// Sets the host bits of all networks to 0.
 fn truncate_all<V>(routes: &mut Vec<(IpNet, V)>)
     ensures { ip_routes routes.new.items
         ≡ without_host_bits (ip_routes routes.old.items) }
@@ -110,8 +115,8 @@ fn latest<V: Drop>(alloc: Global, routes: Vec<(IpNet, V)>) -> Result<Vec<(IpNet,
     Ok(kept)
 }
 
-/// The place after the networks that are this one or come before it, by halving the list.
-fn place_after<V>(routes: &[(IpNet, V)], network: &IpNet) -> usize
+/// The place after the networks that are this one or come before it: by the bucket, and then by halving.
+pub(crate) fn place_after<V>(routes: &[(IpNet, V)], bucket: Bucket, network: &IpNet) -> usize
     requires { IsTable (ip_networks routes.now) }
     ensures { IsPlaceAfter (ip_networks routes.now) (ip_network network.now) result }
 {
@@ -119,7 +124,7 @@ fn place_after<V>(routes: &[(IpNet, V)], network: &IpNet) -> usize
     let mut low = 0;
     let mut high = routes.len();
     while low < high {
-        let middle = low + (high - low) / 2;
+        let middle = probe(low, high, bucket);
         let other = routes[middle].0;
         if *network < other {
             high = middle;
@@ -131,11 +136,11 @@ fn place_after<V>(routes: &[(IpNet, V)], network: &IpNet) -> usize
 }
 
 /// Returns the index of the network; if the list does not have it, the index of the next network.
-fn place_of<V>(routes: &[(IpNet, V)], network: &IpNet) -> usize
+fn place_of<V>(routes: &[(IpNet, V)], bucket: Bucket, network: &IpNet) -> usize
     requires { IsTable (ip_networks routes.now) }
     ensures { IsPlaceOf (ip_networks routes.now) (ip_network network.now) result }
 {
-    let place = place_after(routes, network);
+    let place = place_after(routes, bucket, network);
     if place == 0 {
         return 0;
     }
@@ -190,7 +195,7 @@ fn part<V>(routes: &[(IpNet, V)], start: usize, end: usize) -> &[(IpNet, V)]
     &routes[start..end]
 }
 
-/// Returns the routes of the same networks, each with what `change` makes of its value.
+/// Returns the routes of the same networks; each new value is the result of `change` for the old one.
 fn change_values<V: Drop, W: Drop, F: Fn(V) -> W + Drop>(
     alloc: Global,
     routes: Vec<(IpNet, V)>,
@@ -228,6 +233,7 @@ impl<V> RouteTable<V> {
             return Ok(RouteTable {
                 routes: Vec::new(alloc),
                 enclosing: Vec::new(alloc),
+                index: RouteIndex::new(alloc),
             });
         }
         let mut routes = routes;
@@ -235,7 +241,12 @@ impl<V> RouteTable<V> {
         sort(&mut routes)?;
         let routes = latest(alloc, routes)?;
         let enclosing = links(alloc, routes.as_slice())?;
-        Ok(RouteTable { routes, enclosing })
+        let index = RouteIndex::from_routes(alloc, routes.as_slice())?;
+        Ok(RouteTable {
+            routes,
+            enclosing,
+            index,
+        })
     }
 
     /// The routes of the table, in the order of their networks: IPv4 before IPv6, then by number, then by length. Takes
@@ -258,8 +269,13 @@ impl<V> RouteTable<V> {
     pub fn into_routes(self) -> Vec<(IpNet, V)>
         ensures { ip_routes result.items ≡ routes_of self }
     {
-        let RouteTable { routes, enclosing } = self;
+        let RouteTable {
+            routes,
+            enclosing,
+            index,
+        } = self;
         drop(enclosing);
+        drop(index);
         routes
     }
 
@@ -277,8 +293,8 @@ impl<V> RouteTable<V> {
         self.routes.is_empty()
     }
 
-    /// The value of the network, without its host bits, or `None` if the table doesn't have it. Takes no memory; the
-    /// time grows with the logarithm of the number of routes.
+    /// Returns the value of the network, or `None` if the table does not have it; host bits do not matter. Allocates
+    /// nothing, and takes O(log n) time for n routes.
     ///
     /// ```text
     /// of 10.0.0.0/8 with 1: 10.0.0.0/8 and 10.2.3.4/8 have 1; 10.0.0.0/9 has none
@@ -290,7 +306,8 @@ impl<V> RouteTable<V> {
             Contains (routes_of self.now) (truncation (ip_network network.now), value.now)) }
     {
         let network = network.trunc();
-        let place = place_after(self.routes.as_slice(), &network);
+        let bucket = self.index.bucket(&network, self.routes.len());
+        let place = place_after(self.routes.as_slice(), bucket, &network);
         if place == 0 {
             return None;
         }
@@ -301,9 +318,9 @@ impl<V> RouteTable<V> {
         Some(&route.1)
     }
 
-    /// The route of the longest network that holds the address, or `None` exactly where no network of the table holds
-    /// it. Takes no memory; the time grows with the logarithm of the number of routes, and with how many networks that
-    /// don't hold the address lie one in another.
+    /// Returns the route of the longest network that contains the address, or `None` if no network of the table does.
+    /// Allocates nothing. The time is O(log n) for n routes, and grows with the depth of nested networks that do not
+    /// contain the address.
     ///
     /// ```text
     /// of 0.0.0.0/0, 10.0.0.0/8 and 10.1.0.0/16: 10.1.2.3 is in 10.1.0.0/16, 10.2.0.1 in 10.0.0.0/8
@@ -318,8 +335,8 @@ impl<V> RouteTable<V> {
     }
 
     /// Returns the route of the longest network that contains the network's whole block, or `None` if no network of the
-    /// table does. The host bits of `network` do not matter, and the network itself counts. Allocates nothing; the time
-    /// grows as that of `longest_match`.
+    /// table does. The host bits of `network` do not matter, and the network itself counts. Allocates nothing, and
+    /// takes as long as `longest_match`.
     ///
     /// ```text
     /// of 0.0.0.0/0, 10.0.0.0/8 and 10.1.0.0/16: 10.1.2.0/24 is in 10.1.0.0/16, 10.0.0.0/15 in 10.0.0.0/8,
@@ -332,7 +349,8 @@ impl<V> RouteTable<V> {
             (ip_network route.now.0, route.now.1)) }
     {
         let routes = self.routes.as_slice();
-        let limit = place_after(routes, network);
+        let bucket = self.index.bucket(network, routes.len());
+        let limit = place_after(routes, bucket, network);
         let place = nearest(routes, self.enclosing.as_slice(), limit, network);
         if place == 0 {
             return None;
@@ -351,7 +369,8 @@ impl<V> RouteTable<V> {
         let host = IpNet::from(*ip);
         let routes = self.routes.as_slice();
         let enclosing = self.enclosing.as_slice();
-        let limit = place_after(routes, &host);
+        let bucket = self.index.bucket(&host, routes.len());
+        let limit = place_after(routes, bucket, &host);
         let place = nearest(routes, enclosing, limit, &host);
         RouteMatches {
             routes,
@@ -374,13 +393,13 @@ impl<V> RouteTable<V> {
         let routes = self.routes.as_slice();
         let first = network.trunc();
         let last = IpNet::from(network.broadcast());
-        let start = place_of(routes, &first);
-        let end = place_after(routes, &last);
+        let start = place_of(routes, self.index.bucket(&first, routes.len()), &first);
+        let end = place_after(routes, self.index.bucket(&last, routes.len()), &last);
         part(routes, start, end)
     }
 
-    /// Returns the table of the same networks, each with what `change` makes of its value. The values are moved, and
-    /// no network is sorted again. Fails only if memory runs out, and then drops the values; allocates one list.
+    /// Returns the table of the same networks; each new value is the result of `change` for the old one. The values are
+    /// moved, and nothing is sorted again. Allocates one list. If memory runs out, it fails, and drops the values.
     ///
     /// ```text
     /// 10.0.0.0/8 with 1 and 10.1.0.0/16 with 2, change(v) = v * 10: 10.0.0.0/8 with 10, 10.1.0.0/16 with 20
@@ -397,11 +416,16 @@ impl<V> RouteTable<V> {
         ensures values { IfOk result (λ table. (n : Network) (v : V) (w : W) → Contains (routes_of self) (n, v)
             → Contains (routes_of table) (n, w) → F.post change v w) }
     {
-        let RouteTable { routes, enclosing } = self;
+        let RouteTable {
+            routes,
+            enclosing,
+            index,
+        } = self;
         let mapped = change_values(alloc, routes, change)?;
         Ok(RouteTable {
             routes: mapped,
             enclosing,
+            index,
         })
     }
 }

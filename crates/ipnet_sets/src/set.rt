@@ -6,13 +6,13 @@ ghost use Rattle.ipnet_base.specs.Blocks.{AreMaximalBlocks};
 ghost use Rattle.ipnet.specs.NetworkOf.{ip_network};
 ghost use Rattle.ipnet.specs.SubnetsLeft.{ip_subnets_left};
 ghost use Rattle.ipnet_sets.specs.SetRanges.{AreRangesOf, AreFewestRangesOf};
-ghost use Rattle.ipnet_sets.specs.TurnRanges.{ranges_of, HasBlocksAdded};
-ghost use Rattle.ipnet_sets.specs.Turns.{AreTurns, combined};
+ghost use Rattle.ipnet_sets.specs.BoundaryRanges.{ranges_of, HasBlocksAdded};
+ghost use Rattle.ipnet_sets.specs.Boundaries.{AreBoundaries, combined};
 
-use crate::gather;
 use crate::number::Number;
+use crate::operation::Operation;
 use crate::set_ranges::IpSetRanges;
-use crate::turns::{self, Operation};
+use crate::{boundaries, gather};
 use ipnet::{IpAddr, IpAddrRange, IpNet, IpSubnets};
 use std::alloc::{AllocError, Global};
 use std::fmt;
@@ -23,10 +23,10 @@ mod many;
 
 /// A set of IPv4 and IPv6 addresses.
 ///
-/// It is kept by the numbers at which it begins and ends, so a set that is a few ranges is small, however many
-/// addresses it has.
+/// The set is stored by the numbers at which it begins and ends. So a set of a few ranges is small, even if it has many
+/// addresses.
 ///
-/// Sets are equal exactly where they have the same addresses; the order and the hash go by the addresses too.
+/// Sets are equal if and only if they have the same addresses. The order and the hash depend only on the addresses too.
 ///
 /// ```text
 /// from 10.0.0.0/30 and 10.0.0.4/31: the addresses 10.0.0.0 to 10.0.0.5
@@ -35,26 +35,26 @@ mod many;
 pub struct IpSet {
     pub(crate) ipv4: Vec<u32>,
     pub(crate) ipv6: Vec<u128>,
-    ghost ipv4_turns: { AreTurns IPv4 (map (λ n. n) ipv4.items) },
-    ghost ipv6_turns: { AreTurns IPv6 (map (λ n. n) ipv6.items) },
+    ghost ipv4_boundaries: { AreBoundaries IPv4 (map (λ n. n) ipv4.items) },
+    ghost ipv6_boundaries: { AreBoundaries IPv6 (map (λ n. n) ipv6.items) },
 }
 
-/// Puts the networks of the ranges between the turns at the end of the list.
-fn push_networks<T: Number>(networks: &mut Vec<IpNet>, turns: &[T]) -> Result<(), AllocError>
-    requires { AreTurns T.family (map T.number turns.now) }
-    ensures empty { turns.now ≡ [] → IsOk result }
-    ensures blocks { OnOk result (HasBlocksAdded (ranges_of T.family (map T.number turns.now))
+/// Appends the networks of the ranges between the boundaries to the list.
+fn push_networks<T: Number>(networks: &mut Vec<IpNet>, boundaries: &[T]) -> Result<(), AllocError>
+    requires { AreBoundaries T.family (map T.number boundaries.now) }
+    ensures empty { boundaries.now ≡ [] → IsOk result }
+    ensures blocks { OnOk result (HasBlocksAdded (ranges_of T.family (map T.number boundaries.now))
         (map ip_network networks.old.items) (map ip_network networks.new.items)) }
 {
-    let mut left = turns;
-    while let Some(range) = turns::first_range(left) {
+    let mut left = boundaries;
+    while let Some(range) = boundaries::first_range(left) {
         push_walk(networks, range.first.walk_to(range.last))?;
-        left = turns::after_first_range(left);
+        left = boundaries::after_first_range(left);
     }
     Ok(())
 }
 
-/// Puts the networks of the walk at the end of the list.
+/// Appends the networks of the walk to the list.
 fn push_walk(networks: &mut Vec<IpNet>, walk: IpSubnets) -> Result<(), AllocError>
     ensures { OnOk result (map ip_network networks.new.items
         ≡ map ip_network networks.old.items ++ ip_subnets_left walk) }
@@ -73,7 +73,7 @@ impl IpSet {
     ghost use Rattle.ipnet_sets.specs.Members.{IsSymmetricDifference, IsComplement, HasAddressesOf};
     ghost use Rattle.ipnet_sets.specs.Members.{IsFirstOf, IsLastOf, IsFromTo};
 
-    /// The set with no address.
+    /// The empty set.
     pub fn new(alloc: Global) -> IpSet
         ensures { HasNoAddress result }
     {
@@ -83,10 +83,9 @@ impl IpSet {
         }
     }
 
-    /// The set of the addresses from the first to the last, both of them in it.
+    /// Returns the set of the addresses from `start` to `end`, both included.
     ///
-    /// It is empty where the start is above the end, or the two are of different families. Fails only when memory runs
-    /// out.
+    /// It is empty if `start` is above `end`, or if the two have different families. Fails only if memory runs out.
     ///
     /// ```text
     /// from 10.0.0.3 to 10.0.0.8: 10.0.0.3, 10.0.0.4, 10.0.0.5, 10.0.0.6, 10.0.0.7, 10.0.0.8
@@ -109,7 +108,7 @@ impl IpSet {
         Ok(set)
     }
 
-    /// The set of the addresses in the network's block, whatever its host bits. Fails only when memory runs out.
+    /// Returns the set of the addresses of the network's block; host bits do not matter. Fails only if memory runs out.
     ///
     /// ```text
     /// of 10.0.0.5/30: 10.0.0.4-10.0.0.7
@@ -120,7 +119,7 @@ impl IpSet {
         IpSet::from_range(alloc, network.network(), network.broadcast())
     }
 
-    /// The set that the operation makes of this one and the other.
+    /// Returns the result of the operation on this set and the other.
     fn combined(
         &self,
         alloc: Global,
@@ -131,13 +130,13 @@ impl IpSet {
             → is_member s x ≡ combined operation (is_member self.now x) (is_member other.now x)) }
         ensures ranges { IfOk result (λ s. HasNoMoreRanges s self.now other.now) }
     {
-        let ipv4 = turns::combine(
+        let ipv4 = boundaries::combine(
             alloc,
             operation,
             self.ipv4.as_slice(),
             other.ipv4.as_slice(),
         )?;
-        let ipv6 = turns::combine(
+        let ipv6 = boundaries::combine(
             alloc,
             operation,
             self.ipv6.as_slice(),
@@ -182,7 +181,7 @@ impl IpSet {
         self.combined(alloc, Operation::Difference, other)
     }
 
-    /// The addresses that are in one of the two sets alone. Fails only when memory runs out.
+    /// The addresses that are in exactly one of the two sets. Fails only if memory runs out.
     ///
     /// ```text
     /// 10.0.0.0-10.0.0.5 and 10.0.0.3-10.0.0.9: 10.0.0.0-10.0.0.2 and 10.0.0.6-10.0.0.9
@@ -203,14 +202,14 @@ impl IpSet {
         ensures members { IfOk result (λ s. IsComplement s self.now) }
         ensures ranges { IfOk result (λ s. HasOneMoreRange s self.now) }
     {
-        // One turn, at 0, is the set of all numbers: what is in that or in this set alone is not in this set.
+        // The boundary 0 is the set of all numbers. The numbers in exactly one of this set and that are the complement.
         let not_both = Operation::SymmetricDifference;
-        let ipv4 = turns::combine(alloc, not_both, self.ipv4.as_slice(), &[0])?;
-        let ipv6 = turns::combine(alloc, not_both, self.ipv6.as_slice(), &[0])?;
+        let ipv4 = boundaries::combine(alloc, not_both, self.ipv4.as_slice(), &[0])?;
+        let ipv6 = boundaries::combine(alloc, not_both, self.ipv6.as_slice(), &[0])?;
         Ok(IpSet { ipv4, ipv6 })
     }
 
-    /// Whether the address is in the set. Takes no memory; the time grows with the logarithm of the number of ranges.
+    /// Returns whether the address is in the set. Allocates nothing, and takes O(log n) time for n ranges.
     ///
     /// An IPv4 address and the IPv6 address that maps it are two addresses.
     ///
@@ -221,13 +220,13 @@ impl IpSet {
         ensures { IsTrue result ↔ IsMember self.now (ip_address ip.now) }
     {
         match ip {
-            IpAddr::V4(ip) => turns::contains(self.ipv4.as_slice(), ip.to_bits()),
-            IpAddr::V6(ip) => turns::contains(self.ipv6.as_slice(), ip.to_bits()),
+            IpAddr::V4(ip) => boundaries::contains(self.ipv4.as_slice(), ip.to_bits()),
+            IpAddr::V6(ip) => boundaries::contains(self.ipv6.as_slice(), ip.to_bits()),
         }
     }
 
-    /// Whether every address of the network's block is in the set. Takes no memory; the time grows with the logarithm
-    /// of the number of ranges.
+    /// Returns whether every address of the network's block is in the set. Allocates nothing, and takes O(log n) time
+    /// for n ranges.
     ///
     /// ```text
     /// 10.0.0.0-10.0.0.5 covers 10.0.0.4/31, and does not cover 10.0.0.4/30
@@ -236,12 +235,12 @@ impl IpSet {
         ensures { IsTrue result ↔ ((x : Address) → InBlock (ip_network network.now) x → IsMember self.now x) }
     {
         match network {
-            IpNet::V4(network) => turns::covers(
+            IpNet::V4(network) => boundaries::covers(
                 self.ipv4.as_slice(),
                 network.network().to_bits(),
                 network.broadcast().to_bits(),
             ),
-            IpNet::V6(network) => turns::covers(
+            IpNet::V6(network) => boundaries::covers(
                 self.ipv6.as_slice(),
                 network.network().to_bits(),
                 network.broadcast().to_bits(),
@@ -249,10 +248,10 @@ impl IpSet {
         }
     }
 
-    /// Returns whether every address from the first to the last, both included, is in the set. Allocates nothing; the
-    /// time grows with the logarithm of the number of ranges.
+    /// Returns whether every address from `start` to `end`, both included, is in the set. Allocates nothing, and takes
+    /// O(log n) time for n ranges.
     ///
-    /// If `start` is above `end`, or they are of different families, no address lies between them: the answer is true.
+    /// If `start` is above `end`, or they have different families, there is no such address, and the result is true.
     ///
     /// ```text
     /// 10.0.0.0-10.0.0.5 covers 10.0.0.3 to 10.0.0.5, and does not cover 10.0.0.3 to 10.0.0.6
@@ -263,10 +262,10 @@ impl IpSet {
     {
         match (start, end) {
             (IpAddr::V4(start), IpAddr::V4(end)) => {
-                turns::covers_range(self.ipv4.as_slice(), start.to_bits(), end.to_bits())
+                boundaries::covers_range(self.ipv4.as_slice(), start.to_bits(), end.to_bits())
             }
             (IpAddr::V6(start), IpAddr::V6(end)) => {
-                turns::covers_range(self.ipv6.as_slice(), start.to_bits(), end.to_bits())
+                boundaries::covers_range(self.ipv6.as_slice(), start.to_bits(), end.to_bits())
             }
             _ => true,
         }
@@ -299,11 +298,11 @@ impl IpSet {
         ensures { IsTrue result ↔ ((x : Address) → IsAddress x
             → combined operation (is_member self.now x) (is_member other.now x) ≡ false) }
     {
-        turns::makes_nothing(operation, self.ipv4.as_slice(), other.ipv4.as_slice())
-            && turns::makes_nothing(operation, self.ipv6.as_slice(), other.ipv6.as_slice())
+        boundaries::makes_nothing(operation, self.ipv4.as_slice(), other.ipv4.as_slice())
+            && boundaries::makes_nothing(operation, self.ipv6.as_slice(), other.ipv6.as_slice())
     }
 
-    /// Whether every address of this set is in the other. Takes no memory.
+    /// Returns whether every address of this set is in the other. Allocates nothing.
     ///
     /// ```text
     /// 10.0.0.1-10.0.0.3 is a subset of 10.0.0.0-10.0.0.5; the empty set is one of each set
@@ -314,7 +313,7 @@ impl IpSet {
         self.makes_nothing(Operation::Difference, other)
     }
 
-    /// Whether no address is in both sets. Takes no memory.
+    /// Returns whether no address is in both sets. Allocates nothing.
     ///
     /// ```text
     /// 10.0.0.0-10.0.0.5 and 10.0.0.6-10.0.0.9 are disjoint; 10.0.0.0-10.0.0.5 and 10.0.0.5-10.0.0.9 are not
@@ -325,7 +324,7 @@ impl IpSet {
         self.makes_nothing(Operation::Intersection, other)
     }
 
-    /// Whether the set has no address. Takes no memory.
+    /// Returns whether the set has no address. Allocates nothing.
     ///
     /// ```text
     /// from 10.0.0.8 to 10.0.0.3: true; from 10.0.0.8 to 10.0.0.8: false
@@ -336,8 +335,8 @@ impl IpSet {
         self.first().is_none()
     }
 
-    /// The ranges of the set: the fewest that have together its addresses, IPv4 before IPv6 and ascending, no two of
-    /// them touching. Takes no memory.
+    /// Returns the fewest ranges that contain exactly the addresses of the set, IPv4 before IPv6, ascending. No two of
+    /// them touch. Allocates nothing.
     ///
     /// ```text
     /// of 10.0.0.0/30, 10.0.0.4/31, fd00::/126: 10.0.0.0 to 10.0.0.5, fd00:: to fd00::3
@@ -352,9 +351,9 @@ impl IpSet {
         }
     }
 
-    /// The networks of the set: the maximal blocks that lie in it, which are the fewest networks that have together its
-    /// addresses, without host bits and in order. Sets with the same addresses give the same list, and the networks of
-    /// a set made from a list are its aggregate. Fails only when memory runs out; the empty set needs none.
+    /// Returns the fewest networks that contain exactly the addresses of the set, without host bits, in order. They are
+    /// the maximal blocks of the set. Sets with the same addresses have the same networks, and the networks of a set
+    /// made from a list are the aggregate of the list. Fails only if memory runs out, and never for the empty set.
     ///
     /// ```text
     /// of 10.0.0.0 to 10.0.0.5: 10.0.0.0/30, 10.0.0.4/31
@@ -369,7 +368,7 @@ impl IpSet {
         Ok(networks)
     }
 
-    /// How many IPv4 addresses the set has: 0 to 2^32.
+    /// Returns the number of IPv4 addresses in the set: 0 to 2^32.
     ///
     /// ```text
     /// of 10.0.0.0-10.0.0.5: 6; of 0.0.0.0/0: 4294967296; of fd00::/8: 0
@@ -377,10 +376,10 @@ impl IpSet {
     pub fn ipv4_count(&self) -> u64
         ensures { IsCountOf (IsMemberOf IPv4 self.now) result }
     {
-        turns::count(self.ipv4.as_slice()) as u64
+        boundaries::count(self.ipv4.as_slice()) as u64
     }
 
-    /// How many IPv6 addresses the set has: 0 to 2^128 - 1, or `None` where it has all of them, 2^128.
+    /// Returns the number of IPv6 addresses in the set: 0 to 2^128 - 1, or `None` if it has all 2^128.
     ///
     /// ```text
     /// of fd00::/126: Some(4); of 10.0.0.0/8: Some(0); of ::/0: None
@@ -389,10 +388,10 @@ impl IpSet {
         ensures none { IsNone result ↔ ((x : Address) → IsAddress x → x.family ≡ IPv6 → IsMember self.now x) }
         ensures some { IfSome result (IsCountOf (IsMemberOf IPv6 self.now)) }
     {
-        if turns::is_whole(self.ipv6.as_slice()) {
+        if boundaries::is_whole(self.ipv6.as_slice()) {
             return None;
         }
-        Some(turns::count(self.ipv6.as_slice()))
+        Some(boundaries::count(self.ipv6.as_slice()))
     }
 
     /// The first address of the set, IPv4 before IPv6, or `None` if it has none.
@@ -404,10 +403,10 @@ impl IpSet {
         ensures none { IsNone result ↔ HasNoAddress self.now }
         ensures some { IfSome result (λ a. IsFirstOf (IsMember self.now) (ip_address a)) }
     {
-        match turns::first(self.ipv4.as_slice()) {
+        match boundaries::first(self.ipv4.as_slice()) {
             Some(number) => Some(number.address()),
             None => {
-                let number = turns::first(self.ipv6.as_slice())?;
+                let number = boundaries::first(self.ipv6.as_slice())?;
                 Some(number.address())
             }
         }
@@ -422,10 +421,10 @@ impl IpSet {
         ensures none { IsNone result ↔ HasNoAddress self.now }
         ensures some { IfSome result (λ a. IsLastOf (IsMember self.now) (ip_address a)) }
     {
-        match turns::last(self.ipv6.as_slice()) {
+        match boundaries::last(self.ipv6.as_slice()) {
             Some(number) => Some(number.address()),
             None => {
-                let number = turns::last(self.ipv4.as_slice())?;
+                let number = boundaries::last(self.ipv4.as_slice())?;
                 Some(number.address())
             }
         }

@@ -3,17 +3,17 @@ ghost use Rattle.std.specs.Prelude.{map};
 ghost use Rattle.std.specs.Iterator.{YieldsFirstBy, YieldsLastBy, item_count};
 ghost use Rattle.ipnet_base.specs.Address.{IPv4, IPv6};
 ghost use Rattle.ipnet_base.specs.RangeOf.{ip_range};
-ghost use Rattle.ipnet_sets.specs.Turns.{AreTurns};
+ghost use Rattle.ipnet_sets.specs.Boundaries.{AreBoundaries};
 
 pub mod laws;
 
+use crate::boundaries;
 use crate::number::Number;
-use crate::turns;
 use ipnet::IpAddrRange;
 use std::iter::FusedIterator;
 
 /// The ranges of a set: the fewest ranges that have together its addresses, IPv4 before IPv6 and ascending. No two of
-/// them touch. Made by `IpSet::ranges`; takes no memory.
+/// them touch. Made by `IpSet::ranges`; allocates nothing.
 ///
 /// ```text
 /// of 10.0.0.0/30, 10.0.0.4/31, fd00::/126: 10.0.0.0 to 10.0.0.5, then fd00:: to fd00::3, then None
@@ -22,8 +22,8 @@ use std::iter::FusedIterator;
 pub struct IpSetRanges<'a> {
     pub(crate) ipv4: &'a [u32],
     pub(crate) ipv6: &'a [u128],
-    ghost ipv4_turns: { AreTurns IPv4 (map (λ n. n) ipv4.now) },
-    ghost ipv6_turns: { AreTurns IPv6 (map (λ n. n) ipv6.now) },
+    ghost ipv4_boundaries: { AreBoundaries IPv4 (map (λ n. n) ipv4.now) },
+    ghost ipv6_boundaries: { AreBoundaries IPv6 (map (λ n. n) ipv6.now) },
 }
 
 impl Iterator for IpSetRanges<'_> {
@@ -37,12 +37,12 @@ impl Iterator for IpSetRanges<'_> {
 
     /// The first range that is left, or `None`, then and ever after, if none is.
     fn next(&mut self) -> Option<IpAddrRange> {
-        if let Some(range) = turns::first_range(self.ipv4) {
-            self.ipv4 = turns::after_first_range(self.ipv4);
+        if let Some(range) = boundaries::first_range(self.ipv4) {
+            self.ipv4 = boundaries::after_first_range(self.ipv4);
             return Some(range.first.range_to(range.last));
         }
-        let range = turns::first_range(self.ipv6)?;
-        self.ipv6 = turns::after_first_range(self.ipv6);
+        let range = boundaries::first_range(self.ipv6)?;
+        self.ipv6 = boundaries::after_first_range(self.ipv6);
         Some(range.first.range_to(range.last))
     }
 
@@ -60,12 +60,12 @@ impl DoubleEndedIterator for IpSetRanges<'_> {
 
     /// Returns the last range that is left, or `None`, then and ever after, if none is.
     fn next_back(&mut self) -> Option<IpAddrRange> {
-        if let Some(range) = turns::last_range(self.ipv6) {
-            self.ipv6 = turns::before_last_range(self.ipv6);
+        if let Some(range) = boundaries::last_range(self.ipv6) {
+            self.ipv6 = boundaries::before_last_range(self.ipv6);
             return Some(range.first.range_to(range.last));
         }
-        let range = turns::last_range(self.ipv4)?;
-        self.ipv4 = turns::before_last_range(self.ipv4);
+        let range = boundaries::last_range(self.ipv4)?;
+        self.ipv4 = boundaries::before_last_range(self.ipv4);
         Some(range.first.range_to(range.last))
     }
 }
@@ -73,7 +73,7 @@ impl DoubleEndedIterator for IpSetRanges<'_> {
 impl ExactSizeIterator for IpSetRanges<'_> {
     /// Returns the number of the ranges that are left.
     fn len(&self) -> usize {
-        turns::range_count(self.ipv4) + turns::range_count(self.ipv6)
+        boundaries::range_count(self.ipv4) + boundaries::range_count(self.ipv6)
     }
 }
 

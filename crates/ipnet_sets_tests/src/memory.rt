@@ -1,9 +1,9 @@
 //! Memory that runs out. A call that allocates fails in the first run, succeeds in the last, and never returns a wrong
 //! result. A call that needs no memory succeeds in each run.
 //!
-//! The lists are short, because memory that a call gives back does not serve the requests of later runs.
+//! The lists are short, because memory that a call releases does not serve the requests of later runs.
 use ipnet::{IpAddr, IpAddrRange, IpNet};
-use ipnet_sets::{IpSet, IpSetBuilder, RouteTable};
+use ipnet_sets::{IpSet, IpSetBuilder, RouteMap, RouteTable};
 use std::alloc::{AllocError, Global};
 use std::process::Abort;
 use std::test::Fail;
@@ -138,6 +138,28 @@ fn build(alloc: Global, inputs: &Inputs) -> Result<IpSet, AllocError> {
     builder.into_set(alloc)
 }
 
+/// Puts a route to each network into a map. If one is refused, the map has the routes that it had.
+fn fill_map(alloc: Global, inputs: &Inputs) -> Outcome {
+    let mut map = RouteMap::new(alloc);
+    for network in &inputs.list {
+        let count = map.len();
+        if map.insert(network, count).is_err() {
+            return if map.len() == count && map.get(network).is_none() {
+                Outcome::Refused
+            } else {
+                Outcome::Wrong
+            };
+        }
+    }
+    let mut routes = map.routes();
+    for network in &inputs.wanted {
+        if routes.next().is_none_or(|route| route.0 != *network) {
+            return Outcome::Wrong;
+        }
+    }
+    outcome(routes.next().is_none())
+}
+
 /// How the row's call ended.
 fn run_call(alloc: Global, inputs: &Inputs) -> Outcome {
     match inputs.call {
@@ -149,6 +171,7 @@ fn run_call(alloc: Global, inputs: &Inputs) -> Outcome {
             Ok(table) => outcome(is_right_table(&table, inputs)),
             Err(_) => Outcome::Refused,
         },
+        "insert" => fill_map(alloc, inputs),
         _ => match make(alloc, inputs) {
             Ok(set) => outcome(set == inputs.wanted_set),
             Err(_) => Outcome::Refused,
@@ -169,7 +192,7 @@ const ONE: &str = "10.0.0.0/24 10.0.2.0/24 10.0.4.0/24 fd00::/32";
 const OTHER: &str = "10.0.1.0/24 10.0.4.0/25 fd00::/33 fd00:2::/32";
 
 /// Calls that allocate.
-const ALLOCATING: [Row; 17] = [
+const ALLOCATING: [Row; 18] = [
     (
         "union",
         ONE,
@@ -217,10 +240,17 @@ const ALLOCATING: [Row; 17] = [
         "",
         "10.0.0.0/8 10.1.0.0/16 10.1.2.0/24 fd00::/8",
     ),
+    (
+        "insert",
+        "fd00::/8 10.0.0.0/8 10.1.0.0/16 10.1.2.0/24",
+        "",
+        "10.0.0.0/8 10.1.0.0/16 10.1.2.0/24 fd00::/8",
+    ),
 ];
 
 /// Calls that need no memory.
-const FREE: [Row; 9] = [
+const FREE: [Row; 10] = [
+    ("insert", "", "", ""),
     ("union", "", "", ""),
     ("networks", "", "", ""),
     ("clone", "", "", ""),

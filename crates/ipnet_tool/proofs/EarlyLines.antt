@@ -6,7 +6,7 @@ use Rattle.ipnet.specs.declared.parser.Grammar.{Grammar}
 use Rattle.ipnet.specs.Lines.{lines_of, IsBadLine}
 use Rattle.ipnet.specs.NetworkTexts.{IsNetworkText}
 use Rattle.ipnet_tool.specs.Answers.{StartsWithBadLine}
-use Rattle.ipnet_tool.proofs.LineCuts.{empty_text}
+use Rattle.ipnet_text.proofs.LineCuts.{empty_text}
 
 -- lines are not all empty if the first is not
 pub not_all_empty : (lines : List (List ℕ)) (line : List ℕ) (after : List (List ℕ)) → lines ≡ line ∷ after

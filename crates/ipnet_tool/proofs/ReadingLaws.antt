@@ -11,7 +11,8 @@ use Rattle.ipnet.specs.Blocks.{HaveSameCover}
 use Rattle.ipnet.specs.declared.parser.Grammar.{Grammar}
 use Rattle.ipnet.specs.Lines.{lines_of, AreNetworksOf, IsFirstBadLine}
 use Rattle.ipnet_tool.specs.Reading.{IsTextLeft, IsTaken, AreReadFrom, IsBadLineFrom}
-use Rattle.ipnet_tool.proofs.PieceLaws.{IsClosed, closed_append, taken_none, taken_more, networks_more, bad_in_piece}
+use Rattle.ipnet_text.proofs.ClosedLines.{IsClosed, closed_append}
+use Rattle.ipnet_tool.proofs.PieceLaws.{taken_none, taken_more, networks_more, bad_in_piece}
 use Rattle.ipnet_tool.proofs.PieceLaws.{bad_before_more, long_is_bad}
 
 -- the bytes of two pieces, cut behind the first bytes of the second

@@ -1,19 +1,14 @@
 -- The output for a text of networks: its aggregate, one network per line.
-use Rattle.std.specs.Prelude.{◌≡◌, ℕ, List, [], ◌∷◌, ◌++◌, All, Result, Err, IfOk, IsOkAnd}
+use Rattle.std.specs.Prelude.{◌≡◌, ℕ, List, [], All, Result, Err, IfOk, IsOkAnd}
 use Rattle.std.specs.Prelude.{String, string_bytes}
 use Rattle.std.specs.declared.alloc.Global.{Global}
 use Rattle.ipnet.specs.Network.{Network}
 use Rattle.ipnet.specs.Blocks.{IsAggregateOf}
-use Rattle.ipnet.specs.CanonicalTexts.{canonical_text}
 use Rattle.ipnet.specs.declared.parser.Grammar.{Grammar}
 use Rattle.ipnet.specs.Lines.{lines_of, AreNetworksOf, IsFirstBadLine}
+use Rattle.ipnet_text.specs.LineTexts.{text_of_lines}
 use Rattle.ipnet_tool.specs.declared.tool.ToolError.{ToolError}
 use Rattle.ipnet_tool.specs.declared.tool.ToolError.TheVariants as ToolErrors
-
--- The canonical texts of the networks, in order, each followed by "\n" (10).
-abbrev pub text_of_lines : List Network → List ℕ
-text_of_lines [] = []
-text_of_lines (n ∷ networks) = canonical_text n ++ 10 ∷ [] ++ text_of_lines networks
 
 -- The lines of the text are networks or empty, and the answer is the text of their aggregate.
 -- Example: `"fd00::/32\n10.0.0.0/24\n"` has the answer `"10.0.0.0/24\nfd00::/32\n"`.

@@ -5,7 +5,7 @@ use Rattle.ipnet.specs.Network.{Network}
 use Rattle.ipnet.specs.Blocks.{HaveSameCover}
 use Rattle.ipnet.specs.declared.parser.Grammar.{Grammar}
 use Rattle.ipnet.specs.Lines.{lines_of, AreNetworksOf, IsFirstBadLine}
-use Rattle.ipnet_tool.specs.Runs.{GaveWhole}
+use Rattle.ipnet_text.specs.Inputs.{GaveWhole}
 
 -- The reader returned a whole text, and these networks cover the same addresses as the networks of its lines.
 pub record AreReadFrom (grammar : Grammar) (left left_after : Option (List ℕ)) (networks : List Network) : Type 0 where

@@ -4,10 +4,11 @@
 use Rattle.std.specs.Prelude.{◌≡◌, ℕ, List, [], ◌∷◌, codes, IsUtf8, Option, String, string_bytes}
 use Rattle.std.specs.declared.alloc.Global.{Global}
 use Rattle.std.specs.Io.{StartsWith}
-use Rattle.std.specs.Io.KnownBytes.{Consumes, Appends, IsAtEnd}
+use Rattle.std.specs.Io.KnownBytes.{Appends}
 use Rattle.ipnet.specs.declared.parser.Grammar.{Grammar}
 use Rattle.ipnet.specs.declared.parser.Grammar.TheVariants.{Strict, Legacy}
 use Rattle.ipnet.specs.Lines.{lines_of, IsFirstBadLine}
+use Rattle.ipnet_text.specs.Inputs.{GaveWhole}
 use Rattle.ipnet_tool.specs.Answers.{IsAnswerTo}
 
 -- The grammar that the arguments choose: strict without arguments, legacy for `legacy`. Other arguments choose none.
@@ -15,11 +16,6 @@ abbrev pub IsChosenBy : List (String Global) → Grammar → Type 0
 IsChosenBy [] grammar = grammar ≡ Strict
 IsChosenBy (word ∷ []) grammar = (string_bytes word ≡ codes "legacy") × (grammar ≡ Legacy)
 IsChosenBy (word ∷ more ∷ words) grammar = ⊥
-
--- The reader returned this text, and has nothing left.
-pub record GaveWhole (left left_after : Option (List ℕ)) (text : List ℕ) : Type 0 where
-  pub given : Consumes left left_after text
-  pub whole : IsAtEnd left_after
 
 -- The input is a text with an answer in the chosen grammar, and the whole answer was written.
 -- Example: without arguments, `"fd00::/32\n10.0.0.0/24\n"` is read and `"10.0.0.0/24\nfd00::/32\n"` is written.

@@ -1,8 +1,8 @@
 -- The exit statuses of the program `ipnet`.
 use Rattle.std.specs.Prelude.{ℕ}
-use Rattle.ipnet_tool.specs.declared.program.Failure.{Failure}
-use Rattle.ipnet_tool.specs.declared.program.Failure.TheVariants.{Arguments, Unreadable, NotUtf8, Memory, Line}
-use Rattle.ipnet_tool.specs.declared.program.Failure.TheVariants.{Unwritable}
+use Rattle.ipnet_tool.specs.declared.failure.Failure.{Failure}
+use Rattle.ipnet_tool.specs.declared.failure.Failure.TheVariants.{Arguments, Unreadable, NotUtf8, Memory, Line}
+use Rattle.ipnet_tool.specs.declared.failure.Failure.TheVariants.{Unwritable}
 
 -- The exit status of a failure: 1 for a bad line, 2 for wrong arguments, 3 for the others.
 abbrev pub status_of : Failure → ℕ

@@ -6,16 +6,16 @@
 ghost use Rattle.std.specs.Prelude.{◌≡◌, ◌≢◌, ℕ, ◌+◌, ◌<◌, ◌≤◌, ◌⊎◌, List, ◌++◌, length, take, IfOk, IfErr, Err};
 ghost use Rattle.std.specs.Prelude.{slice_index, true, false};
 ghost use Rattle.ipnet.specs.Lines.{lines_of};
-ghost use Rattle.ipnet_tool.specs.Families.{networks_of};
-ghost use Rattle.ipnet_tool.specs.Window.{held};
+ghost use Rattle.ipnet_text.specs.NetLists.{networks_of};
+ghost use Rattle.ipnet_text.specs.Window.{held};
 ghost use Rattle.ipnet_tool.specs.Reading.{AreReadFrom, IsBadLineFrom, IsTextLeft};
-ghost use Rattle.ipnet_tool.specs.declared.program.Failure.TheVariants.{Arguments, Unreadable, NotUtf8, Line};
+ghost use Rattle.ipnet_tool.specs.declared.failure.Failure.TheVariants.{Arguments, Unreadable, NotUtf8, Line};
 
-use crate::program::Failure;
-use crate::tool::{Families, ToolError};
-use crate::window::{SIZE, Window};
+use crate::failure::Failure;
+use crate::tool::{ToolError, push_lines};
 use ipnet::Grammar;
-use memchr::memrchr;
+use ipnet_text::window::SIZE;
+use ipnet_text::{NetLists, Window, lines_len};
 use std::alloc::Global;
 use std::io::Read;
 use std::str;
@@ -34,15 +34,15 @@ pub(crate) fn read_networks<R: Read>(
     alloc: Global,
     input: &mut R,
     grammar: Grammar,
-) -> Result<Families, Failure>
+) -> Result<NetLists, Failure>
     ensures networks { IfOk result (λ families.
         AreReadFrom grammar (R.remaining input.old) (R.remaining input.new) (networks_of families)) }
     ensures bad_line { (number : ℕ) → result ≡ Err (Failure.Line number)
         → IsBadLineFrom grammar (R.remaining input.old) (R.remaining input.new) number }
     ensures failure { IfErr result (λ failure. failure ≢ Arguments) }
 {
-    let mut window = Window::new();
-    let mut families = Families::new(alloc);
+    let mut window = Window::new(alloc)?;
+    let mut families = NetLists::new(alloc);
     let mut number = 0;
     for _ in 0..MOST_READS {
         let more = window.fill(input)?;
@@ -54,7 +54,7 @@ pub(crate) fn read_networks<R: Read>(
             }
             return Err(Failure::NotUtf8);
         };
-        let result = families.push_lines(number, text, grammar);
+        let result = push_lines(&mut families, number, text, grammar);
         window.take(count);
         match result {
             Ok(lines) => number = lines,
@@ -78,23 +78,6 @@ pub(crate) fn read_networks<R: Read>(
     Err(Failure::Unreadable)
 }
 
-/// The length of the complete lines at the front of the bytes, or of all bytes if the input has ended.
-fn lines_len(bytes: &[u8], more: bool) -> usize
-    ensures at_most { result ≤ length bytes.now }
-    ensures all { more ≡ false → result ≡ length bytes.now }
-    ensures closed { more ≡ true → (after : List ℕ) → lines_of (take result bytes.now ++ after)
-        ≡ lines_of (take result bytes.now) ++ lines_of after }
-    ensures last { more ≡ true → (k : ℕ) → result ≤ k → k < length bytes.now → slice_index bytes.now k ≢ 10 }
-{
-    if !more {
-        return bytes.len();
-    }
-    match memrchr(b'\n', bytes) {
-        Some(end) => end + 1,
-        None => 0,
-    }
-}
-
 /// The failure to report if line `number` is bad. The rest of the input is read, and must be UTF-8.
 fn after_bad_line<R: Read>(window: &mut Window, input: &mut R, number: usize) -> Failure
     ensures line { (line : ℕ) → result ≡ Failure.Line line → (line ≡ number)
@@ -114,7 +97,7 @@ fn after_bad_line<R: Read>(window: &mut Window, input: &mut R, number: usize) ->
             Ok(true) => {}
             Ok(false) if window.held().is_empty() => return Failure::Line(number),
             Ok(false) => return Failure::NotUtf8,
-            Err(failure) => return failure,
+            Err(error) => return Failure::from(error),
         }
     }
     Failure::Unreadable
@@ -130,7 +113,7 @@ fn after_bad_bytes<R: Read>(window: &mut Window, input: &mut R) -> Failure
         match window.fill(input) {
             Ok(true) => {}
             Ok(false) => return Failure::NotUtf8,
-            Err(failure) => return failure,
+            Err(error) => return Failure::from(error),
         }
     }
     Failure::Unreadable

@@ -3,12 +3,12 @@
 #![tactic(auto)]
 
 mod answer;
+pub mod failure;
+mod front_reader;
 mod input;
-mod joins;
-pub mod output;
 pub mod program;
 pub mod tool;
-mod window;
 
+pub use failure::Failure;
 pub use program::run;
-pub use tool::{ToolError, aggregate_text, aggregate_text_legacy};
+pub use tool::{ToolError, aggregate_text, aggregate_text_legacy, push_lines};

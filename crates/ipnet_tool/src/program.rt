@@ -5,9 +5,10 @@ ghost use Rattle.std.specs.Io.KnownBytes.{Keeps};
 ghost use Rattle.ipnet.specs.declared.parser.Grammar.{Grammar};
 ghost use Rattle.ipnet_tool.specs.Runs.{IsChosenBy, IsAnswered, IsCutShort, HasBadLine};
 ghost use Rattle.ipnet_tool.specs.Statuses.{status_of};
-ghost use Rattle.ipnet_tool.specs.declared.program.Failure.TheVariants.{Arguments, Memory};
+ghost use Rattle.ipnet_tool.specs.declared.failure.Failure.TheVariants.{Arguments, Memory};
 
 use crate::answer::write_answer;
+use crate::failure::Failure;
 use crate::input::read_networks;
 use ipnet::Grammar;
 use std::alloc::Global;
@@ -15,52 +16,6 @@ use std::env;
 use std::env::Env;
 use std::io::{ErrorKind, Read, Write};
 use std::vec::IntoIter;
-use thiserror::Error;
-
-pub mod laws;
-
-/// Why a run writes no answer, or not the whole of it. The text is the line that [`report`] writes.
-///
-/// ```text
-/// Failure::Line(2), whose text is  line 2: invalid IP address syntax
-/// ```
-#[derive(Clone, Copy, Debug, Drop, Error)]
-pub enum Failure {
-    /// The arguments are other than none or the one word `legacy`.
-    #[error("ipnet: takes no argument or the word legacy")]
-    Arguments,
-    /// A read failed.
-    #[error("ipnet: input cannot be read")]
-    Unreadable,
-    /// The input is not UTF-8.
-    #[error("ipnet: input is not UTF-8")]
-    NotUtf8,
-    /// An allocation was refused.
-    #[error("ipnet: out of memory")]
-    Memory,
-    /// The line of this number, counted from 1 with the empty ones, is the first that is neither empty nor a
-    /// network.
-    #[error("line {0}: invalid IP address syntax")]
-    Line(usize),
-    /// A write failed, or the flush after it.
-    #[error("ipnet: output cannot be written")]
-    Unwritable,
-}
-
-impl Failure {
-    ghost use Rattle.ipnet_tool.specs.Statuses.{status_of};
-
-    /// The exit status for this failure.
-    fn status(self) -> u8
-        ensures { result ≡ status_of self }
-    {
-        match self {
-            Failure::Line(_) => 1,
-            Failure::Arguments => 2,
-            Failure::Unreadable | Failure::NotUtf8 | Failure::Memory | Failure::Unwritable => 3,
-        }
-    }
-}
 
 /// Runs the program, and returns its exit status.
 ///

@@ -5,17 +5,17 @@ ghost use Rattle.std.specs.Prelude.{string_bytes};
 ghost use Rattle.std.below.core.specs.declared.int.usize.TheConstants.{MAX};
 ghost use Rattle.ipnet.specs.Network.{Network};
 ghost use Rattle.ipnet.specs.Blocks.{HaveSameCover, IsAggregateOf};
-ghost use Rattle.ipnet.specs.CanonicalTexts.{canonical_text};
 ghost use Rattle.ipnet.specs.declared.parser.Grammar.TheVariants.{Strict, Legacy};
 ghost use Rattle.ipnet.specs.Lines.{lines_of, AreNetworksOf, IsFirstBadLine};
 ghost use Rattle.ipnet.specs.NetworkOf.{ip_network};
 ghost use Rattle.ipnet.specs.NetworkTexts.{IsNetworkText, ReadsNetwork};
-ghost use Rattle.ipnet_tool.specs.Answers.{IsTextAnswer, StartsWithBadLine, text_of_lines};
-ghost use Rattle.ipnet_tool.specs.Families.{networks_of};
+ghost use Rattle.ipnet_text.specs.LineTexts.{text_of_lines};
+ghost use Rattle.ipnet_tool.specs.Answers.{IsTextAnswer, StartsWithBadLine};
+ghost use Rattle.ipnet_text.specs.NetLists.{networks_of};
 
-use crate::joins::push_joined;
-use ipnet::parser::AddrParseError;
-use ipnet::{Grammar, IpNet, Ipv4Net, Ipv6Net};
+use crate::front_reader::FrontReader;
+use ipnet::{AddrParseError, Grammar, IpNet};
+use ipnet_text::{NetLists, first_line, push_line};
 use std::alloc::{AllocError, Global};
 use thiserror::Error;
 
@@ -69,19 +69,12 @@ pub fn aggregate_text_legacy(alloc: Global, text: &str) -> Result<String, ToolEr
     answer_to(alloc, text, Grammar::Legacy)
 }
 
-/// Networks by family, so that each family is sorted without the room and the tests that the other needs.
-#[derive(Drop)]
-pub(crate) struct Families {
-    pub(crate) ipv4: Vec<Ipv4Net>,
-    pub(crate) ipv6: Vec<Ipv6Net>,
-}
-
 /// The answer, in the grammar that is asked for.
 fn answer_to(alloc: Global, text: &str, grammar: Grammar) -> Result<String, ToolError>
     ensures { IsTextAnswer grammar text.now result }
 {
-    let mut families = Families::new(alloc);
-    families.push_lines(0, text, grammar)?;
+    let mut families = NetLists::new(alloc);
+    push_lines(&mut families, 0, text, grammar)?;
     families.aggregate();
     let Ok(answer) = printed(alloc, &families) else {
         return Err(ToolError::Memory);
@@ -89,102 +82,71 @@ fn answer_to(alloc: Global, text: &str, grammar: Grammar) -> Result<String, Tool
     Ok(answer)
 }
 
-/// The first line of a text that is not empty, and the text after its end.
-fn first_line(text: &str) -> (&str, &str)
-    requires { 0 < length text.now }
-    ensures lines { lines_of text.now ≡ result.0.now ∷ lines_of result.1.now }
-    ensures shorter { length result.1.now < length text.now }
+/// Adds the networks of the lines, in the grammar that is asked for, to the lists of their families. `before` lines
+/// come earlier; returns the total number of lines. Empty lines are skipped, and need no memory.
+///
+/// Fails with `Line` and the number of the first bad line, or with `Memory`. The networks of the lines before it may
+/// then be in the lists.
+///
+/// ```text
+/// push_lines(&mut lists, 0, "10.0.1.0/24\n\n10.0.0.0/24", Strict)  is  Ok(3), and the lists have both networks
+/// push_lines(&mut lists, 7, "x", Strict)                            is  Err(ToolError::Line(8))
+/// ```
+pub fn push_lines(
+    families: &mut NetLists,
+    before: usize,
+    text: &str,
+    grammar: Grammar,
+) -> Result<usize, ToolError>
+    requires { before + length text.now ≤ MAX }
+    ensures networks { OnOk result ((networks : List Network)
+        × AreNetworksOf grammar (lines_of text.now) networks
+        × HaveSameCover (networks_of families.old ++ networks) (networks_of families.new)) }
+    ensures count { IfOk result (λ lines. lines ≡ before + length (lines_of text.now)) }
+    ensures empty { All (λ line. line ≡ []) (lines_of text.now)
+        → IsOk result × (networks_of families.new ≡ networks_of families.old) }
+    ensures bad_line { (number : ℕ) → result ≡ Err (ToolError.Line number)
+        → (later : ℕ) × (number ≡ before + later) × IsFirstBadLine grammar (lines_of text.now) later }
+    ensures bad_at_once { (later : ℕ) → StartsWithBadLine grammar (lines_of text.now) later
+        → result ≡ Err (ToolError.Line (before + later)) }
 {
-    match text.split_once('\n') {
-        Some(cut) => cut,
-        None => (text, ""),
+    let mut rest = text;
+    let mut number = before;
+    let mut reader = FrontReader::new();
+    'lines: while !rest.is_empty() {
+        number += 1;
+        if let Some(front) = reader.read(rest.as_bytes()) {
+            rest = &rest[front.len + 1..];
+            let Ok(()) = families.push(front.network) else {
+                return Err(ToolError::Memory);
+            };
+            continue 'lines;
+        }
+        let (line, after) = first_line(rest);
+        rest = after;
+        if !line.is_empty() {
+            let Ok(network) = parse_as(line, grammar) else {
+                return Err(ToolError::Line(number));
+            };
+            let Ok(()) = families.push(network) else {
+                return Err(ToolError::Memory);
+            };
+        }
     }
+    Ok(number)
 }
 
-/// The network that the line writes in this grammar.
-fn read_line(line: &str, grammar: Grammar) -> Result<IpNet, AddrParseError>
+/// [`IpNet::parse_as`], never inlined: inside the loop over lines its code would slow down the lines that are read at
+/// the front.
+#[inline(never)]
+fn parse_as(line: &str, grammar: Grammar) -> Result<IpNet, AddrParseError>
     ensures { ReadsNetwork ip_network (IsNetworkText grammar) line.now result }
 {
-    match grammar {
-        Grammar::Strict => line.parse::<IpNet>(),
-        Grammar::Legacy => IpNet::parse_legacy(line),
-    }
-}
-
-impl Families {
-    ghost use Rattle.ipnet_tool.specs.Families.{networks_of};
-
-    /// No networks.
-    pub(crate) fn new(alloc: Global) -> Families
-        ensures { networks_of result ≡ [] }
-    {
-        Families {
-            ipv4: Vec::new(alloc),
-            ipv6: Vec::new(alloc),
-        }
-    }
-
-    /// Adds the network to the list of its family.
-    fn push(&mut self, network: IpNet) -> Result<(), AllocError>
-        ensures { OnOk result (HaveSameCover (networks_of self.new) (networks_of self.old ++ ip_network network ∷ [])) }
-    {
-        match network {
-            IpNet::V4(network) => push_joined(&mut self.ipv4, network),
-            IpNet::V6(network) => push_joined(&mut self.ipv6, network),
-        }
-    }
-
-    /// Adds the networks of the lines, up to the first bad one. `before` lines come earlier; returns the total
-    /// number of lines.
-    pub(crate) fn push_lines(
-        &mut self,
-        before: usize,
-        text: &str,
-        grammar: Grammar,
-    ) -> Result<usize, ToolError>
-        requires { before + length text.now ≤ MAX }
-        ensures networks { OnOk result ((networks : List Network)
-            × AreNetworksOf grammar (lines_of text.now) networks
-            × HaveSameCover (networks_of self.old ++ networks) (networks_of self.new)) }
-        ensures count { IfOk result (λ lines. lines ≡ before + length (lines_of text.now)) }
-        ensures empty { All (λ line. line ≡ []) (lines_of text.now)
-            → IsOk result × (networks_of self.new ≡ networks_of self.old) }
-        ensures bad_line { (number : ℕ) → result ≡ Err (ToolError.Line number)
-            → (later : ℕ) × (number ≡ before + later) × IsFirstBadLine grammar (lines_of text.now) later }
-        ensures bad_at_once { (later : ℕ) → StartsWithBadLine grammar (lines_of text.now) later
-            → result ≡ Err (ToolError.Line (before + later)) }
-    {
-        let mut rest = text;
-        let mut number = before;
-        'lines: while !rest.is_empty() {
-            let (line, after) = first_line(rest);
-            rest = after;
-            number += 1;
-            if !line.is_empty() {
-                let Ok(network) = read_line(line, grammar) else {
-                    return Err(ToolError::Line(number));
-                };
-                let Ok(()) = self.push(network) else {
-                    return Err(ToolError::Memory);
-                };
-            }
-        }
-        Ok(number)
-    }
-
-    /// Replaces the networks of each family by their aggregate; together they are the aggregate of all. Allocates
-    /// nothing.
-    pub(crate) fn aggregate(&mut self)
-        ensures empty { networks_of self.old ≡ [] → networks_of self.new ≡ [] }
-        ensures aggregate { IsAggregateOf (networks_of self.new) (networks_of self.old) }
-    {
-        Ipv4Net::aggregate_in_place(&mut self.ipv4);
-        Ipv6Net::aggregate_in_place(&mut self.ipv6);
-    }
+    IpNet::parse_as(line, grammar)
 }
 
 /// The canonical texts of the networks, one per line, IPv4 first.
-fn printed(alloc: Global, families: &Families) -> Result<String, AllocError>
+fn printed(alloc: Global, families: &NetLists) -> Result<String, AllocError>
     ensures empty { networks_of families.now ≡ [] → IsOk result }
     ensures text { IfOk result (λ text. string_bytes text ≡ text_of_lines (networks_of families.now)) }
 {
@@ -196,13 +158,4 @@ fn printed(alloc: Global, families: &Families) -> Result<String, AllocError>
         push_line(&mut text, IpNet::V6(*network))?;
     }
     Ok(text)
-}
-
-/// Appends the network's text and a newline.
-fn push_line(text: &mut String, network: IpNet) -> Result<(), AllocError>
-    ensures { OnOk result
-        (string_bytes text.new ≡ (string_bytes text.old ++ canonical_text (ip_network network)) ++ 10 ∷ []) }
-{
-    text.push_str(network.to_text().as_str())?;
-    text.push_str("\n")
 }

@@ -1,7 +1,8 @@
 //! The arguments of a system that the test makes.
 ghost use Rattle.std.specs.Prelude.{◌≤◌};
 
-use ipnet_tool::program::{Failure, arguments};
+use ipnet_tool::Failure;
+use ipnet_tool::program::arguments;
 use std::env::{Env, FillError};
 use std::test::Fail;
 

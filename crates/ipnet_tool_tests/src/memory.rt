@@ -5,13 +5,15 @@
 //! size, so it may have none of the next size: answers and refusals alternate until there is room for all.
 use crate::arguments::System;
 use crate::runs::{Ends, LINE_1, LINE_2, NOT_UTF8};
-use ipnet_tool::program::{Failure, arguments};
-use ipnet_tool::{ToolError, aggregate_text, aggregate_text_legacy, run};
+use ipnet_tool::program::arguments;
+use ipnet_tool::{Failure, ToolError, aggregate_text, aggregate_text_legacy, run};
 use std::alloc::Global;
 use std::test::Fail;
 use test_support::devices::{ArrayWriter, ByteReader};
 use test_support::memory::{
-    Outcome, grow_stack, is_refused_and_answered, is_refused_then_answered, needs_no_memory,
+    Outcome, RUNS, grow_stack, is_refused, is_refused_and_answered,
+    is_refused_and_answered_beside_room, is_refused_then_answered, needs_no_memory,
+    outcomes_beside_room,
 };
 
 /// The outcome of the text tool, if this answer or the bad line of this number is right.
@@ -56,7 +58,10 @@ fn text_tool(rt: HostRuntime) -> Result<(), Fail> {
     Ok(())
 }
 
-/// A line that is longer than the window into which input is read.
+/// The size of the window into which input is read.
+const WINDOW: usize = 65536;
+
+/// A line that is longer than the window.
 const LONG_LINE: [u8; 70_000] = [b'x'; 70_000];
 
 /// The outcome of a run of the program on the bytes, if these ends are right.
@@ -75,23 +80,44 @@ fn program_outcome(alloc: Global, bytes: &[u8], wanted: Ends) -> Outcome {
     }
 }
 
+/// A run allocates its window before it reads, so each run is refused without memory.
 #[test]
 fn program(rt: HostRuntime) -> Result<(), Fail> {
     grow_stack(rt.alloc())?;
     let alloc = rt.alloc();
-    // label, input, the ends of the run
-    let rows: [(&str, &[u8], Ends); 3] = [
+    let nothing: Ends = (b"", b"", 0);
+    // label, input, the ends of the run, whether the run only asks for its window
+    let rows: [(&str, &[u8], Ends, bool); 8] = [
         (
             "program",
             b"10.0.1.0/24\n10.0.0.0/24\n",
             (b"10.0.0.0/23\n", b"", 0),
+            false,
         ),
-        ("program, a bad line", b"::/0\nx\n", LINE_2),
-        ("program, empty lines", b"::/0\n\n\n", (b"::/0\n", b"", 0)),
+        ("program, a bad line", b"::/0\nx\n", LINE_2, false),
+        (
+            "program, empty lines",
+            b"::/0\n\n\n",
+            (b"::/0\n", b"", 0),
+            false,
+        ),
+        ("program on nothing", b"", nothing, true),
+        ("program on empty lines", b"\n\n", nothing, true),
+        ("program, the first line bad", b"x\n::/0\n", LINE_1, true),
+        ("program, not UTF-8", b"x\n\xff", NOT_UTF8, true),
+        ("program, a line without end", &LONG_LINE, LINE_1, true),
     ];
-    for (label, bytes, wanted) in rows {
+    for (label, bytes, wanted, only_window) in rows {
         let call = || program_outcome(alloc, bytes, wanted);
-        assert!(&rt; is_refused_then_answered(alloc, call)?, "memory: {label}");
+        assert!(&rt; is_refused(alloc, call)?, "memory: {label}");
+        if only_window {
+            let runs = outcomes_beside_room(alloc, WINDOW, call)?;
+            let answered = [Outcome::Answered; RUNS];
+            assert!(&rt; runs.is_none_or(|runs| runs == answered), "memory: {label}");
+        } else {
+            let answered = is_refused_and_answered_beside_room(alloc, WINDOW, call)?;
+            assert!(&rt; answered, "memory: {label}");
+        }
     }
     Ok(())
 }
@@ -138,26 +164,6 @@ fn no_request(rt: HostRuntime) -> Result<(), Fail> {
             text_outcome(aggregate_text(alloc, text), wanted) == Outcome::Answered
                 && text_outcome(aggregate_text_legacy(alloc, text), wanted) == Outcome::Answered
         };
-        assert!(&rt; needs_no_memory(alloc, call)?, "memory: {label}");
-    }
-    Ok(())
-}
-
-#[test]
-fn no_request_of_the_program(rt: HostRuntime) -> Result<(), Fail> {
-    grow_stack(rt.alloc())?;
-    let alloc = rt.alloc();
-    let nothing: Ends = (b"", b"", 0);
-    // label, input, the ends of the run
-    let rows: [(&str, &[u8], Ends); 5] = [
-        ("program on nothing", b"", nothing),
-        ("program on empty lines", b"\n\n", nothing),
-        ("program, the first line bad", b"x\n::/0\n", LINE_1),
-        ("program, not UTF-8", b"x\n\xff", NOT_UTF8),
-        ("program, a line without end", &LONG_LINE, LINE_1),
-    ];
-    for (label, bytes, wanted) in rows {
-        let call = || program_outcome(alloc, bytes, wanted) == Outcome::Answered;
         assert!(&rt; needs_no_memory(alloc, call)?, "memory: {label}");
     }
     Ok(())

@@ -1,8 +1,7 @@
-//! The command line: which lists are read, and what is asked of them.
+//! The command line: the lists to read, and what to do with them.
 use crate::version::VERSION;
 use clap::{Arg, ArgAction, ArgMatches, Command, Error};
-use ipnet::Grammar;
-use netset_lists::{Families, Form, Operation, Query, Request, Side};
+use netset_lib::{Flags, Query, Work};
 use std::alloc::{AllocError, Global};
 use std::env;
 use std::io::ErrorKind;
@@ -15,27 +14,18 @@ const FIRST: &str = "first";
 
 const OTHERS: &str = "others";
 
-/// What the arguments ask of lists.
-#[derive(Clone, Copy)]
-pub enum Work {
-    /// What an operation makes of them.
-    Combine(Request),
-    /// What a query answers of them, their entries read by this grammar.
-    Ask(Query, Grammar),
-}
-
-/// What the arguments ask for.
+/// The parsed command line.
 #[derive(Drop)]
 pub struct Call<'a> {
-    /// What is asked of the lists.
+    /// The operation or the query.
     pub work: Work,
-    /// The names of the lists, in order. One of them at most is that of standard input.
+    /// The names of the lists, in order. At most one of them is standard input.
     pub names: Vec<&'a str>,
-    /// Whether it is told how far reading has come, wherever standard error goes.
+    /// Whether to print the bytes read from each list to standard error, even if it is not a terminal.
     pub tells_progress: bool,
 }
 
-/// Why the arguments make no call, though each of them is one of the command's.
+/// Why the arguments cannot be used, although each of them is one of the command's.
 #[derive(Clone, Copy, Debug, PartialEq, Eq, Drop, thiserror::Error)]
 pub enum ArgumentFailure {
     /// An argument is not UTF-8.
@@ -44,12 +34,15 @@ pub enum ArgumentFailure {
     /// Two lists are standard input, which can be read once.
     #[error("standard input is named twice")]
     InputTwice,
-    /// A growth was refused.
+    /// No command has this name.
+    #[error("no such command")]
+    NoCommand,
+    /// Memory ran out.
     #[error("out of memory")]
     Memory,
 }
 
-/// The words of the command line, the program's own name first.
+/// The words of the command line, with the program's own name first.
 pub fn words(rt: &HostRuntime) -> Result<Vec<String>, ArgumentFailure> {
     match env::args(rt) {
         Ok(args) => args
@@ -60,7 +53,7 @@ pub fn words(rt: &HostRuntime) -> Result<Vec<String>, ArgumentFailure> {
     }
 }
 
-/// A flag of this name.
+/// The flag with this name and help text.
 fn flag<'a>(alloc: Global, name: &'a str, help: &'a str) -> Arg<'a> {
     Arg::new(alloc, name)
         .long(name)
@@ -68,7 +61,7 @@ fn flag<'a>(alloc: Global, name: &'a str, help: &'a str) -> Arg<'a> {
         .help(help)
 }
 
-/// The list that is named first.
+/// The first list.
 fn first<'a>(alloc: Global, name: &'a str, help: &'a str) -> Arg<'a> {
     Arg::new(alloc, FIRST)
         .value_name(name)
@@ -76,19 +69,19 @@ fn first<'a>(alloc: Global, name: &'a str, help: &'a str) -> Arg<'a> {
         .help(help)
 }
 
-/// One list or more, from the first on.
+/// One list or more.
 fn first_and_more<'a>(alloc: Global) -> Arg<'a> {
     first(alloc, "FILE", "A list, - for standard input")
         .num_args(1..)
         .action(ArgAction::Append)
 }
 
-/// A list that is named alone, or before others.
+/// The only list, or the first of several.
 fn first_file<'a>(alloc: Global) -> Arg<'a> {
     first(alloc, "FILE", "A list, - for standard input")
 }
 
-/// The list that is named behind the first.
+/// The list after the first.
 fn other<'a>(alloc: Global, help: &'a str) -> Arg<'a> {
     Arg::new(alloc, OTHERS)
         .value_name("FILE")
@@ -96,34 +89,34 @@ fn other<'a>(alloc: Global, help: &'a str) -> Arg<'a> {
         .help(help)
 }
 
-/// The lists that are named behind the first, one or more.
+/// The lists after the first, at least one.
 fn others<'a>(alloc: Global) -> Arg<'a> {
     other(alloc, "The other lists")
         .num_args(1..)
         .action(ArgAction::Append)
 }
 
-/// A command with the flags that all have.
+/// A command with the flags that all commands have.
 fn command_of<'a>(alloc: Global, name: &'a str, about: &'a str) -> Result<Command<'a>, AllocError> {
-    let legacy = "Read leading zeros, as decimal";
-    let progress = "Tell on standard error how many bytes were read, list by list";
+    let legacy = "Accept leading zeros (numbers stay decimal), and a :: for no group";
+    let progress = "Print the number of bytes read from each list to standard error";
     Command::new(alloc, name)
         .about(about)
         .arg(flag(alloc, "legacy", legacy))?
         .arg(flag(alloc, "progress", progress))
 }
 
-/// The command of an operation, without its lists.
+/// The command of an operation; its lists are still missing.
 fn operation_command<'a>(
     alloc: Global,
     name: &'a str,
     about: &'a str,
 ) -> Result<Command<'a>, AllocError> {
-    let ranges = "Write the fewest ranges, as 10.0.0.0-10.0.0.5, in place of networks";
+    let ranges = "Print the fewest ranges, such as 10.0.0.0-10.0.0.5, instead of networks";
     command_of(alloc, name, about)?.arg(flag(alloc, "ranges", ranges))
 }
 
-/// The command of an operation on two lists or more.
+/// The command of an operation on at least two lists.
 fn on_two_and_more<'a>(
     alloc: Global,
     name: &'a str,
@@ -136,7 +129,7 @@ fn on_two_and_more<'a>(
 
 /// The command `complement`.
 fn complement_command<'a>(alloc: Global) -> Result<Command<'a>, AllocError> {
-    let about = "The addresses that are not in the list, of the families of which it has some";
+    let about = "The addresses that are not in the list, for each address family that occurs in it";
     let ipv4 = "The complement in IPv4, whatever families the list has";
     let ipv6 = "The complement in IPv6, whatever families the list has";
     operation_command(alloc, "complement", about)?
@@ -145,13 +138,13 @@ fn complement_command<'a>(alloc: Global) -> Result<Command<'a>, AllocError> {
         .arg(first_file(alloc))
 }
 
-/// The command with those whose answer is a list of addresses.
+/// Adds the commands whose result is a list of addresses.
 fn with_operations<'a>(alloc: Global, command: Command<'a>) -> Result<Command<'a>, AllocError> {
     let union = "The addresses of all lists";
     let union = operation_command(alloc, "union", union)?.arg(first_and_more(alloc))?;
     let intersection = "The addresses that are in every list";
     let difference = "The addresses of the first list that are in none of the others";
-    let symmetric = "The addresses that are in one of two lists alone";
+    let symmetric = "The addresses that are in exactly one of two lists";
     let symmetric = operation_command(alloc, "symmetric-difference", symmetric)?
         .arg(first_file(alloc))?
         .arg(other(alloc, "The other list"))?;
@@ -165,26 +158,22 @@ fn with_operations<'a>(alloc: Global, command: Command<'a>) -> Result<Command<'a
 
 /// The command `filter`.
 fn filter_command<'a>(alloc: Global) -> Result<Command<'a>, AllocError> {
-    let about = "The entries of FILE that lie whole in SET, as written, in order";
-    let outside = "Those that lie whole outside SET";
+    let about = "The entries of FILE that lie entirely inside SET, as written, in order";
+    let outside = "Print the entries that lie entirely outside SET instead";
     command_of(alloc, "filter", about)?
         .arg(flag(alloc, "outside", outside))?
-        .arg(first(alloc, "SET", "The list whose addresses are asked"))?
-        .arg(other(
-            alloc,
-            "The list to filter; standard input where it is left out",
-        )
-        .required(false))
+        .arg(first(alloc, "SET", "The list of the addresses to filter by"))?
+        .arg(other(alloc, "The list to filter; standard input if it is omitted").required(false))
 }
 
-/// The command with those whose answer is no list of addresses.
+/// Adds the commands whose result is not a list of addresses.
 fn with_queries<'a>(alloc: Global, command: Command<'a>) -> Result<Command<'a>, AllocError> {
-    let count = "How many IPv4 and how many IPv6 addresses the list has";
+    let count = "The number of IPv4 addresses and of IPv6 addresses in the list";
     let compare =
-        "Whether two lists have the same addresses: else status 1, and how many each has alone";
+        "The number of addresses that are in only one of two lists; status 1 if there are any";
     let route =
-        "For each entry of FILE the longest network of TABLE that holds it, or - where none does";
-    let asked = "The list to route; standard input where it is left out";
+        "For each entry of FILE, the longest network of TABLE that contains it, or - if none does";
+    let asked = "The list of entries to look up; standard input if it is omitted";
     command
         .subcommand(command_of(alloc, "count", count)?.arg(first_file(alloc))?)?
         .subcommand(
@@ -195,7 +184,7 @@ fn with_queries<'a>(alloc: Global, command: Command<'a>) -> Result<Command<'a>, 
         .subcommand(filter_command(alloc)?)?
         .subcommand(
             command_of(alloc, "route", route)?
-                .arg(first(alloc, "TABLE", "The list of the networks to choose from"))?
+                .arg(first(alloc, "TABLE", "The list of networks to choose from"))?
                 .arg(other(alloc, asked).required(false))?,
         )
 }
@@ -210,70 +199,23 @@ fn command<'a>(alloc: Global) -> Result<Command<'a>, AllocError> {
     with_queries(alloc, with_operations(alloc, command)?)
 }
 
-/// What the words of the command line say, or what is told of them: help, the version, or what is wrong.
+/// Parses the command line. The error is the text to print: help, the version, or what is wrong.
 pub fn matches_of<'a>(alloc: Global, words: &'a [String]) -> Result<ArgMatches<'a>, Error> {
     command(alloc)?.try_get_matches_from(words)
 }
 
-/// The families that the flags choose: where there is none, those of which the list has an address.
-fn families(ipv4: bool, ipv6: bool) -> Families {
-    match (ipv4, ipv6) {
-        (false, false) => Families::Named,
-        (true, false) => Families::Ipv4,
-        (false, true) => Families::Ipv6,
-        (true, true) => Families::Both,
+/// The flags that are set. A flag that the command does not have is not set.
+fn flags_of(matches: &ArgMatches) -> Flags {
+    Flags {
+        legacy: matches.get_flag("legacy"),
+        ranges: matches.get_flag("ranges"),
+        ipv4: matches.get_flag("ipv4"),
+        ipv6: matches.get_flag("ipv6"),
+        outside: matches.get_flag("outside"),
     }
 }
 
-/// The operation of the command.
-fn operation(name: &str, matches: &ArgMatches) -> Operation {
-    match name {
-        "intersection" => Operation::Intersection,
-        "difference" => Operation::Difference,
-        "symmetric-difference" => Operation::SymmetricDifference,
-        "complement" => {
-            let families = families(matches.get_flag("ipv4"), matches.get_flag("ipv6"));
-            Operation::Complement(families)
-        }
-        _ => Operation::Union,
-    }
-}
-
-/// The query of the command, or `None` where it is an operation.
-fn query(name: &str, matches: &ArgMatches) -> Option<Query> {
-    match name {
-        "count" => Some(Query::Count),
-        "compare" => Some(Query::Compare),
-        "filter" if matches.get_flag("outside") => Some(Query::Filter(Side::Outside)),
-        "filter" => Some(Query::Filter(Side::Inside)),
-        "route" => Some(Query::Route),
-        _ => None,
-    }
-}
-
-/// What is asked of the lists.
-fn work_of(name: &str, matches: &ArgMatches) -> Work {
-    let grammar = if matches.get_flag("legacy") {
-        Grammar::Legacy
-    } else {
-        Grammar::Strict
-    };
-    if let Some(query) = query(name, matches) {
-        return Work::Ask(query, grammar);
-    }
-    let form = if matches.get_flag("ranges") {
-        Form::Ranges
-    } else {
-        Form::Networks
-    };
-    Work::Combine(Request {
-        operation: operation(name, matches),
-        grammar,
-        form,
-    })
-}
-
-/// The names of the lists, in order; standard input in place of a second one that is left out.
+/// The names of the lists, in order. If `filter` or `route` has only one, standard input is the second.
 fn names_of<'a>(
     alloc: Global,
     work: Work,
@@ -292,10 +234,13 @@ fn names_of<'a>(
     Ok(names)
 }
 
-/// What the command line asks for.
+/// Reads the parsed words: the work, the names of the lists, and whether to print progress.
 pub fn call_of<'a>(alloc: Global, matches: &ArgMatches<'a>) -> Result<Call<'a>, ArgumentFailure> {
     let (name, matches) = matches.subcommand().unwrap_or(("", matches));
-    let work = work_of(name, matches);
+    let Some(command) = netset_lib::Command::from_name(name) else {
+        return Err(ArgumentFailure::NoCommand);
+    };
+    let work = command.work(flags_of(matches));
     let Ok(names) = names_of(alloc, work, matches) else {
         return Err(ArgumentFailure::Memory);
     };

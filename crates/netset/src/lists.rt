@@ -1,49 +1,67 @@
 //! The lists, read from files and from standard input.
-ghost use Rattle.std.specs.Prelude.{◌≡◌, length, IfOk};
-
 use crate::arguments::STANDARD_INPUT;
-use netset_lists::{ReadFailure, read_whole};
+use netset_lib::{ReadFailure, Session};
 use std::fs::File;
-use std::io::{ErrorKind, IsTerminal, Write};
+use std::io;
+use std::io::{ErrorKind, IsTerminal, Read, Write};
 
-/// From how many bytes on it is told on a terminal how far reading has come.
+/// From this number of bytes on, a terminal gets a report of the reading.
 const MUCH: usize = 16_777_216;
 
-/// The bytes of the list of this name: of standard input where it is "-", and else of a file.
-fn read_list(rt: &HostRuntime, name: &str) -> Result<Vec<u8>, ReadFailure> {
+/// A reader that counts the bytes that it returns.
+#[derive(Drop)]
+struct Counted<R: Drop> {
+    input: R,
+    count: usize,
+}
+
+impl<R: Read + Drop> Read for Counted<R> {
+    ghost remaining = { λ r. R.remaining r.input };
+
+    fn read(&mut self, buf: &mut [u8]) -> io::Result<usize> {
+        let count = self.input.read(buf)?;
+        self.count = self.count.saturating_add(count);
+        Ok(count)
+    }
+}
+
+/// Reads a list, and returns the number of its bytes.
+fn read_from<R: Read + Drop>(session: &mut Session, input: R) -> Result<usize, ReadFailure> {
+    let mut counted = Counted { input, count: 0 };
+    session.read(&mut counted)?;
+    Ok(counted.count)
+}
+
+/// Reads the list of this name: from standard input if it is "-", and otherwise from a file.
+fn read_list(rt: &HostRuntime, session: &mut Session, name: &str) -> Result<usize, ReadFailure> {
     if name == STANDARD_INPUT {
-        return read_whole(rt.alloc(), &mut rt.stdin());
+        return read_from(session, rt.stdin());
     }
     match File::open(rt, name) {
-        Ok(mut file) => read_whole(rt.alloc(), &mut file),
+        Ok(file) => read_from(session, file),
         Err(error) if error.kind() == ErrorKind::OutOfMemory => Err(ReadFailure::Memory),
         Err(_) => Err(ReadFailure::Unreadable),
     }
 }
 
-/// The bytes of the lists of these names, or the first that could not be had, and why.
+/// Reads the lists of these names one after another. A file is opened when its turn comes, and then closed. Fails with
+/// the name of the first that could not be read, and the reason.
 ///
-/// Where `tells_progress`, and where the bytes are many and standard error is a terminal, it is told there after each
-/// list how many it has. Where that cannot be written, the lists are read all the same.
+/// If `tells_progress`, or if the bytes are many and standard error is a terminal, the number of bytes of each list is
+/// reported there. If that cannot be written, the lists are read all the same.
 pub fn read_lists<'a>(
     rt: &HostRuntime,
+    session: &mut Session,
     names: &[&'a str],
     tells_progress: bool,
-) -> Result<Vec<Vec<u8>>, (&'a str, ReadFailure)>
-    ensures one_for_each { IfOk result (λ lists. length lists.items ≡ length names.now) }
-{
-    let mut lists = Vec::new(rt.alloc());
+) -> Result<(), (&'a str, ReadFailure)> {
     let mut total: usize = 0;
     for name in names {
-        let bytes = read_list(rt, name).map_err(|failure| (*name, failure))?;
-        let count = bytes.len();
+        let count = read_list(rt, session, name).map_err(|failure| (*name, failure))?;
         total = total.saturating_add(count);
         if tells_progress || (total >= MUCH && rt.stderr().is_terminal()) {
             let _ = writeln!(rt.stderr(), "netset: {name}: {count} bytes read");
         }
-        if lists.push(bytes).is_err() {
-            return Err((name, ReadFailure::Memory));
-        }
     }
-    Ok(lists)
+    Ok(())
 }

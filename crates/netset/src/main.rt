@@ -5,10 +5,10 @@ mod arguments;
 mod lists;
 mod version;
 
-use crate::arguments::{ArgumentFailure, Call, Work, call_of, matches_of, words};
+use crate::arguments::{ArgumentFailure, Call, call_of, matches_of, words};
 use crate::lists::read_lists;
 use clap::ArgMatches;
-use netset_lists::{run, run_query};
+use netset_lib::{Session, run};
 use std::io::Write;
 use std::process::ExitCode;
 
@@ -16,7 +16,7 @@ fn main(rt: HostRuntime) -> ExitCode {
     ExitCode::from(status(&rt))
 }
 
-/// Runs the program, and answers its exit status.
+/// Runs the program, and returns its exit status.
 fn status(rt: &HostRuntime) -> u8 {
     let words = match words(rt) {
         Ok(words) => words,
@@ -28,7 +28,7 @@ fn status(rt: &HostRuntime) -> u8 {
     }
 }
 
-/// Prints help, the version or what is wrong with the arguments, and answers the status.
+/// Prints help, the version or what is wrong with the arguments, and returns the status.
 fn shown(rt: &HostRuntime, error: &clap::Error) -> u8 {
     let is_wrong = error.use_stderr();
     if error.print(rt).is_err() && !is_wrong {
@@ -38,13 +38,13 @@ fn shown(rt: &HostRuntime, error: &clap::Error) -> u8 {
     if is_wrong { 2 } else { 0 }
 }
 
-/// Tells why the arguments make no call, and answers the status. Where that write fails, the status is the same.
+/// Prints why the arguments cannot be used, and returns the status, even if it cannot be printed.
 fn refused(rt: &HostRuntime, failure: ArgumentFailure) -> u8 {
     let _ = writeln!(rt.stderr(), "netset: {failure}");
     2
 }
 
-/// Reads the lists and runs what the arguments ask of them.
+/// Reads the lists, and runs the operation or the query.
 fn called(rt: &HostRuntime, matches: &ArgMatches) -> u8 {
     let Call {
         work,
@@ -54,30 +54,13 @@ fn called(rt: &HostRuntime, matches: &ArgMatches) -> u8 {
         Ok(call) => call,
         Err(failure) => return refused(rt, failure),
     };
-    let lists = match read_lists(rt, names.as_slice(), tells_progress) {
-        Ok(lists) => lists,
-        Err((name, failure)) => {
-            let _ = writeln!(rt.stderr(), "netset: {name}: {failure}");
-            return 2;
-        }
+    let Ok(mut session) = Session::new(rt.alloc(), work) else {
+        return refused(rt, ArgumentFailure::Memory);
     };
-    match work {
-        Work::Combine(request) => run(
-            rt.alloc(),
-            request,
-            names.as_slice(),
-            lists.as_slice(),
-            &mut rt.stdout(),
-            &mut rt.stderr(),
-        ),
-        Work::Ask(query, grammar) => run_query(
-            rt.alloc(),
-            query,
-            grammar,
-            names.as_slice(),
-            lists.as_slice(),
-            &mut rt.stdout(),
-            &mut rt.stderr(),
-        ),
+    let names = names.as_slice();
+    if let Err((name, failure)) = read_lists(rt, &mut session, names, tells_progress) {
+        let _ = writeln!(rt.stderr(), "netset: {name}: {failure}");
+        return 2;
     }
+    run(session, names, &mut rt.stdout(), &mut rt.stderr())
 }

@@ -1,8 +1,8 @@
 //! Tests of results of `read_entry` and `cause_of` that the program netset does not show: the kind of an entry, texts
 //! with blanks or comments, and texts that are entries and so have no cause.
 use ipnet::Grammar;
-use netset_lists::cause::cause_of;
-use netset_lists::entry::read_entry;
+use netset_lib::cause::cause_of;
+use netset_lib::entry::read_entry;
 use std::alloc::Global;
 use std::test::Fail;
 

@@ -1,4 +1,4 @@
-//! Tests of `netset_lists` that call the library: the kinds of entries, the numbers of lists, readers and writers that
+//! Tests of `netset_lib` that call the library: the kinds of entries, the numbers of lists, readers and writers that
 //! fail, and refused memory.
 #![tactic(auto)]
 
@@ -8,3 +8,5 @@ mod entries;
 mod memory;
 #[cfg(test)]
 mod runs;
+#[cfg(test)]
+mod support;

@@ -1,14 +1,14 @@
 //! Tests with limited memory. Each call runs with enough memory, then with none, and then with more and more. The first
 //! limited run fails, and each other run fails or returns the right result.
+use crate::support::{WINDOW, answer, run_lists};
 use ipnet::Grammar;
-use netset_lists::answer::{Failure, Form, Request, answer};
-use netset_lists::program::{ReadFailure, read_whole, run, run_query};
-use netset_lists::{Families, Operation, Query, Side};
+use netset_lib::{Failure, Families, Form, Operation, Query, Request, Side, Work};
 use std::alloc::{AllocError, Global};
-use std::io::ErrorKind;
 use std::test::Fail;
-use test_support::devices::{ArrayWriter, ByteReader, NEVER};
-use test_support::memory::{Outcome, grow_stack, is_refused, is_refused_and_answered};
+use test_support::devices::ArrayWriter;
+use test_support::memory::{
+    Outcome, grow_stack, is_refused_and_answered_beside_room, is_refused_beside_room,
+};
 
 /// The lists of the text, with "+" between two lists.
 fn lists_of(alloc: Global, text: &str) -> Result<Vec<Vec<u8>>, AllocError> {
@@ -21,7 +21,7 @@ fn lists_of(alloc: Global, text: &str) -> Result<Vec<Vec<u8>>, AllocError> {
 
 /// The outcome of the request over the lists, if this text is the right result.
 fn answer_outcome(alloc: Global, request: Request, lists: &[Vec<u8>], wanted: &str) -> Outcome {
-    match &answer(alloc, request, lists) {
+    match &answer(alloc, Work::Combine(request), lists) {
         Ok(text) if text.as_str() == wanted => Outcome::Answered,
         Err(Failure::Memory) => Outcome::Refused,
         _ => Outcome::Wrong,
@@ -88,33 +88,26 @@ fn answers(rt: HostRuntime) -> Result<(), Fail> {
             form,
         };
         let call = || answer_outcome(alloc, request, lists.as_slice(), wanted);
-        assert!(&rt; is_refused_and_answered(alloc, call)?, "memory: {label}");
+        let is_right = is_refused_and_answered_beside_room(alloc, WINDOW, call)?;
+        assert!(&rt; is_right, "memory: {label}");
     }
     Ok(())
 }
 
 /// The outcome of a run, if these outputs and this status are right.
-fn outcome(found: (u8, &[u8], &[u8]), wanted: (u8, &[u8], &[u8])) -> Outcome {
-    if found == wanted {
+fn outcome(alloc: Global, work: Work, lists: &[Vec<u8>], wanted: (u8, &[u8], &[u8])) -> Outcome {
+    let mut out = ArrayWriter::whole();
+    let mut faults = ArrayWriter::whole();
+    let Some(status) = run_lists(alloc, work, lists, &mut out, &mut faults) else {
+        return Outcome::Refused;
+    };
+    if (status, out.held(), faults.held()) == wanted {
         return Outcome::Answered;
     }
-    match found {
+    match (status, out.held(), faults.held()) {
         (2, b"", b"netset: out of memory\n") => Outcome::Refused,
         _ => Outcome::Wrong,
     }
-}
-
-/// The outcome of the union of the lists, if these outputs and this status are right.
-fn run_outcome(alloc: Global, lists: &[Vec<u8>], wanted: (u8, &[u8], &[u8])) -> Outcome {
-    let mut out = ArrayWriter::whole();
-    let mut faults = ArrayWriter::whole();
-    let request = Request {
-        operation: Operation::Union,
-        grammar: Grammar::Strict,
-        form: Form::Networks,
-    };
-    let status = run(alloc, request, &["a"], lists, &mut out, &mut faults);
-    outcome((status, out.held(), faults.held()), wanted)
 }
 
 #[test]
@@ -129,30 +122,17 @@ fn runs(rt: HostRuntime) -> Result<(), Fail> {
     ];
     for (label, given, status, wanted, report) in rows {
         let lists = lists_of(alloc, given)?;
-        let call = || run_outcome(alloc, lists.as_slice(), (status, wanted, report));
-        assert!(&rt; is_refused_and_answered(alloc, call)?, "memory: {label}");
+        let request = Request {
+            operation: Operation::Union,
+            grammar: Grammar::Strict,
+            form: Form::Networks,
+        };
+        let work = Work::Combine(request);
+        let call = || outcome(alloc, work, lists.as_slice(), (status, wanted, report));
+        let is_right = is_refused_and_answered_beside_room(alloc, WINDOW, call)?;
+        assert!(&rt; is_right, "memory: {label}");
     }
     Ok(())
-}
-
-/// The outcome of a query over two lists, if this status and standard output are right.
-fn query_outcome(alloc: Global, query: Query, lists: &[Vec<u8>], wanted: (u8, &[u8])) -> Outcome {
-    let names = ["a", "b"].as_slice();
-    let mut out = ArrayWriter::whole();
-    let mut faults = ArrayWriter::whole();
-    let status = run_query(
-        alloc,
-        query,
-        Grammar::Strict,
-        names,
-        lists,
-        &mut out,
-        &mut faults,
-    );
-    outcome(
-        (status, out.held(), faults.held()),
-        (wanted.0, wanted.1, b""),
-    )
 }
 
 /// The last run may fail: a comparison allocates more blocks than the runs free. The rows of queries test the results
@@ -186,28 +166,10 @@ fn queries(rt: HostRuntime) -> Result<(), Fail> {
     ];
     for (label, query, given, status, wanted) in rows {
         let lists = lists_of(alloc, given)?;
-        let call = || query_outcome(alloc, query, lists.as_slice(), (status, wanted));
-        assert!(&rt; is_refused(alloc, call)?, "memory: {label}");
+        let work = Work::Ask(query, Grammar::Strict);
+        let call = || outcome(alloc, work, lists.as_slice(), (status, wanted, b""));
+        let is_right = is_refused_beside_room(alloc, WINDOW, call)?;
+        assert!(&rt; is_right, "memory: {label}");
     }
-    Ok(())
-}
-
-/// The outcome of reading the bytes, at most seven in each read.
-fn read_outcome(alloc: Global, bytes: &[u8]) -> Outcome {
-    let mut input = ByteReader::new(bytes, 7, NEVER, ErrorKind::Other);
-    match &read_whole(alloc, &mut input) {
-        Ok(found) if found.as_slice() == bytes => Outcome::Answered,
-        Err(ReadFailure::Memory) => Outcome::Refused,
-        _ => Outcome::Wrong,
-    }
-}
-
-#[test]
-fn reading(rt: HostRuntime) -> Result<(), Fail> {
-    grow_stack(rt.alloc())?;
-    let alloc = rt.alloc();
-    let bytes = b"10.0.0.0/8\nfd00::/8\n10.0.0.1-10.0.0.9\n";
-    let call = || read_outcome(alloc, bytes);
-    assert!(&rt; is_refused_and_answered(alloc, call)?, "memory: reading");
     Ok(())
 }

@@ -1,15 +1,15 @@
-//! Runs on other numbers of lists, and on readers and writers that fail, are interrupted, or move few bytes in a call.
+//! Runs on other numbers of lists, on long lines, and on readers and writers that fail, are interrupted, or move few
+//! bytes in a call.
+use crate::support::{answer, run_lists};
 use ipnet::Grammar;
-use netset_lists::answer::{Failure, Form, Request, answer};
-use netset_lists::program::{ReadFailure, read_whole, run, run_query};
-use netset_lists::{Families, Operation, Query, Side};
-use std::alloc::AllocError;
+use netset_lib::{
+    Failure, Families, Form, Operation, Query, ReadFailure, Request, Session, Side, Work,
+};
+use std::alloc::{AllocError, Global};
 use std::io::ErrorKind;
 use std::process::Abort;
 use std::test::Fail;
 use test_support::devices::{ArrayWriter, ByteReader, NEVER, WHOLE};
-
-const NAMES: [&str; 4] = ["a", "b", "c", "d"];
 
 /// The error message for a wrong number of lists.
 const COUNT: &[u8] = b"netset: another number of lists is wanted\n";
@@ -60,24 +60,19 @@ fn counts_of_operations(rt: HostRuntime) -> Result<(), Fail> {
             let takes = takes[count];
             let request = Request { operation, ..UNION };
             assert!(&rt; operation.takes(count) == takes, "{label}: {count} lists");
-            let found = answer(alloc, request, lists.as_slice());
+            let work = Work::Combine(request);
+            let found = answer(alloc, work, lists.as_slice());
             assert!(&rt;
                 matches!(found, Err(Failure::Count)) != takes,
                 "{label}: answer to {count} lists"
             );
             let mut out = ArrayWriter::whole();
             let mut faults = ArrayWriter::whole();
-            let status = run(
-                alloc,
-                request,
-                &NAMES,
-                lists.as_slice(),
-                &mut out,
-                &mut faults,
-            );
+            let status = run_lists(alloc, work, lists.as_slice(), &mut out, &mut faults);
+            let wanted = if takes { 0 } else { 2 };
             assert!(&rt;
-                (status == 0) == takes,
-                "{label}: run on {count} lists: status {status}"
+                status == Some(wanted),
+                "{label}: run on {count} lists: status"
             );
             assert!(&rt;
                 takes || faults.held() == COUNT,
@@ -91,7 +86,7 @@ fn counts_of_operations(rt: HostRuntime) -> Result<(), Fail> {
         Vec::from_slice(alloc, b"x")?,
     ];
     let operation = Operation::Complement(Families::Named);
-    let found = answer(alloc, Request { operation, ..UNION }, &lists);
+    let found = answer(alloc, Work::Combine(Request { operation, ..UNION }), &lists);
     assert!(&rt;
         matches!(found, Err(Failure::Count)),
         "complement: two lists, and a refused line"
@@ -115,25 +110,17 @@ fn counts_of_queries(rt: HostRuntime) -> Result<(), Fail> {
         for count in 0..5 {
             let mut out = ArrayWriter::whole();
             let mut faults = ArrayWriter::whole();
-            let given = lists.as_slice();
-            let status = run_query(
-                alloc,
-                query,
-                Grammar::Strict,
-                &NAMES,
-                given,
-                &mut out,
-                &mut faults,
-            );
+            let work = Work::Ask(query, Grammar::Strict);
+            let status = run_lists(alloc, work, lists.as_slice(), &mut out, &mut faults);
             let (number, report) = if count == wanted {
                 (0, b"".as_slice())
             } else {
                 (2, COUNT)
             };
-            assert!(&rt; status == number, "{label}: {count} lists: status {status}");
+            assert!(&rt; status == Some(number), "{label}: {count} lists: status");
             assert!(&rt; faults.held() == report, "{label}: {count} lists: report");
             assert!(&rt;
-                status == 0 || out.held().is_empty(),
+                number == 0 || out.held().is_empty(),
                 "{label}: {count} lists: answer"
             );
             lists.push(Vec::from_slice(alloc, b"10.0.0.1\n")?)?;
@@ -152,9 +139,9 @@ fn check_union<R: Abort + AllocGlobal>(
     let alloc = rt.alloc();
     let lists = [Vec::from_slice(alloc, b"10.0.0.0\nfd00::1")?];
     let mut faults = ArrayWriter::whole();
-    let status = run(alloc, UNION, &NAMES, &lists, out, &mut faults);
+    let status = run_lists(alloc, Work::Combine(UNION), &lists, out, &mut faults);
     let (answer, report, number) = wanted;
-    assert!(rt; status == number, "writers: {label}: status {status}");
+    assert!(rt; status == Some(number), "writers: {label}: status");
     assert!(rt; out.held() == answer, "writers: {label}: standard output");
     assert!(rt; faults.held() == report, "writers: {label}: standard error");
     Ok(())
@@ -204,17 +191,9 @@ fn check_filter<R: Abort + AllocGlobal>(
     let set = Vec::from_slice(alloc, b"10.0.0.0/8\n")?;
     let lists = [set, Vec::from_slice(alloc, b"10.0.0.1\n::1\n10.0.0.2\n")?];
     let mut faults = ArrayWriter::whole();
-    let query = Query::Filter(Side::Inside);
-    let status = run_query(
-        alloc,
-        query,
-        Grammar::Strict,
-        &NAMES,
-        &lists,
-        out,
-        &mut faults,
-    );
-    assert!(rt; status == 2, "writers of queries: {label}: status {status}");
+    let work = Work::Ask(Query::Filter(Side::Inside), Grammar::Strict);
+    let status = run_lists(alloc, work, &lists, out, &mut faults);
+    assert!(rt; status == Some(2), "writers of queries: {label}: status");
     assert!(rt;
         out.held() == wanted,
         "writers of queries: {label}: standard output"
@@ -253,8 +232,14 @@ fn faults_that_cannot_be_written(rt: HostRuntime) -> Result<(), Fail> {
     let lists = [Vec::from_slice(rt.alloc(), b"x")?];
     let mut out = ArrayWriter::whole();
     let mut faults = ArrayWriter::new(WHOLE, 1);
-    let status = run(rt.alloc(), UNION, &NAMES, &lists, &mut out, &mut faults);
-    assert!(&rt; status == 2, "faults unwritten: status {status}");
+    let status = run_lists(
+        rt.alloc(),
+        Work::Combine(UNION),
+        &lists,
+        &mut out,
+        &mut faults,
+    );
+    assert!(&rt; status == Some(2), "faults unwritten: status");
     assert!(&rt; out.held().is_empty(), "faults unwritten: standard output");
     Ok(())
 }
@@ -291,11 +276,14 @@ fn readers(rt: HostRuntime) -> Result<(), Fail> {
     ];
     for (label, given, most, fails_at, kind, is_refused) in rows {
         let mut input = ByteReader::new(given, most, fails_at, kind);
-        match read_whole(rt.alloc(), &mut input) {
-            Ok(found) => assert!(&rt;
-                !is_refused && found.as_slice() == given,
-                "readers: {label}: bytes"
-            ),
+        let mut session = Session::new(rt.alloc(), Work::Combine(UNION))?;
+        match session.read(&mut input) {
+            Ok(()) => {
+                let wanted = if given.is_empty() { "" } else { "::1/128\n" };
+                let answer = session.answer();
+                let is_right = answer.is_ok_and(|text| text.as_str() == wanted);
+                assert!(&rt; !is_refused && is_right, "readers: {label}: answer");
+            }
             Err(failure) => {
                 assert!(&rt;
                     is_refused && failure == ReadFailure::Unreadable,
@@ -303,6 +291,75 @@ fn readers(rt: HostRuntime) -> Result<(), Fail> {
                 );
             }
         }
+    }
+    Ok(())
+}
+
+/// A list whose lines are longer than the window, with entries at both ends of a line and a byte order mark.
+fn long_list(alloc: Global) -> Result<Vec<u8>, AllocError> {
+    let mut bytes = Vec::from_slice(alloc, b"\xEF\xBB\xBF10.0.0.0 #")?;
+    for _ in 0..70_000 {
+        bytes.push(b'c')?;
+    }
+    bytes.extend_from_slice(b"\n\n")?;
+    for _ in 0..140_000 {
+        bytes.push(b' ')?;
+    }
+    bytes.extend_from_slice(b"10.0.0.1\n10.0.0.2/31")?;
+    Ok(bytes)
+}
+
+/// Lines that are longer than the window, and lists that are cut by reads at each place.
+#[test]
+fn long_lines_and_cuts(rt: HostRuntime) -> Result<(), Fail> {
+    let alloc = rt.alloc();
+    let long = long_list(alloc)?;
+    for most in [9_973, 65_535, 65_536, WHOLE] {
+        let mut session = Session::new(alloc, Work::Combine(UNION))?;
+        let mut input = ByteReader::new(long.as_slice(), most, NEVER, ErrorKind::Other);
+        assert!(&rt;
+            session.read(&mut input).is_ok(),
+            "long lines: reads of {most}: read"
+        );
+        let is_right = session
+            .answer()
+            .is_ok_and(|text| text.as_str() == "10.0.0.0/30\n");
+        assert!(&rt; is_right, "long lines: reads of {most}: answer");
+    }
+    // the list, the answer
+    let rows: [(&[u8], &str); 4] = [
+        (
+            b"\xEF\xBB\xBF10.0.0.1\r\n\t::1 ; x\n",
+            "10.0.0.1/32\n::1/128\n",
+        ),
+        (b"\xEF\xBB\xBF", ""),
+        (b"\n\n#\n;\n10.0.0.1", "10.0.0.1/32\n"),
+        (b"", ""),
+    ];
+    for (bytes, wanted) in rows {
+        for most in 1..bytes.len() + 2 {
+            let mut session = Session::new(alloc, Work::Combine(UNION))?;
+            let mut input = ByteReader::new(bytes, most, NEVER, ErrorKind::Other);
+            assert!(&rt;
+                session.read(&mut input).is_ok(),
+                "cuts: reads of {most}: read"
+            );
+            let is_right = session.answer().is_ok_and(|text| text.as_str() == wanted);
+            assert!(&rt; is_right, "cuts: {wanted}: reads of {most}");
+        }
+    }
+    // bytes that are a part of a mark are no mark
+    for bytes in [
+        b"\xEF".as_slice(),
+        b"\xEF\xBB",
+        b"\xEF\xBB\n\xBF",
+        b" \xEF\xBB\xBF",
+    ] {
+        let mut session = Session::new(alloc, Work::Combine(UNION))?;
+        let read = session.read(&mut ByteReader::new(bytes, 1, NEVER, ErrorKind::Other));
+        assert!(&rt; read.is_ok(), "part of a mark: read");
+        let is_refused = matches!(session.answer(), Err(Failure::Refused(_)));
+        assert!(&rt; is_refused, "part of a mark: refused");
     }
     Ok(())
 }

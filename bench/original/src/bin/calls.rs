@@ -289,6 +289,12 @@ fn is_member(networks: &[IpNet], address: &IpAddr) -> bool {
     place > 0 && networks[place - 1].contains(address)
 }
 
+/// Whether the access list of the networks permits the address: the first network that contains it decides. Every
+/// second one permits, starting with the first, and the others deny; if none contains the address, it is denied.
+fn is_permitted(networks: &[IpNet], address: &IpAddr) -> bool {
+    networks.iter().position(|network| network.contains(address)).map_or(false, |place| place % 2 == 0)
+}
+
 /// The position, counted from 1, of the longest network that contains the address, or 0 if there is none. If this
 /// network is repeated, the last position counts. Looks up one prefix length after the other in a map.
 fn longest_match(places: &HashMap<IpNet, u64>, address: IpAddr) -> u64 {
@@ -321,6 +327,10 @@ fn over_halves(task: &str, networks: &[IpNet]) -> Outcome {
         "set_contains" => {
             let set = IpNet::aggregate(&first);
             report(task, networks.len(), || addresses.iter().filter(|address| is_member(&set, address)).count() as u64)
+        }
+        "verdict" => {
+            let permitted = |address: &&IpAddr| is_permitted(networks, address);
+            report(task, networks.len(), || addresses.iter().filter(permitted).count() as u64)
         }
         "longest_match" => {
             let places = first.iter().zip(0..).map(|(network, place)| (network.trunc(), place)).collect();

@@ -50,7 +50,7 @@ fn hostmask_number(prefix_len: u32) -> u32
 
 /// The leading bits of the number, as many as this prefix length says.
 //
-// A word wider than the number, since at prefix length 0 all 32 bits are shifted out, and a `u32` takes no shift by 32.
+// The word is wider than the number, because at length 0 all 32 bits are shifted out: a `u32` cannot be shifted by 32.
 fn prefix_of(number: u32, prefix_len: u32) -> u64
     requires { prefix_len ≤ 32 }
     ensures { result ≡ number / 2 ^ (32 - prefix_len) }

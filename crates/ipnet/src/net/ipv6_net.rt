@@ -302,7 +302,7 @@ impl Ipv6Net {
         (u128::from(self.high) << 64) | u128::from(self.low)
     }
 
-    /// The prefix length as `u32`: what shifts take their count in, so that no use has to convert it.
+    /// The prefix length as `u32`, the type of the count of a shift, so that no use has to convert it.
     pub(crate) fn leading_bits(&self) -> u32
         ensures { result ≡ (ipv6_network self.now).prefix_len }
     {

@@ -18,7 +18,7 @@ use crate::parser::Grammar;
 use arrayvec::ArrayVec;
 use std::net::{Ipv4Addr, Ipv6Addr};
 
-/// Up to three decimal digits: how many, and the number that they write.
+/// Up to three decimal digits: their count and their number.
 #[derive(Clone, Copy)]
 struct Decimals {
     count: usize,
@@ -37,8 +37,8 @@ fn decimal_digit(text: &[u8], index: usize) -> u8
     }
 }
 
-/// The decimal digits at the front, at most three. All three places are looked at, and the number of digits makes a
-/// choice among values and no branch: how many there are is what a processor can't foretell.
+/// The decimal digits at the front, at most three. All three places are read, and the count of digits chooses among
+/// values, without a branch, because a processor cannot predict the count.
 fn first_decimals(rest: &[u8]) -> Decimals
     ensures run { decimal_run rest.now ≡ (take result.count rest.now, drop result.count rest.now) }
     ensures within { result.count ≤ length rest.now }
@@ -94,7 +94,7 @@ fn decimal(rest: &[u8], digits: Decimals, grammar: Grammar) -> Option<u8>
     Some(digits.number as u8)
 }
 
-/// The number of at most 255 that all of these bytes write in decimal, if they write one.
+/// The number that all of these bytes are in decimal, if they are a number of at most 255.
 fn whole_decimal(digits: &[u8], grammar: Grammar) -> Option<u8>
     ensures { result ≡ decimal_of grammar digits.now }
 {

@@ -57,8 +57,8 @@ fn largest_prefix_len(start: u32, end: u32, min_prefix_len: u32) -> u32
     ensures fits { result ≤ 32 }
     ensures largest { IsLargestSubnetAt IPv4 start end min_prefix_len (ipv4_network_of start result) }
 {
-    // No network may be larger than this one, and in a walk over the subnets of a network it always fits: a test that
-    // a processor predicts, in place of counts that it has to wait for.
+    // No network may be larger than this one, and in a walk over the subnets of a network it always fits. A processor
+    // predicts this test, but has to wait for the counts below.
     let net = Ipv4Net::from_number(start, min_prefix_len);
     if net.masked(min_prefix_len) == start && net.last_number() <= end {
         return min_prefix_len;
@@ -81,9 +81,9 @@ fn largest_subnet_at(start: u32, end: u32, min_prefix_len: u32) -> Ipv4Net
 impl Ipv4Subnets {
     ghost use Rattle.ipnet.specs.SubnetsLeft.{IsWalkOf, ipv4_range_of, ipv4_subnet_range, ipv4_subnets_left};
 
-    /// The walk from the first address to the last, both of them in the range, by networks whose prefix length is at
-    /// least `min_prefix_len`. If the start is above the end, the walk yields nothing. With minimum prefix length 0, a
-    /// walk yields at most 62 networks.
+    /// Returns the walk from `start` to `end`, both included, by networks whose prefix length is at least
+    /// `min_prefix_len`. If `start` is above `end`, the walk yields nothing. With `min_prefix_len` 0, a walk yields at
+    /// most 62 networks.
     ///
     /// The caller sees to it that the minimum prefix length is at most 32, as by `min_prefix_len <= 32`.
     ///

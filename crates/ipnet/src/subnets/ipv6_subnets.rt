@@ -57,8 +57,8 @@ fn largest_prefix_len(start: u128, end: u128, min_prefix_len: u32) -> u32
     ensures fits { result ≤ 128 }
     ensures largest { IsLargestSubnetAt IPv6 start end min_prefix_len (ipv6_network_of start result) }
 {
-    // No network may be larger than this one, and in a walk over the subnets of a network it always fits: a test that
-    // a processor predicts, in place of counts that it has to wait for.
+    // No network may be larger than this one, and in a walk over the subnets of a network it always fits. A processor
+    // predicts this test, but has to wait for the counts below.
     let net = Ipv6Net::from_number(start, min_prefix_len);
     if net.masked(min_prefix_len) == start && net.last_number() <= end {
         return min_prefix_len;

@@ -184,8 +184,8 @@ impl Ipv6AddrRange {
 
     /// Stores the ends of a range that was walked to its end.
     //
-    // 1 and 0 as in the Rust crate. A start one above the end would not always do: there is no number after the last
-    // address of all.
+    // 1 and 0 as in the Rust crate. A start one above the end does not always exist: the last address of all has no
+    // next number.
     fn use_up(&mut self)
         ensures { ipv6_range self.new ≡ with_ends (ipv6_range self.old) 1 0 }
     {

@@ -1,7 +1,7 @@
-//! Numbers stored in bytes, little-endian, and the turns of one family among them.
+//! Numbers stored in bytes, little-endian, and the boundaries of one family among them.
 ghost use Rattle.std.specs.Prelude.{◌≡◌, ℕ, ◌+◌, ◌*◌, ◌≤◌, ◌↔◌, true, IsTrue, length, map, IfOk, OnOk};
 ghost use Rattle.ipnet_base.specs.Address.{greatest_number};
-ghost use Rattle.ipnet_sets.specs.Turns.{is_inside, AreTurns, IsSplitAt};
+ghost use Rattle.ipnet_sets.specs.Boundaries.{is_inside, AreBoundaries, IsSplitAt};
 ghost use Rattle.ipnet_sets.specs.Images.{number_from, numbers_from, IsAppended, AreAppended};
 
 use crate::number::Number;
@@ -34,7 +34,7 @@ pub(crate) fn read_u64(bytes: &[u8], at: usize) -> u64
 }
 
 /// Returns the number in the four bytes from byte `at` on.
-fn read_u32(bytes: &[u8], at: usize) -> u32
+pub(crate) fn read_u32(bytes: &[u8], at: usize) -> u32
     requires { at + 4 ≤ length bytes.now }
     ensures { result ≡ number_from 4 bytes.now at }
 {
@@ -45,7 +45,7 @@ fn read_u32(bytes: &[u8], at: usize) -> u32
 }
 
 /// Appends the four bytes of the number.
-fn append_u32(bytes: &mut Vec<u8>, number: u32) -> Result<(), AllocError>
+pub(crate) fn append_u32(bytes: &mut Vec<u8>, number: u32) -> Result<(), AllocError>
     ensures { OnOk result (IsAppended 4 number bytes.old.items bytes.new.items) }
 {
     bytes.extend_from_slice(&number.to_le_bytes())?;
@@ -96,22 +96,22 @@ pub(crate) struct Place {
     pub(crate) count: usize,
 }
 
-/// Returns how many of the turns are at most the number, by halving.
+/// Returns how many of the boundaries are at most the number, by halving.
 ///
-/// The bytes may be any: the call reads only the stored numbers and it ends. If they are not turns, the result means
-/// nothing.
-fn turns_up_to<T: StoredNumber>(bytes: &[u8], place: Place, number: T) -> usize
+/// The bytes may be any: the call reads only the stored numbers and it ends. If they are not boundaries, the result
+/// means nothing.
+pub(crate) fn boundaries_up_to<T: StoredNumber>(bytes: &[u8], place: Place, number: T) -> usize
     requires { place.start + place.count * T.width ≤ length bytes.now }
     ensures within { result ≤ place.count }
-    ensures split { AreTurns T.family (numbers_from T.width place.count bytes.now place.start)
+    ensures split { AreBoundaries T.family (numbers_from T.width place.count bytes.now place.start)
         → IsSplitAt (numbers_from T.width place.count bytes.now place.start) (T.number number) result }
 {
     let mut low = 0;
     let mut high = place.count;
     while low < high {
         let middle = low + (high - low) / 2;
-        let turn = T::read(bytes, place.start, middle);
-        if number.is_below(turn) {
+        let boundary = T::read(bytes, place.start, middle);
+        if number.is_below(boundary) {
             high = middle;
         } else {
             low = middle + 1;
@@ -120,27 +120,27 @@ fn turns_up_to<T: StoredNumber>(bytes: &[u8], place: Place, number: T) -> usize
     low
 }
 
-/// Returns whether the number is in the set of the turns.
+/// Returns whether the number is in the set of the boundaries.
 pub(crate) fn contains<T: StoredNumber>(bytes: &[u8], place: Place, number: T) -> bool
     requires { place.start + place.count * T.width ≤ length bytes.now }
-    ensures { AreTurns T.family (numbers_from T.width place.count bytes.now place.start)
+    ensures { AreBoundaries T.family (numbers_from T.width place.count bytes.now place.start)
         → result ≡ is_inside (numbers_from T.width place.count bytes.now place.start) (T.number number) }
 {
-    turns_up_to(bytes, place, number) % 2 == 1
+    boundaries_up_to(bytes, place, number) % 2 == 1
 }
 
-/// Returns whether all numbers from the first to the last are in the set of the turns; true if the first is above the
-/// last.
+/// Returns whether all numbers from the first to the last are in the set of the boundaries; true if the first is above
+/// the last.
 pub(crate) fn covers<T: StoredNumber>(bytes: &[u8], place: Place, first: T, last: T) -> bool
     requires { place.start + place.count * T.width ≤ length bytes.now }
-    ensures { AreTurns T.family (numbers_from T.width place.count bytes.now place.start)
+    ensures { AreBoundaries T.family (numbers_from T.width place.count bytes.now place.start)
         → IsTrue result ↔ ((x : ℕ) → T.number first ≤ x → x ≤ T.number last
         → is_inside (numbers_from T.width place.count bytes.now place.start) x ≡ true) }
 {
     if last.is_below(first) {
         return true;
     }
-    let turned = turns_up_to(bytes, place, first);
+    let turned = boundaries_up_to(bytes, place, first);
     if turned % 2 == 0 {
         return false;
     }
@@ -151,10 +151,10 @@ pub(crate) fn covers<T: StoredNumber>(bytes: &[u8], place: Place, first: T, last
     last.is_below(next)
 }
 
-/// Returns whether the stored numbers are turns: whether they ascend.
-pub(crate) fn are_turns<T: StoredNumber>(bytes: &[u8], place: Place) -> bool
+/// Returns whether the stored numbers are boundaries: whether they ascend.
+pub(crate) fn are_boundaries<T: StoredNumber>(bytes: &[u8], place: Place) -> bool
     requires { place.start + place.count * T.width ≤ length bytes.now }
-    ensures { IsTrue result ↔ AreTurns T.family (numbers_from T.width place.count bytes.now place.start) }
+    ensures { IsTrue result ↔ AreBoundaries T.family (numbers_from T.width place.count bytes.now place.start) }
 {
     if place.count == 0 {
         return true;

@@ -1,4 +1,4 @@
-//! The routes that hold an address, one after the other.
+//! The routes whose networks contain an address, one after the other.
 ghost use Rattle.std.specs.Prelude.{◌≤◌, length};
 ghost use Rattle.std.specs.Iterator.{YieldsFirstBy, item_count};
 ghost use Rattle.ipnet_sets.specs.Routes.{ip_networks, ip_route};

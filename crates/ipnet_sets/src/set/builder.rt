@@ -6,7 +6,7 @@ ghost use Rattle.ipnet_base.specs.RangeOf.{ip_range};
 ghost use Rattle.ipnet.specs.NetworkOf.{ip_network};
 ghost use Rattle.ipnet_sets.specs.Members.{IsMember, IsFromTo};
 ghost use Rattle.ipnet_sets.specs.SetRanges.{IsInRange};
-ghost use Rattle.ipnet_sets.specs.Turns.{AreTurns};
+ghost use Rattle.ipnet_sets.specs.Boundaries.{AreBoundaries};
 
 use crate::gather;
 use crate::number::NumberRange;
@@ -14,10 +14,10 @@ use crate::set::IpSet;
 use ipnet::{IpAddr, IpAddrRange, IpNet};
 use std::alloc::{AllocError, Global};
 
-/// Ranges of addresses, in any order, of which a set is made.
+/// Collects ranges of addresses, in any order, and makes a set of them.
 ///
-/// Ranges that come in order are joined as they come, so a sorted list takes the memory of its set. Every other range
-/// takes 8 bytes if it is of IPv4, and 32 bytes if it is of IPv6, until the set is made.
+/// Ranges that come in order are joined at once, so a sorted list needs no more memory than its set. Until the set is
+/// made, every other range needs 8 bytes in IPv4, and 32 bytes in IPv6.
 ///
 /// ```text
 /// push_range(10.0.0.4, 10.0.0.5), push_network(10.0.0.0/30), into_set(): the set of 10.0.0.0-10.0.0.5
@@ -28,8 +28,8 @@ pub struct IpSetBuilder {
     ipv6: Vec<u128>,
     ipv4_waiting: Vec<NumberRange<u32>>,
     ipv6_waiting: Vec<NumberRange<u128>>,
-    ghost ipv4_turns: { AreTurns IPv4 (map (λ n. n) ipv4.items) },
-    ghost ipv6_turns: { AreTurns IPv6 (map (λ n. n) ipv6.items) },
+    ghost ipv4_boundaries: { AreBoundaries IPv4 (map (λ n. n) ipv4.items) },
+    ghost ipv6_boundaries: { AreBoundaries IPv6 (map (λ n. n) ipv6.items) },
 }
 
 impl IpSetBuilder {

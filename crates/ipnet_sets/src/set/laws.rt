@@ -1,8 +1,8 @@
-//! What holds of all sets at once, each the contract of a function that computes nothing: `==`, the order, the hash and
-//! `clone` go by the addresses, and the operations belong together as those of sets do.
+//! Facts about all sets, each the contract of a function that computes nothing. `==`, the order, the hash and `clone`
+//! depend only on the addresses, and the operations obey the laws of set algebra.
 //!
-//! The laws of the operations speak of any sets that are a union, a complement and so on, as the contracts of the calls
-//! say that their answers are.
+//! The laws of the operations are about any sets that are a union, a complement and so on. The contracts of the calls
+//! say that their results are such sets.
 ghost use Rattle.std.specs.Prelude.{◌≡◌, ℕ, ◌+◌, ◌^◌, ◌⊎◌, ◌↔◌, IsTrue, List, map, sum, All};
 ghost use Rattle.std.specs.declared.cmp.Ordering.TheVariants.{Equal};
 ghost use Rattle.ipnet_base.specs.Address.{Family, IPv4, IPv6, Address, width};
@@ -63,7 +63,7 @@ pub fn difference_by_the_complement()
     ensures { (a b not_b s : IpSet) → IsComplement not_b b → IsDifference s a b ↔ IsIntersection s a not_b }
 {}
 
-/// A set lies in another exactly where the difference is empty.
+/// A set is a subset of another if and only if the difference is empty.
 pub fn difference_of_a_subset_is_empty()
     ensures { (a b difference : IpSet) → IsDifference difference a b → HasNoAddress difference ↔ IsSubset a b }
 {}

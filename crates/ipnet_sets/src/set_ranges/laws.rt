@@ -1,4 +1,4 @@
-//! What holds of the ranges of all sets, the contract of a function that computes nothing.
+//! A fact about the ranges of all sets: the contract of a function that computes nothing.
 ghost use Rattle.std.specs.Prelude.{◌≡◌, ◌↔◌, Option};
 ghost use Rattle.std.specs.Iterator.{YieldsFirstBy, YieldsLastBy, item_count};
 ghost use Rattle.ipnet_base.specs.declared.ipext.ip_range.IpAddrRange.{IpAddrRange};

@@ -1,5 +1,5 @@
--- The stack in the front of the list and the next network cover what the stack and the network that came did; the stack
--- shows the conditions on neighbours, and each turn takes one network from it.
+-- The stack at the front of the list and the next network cover the same addresses as before the loop. The stack meets
+-- the conditions on neighbours, and each turn takes one network from it.
 use Rattle.std.proofs.Common.{◌≤◌, map, take}
 use Rattle.ipnet_base.proofs.StackLaws.{IsJoining}
 use Rattle.ipnet.proofs.aggregate.push_on_stack.Given as goal

@@ -1,6 +1,5 @@
 -- The canonical text writes its network in either grammar, so its reader gives that network.
 use Rattle.std.proofs.Common.{◌∙◌, refl}
-use Rattle.ipnet.specs.declared.parser.Grammar.TheVariants.{Strict, Legacy}
 use Rattle.ipnet.specs.NetworkOf.{ipv4_network}
 use Rattle.ipnet.specs.NetLaws.{ipv4_valid}
 use Rattle.ipnet.specs.NetworkTexts.{IsIpv4NetworkText}
@@ -8,16 +7,10 @@ use Rattle.ipnet.proofs.PrintedTexts.{canonical_is_read}
 use Rattle.ipnet.proofs.WholeTexts.{of_ipv4, read_back}
 use Rattle.ipnet.proofs.text_laws.ipv4_text_reads_back.Goals as goal
 
-pub returns-in-Strict : goal.returns-in-Strict
-returns-in-Strict c =
+pub returns : goal.returns
+returns c =
     let n = c.args.network.now in
-    read_back ipv4_network (IsIpv4NetworkText Strict) _ _ n _ c.parse.ensures.value
+    let grammar = c.args.grammar in
+    read_back ipv4_network (IsIpv4NetworkText grammar) _ _ n _ c.parse_as.ensures
     (c.as_str.ensures.value ∙ c.to_text-text.ensures)
-    (of_ipv4 Strict _ (ipv4_network n) refl (canonical_is_read Strict (ipv4_network n) (ipv4_valid n)))
-
-pub returns-in-Legacy : goal.returns-in-Legacy
-returns-in-Legacy c =
-    let n = c.args.network.now in
-    read_back ipv4_network (IsIpv4NetworkText Legacy) _ _ n _ c.parse_legacy.ensures
-    (c.as_str-in-Legacy.ensures.value ∙ c.to_text-text.ensures)
-    (of_ipv4 Legacy _ (ipv4_network n) refl (canonical_is_read Legacy (ipv4_network n) (ipv4_valid n)))
+    (of_ipv4 grammar _ (ipv4_network n) refl (canonical_is_read grammar (ipv4_network n) (ipv4_valid n)))

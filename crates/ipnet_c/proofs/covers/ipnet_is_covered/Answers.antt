@@ -1,15 +1,15 @@
 -- Each way out gives a reply of `ListReplies`. The answer rests on `covered_iff_in_one`: a list covers a network
--- exactly where the network lies in one network of the list's aggregate.
+-- if and only if the network lies in one network of the list's aggregate.
 use Rattle.std.proofs.Common.{◌↔◌, Any, IsTrue, Ok, map, refl, sym, subst}
 use Rattle.std.proofs.lemmas.Bool.{false≢true}
 use Rattle.ipnet.specs.Network.{IsSubnetOf}
 use Rattle.ipnet.specs.NetworkOf.{ip_network}
-use Rattle.ipnet.specs.Lines.{lines_of}
+use Rattle.ipnet.specs.Lines.{lines_of, AreNetworksOf}
 use Rattle.ipnet.specs.NetLaws.{ip_valid}
 use Rattle.ipnet.specs.declared.parser.Grammar.TheVariants.{Strict}
 use Rattle.ipnet_c.proofs.CoveredBlocks.{covered_iff_in_one}
 use Rattle.ipnet_c.proofs.ListReplies.{told_whether_covered, told_not_utf8, told_out_of_memory, IsGoodAtOnce}
-use Rattle.ipnet_c.proofs.ListReplies.{TellsFaults, good_at_once, none_of_none, IsBlank}
+use Rattle.ipnet_c.proofs.ListReplies.{TellsFaults, IsBlank}
 use Rattle.ipnet_c.proofs.covers.ipnet_is_covered.Goals as goal
 
 pub returns-in_default : goal.returns-in_default
@@ -35,19 +35,6 @@ returns-in-Err-Memory c =
     (λ none. false≢true (c.in-Err-Memory.ensures.empty (subst IsBlank (sym same) none)))
     (subst (IsGoodAtOnce Strict) same good)
 
-pub returns-in_default-aggregate : goal.returns-in_default-aggregate
-returns-in_default-aggregate c =
-    let (same, utf8) = c.in-Ok-from_utf8.ensures.cases in
-    let read = c.in-Ok.ensures in
-    let faults : TellsFaults c.args.network.now (Ok c.in-Ok.network) =
-    record { length = read.length; variant = read.variant; prefix = read.prefix } in
-    let networks = c.in-Ok-read_networks.networks.items in
-    let written = rw same at c.in-Ok-read_networks.ensures.networks in
-    told_out_of_memory c.args.text.now c.args.network.now c.args.covered.now c.args.line.now c.in-Ok.network
-    faults utf8
-    (λ none. c.in_default-aggregate.ensures.empty (none_of_none (lines_of c.args.text.now) networks written none))
-    (good_at_once Strict c.args.text.now (map ip_network networks) written)
-
 pub returns : goal.returns
 returns c =
     let (same, utf8) = c.in-Ok-from_utf8.ensures.cases in
@@ -55,14 +42,13 @@ returns c =
     let read = c.in-Ok.ensures in
     let faults : TellsFaults c.args.network.now (Ok c.in-Ok.network) =
     record { length = read.length; variant = read.variant; prefix = read.prefix } in
-    let networks = map ip_network c.in-Ok-read_networks.networks.items in
-    let blocks = map ip_network c.in-Ok-aggregate.answer.items in
+    let (networks, written, aggregate) = c.in-Ok-read_blocks.ensures.blocks in
+    let blocks = map ip_network c.in-Ok-read_blocks.blocks.items in
     let in_one : IsTrue c.lies_in_one.result ↔ Any (λ block. IsSubnetOf (ip_network net) block) blocks =
     rw c.deref.ensures.value at c.lies_in_one.ensures in
-    let iff = covered_iff_in_one networks blocks (ip_network net) (ip_valid net)
-    c.in-Ok-aggregate.ensures.aggregate.aggregate in
+    let iff = covered_iff_in_one networks blocks (ip_network net) (ip_valid net) aggregate in
     told_whether_covered c.args.text.now c.args.network.now c.args.covered.now c.from.result c.args.line.now networks
     net c.lies_in_one.result faults
     (record { network = ip_valid net; bytes_are = (read.ok net).0 refl }) utf8
-    (rw same at c.in-Ok-read_networks.ensures.networks)
+    (subst (λ t. AreNetworksOf Strict (lines_of t) networks) same written)
     (λ t. iff.0 (in_one.0 t), λ h. in_one.1 (iff.1 h)) c.from.ensures

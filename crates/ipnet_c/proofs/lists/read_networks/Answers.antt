@@ -1,5 +1,5 @@
--- What was read and what is still to be read make the whole text: a line more, empty or a network, moves from the one
--- to the other (`LineLaws`); where it is bad it is the first bad one (`EarlyLines`).
+-- The text is the part that was read, followed by the rest. A line that is empty or a network moves from the rest to
+-- the part that was read (`LineLaws`). If it is bad, it is the first bad line of the text (`EarlyLines`).
 use Rattle.std.proofs.Common.{◌≡◌, ℕ, ◌+◌, ◌<◌, ◌∷◌, ◌++◌, [], List, map, length, refl, sym, ap, ◌∙◌, subst, arith}
 use Rattle.std.proofs.Common.{rules, append-nil, append_assoc, inl, inr}
 use Rattle.std.proofs.lemmas.List.{map_push}
@@ -11,7 +11,7 @@ use Rattle.ipnet.specs.NetworkOf.{ip_network}
 use Rattle.ipnet.proofs.LineLaws.{empty_line, network_line, bad_line, good_line, no_lines}
 use Rattle.ipnet_tool.specs.Answers.{StartsWithBadLine}
 use Rattle.ipnet_tool.proofs.EarlyLines.{after_empty, bad_here, not_good, none_bad, not_all_empty, rest_empty}
-use Rattle.ipnet_tool.proofs.LineCuts.{some_bytes, no_bytes, empty_text}
+use Rattle.ipnet_text.proofs.LineCuts.{some_bytes, no_bytes, empty_text}
 use Rattle.ipnet_c.proofs.lists.read_networks.Goals as goal
 
 -- counted one by one, or from here on

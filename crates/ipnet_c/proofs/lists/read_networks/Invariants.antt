@@ -8,7 +8,7 @@ use Rattle.ipnet.specs.NetworkOf.{ip_network}
 use Rattle.ipnet_tool.specs.Answers.{StartsWithBadLine}
 use Rattle.ipnet_c.proofs.lists.read_networks.Given as goal
 
--- What the rest reads as, after what has been read, is what the text reads as.
+-- The networks read so far, followed by the networks of the rest, are the networks of the text.
 abbrev pub invariant-lines : goal.invariant-lines
 invariant-lines l = record {
   is_text : shadow (Utf8 l.rest);

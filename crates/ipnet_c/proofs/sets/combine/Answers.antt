@@ -1,6 +1,6 @@
--- Each way out gives a reply of `SetReplies`: the answer, or by the called functions' promises why there is none.
--- Memory runs out neither for two texts of empty lines, since `are_empty` is asked first, nor where the first line that
--- is not empty, of the first text and then of the other, is bad.
+-- Each way out gives a reply of `SetReplies`: the result, or the error that the called functions return. Memory does
+-- not run out if all lines of both texts are empty, because `are_empty` is called first. Nor does it run out if the
+-- first line that is not empty is bad.
 use Rattle.std.proofs.Common.{[], map, sym, ap, ◌∙◌, subst, Err}
 use Rattle.std.proofs.lemmas.Bool.{false≢true}
 use Rattle.ipnet.specs.Lines.{lines_of, AreNetworksOf}

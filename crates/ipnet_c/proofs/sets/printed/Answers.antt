@@ -1,6 +1,6 @@
 use Rattle.std.proofs.Common.{[], string_bytes}
 use Rattle.ipnet.specs.NetworkOf.{ip_network}
-use Rattle.ipnet_tool.proofs.AnswerLaws.{one_line_more}
+use Rattle.ipnet_text.proofs.LineTextLaws.{one_line_more}
 use Rattle.ipnet_c.proofs.sets.printed.Goals as goal
 
 pub loop-network-preserved : goal.loop-network-preserved

@@ -1,6 +1,6 @@
 use Rattle.std.proofs.Common.{◌≡◌, [], ◌++◌, map, take, string_bytes}
 use Rattle.ipnet.specs.NetworkOf.{ip_network}
-use Rattle.ipnet_tool.specs.Answers.{text_of_lines}
+use Rattle.ipnet_text.specs.LineTexts.{text_of_lines}
 use Rattle.ipnet_c.proofs.sets.printed.Given as goal
 
 -- the networks so far are written

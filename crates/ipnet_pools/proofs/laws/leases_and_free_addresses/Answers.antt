@@ -2,6 +2,7 @@
 use Rattle.std.proofs.Common.{sym, ap, ◌∙◌, subst, refl}
 use Rattle.ipnet_base.specs.Network.{InBlock}
 use Rattle.ipnet.specs.NetworkOf.{ip_network}
+use Rattle.ipnet_pools.proofs.KeepLaws.{rest_of}
 use Rattle.ipnet_pools.proofs.laws.leases_and_free_addresses.Goals as goal
 
 pub returns-clause-inside : goal.returns-clause-inside
@@ -16,8 +17,8 @@ returns-clause-disjoint g c pool n m v w h i differ = λ x a b.
 pub returns-clause-free : goal.returns-clause-free
 returns-clause-free g c pool x = (
   λ f. (
-    ((pool.rest x).0 f).0,
-    λ n v h a. ((pool.rest x).0 f).1 (h.0, (v, h.2), subst (λ z. InBlock z x) (sym h.1) a),
+    ((rest_of pool x).0 f).0,
+    λ n v h a. ((rest_of pool x).0 f).1 (h.0, (v, h.2), subst (λ z. InBlock z x) (sym h.1) a),
   ),
-  λ h. (pool.rest x).1 (h.0, λ i. h.1 (ip_network i.0) i.1.0 (i.0, refl, i.1.1) i.2),
+  λ h. (rest_of pool x).1 (h.0, λ i. h.1 (ip_network i.0) i.1.0 (i.0, refl, i.1.1) i.2),
 )

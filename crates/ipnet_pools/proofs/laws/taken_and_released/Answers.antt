@@ -3,6 +3,7 @@ use Rattle.std.proofs.Common.{◌∙◌, inl, inr, subst}
 use Rattle.ipnet_base.specs.Network.{InBlock}
 use Rattle.ipnet_sets.specs.Members.{IsMember}
 use Rattle.ipnet_pools.specs.FreeOf.{IsIn}
+use Rattle.ipnet_pools.proofs.KeepLaws.{rest_of}
 use Rattle.ipnet_pools.proofs.FitLaws.{in_block_or_not}
 use Rattle.ipnet_pools.proofs.PoolLaws.{free_not_leased}
 use Rattle.ipnet_pools.proofs.laws.taken_and_released.Goals as goal
@@ -24,7 +25,7 @@ returns g c a b d n v w taken released = record {
     ],
     λ h. (released.leases m u).1 (
       (taken.leases m u).1 (inl h),
-      λ same. free_not_leased a.leases.entries (IsMember a.whole) (IsIn a.free) h.0 a.rest
+      λ same. free_not_leased a.leases.entries (IsMember a.whole) (IsIn a.free) h.0 (rest_of a)
           (λ x i. taken.was_free x (subst (λ z. InBlock z x) (h.1 ∙ same) i)) (u, h.2),
     ),
   );

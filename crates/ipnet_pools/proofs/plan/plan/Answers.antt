@@ -6,7 +6,8 @@ use Rattle.std.proofs.lemmas.Result.{err_from_is_err_and}
 use Rattle.ipnet_base.proofs.ResultLaws.{false_gives}
 use Rattle.ipnet.specs.NetworkOf.{ip_network}
 use Rattle.ipnet_sets.specs.Members.{IsMember}
-use Rattle.ipnet_sets.proofs.SetEqualLaws.{member_or_not}
+use Rattle.ipnet_base.proofs.DecidedLaws.{IsDecided-cover}
+use Rattle.ipnet_pools.specs.BlocksOf.{blocks_of}
 use Rattle.ipnet_pools.specs.Fits.{HasRoom, IsBestFit, Without}
 use Rattle.ipnet_pools.specs.PlanSteps.{IsPlannedSoFar}
 use Rattle.ipnet_pools.specs.FreeOf.{IsIn}
@@ -79,7 +80,8 @@ loop-index-preserved c =
     (planned_more S Old New f lengths i request.prefix_len (map ip_network xs) here c.loop-index.invariant n best
     (λ x h. (c.in_ok-network.ensures.cut.free x).0 h)
     (λ requests place. CanPlace-more requests (Without Old n) New (λ x h. (c.in_ok-network.ensures.cut.free x).1 h)
-    (best_fit_keeps_placements Old (member_or_not c.loop-index.free.set) f request.prefix_len n best requests place)))
+    (best_fit_keeps_placements Old (IsDecided-cover (blocks_of c.loop-index.free.blocks)) f request.prefix_len n best
+    requests place)))
 
 pub returns-clause-plan : goal.returns-clause-plan
 returns-clause-plan c =

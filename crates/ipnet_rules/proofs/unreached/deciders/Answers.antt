@@ -1,51 +1,29 @@
--- The rule at the index decides on an address of the other if and only if it matches one that is left.
-use Rattle.std.proofs.Common.{IsNone, ◌↔◌, ◌+◌, ◌<◌, length, arith, sym, subst, inl, inr, refl}
-use Rattle.ipnet_base.specs.Address.{Address, ip_address}
-use Rattle.ipnet_sets.specs.Members.{IsMember}
-use Rattle.ipnet_rules.specs.UnreachedRules.{MatchesAt}
-use Rattle.ipnet_rules.proofs.UnreachedLaws.{matches_at, AreDecidersTo, deciders_push, deciders_skip, deciders_end}
+-- Sorting and removing repeats leaves each owner once.
+use Rattle.std.proofs.Common.{subst}
+use Rattle.std.proofs.lemmas.List.Filters.{dedup_is}
+use Rattle.std.proofs.lemmas.List.Kept.{Contains-dedup_nat, Contains-from_dedup, AllPairs-from_increasing}
+use Rattle.std.proofs.lemmas.List.Sorted.{Contains-permutation, IsPermutation-sym}
+use Rattle.std.proofs.lemmas.Map.Keys.{IsStrictlyIncreasing-dedup}
+use Rattle.ipnet_rules.specs.Cells.{HasOwnersAdded}
+use Rattle.ipnet_rules.proofs.OwnerLaws.{deciders_from_owners}
 use Rattle.ipnet_rules.proofs.unreached.deciders.Goals as goal
-use Rattle.ipnet_rules.proofs.unreached.deciders.Goals.{in-Some+in_ok-push-in-Some+in_ok-left-in-Some, in-None}
-use Rattle.ipnet_rules.proofs.unreached.deciders.Goals.{then-loop-index-test+else-not-is_empty, else-loop-index-test}
-
-pub loop-index-preserved : goal.loop-index-preserved
-loop-index-preserved c =
-    let rules = c.args.rules.now in
-    let place = c.args.place in
-    let i = c.loop-index.index in
-    let within : i < length rules = omega (arith, c.loop-index-test.true, c.requires) in
-    let earlier : (x : Address) → IsMember c.in_ok-earlier.earlier x ↔ MatchesAt rules i x = λ x.
-    let at = matches_at rules i c.index-rules-index.result x within in (
-      λ m. at.1 ((c.in_ok-earlier.ensures x).0 m),
-      λ m. (c.in_ok-earlier.ensures x).1 (at.0 m),
-    ) in
-    elim c.match-first.branch [
-      | in-Some+in_ok-push-in-Some+in_ok-left-in-Some w ↦
-          let x = ip_address w.in-Some.field-0 in
-          let both = (c.in_ok-shared.ensures.members x).0 w.in-Some.ensures.some.member in
-          subst (λ z. AreDecidersTo rules place (i + 1) (IsMember z) c.match-first.found.items) (sym w.left-is)
-          (subst (λ z. AreDecidersTo rules place (i + 1) (IsMember w.in_ok-left-in-Some.left) z.items) (sym w.found-is)
-          (subst (AreDecidersTo rules place (i + 1) (IsMember w.in_ok-left-in-Some.left))
-          (sym w.in_ok-push-in-Some.ensures.items)
-          (deciders_push rules place i (IsMember c.loop-index.left) (IsMember w.in_ok-left-in-Some.left)
-          c.loop-index.found.items x c.loop-index.invariant c.loop-index-test.true both.0 ((earlier x).0 both.1)
-          (λ y. let rest = w.in_ok-left-in-Some.ensures.members y in (
-            λ m. ((rest.0 m).0, λ at. (rest.0 m).1 ((earlier y).1 at)),
-            λ h. rest.1 (h.0, λ m. h.1 ((earlier y).0 m)),
-          )))))
-      | in-None w ↦
-          subst (λ z. AreDecidersTo rules place (i + 1) (IsMember z) c.match-first.found.items) (sym w.left-is)
-          (subst (λ z. AreDecidersTo rules place (i + 1) (IsMember c.loop-index.left) z.items) (sym w.found-is)
-          (deciders_skip rules place i (IsMember c.loop-index.left) c.loop-index.found.items c.loop-index.invariant
-          c.loop-index-test.true
-          (λ x l at. c.first.ensures.none.0 (subst IsNone (sym w.in-None.is) refl) x
-          ((c.in_ok-shared.ensures.members x).1 (l, (earlier x).1 at)))))
-    ]
 
 pub returns : goal.returns
 returns c =
-    deciders_end c.args.rules.now c.args.place c.loop-index.index (IsMember c.loop-index.left) c.loop-index.found.items
-    c.loop-index.invariant (elim c.loop-index-test.branch [
-      | then-loop-index-test+else-not-is_empty w ↦ inr (w.is_empty.ensures.0 w.if-not-is_empty.false)
-      | else-loop-index-test w ↦ inl (omega arith)
-    ])
+    let ipv4 = c.args.ipv4.now in
+    let ipv6 = c.args.ipv6.now in
+    let none = c.new-found.result.items in
+    let first = c.push_owners.new.found.items in
+    let second = c.push_owners-2.new.found.items in
+    let moved = c.sort_unstable.ensures.permutation in
+    let is = dedup_is _ _ _ c.dedup.ensures.filtered in
+    deciders_from_owners c.args.rules.now ipv4 ipv6 c.args.place _ c.in_ok-ipv4_pieces.ipv4_pieces.items
+    c.in_ok-ipv6_pieces.ipv6_pieces.items none first second c.dedup.new.self.items c.requires.ipv4 c.requires.ipv6
+    c.requires.unreached c.in_ok-ipv4_pieces.ensures c.in_ok-ipv6_pieces.ensures c.new-found.ensures.items
+    (subst (λ ps. HasOwnersAdded ipv4 ps none first) c.as_slice.ensures.value c.in_ok-push_owners.ensures)
+    (subst (λ ps. HasOwnersAdded ipv6 ps first second) c.as_slice-2.ensures.value c.in_ok-push_owners-2.ensures)
+    (λ i. (
+      λ h. Contains-permutation _ _ i (IsPermutation-sym _ _ moved) (Contains-from_dedup _ _ i (rw is at h)),
+      λ h. rw is (Contains-dedup_nat _ i (Contains-permutation _ _ i moved h)),
+    ))
+    (rw is (AllPairs-from_increasing _ (IsStrictlyIncreasing-dedup _ c.sort_unstable.ensures.sorted)))

@@ -1,7 +1,6 @@
--- The rules so far match the addresses of `matched`, and the list has each unreached rule so far.
-use Rattle.ipnet_sets.specs.Members.{IsMember}
+-- The list has each unreached rule so far.
 use Rattle.ipnet_rules.proofs.UnreachedLaws.{AreUnreachedTo}
 use Rattle.ipnet_rules.proofs.unreached.unreached_rules.Given as goal
 
 abbrev pub invariant-loop-place : goal.invariant-loop-place
-invariant-loop-place l = AreUnreachedTo l.rules l.place (IsMember l.matched) l.found.items
+invariant-loop-place l = AreUnreachedTo l.rules l.place l.found.items

@@ -1,4 +1,4 @@
--- The last turn stays, moves, or goes.
+-- The last boundary stays, moves, or goes.
 use Rattle.std.proofs.Common.{◌≡◌, ◌+◌, ◌-◌, ◌%◌, ◌<◌, ◌≤◌, ◌++◌, ◌∷◌, [], ℕ, List, get_or, take, length, map, ap, ◌∙◌}
 use Rattle.std.proofs.Common.{sym, subst}
 use Rattle.std.proofs.Common.{arith, inl, inr}
@@ -12,13 +12,13 @@ use Rattle.ipnet_sets.proofs.JoinLaws.{end_inside, end_open, end_longer, set_las
 use Rattle.ipnet_sets.proofs.gather.extend_last.Goals as goal
 
 -- the number of the last word
-last_number : {X : Type 0} (number : X → ℕ) (words slice : List X) (turn : X) → slice ≡ words → 0 < length words
-    → turn ≡ get_or slice (length slice - 1) turn → (d : ℕ)
-    → get_or (map number words) (length (map number words) - 1) d ≡ number turn
-last_number number words slice turn e some is d =
+last_number : {X : Type 0} (number : X → ℕ) (words slice : List X) (boundary : X) → slice ≡ words → 0 < length words
+    → boundary ≡ get_or slice (length slice - 1) boundary → (d : ℕ)
+    → get_or (map number words) (length (map number words) - 1) d ≡ number boundary
+last_number number words slice boundary e some is d =
     ap (λ k. get_or (map number words) (k - 1) d) (length-map words number)
-    ∙ number_at number words (length words - 1) d turn (omega (arith, some))
-    (is ∙ ap (λ z. get_or z (length z - 1) turn) e)
+    ∙ number_at number words (length words - 1) d boundary (omega (arith, some))
+    (is ∙ ap (λ z. get_or z (length z - 1) boundary) e)
 
 -- the number from which the range begins is not above it
 touches_last : (number_of words_size d : ℕ) (ts : List ℕ) (first : ℕ) → length ts ≡ words_size
@@ -29,14 +29,14 @@ touches_last n size d ts first e h at =
 pub returns-then-is_below : goal.returns-then-is_below
 returns-then-is_below g c =
     let number = g.T.Number.number in
-    let words = c.args.turns.now.items in
+    let words = c.args.boundaries.now.items in
     let old = map number words in
     let end = number c.index-slice-end.result in
     let size = length-map words number in
     let at : (d : ℕ) → get_or old (length old - 1) d ≡ end
     = last_number number words c.as_slice-slice.result.now c.index-slice-end.result c.as_slice-slice.ensures.value
     c.requires.some c.index-slice-end.is in
-    end_inside g.T.Number.family old end (number c.args.first) (number c.args.last) c.requires.turns
+    end_inside g.T.Number.family old end (number c.args.first) (number c.args.last) c.requires.boundaries
     (ap (λ n. n % 2) size ∙ c.requires.even) c.requires.begins (omega (arith, size, c.requires.some)) at
     (touches_last end (length words) 0 old (number c.args.first) size c.requires.touches (at 0))
     (true_gives c.is_below.result c.is_below.ensures c.if-is_below.true)
@@ -44,7 +44,7 @@ returns-then-is_below g c =
 pub returns-then-is_below-2 : goal.returns-then-is_below-2
 returns-then-is_below-2 g c =
     let number = g.T.Number.number in
-    let words = c.args.turns.now.items in
+    let words = c.args.boundaries.now.items in
     let slice = c.as_slice-slice.result.now in
     let old = map number words in
     let first = number c.args.first in
@@ -64,7 +64,7 @@ returns-then-is_below-2 g c =
     ∙ ap (λ k. set old (k - 1) (number c.next.result)) (ap length c.as_slice-slice.ensures.value ∙ sym size)
     ∙ set_last old (number c.next.result) some ∙ ap (λ n. take (length old - 1) old ++ n ∷ []) c.next.ensures in
     subst (IsJoined g.T.Number.family old first last) (sym moved)
-    (end_longer g.T.Number.family old end first last c.requires.turns
+    (end_longer g.T.Number.family old end first last c.requires.boundaries
     (ap (λ n. n % 2) size ∙ c.requires.even) c.requires.begins some at
     (touches_last end (length words) 0 old first size c.requires.touches (at 0)) longer
     (omega (arith, true_gives c.is_below-2.result c.is_below-2.ensures c.if-is_below-2.true, c.last.ensures)))
@@ -72,7 +72,7 @@ returns-then-is_below-2 g c =
 pub returns-else-is_below-2 : goal.returns-else-is_below-2
 returns-else-is_below-2 g c =
     let number = g.T.Number.number in
-    let words = c.args.turns.now.items in
+    let words = c.args.boundaries.now.items in
     let old = map number words in
     let first = number c.args.first in
     let last = number c.args.last in
@@ -84,7 +84,7 @@ returns-else-is_below-2 g c =
     let popped : map number c.pop.new.self.items ≡ take (length old - 1) old
     = ap (map number) c.pop.ensures.rest ∙ sym (take-map number _ words) ∙ ap (λ k. take k old) (omega (arith, size)) in
     subst (IsJoined g.T.Number.family old first last) (sym popped)
-    (end_open g.T.Number.family old end first last c.requires.turns
+    (end_open g.T.Number.family old end first last c.requires.boundaries
     (ap (λ n. n % 2) size ∙ c.requires.even) c.requires.begins (omega (arith, size, c.requires.some)) at
     (touches_last end (length words) 0 old first size c.requires.touches (at 0))
     (elim (cases_lt last (number c.last.result)) [

@@ -5,7 +5,7 @@ use Rattle.std.proofs.lemmas.List.Sorted.{IsPermutation-sym}
 use Rattle.std.specs.List.Sorted.{IsPermutation}
 use Rattle.ipnet_base.specs.Address.{greatest_number}
 use Rattle.ipnet_sets.specs.Gather.{IsInSomeRange}
-use Rattle.ipnet_sets.specs.Turns.{is_inside}
+use Rattle.ipnet_sets.specs.Boundaries.{is_inside}
 use Rattle.ipnet_sets.proofs.JoinLaws.{any_permutation}
 use Rattle.ipnet_sets.proofs.gather.join_all.Goals as goal
 
@@ -18,11 +18,11 @@ returns-clause-members g c =
     let same : IsPermutation given sorted
     = subst (IsPermutation given) (sym c.as_slice.ensures.value) c.sort.ensures.same in
     IfOk-weaker c.join_sorted.result
-    (λ turns. (x : ℕ) → x ≤ greatest_number f → (is_inside (map number turns.items) x ≡ true)
+    (λ boundaries. (x : ℕ) → x ≤ greatest_number f → (is_inside (map number boundaries.items) x ≡ true)
     ↔ IsInSomeRange number sorted x)
-    (λ turns. (x : ℕ) → x ≤ greatest_number f → (is_inside (map number turns.items) x ≡ true)
+    (λ boundaries. (x : ℕ) → x ≤ greatest_number f → (is_inside (map number boundaries.items) x ≡ true)
     ↔ IsInSomeRange number given x)
-    (λ turns h x le. (
+    (λ boundaries h x le. (
       λ e. any_permutation (λ r. (number r.first ≤ x) × (x ≤ number r.last)) sorted given
           (IsPermutation-sym given sorted same) ((h x le).0 e),
       λ a. (h x le).1 (any_permutation (λ r. (number r.first ≤ x) × (x ≤ number r.last)) given sorted same a),

@@ -6,7 +6,7 @@ pub loop-range-preserved : goal.loop-range-preserved
 loop-range-preserved g c =
     let number = g.T.Number.number in
     gathered_more (λ r. number r.first) (λ r. number r.last) g.T.Number.family c.args.ranges.now
-    c.loop-range.range-index (map number c.loop-range.turns.items) (map number c.join_range.new.turns.items)
+    c.loop-range.range-index (map number c.loop-range.boundaries.items) (map number c.join_range.new.boundaries.items)
     c.range-item.result c.requires (omega arith) c.range-item.is c.in_ok-join_range.ensures.joined
     c.loop-range.invariant
 
@@ -14,4 +14,4 @@ pub returns-clause-members : goal.returns-clause-members
 returns-clause-members g c =
     let number = g.T.Number.number in
     gathered_whole (λ r. number r.first) (λ r. number r.last) g.T.Number.family c.args.ranges.now
-    c.loop-range.range-index (map number c.loop-range.turns.items) (omega arith) c.loop-range.invariant
+    c.loop-range.range-index (map number c.loop-range.boundaries.items) (omega arith) c.loop-range.invariant

@@ -6,4 +6,4 @@ use Rattle.ipnet_sets.proofs.gather.join_sorted.Given as goal
 abbrev pub invariant-loop-range : goal.invariant-loop-range
 invariant-loop-range g l =
     IsGathered (λ r. g.T.Number.number r.first) (λ r. g.T.Number.number r.last) g.T.Number.family l.ranges l.range-index
-    (map g.T.Number.number l.turns.items)
+    (map g.T.Number.number l.boundaries.items)

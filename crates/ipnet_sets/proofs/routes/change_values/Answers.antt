@@ -1,7 +1,5 @@
 -- Each route that is read is put at the end, with its changed value.
-use Rattle.std.proofs.Common.{◌≡◌, [], ◌∷◌, ◌++◌, take, length, rules, map-id, refl, sym, ◌∙◌, subst}
-use Rattle.std.proofs.lemmas.Iterator.Consumers.{YieldsList-end}
-use Rattle.std.proofs.lemmas.Iterator.Adapters.{YieldsList-from_vec}
+use Rattle.std.proofs.Common.{[], ◌∷◌, ◌++◌, refl, sym, subst}
 use Rattle.ipnet_sets.specs.RouteSteps.{AreChanged}
 use Rattle.ipnet_sets.proofs.RouteChangeLaws.{changed_push}
 use Rattle.ipnet_sets.proofs.routes.change_values.Goals as goal

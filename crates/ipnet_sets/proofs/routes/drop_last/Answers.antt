@@ -1,4 +1,4 @@
--- No network of the list stands after this one, so only the last route can be of it.
+-- No network of the list is above this one, so only the last route can have it.
 use Rattle.std.proofs.Common.{◌≡◌, ◌-◌, length, take, inl, inr, refl, sym, ap, ◌∙◌, subst}
 use Rattle.ipnet_base.proofs.ResultLaws.{true_gives, false_gives}
 use Rattle.ipnet.specs.NetworkOf.{ip_network}

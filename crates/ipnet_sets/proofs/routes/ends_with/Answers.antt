@@ -1,4 +1,4 @@
--- A list that is not empty ends with what stands at its last place.
+-- A list that is not empty ends with the item at its last place.
 use Rattle.std.proofs.Common.{◌≡◌, ◌+◌, ◌-◌, length, true, false, sym, ap, ◌∙◌, arith}
 use Rattle.std.proofs.lemmas.Bool.{eqb-true}
 use Rattle.std.proofs.lemmas.List.{length-map, get_or-map, length_push}

@@ -1,4 +1,4 @@
--- Of the routes read so far the last of each network is kept.
+-- From the routes read so far, the last one of each network is kept.
 use Rattle.std.proofs.Common.{◌↔◌, Contains}
 use Rattle.ipnet_base.specs.Blocks.{IsAscending}
 use Rattle.ipnet_sets.specs.Routes.{Route, ip_routes, ip_networks, IsLatest}

@@ -1,4 +1,4 @@
--- A table's networks ascend, so all that enclose a network stand before it, and there their links are known.
+-- A table's networks ascend, so all networks that enclose one are before it, and their links are known by then.
 use Rattle.std.proofs.Common.{◌≡◌, ◌+◌, [], ◌∷◌, ◌++◌, length, get_or, Contains, inr, arith}
 use Rattle.std.proofs.Common.{refl, sym, ap, ◌∙◌, subst₂}
 use Rattle.std.proofs.lemmas.List.{length-map, length_push, get_or_push, get_or_append_left}

@@ -1,5 +1,5 @@
--- A network that does not contain the one asked for is itself enclosed by every earlier one that does, so none of these
--- stands between it and its link.
+-- A network that does not contain the given one is itself enclosed by every earlier one that does. So none of these is
+-- between it and its link.
 use Rattle.std.proofs.Common.{◌-◌, get_or, Contains, arith}
 use Rattle.std.proofs.lemmas.List.{length-map}
 use Rattle.ipnet_base.proofs.ResultLaws.{true_gives, false_gives}

@@ -1,6 +1,6 @@
--- The networks before `low` stand no later than the one asked for, and those from `high` on after it, until the two
+-- The networks before `low` are at most the given one, and the networks from `high` on are above it. The two places
 -- meet.
-use Rattle.std.proofs.Common.{◌+◌, ◌-◌, ◌/◌, length, get_or, arith, sym, ◌∙◌}
+use Rattle.std.proofs.Common.{length, get_or, arith, sym, ◌∙◌}
 use Rattle.std.proofs.lemmas.List.{length-map}
 use Rattle.ipnet.specs.NetworkOf.{ip_network}
 use Rattle.ipnet_sets.specs.Routes.{ip_networks}
@@ -17,26 +17,34 @@ loop-low-init g c =
 pub loop-low-preserved-then-lt : goal.loop-low-preserved-then-lt
 loop-low-preserved-then-lt g c =
     let list = c.args.routes.now in
-    let middle = c.loop-low.low + (c.loop-low.high - c.loop-low.low) / 2 in
+    let middle = c.probe-middle.result in
     let d = c.index-routes-middle.result in
     let e = (get_or list middle d).0 in
     let size = length-map list (λ r. ip_network r.0) in
     place_down (ip_networks list) c.requires (ip_network c.args.network.now) c.loop-low.low c.loop-low.high
-    (ip_network e) (value_at (λ r. ip_network r.0) list middle d (omega (arith, c.loop-low.invariant.within)))
-    (omega arith) (omega arith)
+    (ip_network e) (value_at (λ r. ip_network r.0) list middle d (omega (
+      arith,
+      c.probe-middle.ensures.below,
+      c.loop-low.invariant.within,
+    )))
+    c.probe-middle.ensures.from c.probe-middle.ensures.below
     (less_gives c.args.network.now e (c.ip_nets_compare_by_network.ensures.compare c.args.network.now e)
     (sym c.lt.ensures ∙ c.if-lt.true)) c.loop-low.invariant
 
 pub loop-low-preserved : goal.loop-low-preserved
 loop-low-preserved g c =
     let list = c.args.routes.now in
-    let middle = c.loop-low.low + (c.loop-low.high - c.loop-low.low) / 2 in
+    let middle = c.probe-middle.result in
     let d = c.index-routes-middle.result in
     let e = (get_or list middle d).0 in
     let size = length-map list (λ r. ip_network r.0) in
     place_up (ip_networks list) c.requires (ip_network c.args.network.now) c.loop-low.low c.loop-low.high
-    (ip_network e) (value_at (λ r. ip_network r.0) list middle d (omega (arith, c.loop-low.invariant.within)))
-    (omega arith)
+    (ip_network e) (value_at (λ r. ip_network r.0) list middle d (omega (
+      arith,
+      c.probe-middle.ensures.below,
+      c.loop-low.invariant.within,
+    )))
+    c.probe-middle.ensures.below
     (not_less_gives c.args.network.now e (c.ip_nets_compare_by_network.ensures.compare c.args.network.now e)
     (sym c.lt.ensures ∙ c.if-lt.false)) c.loop-low.invariant
 

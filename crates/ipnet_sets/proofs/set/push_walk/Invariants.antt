@@ -7,6 +7,6 @@ abbrev pub invariant-loop-network : goal.invariant-loop-network
 invariant-loop-network l = map ip_network l.networks.items ++ ip_subnets_left l.network-iterator
     ≡ map ip_network l.fn.networks.items ++ ip_subnets_left l.fn.walk
 
--- the crate's tests are a program, in which a loop over an iterator wants its measure
+-- the tests of the crate are a program, and there a loop over an iterator needs a measure
 abbrev pub decreases-loop-network : goal.decreases-loop-network
 decreases-loop-network l = length (ip_subnets_left l.network-iterator)

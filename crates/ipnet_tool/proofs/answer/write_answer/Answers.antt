@@ -7,13 +7,13 @@ use Rattle.std.specs.Io.KnownBytes.{Appends}
 use Rattle.std.proofs.KnownBytes.{Appends-kept}
 use Rattle.ipnet.specs.CanonicalTexts.{canonical_text}
 use Rattle.ipnet.specs.NetworkOf.{ipv4_network, ipv6_network}
-use Rattle.ipnet_tool.specs.Answers.{text_of_lines}
-use Rattle.ipnet_tool.specs.Families.{networks_of}
-use Rattle.ipnet_tool.specs.Pieces.{IsInPieces}
-use Rattle.ipnet_tool.specs.declared.tool.Families.{Families}
+use Rattle.ipnet_text.specs.LineTexts.{text_of_lines}
+use Rattle.ipnet_text.specs.NetLists.{networks_of}
+use Rattle.ipnet_text.specs.Pieces.{IsInPieces}
+use Rattle.ipnet_text.specs.declared.net_lists.NetLists.{NetLists}
 use Rattle.ipnet.specs.declared.net.ipv6_net.Ipv6Net.{Ipv6Net}
-use Rattle.ipnet_tool.proofs.AnswerLaws.{one_line_more, text_of_lines-append}
-use Rattle.ipnet_tool.proofs.WritingLaws.{pieces_more, front_written, all_written, whole_front, text_cut}
+use Rattle.ipnet_text.proofs.LineTextLaws.{one_line_more, text_of_lines-append}
+use Rattle.ipnet_text.proofs.WritingLaws.{pieces_more, front_written, all_written, whole_front, text_cut}
 use Rattle.ipnet_tool.proofs.answer.write_answer.Goals as goal
 
 pub loop-network-preserved : goal.loop-network-preserved
@@ -25,9 +25,9 @@ loop-network-preserved g c =
     let line = canonical_text (ipv4_network c.network-item.result) in
     let more = one_line_more ipv4_network [] items i c.network-item.result text ((text ++ line) ++ 10 ∷ [])
     c.loop-network-test.true c.network-item.is refl refl in
-    pieces_more (held c.args.out.now) (held c.loop-network.out) (held c.push_line.new.out) c.loop-network.piece.bytes
-    c.push_line.new.piece.bytes line text (text_of_lines (map ipv4_network (take (i + 1) items)))
-    c.loop-network.invariant c.in_ok-push_line.ensures.ok (sym more)
+    pieces_more (held c.args.out.now) (held c.loop-network.out) (held c.put_line.new.out) c.loop-network.piece.bytes
+    c.put_line.new.piece.bytes line text (text_of_lines (map ipv4_network (take (i + 1) items)))
+    c.loop-network.invariant c.in_ok-put_line.ensures.ok (sym more)
 
 pub loop-network-2-preserved : goal.loop-network-2-preserved
 loop-network-2-preserved g c =
@@ -39,13 +39,13 @@ loop-network-2-preserved g c =
     let line = canonical_text (ipv6_network c.network-item-in-loop-network-2.result) in
     let more = one_line_more ipv6_network first items i c.network-item-in-loop-network-2.result text
     ((text ++ line) ++ 10 ∷ []) c.loop-network-2-test.true c.network-item-in-loop-network-2.is refl refl in
-    pieces_more (held c.args.out.now) (held c.loop-network-2.out) (held c.push_line-in-loop-network-2.new.out)
-    c.loop-network-2.piece.bytes c.push_line-in-loop-network-2.new.piece.bytes line text
+    pieces_more (held c.args.out.now) (held c.loop-network-2.out) (held c.put_line-in-loop-network-2.new.out)
+    c.loop-network-2.piece.bytes c.put_line-in-loop-network-2.new.piece.bytes line text
     (first ++ text_of_lines (map ipv6_network (take (i + 1) items))) c.loop-network-2.invariant
-    c.in_ok-push_line-2.ensures.ok (sym more)
+    c.in_ok-put_line-2.ensures.ok (sym more)
 
-pub returns-in_err-push_line-clause-front : goal.returns-in_err-push_line-clause-front
-returns-in_err-push_line-clause-front g c =
+pub returns-in_err-put_line-clause-front : goal.returns-in_err-put_line-clause-front
+returns-in_err-put_line-clause-front g c =
     let held = g.W.Write.contents in
     let ipv4 = c.args.families.now.ipv4.items in
     let ipv6 = text_of_lines (map ipv6_network c.args.families.now.ipv6.items) in
@@ -57,12 +57,12 @@ returns-in_err-push_line-clause-front g c =
     text_of_lines-append (map ipv4_network ipv4) (map ipv6_network c.args.families.now.ipv6.items)
     ∙ ap (λ z. text_of_lines (map ipv4_network z) ++ ipv6) (sym c.deref-network-items.ensures.value)
     ∙ ap (λ z. z ++ ipv6) (text_cut ipv4_network items i) ∙ append_assoc text rest ipv6 in
-    front_written (held c.args.out.now) (held c.loop-network.out) (held c.push_line.new.out)
+    front_written (held c.args.out.now) (held c.loop-network.out) (held c.put_line.new.out)
     c.loop-network.piece.bytes text (rest ++ ipv6) (text_of_lines (networks_of c.args.families.now))
-    c.loop-network.invariant cut c.in_err-push_line.ensures.front
+    c.loop-network.invariant cut c.in_err-put_line.ensures.front
 
-pub returns-in_err-push_line-2-clause-front : goal.returns-in_err-push_line-2-clause-front
-returns-in_err-push_line-2-clause-front g c =
+pub returns-in_err-put_line-2-clause-front : goal.returns-in_err-put_line-2-clause-front
+returns-in_err-put_line-2-clause-front g c =
     let held = g.W.Write.contents in
     let first = text_of_lines (map ipv4_network c.args.families.now.ipv4.items) in
     let items = c.deref-network-items-2.result.now in
@@ -74,12 +74,12 @@ returns-in_err-push_line-2-clause-front g c =
     (map ipv6_network c.args.families.now.ipv6.items)
     ∙ ap (λ z. first ++ text_of_lines (map ipv6_network z)) (sym c.deref-network-items-2.ensures.value)
     ∙ ap (λ z. first ++ z) (text_cut ipv6_network items i) ∙ sym (append_assoc first text rest) in
-    front_written (held c.args.out.now) (held c.loop-network-2.out) (held c.push_line-in-loop-network-2.new.out)
+    front_written (held c.args.out.now) (held c.loop-network-2.out) (held c.put_line-in-loop-network-2.new.out)
     c.loop-network-2.piece.bytes (first ++ text) rest (text_of_lines (networks_of c.args.families.now))
-    c.loop-network-2.invariant cut c.in_err-push_line-2.ensures.front
+    c.loop-network-2.invariant cut c.in_err-put_line-2.ensures.front
 
 -- the text of all networks, after the second loop has gone through its list
-whole_text : (families : Families) (items : List Ipv6Net) (i : ℕ) → length items ≤ i → items ≡ families.ipv6.items
+whole_text : (families : NetLists) (items : List Ipv6Net) (i : ℕ) → length items ≤ i → items ≡ families.ipv6.items
     → text_of_lines (map ipv4_network families.ipv4.items) ++ text_of_lines (map ipv6_network (take i items))
     ≡ text_of_lines (networks_of families)
 whole_text families items i all is =

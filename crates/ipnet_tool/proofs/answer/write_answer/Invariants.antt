@@ -1,7 +1,7 @@
 use Rattle.std.proofs.Common.{◌++◌, [], map, take}
 use Rattle.ipnet.specs.NetworkOf.{ipv4_network, ipv6_network}
-use Rattle.ipnet_tool.specs.Answers.{text_of_lines}
-use Rattle.ipnet_tool.specs.Pieces.{IsInPieces}
+use Rattle.ipnet_text.specs.LineTexts.{text_of_lines}
+use Rattle.ipnet_text.specs.Pieces.{IsInPieces}
 use Rattle.ipnet_tool.proofs.answer.write_answer.Given as goal
 
 abbrev pub invariant-loop-network : goal.invariant-loop-network

@@ -3,8 +3,8 @@
 use Rattle.std.proofs.Common.{◌≡◌, ◌≤◌, ◌++◌, [], length, take, take_all, sym, ap, ◌∙◌, subst, arith}
 use Rattle.std.proofs.Common.{IsUtf8}
 use Rattle.std.specs.Str.{valid_up_to}
-use Rattle.ipnet_tool.specs.Window.{held}
-use Rattle.ipnet_tool.proofs.LineCuts.{no_bytes, empty_text}
+use Rattle.ipnet_text.specs.Window.{held}
+use Rattle.ipnet_text.proofs.LineCuts.{no_bytes, empty_text}
 use Rattle.ipnet_tool.proofs.ReadingLaws.{judged_none, judged_more, judged_whole}
 use Rattle.ipnet_tool.proofs.input.after_bad_line.Goals as goal
 use Rattle.ipnet_tool.proofs.input.after_bad_line.Goals.{in-Ok, in-Err}

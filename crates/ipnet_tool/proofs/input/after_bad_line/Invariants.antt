@@ -1,4 +1,4 @@
-use Rattle.ipnet_tool.specs.Window.{held}
+use Rattle.ipnet_text.specs.Window.{held}
 use Rattle.ipnet_tool.proofs.ReadingLaws.{IsJudged}
 use Rattle.ipnet_tool.proofs.input.after_bad_line.Given as goal
 

@@ -4,20 +4,20 @@ use Rattle.std.proofs.Common.{◌≡◌, ◌≢◌, ℕ, ◌+◌, ◌<◌, ◌�
 use Rattle.std.proofs.Common.{ap, ◌∙◌, subst, arith, IsUtf8, length-take}
 use Rattle.ipnet.specs.Lines.{lines_of, IsFirstBadLine}
 use Rattle.ipnet_tool.specs.declared.tool.ToolError.TheVariants as ToolErrors
-use Rattle.ipnet_tool.specs.declared.program.Failure.TheVariants as Failures
-use Rattle.ipnet_tool.specs.Families.{networks_of}
+use Rattle.ipnet_tool.specs.declared.failure.Failure.TheVariants as Failures
+use Rattle.ipnet_text.specs.NetLists.{networks_of}
 use Rattle.ipnet_tool.specs.Reading.{IsBadLineFrom}
-use Rattle.ipnet_tool.specs.Window.{held}
-use Rattle.ipnet_tool.proofs.PieceLaws.{IsClosed, lines_count}
+use Rattle.ipnet_text.specs.Window.{held}
+use Rattle.ipnet_text.proofs.ClosedLines.{IsClosed, lines_count}
 use Rattle.ipnet_tool.proofs.ReadingLaws.{IsReadUpTo, AddsNetworksOf, read_none, read_more, piece_taken, last_taken}
 use Rattle.ipnet_tool.proofs.ReadingLaws.{last_bad, bad_then_text, long_then_text, none_after}
 use Rattle.ipnet_tool.proofs.input.read_networks.Goals as goal
 
 pub loop-init : goal.loop-init
 loop-init g c = record {
-  taken = read_none c.args.grammar (g.R.Read.remaining c.args.input.now) (held c.new-window.result)
-      (networks_of c.new-families.result) c.new-window.ensures c.new-families.ensures;
-  room = omega (arith, ap length c.new-window.ensures);
+  taken = read_none c.args.grammar (g.R.Read.remaining c.args.input.now) (held c.in_ok-window.window)
+      (networks_of c.new-families.result) c.in_ok-window.ensures c.new-families.ensures;
+  room = omega (arith, ap length c.in_ok-window.ensures);
   bound = omega arith;
 }
 
@@ -101,7 +101,7 @@ returns-then-not-more-clause-networks g c =
     ∙ take_all (length c.held-held.result.now) c.held-held.result.now (omega arith) ∙ value in
     let piece : c.in-Ok.text.now ≡ now = cases.0 ∙ cut in
     let is_text : IsUtf8 now = subst IsUtf8 cut cases.1 in
-    let new = networks_of c.push_lines-result.new.self in
+    let new = networks_of c.push_lines-result.new.families in
     let adds : AddsNetworksOf grammar now old new =
     subst (λ z. AddsNetworksOf grammar z old new) piece c.in-Ok-result.ensures.networks in
     last_taken grammar start here now old new number0 so_far adds (c.in_ok-more.ensures.end c.if-not-more.true)
@@ -127,7 +127,7 @@ returns-then-held-eq-SIZE-clause-bad_line g c = λ number e.
     let is_text : IsUtf8 (take count now) = subst IsUtf8 cut cases.1 in
     let closed : IsClosed (take count now) =
     subst IsClosed (ap (take count) value) (c.lines_len-count.ensures.closed c.if-not-more.false) in
-    let new = networks_of c.push_lines-result.new.self in
+    let new = networks_of c.push_lines-result.new.families in
     let adds : AddsNetworksOf grammar (take count now) old new =
     subst (λ z. AddsNetworksOf grammar z old new) piece c.in-Ok-result.ensures.networks in
     let lines = c.in-Ok-result.lines in
@@ -167,7 +167,7 @@ loop-preserved g c =
     let is_text : IsUtf8 (take count now) = subst IsUtf8 cut cases.1 in
     let closed : IsClosed (take count now) =
     subst IsClosed (ap (take count) value) (c.lines_len-count.ensures.closed c.if-not-more.false) in
-    let new = networks_of c.push_lines-result.new.self in
+    let new = networks_of c.push_lines-result.new.families in
     let adds : AddsNetworksOf grammar (take count now) old new =
     subst (λ z. AddsNetworksOf grammar z old new) piece c.in-Ok-result.ensures.networks in
     let lines = c.in-Ok-result.lines in

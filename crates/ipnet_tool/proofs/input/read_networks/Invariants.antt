@@ -1,6 +1,6 @@
 use Rattle.std.proofs.Common.{◌<◌, ◌≤◌, ◌*◌, length}
-use Rattle.ipnet_tool.specs.Families.{networks_of}
-use Rattle.ipnet_tool.specs.Window.{held}
+use Rattle.ipnet_text.specs.NetLists.{networks_of}
+use Rattle.ipnet_text.specs.Window.{held}
 use Rattle.ipnet_tool.proofs.ReadingLaws.{IsReadUpTo}
 use Rattle.ipnet_tool.proofs.input.read_networks.Given as goal
 

@@ -1,12 +1,12 @@
 -- A run that reads all, aggregates and writes is answered; a run whose write fails is cut short; a run that reports a
 -- line has read a text with that bad line.
 use Rattle.std.proofs.Common.{◌≡◌, ℕ, inr, Err, refl, sym, ap, ◌∙◌, arith}
-use Rattle.ipnet_tool.specs.Answers.{text_of_lines}
-use Rattle.ipnet_tool.specs.Families.{networks_of}
+use Rattle.ipnet_text.specs.LineTexts.{text_of_lines}
+use Rattle.ipnet_text.specs.NetLists.{networks_of}
 use Rattle.ipnet_tool.specs.Statuses.{status_of}
-use Rattle.ipnet_tool.specs.declared.program.Failure.{Failure}
-use Rattle.ipnet_tool.specs.declared.program.Failure.TheVariants.{Arguments, Unreadable, NotUtf8, Memory, Line}
-use Rattle.ipnet_tool.specs.declared.program.Failure.TheVariants.{Unwritable}
+use Rattle.ipnet_tool.specs.declared.failure.Failure.{Failure}
+use Rattle.ipnet_tool.specs.declared.failure.Failure.TheVariants.{Arguments, Unreadable, NotUtf8, Memory, Line}
+use Rattle.ipnet_tool.specs.declared.failure.Failure.TheVariants.{Unwritable}
 use Rattle.ipnet_tool.proofs.AnswerLaws.{answer_from}
 use Rattle.ipnet_tool.proofs.program.run.Goals as goal
 

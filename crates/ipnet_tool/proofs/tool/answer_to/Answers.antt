@@ -4,10 +4,11 @@ use Rattle.std.proofs.Common.{◌≡◌, ◌+◌, ◌∙◌, ◌++◌, string_by
 use Rattle.std.proofs.Common.{subst, ap, arith}
 use Rattle.std.proofs.lemmas.Bool.{false≢true}
 use Rattle.ipnet.specs.Lines.{lines_of, IsFirstBadLine}
-use Rattle.ipnet_tool.specs.Answers.{IsTextAnswer, text_of_lines}
+use Rattle.ipnet_text.specs.LineTexts.{text_of_lines}
+use Rattle.ipnet_tool.specs.Answers.{IsTextAnswer}
 use Rattle.ipnet_tool.specs.declared.tool.ToolError.{ToolError}
 use Rattle.ipnet_tool.specs.declared.tool.ToolError.TheVariants as ToolErrors
-use Rattle.ipnet_tool.specs.Families.{networks_of}
+use Rattle.ipnet_text.specs.NetLists.{networks_of}
 use Rattle.ipnet.specs.Blocks.{HaveSameCover}
 use Rattle.ipnet_tool.proofs.AnswerLaws.{answer_from, answered, not_answered}
 use Rattle.ipnet_tool.proofs.tool.answer_to.Goals as goal
@@ -46,7 +47,7 @@ returns-in_default c =
 pub returns : goal.returns
 returns c =
     let grammar = c.args.grammar in
-    let families = networks_of c.push_lines.new.self in
+    let families = networks_of c.push_lines.new.families in
     let (networks, written, after_none) = c.in_ok-push_lines.ensures.networks in
     let same : HaveSameCover networks families =
     subst (λ z. HaveSameCover (z ++ networks) families) c.new-families.ensures after_none in

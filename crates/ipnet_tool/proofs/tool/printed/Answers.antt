@@ -3,8 +3,9 @@
 use Rattle.std.proofs.Common.{◌≡◌, [], ◌++◌, length, map, string_bytes, sym, ap, ◌∙◌, append-nil, arith}
 use Rattle.std.proofs.lemmas.List.{take_all}
 use Rattle.ipnet.specs.NetworkOf.{ipv4_network, ipv6_network}
-use Rattle.ipnet_tool.specs.Answers.{text_of_lines}
-use Rattle.ipnet_tool.proofs.AnswerLaws.{no_ipv6, one_line_more, text_of_lines-append}
+use Rattle.ipnet_text.specs.LineTexts.{text_of_lines}
+use Rattle.ipnet_text.proofs.LineTextLaws.{one_line_more, text_of_lines-append}
+use Rattle.ipnet_text.proofs.ListsLaws.{no_ipv6}
 use Rattle.ipnet_tool.proofs.tool.printed.Goals as goal
 
 pub loop-network-preserved : goal.loop-network-preserved

@@ -1,6 +1,6 @@
 use Rattle.std.proofs.Common.{◌≡◌, [], ◌++◌, map, take, string_bytes}
 use Rattle.ipnet.specs.NetworkOf.{ipv4_network, ipv6_network}
-use Rattle.ipnet_tool.specs.Answers.{text_of_lines}
+use Rattle.ipnet_text.specs.LineTexts.{text_of_lines}
 use Rattle.ipnet_tool.proofs.tool.printed.Given as goal
 
 abbrev pub invariant-loop-network : goal.invariant-loop-network

@@ -1,4 +1,4 @@
--- Each value is a network, and of networks `neighbours_iff_own_aggregate` says it.
+-- Each value is a network, so `neighbours_iff_own_aggregate` applies.
 use Rattle.std.proofs.Common.{map}
 use Rattle.ipnet_base.specs.Network.{IsNetwork}
 use Rattle.ipnet_base.proofs.NeighbourLaws.{neighbours_iff_own_aggregate}

@@ -1,5 +1,5 @@
 -- The three lengths, by the range, by the start's trailing zeros and by the minimum, meet all that
--- `largest_by_counts` wants.
+-- `largest_by_counts` requires.
 use Rattle.std.proofs.Common.{refl, arith, w32}
 use Rattle.std.specs.Int.Count.{trailing_of_zero}
 use Rattle.std.proofs.lemmas.Nat.{trailing_le}

@@ -1,5 +1,5 @@
 -- The three lengths, by the range, by the start's trailing zeros and by the minimum, meet all that
--- `largest_by_counts` wants.
+-- `largest_by_counts` requires.
 use Rattle.std.proofs.Common.{refl, arith}
 use Rattle.std.specs.Int.{w128}
 use Rattle.std.specs.Int.Count.{trailing_of_zero}

@@ -1,31 +1,25 @@
--- The blocks are the maximal blocks of the set, so the best block gives the best fit, and without one there is no room.
-use Rattle.std.proofs.Common.{map, length, sym, subst}
-use Rattle.std.proofs.lemmas.List.{length-map}
-use Rattle.ipnet_base.specs.Blocks.{AreMaximalBlocks}
+-- The blocks are the maximal blocks of what is free, so the first one for the request gives the best fit.
+use Rattle.std.proofs.Common.{sym, subst, IfNone}
 use Rattle.ipnet.specs.NetworkOf.{ip_network}
 use Rattle.ipnet.specs.NetLaws.{ip_valid}
-use Rattle.ipnet_sets.specs.Members.{IsMember}
-use Rattle.ipnet_sets.proofs.SetEqualLaws.{member_or_not}
-use Rattle.ipnet_pools.specs.Fits.{IsBestFit}
-use Rattle.ipnet_pools.proofs.BestLaws.{best_is_fit, none_is_no_room}
+use Rattle.ipnet_pools.specs.BlocksOf.{blocks_of}
+use Rattle.ipnet_pools.specs.Fits.{HasRoom, IsBestFit}
+use Rattle.ipnet_pools.specs.FreeOf.{IsIn}
+use Rattle.ipnet_pools.proofs.BestLaws.{first_is_fit, none_is_no_room}
+use Rattle.ipnet_pools.proofs.FreeLaws.{own_of}
 use Rattle.ipnet_pools.proofs.free.FreeBlocks.best.Goals as goal
 
-pub returns-in-Some-clause-best : goal.returns-in-Some-clause-best
-returns-in-Some-clause-best c =
-    let set = c.args.self.now.set in
-    let list = c.as_slice.result.now in
+pub returns-in_err-block-clause-none : goal.returns-in_err-block-clause-none
+returns-in_err-block-clause-none c =
+    let free = c.args.self.now in
     let request = ip_network c.args.request.now in
-    subst (IsBestFit (IsMember set) request.family request.prefix_len) (sym c.at_start.ensures)
-    (best_is_fit (IsMember set) (map ip_network list) request (ip_network c.in-Some.block) (length list)
-    (ip_valid c.args.request.now) (sym (length-map list ip_network))
-    (subst (λ z. AreMaximalBlocks (IsMember set) 0 (map ip_network z)) (sym c.as_slice.ensures.value)
-    c.in_ok-blocks.ensures.blocks) c.in-Some.ensures.some)
+    subst (λ r. IfNone r (¬ (HasRoom (IsIn free) request.family request.prefix_len))) (sym c.from_residual.ensures)
+    (none_is_no_room (blocks_of free.blocks) (own_of free) request c.in_err-block.ensures.none)
 
-pub returns-clause-none : goal.returns-clause-none
-returns-clause-none c =
-    let set = c.args.self.now.set in
-    let list = c.as_slice.result.now in
-    none_is_no_room (IsMember set) (member_or_not set) (map ip_network list) (ip_network c.args.request.now)
-    (length list) (sym (length-map list ip_network))
-    (subst (λ z. AreMaximalBlocks (IsMember set) 0 (map ip_network z)) (sym c.as_slice.ensures.value)
-    c.in_ok-blocks.ensures.blocks) c.in-None.ensures.none
+pub returns-clause-best : goal.returns-clause-best
+returns-clause-best c =
+    let free = c.args.self.now in
+    let request = ip_network c.args.request.now in
+    subst (IsBestFit (IsIn free) request.family request.prefix_len) (sym c.at_start.ensures)
+    (first_is_fit (blocks_of free.blocks) (own_of free) request (ip_network c.in_ok-block.block)
+    (ip_valid c.args.request.now) c.in_ok-block.ensures.some)

@@ -2,13 +2,27 @@
 use Rattle.std.proofs.Common.{refl}
 use Rattle.ipnet_sets.specs.Members.{IsMember}
 use Rattle.ipnet_pools.specs.FreeOf.{IsIn}
-use Rattle.ipnet_pools.proofs.PoolLaws.{leases_less, within_less, rest_less, leased_less, leased_not_free}
+use Rattle.ipnet_pools.proofs.KeepLaws.{rest_of}
+use Rattle.ipnet_pools.proofs.PoolLaws.{leases_less, within_less, rest_less, leased_less, leased_not_free, weak}
+use Rattle.ipnet_pools.proofs.PoolLaws.{rest_free}
 use Rattle.ipnet_pools.proofs.pool.IpPool.end.Goals as goal
 
-pub add-requires : goal.add-requires
-add-requires g c =
+pub add-requires-clause-leased : goal.add-requires-clause-leased
+add-requires-clause-leased g c =
     let pool = c.args.self.now in
-    leased_not_free pool.leases.entries (IsMember pool.whole) (IsIn pool.free) c.args.network.now pool.rest c.requires
+    leased_not_free pool.leases.entries (IsMember pool.whole) (IsIn pool.free) c.args.network.now (rest_of pool)
+    c.requires.leased
+
+pub invariant_of-self : goal.invariant_of-self
+invariant_of-self g c =
+    let pool = c.args.self.now in
+    record {
+      apart = pool.apart;
+      within = pool.within;
+      rest = weak (IsIn c.add.new.self) pool.leases.entries (IsMember pool.whole)
+          (rest_free (IsIn pool.free) pool.leases.entries (IsMember pool.whole) (IsIn c.add.new.self)
+          c.in_err-add.ensures.same (rest_of pool));
+    }
 
 pub invariant_of-self-2 : goal.invariant_of-self-2
 invariant_of-self-2 g c =
@@ -20,8 +34,9 @@ invariant_of-self-2 g c =
     record {
       apart = leases_less old new k less pool.apart;
       within = within_less old new k less (IsMember pool.whole) pool.within;
-      rest = rest_less old new k less (IsMember pool.whole) (IsIn pool.free) (IsIn c.add.new.self) pool.apart c.requires
-          pool.within pool.rest c.in_ok-add.ensures.added;
+      rest = weak (IsIn c.add.new.self) new (IsMember pool.whole)
+          (rest_less old new k less (IsMember pool.whole) (IsIn pool.free) (IsIn c.add.new.self) pool.apart
+          c.requires.leased pool.within (rest_of pool) c.in_ok-add.ensures.added);
     }
 
 pub returns-clause-released : goal.returns-clause-released

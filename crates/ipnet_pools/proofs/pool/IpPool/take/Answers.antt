@@ -7,6 +7,7 @@ use Rattle.ipnet.specs.NetworkOf.{ip_network}
 use Rattle.ipnet_sets.specs.Members.{IsMember}
 use Rattle.ipnet_pools.specs.FreeOf.{IsIn}
 use Rattle.ipnet_pools.specs.PoolOf.{IsTaken}
+use Rattle.ipnet_pools.proofs.KeepLaws.{rest_of}
 use Rattle.ipnet_pools.proofs.TouchLaws.{touched_not_free, untouched_free, memory_not_free}
 use Rattle.ipnet_pools.proofs.pool.IpPool.take.Goals as goal
 
@@ -15,12 +16,19 @@ returns-in-Some-clause-not_free g c =
     let pool = c.args.self.now in (
       λ _. (
         true_gives c.covers.result c.covers.ensures c.if-not-covers.false,
-        touched_not_free pool.leases.entries (IsMember pool.whole) (IsIn pool.free) pool.rest
+        touched_not_free pool.leases.entries (IsMember pool.whole) (IsIn pool.free) (rest_of pool)
             (ip_network c.args.network.now) c.in-Some.lease.now
             (c.in-Some.field-0-1.now, c.in-Some.ensures.found.0) c.in-Some.ensures.found.1,
       ),
       λ _. tt,
     )
+
+pub lease-requires-clause-free : goal.lease-requires-clause-free
+lease-requires-clause-free g c = λ x a.
+    let pool = c.args.self.now in
+    untouched_free pool.leases.entries (IsMember pool.whole) (IsIn pool.free) (rest_of pool)
+    (ip_network c.args.network.now) (true_gives c.covers.result c.covers.ensures c.if-not-covers.false)
+    c.in_default.ensures.none x (c.trunc.ensures.same_block.0 x a)
 
 pub returns-clause-taken : goal.returns-clause-taken
 returns-clause-taken g c =
@@ -33,6 +41,6 @@ returns-clause-not_free g c =
     let pool = c.args.self.now in
     let lies = true_gives c.covers.result c.covers.ensures c.if-not-covers.false in (
       λ h. absurd (memory_not_free c.lease.result c.lease.ensures.error h),
-      λ h. absurd (h.1 (untouched_free pool.leases.entries (IsMember pool.whole) (IsIn pool.free) pool.rest
+      λ h. absurd (h.1 (untouched_free pool.leases.entries (IsMember pool.whole) (IsIn pool.free) (rest_of pool)
           (ip_network c.args.network.now) lies c.in_default.ensures.none)),
     )

@@ -11,7 +11,7 @@ returns-in-V4-V4 c = λ s image. rw (c.in-V4-V4.is-0, c.in-V4-V4.is-1) (covers_r
     c.to_bits.result c.to_bits-in-V4-V4.result c.covers.result refl refl
     (omega (arith, c.to_bits-in-V4-V4.type_inv)) c.to_bits.ensures c.to_bits-in-V4-V4.ensures
     (ap₂ (λ n at. numbers_from 4 n c.args.self.now.bytes.now at) c.ipv4_place.ensures.count c.ipv4_place.ensures.start
-    ∙ image.turns IPv4) c.covers.ensures)
+    ∙ image.boundaries IPv4) c.covers.ensures)
 
 pub returns-in-V6-V6 : goal.returns-in-V6-V6
 returns-in-V6-V6 c = λ s image. rw (c.in-V6-V6.is-0, c.in-V6-V6.is-1) (covers_range_image s IPv6
@@ -20,4 +20,4 @@ returns-in-V6-V6 c = λ s image. rw (c.in-V6-V6.is-0, c.in-V6-V6.is-1) (covers_r
     c.to_bits-in-V6-V6.result c.to_bits-in-V6-V6-2.result c.covers-in-V6-V6.result refl refl
     (omega (arith, c.to_bits-in-V6-V6-2.type_inv)) c.to_bits-in-V6-V6.ensures c.to_bits-in-V6-V6-2.ensures
     (ap₂ (λ n at. numbers_from 16 n c.args.self.now.bytes.now at) c.ipv6_place.ensures.count c.ipv6_place.ensures.start
-    ∙ image.turns IPv6) c.covers-in-V6-V6.ensures)
+    ∙ image.boundaries IPv6) c.covers-in-V6-V6.ensures)

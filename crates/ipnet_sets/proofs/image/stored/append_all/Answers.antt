@@ -1,7 +1,7 @@
-use Rattle.std.proofs.Common.{◌<◌, ◌+◌, ◌++◌, ◌∷◌, [], length, map, take, get_or, sym, ap, ◌∙◌, subst}
+use Rattle.std.proofs.Common.{◌++◌, ◌∷◌, [], map, take, sym, ap, ◌∙◌, subst}
 use Rattle.std.proofs.lemmas.List.{take_more, map_push}
 use Rattle.ipnet_sets.specs.Images.{AreAppended}
-use Rattle.ipnet_sets.proofs.ImageLaws.{appended_none, appended_more}
+use Rattle.ipnet_sets.proofs.ImageLaws.{appended_more}
 use Rattle.ipnet_sets.proofs.image.stored.append_all.Goals as goal
 
 pub loop-number-preserved : goal.loop-number-preserved

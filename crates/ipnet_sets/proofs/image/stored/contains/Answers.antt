@@ -7,4 +7,4 @@ pub returns : goal.returns
 returns g c =
     λ h. sym (inside_from_split
     (numbers_from g.T.StoredNumber.width c.args.place.count c.args.bytes.now c.args.place.start)
-    (g.T.Number.number c.args.number) c.turns_up_to.result (c.turns_up_to.ensures.split h))
+    (g.T.Number.number c.args.number) c.boundaries_up_to.result (c.boundaries_up_to.ensures.split h))

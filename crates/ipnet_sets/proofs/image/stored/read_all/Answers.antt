@@ -1,4 +1,4 @@
-use Rattle.std.proofs.Common.{◌<◌, ◌≤◌, length, ap, ap₂, sym, ◌∙◌, ◌++◌, ◌∷◌, [], map, take, arith}
+use Rattle.std.proofs.Common.{◌<◌, ◌≤◌, length, ap, ap₂, sym, ◌∙◌, ◌++◌, ◌∷◌, [], map, arith}
 use Rattle.std.proofs.lemmas.List.{take_more, take_all, map_push}
 use Rattle.ipnet_sets.specs.Images.{numbers_from}
 use Rattle.ipnet_sets.proofs.ImageLaws.{length-numbers_from, at_numbers}

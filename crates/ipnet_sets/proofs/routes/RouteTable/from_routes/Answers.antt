@@ -1,4 +1,4 @@
--- The list without host bits, put in order, and of each network the last route kept, has exactly the routes that stand.
+-- The table has the networks without host bits, sorted, each with the last value that was given for it.
 use Rattle.std.proofs.Common.{length, sym, ap, ◌∙◌, subst}
 use Rattle.ipnet_base.specs.Blocks.{IsAscending}
 use Rattle.ipnet_sets.specs.Routes.{ip_routes, ip_networks}

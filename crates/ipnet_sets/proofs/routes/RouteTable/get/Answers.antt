@@ -1,4 +1,4 @@
--- Where the table has the network, it stands just before the place after it, so the route there alone is asked.
+-- If the table has the network, its place is just before the place after it, so only the route there is compared.
 use Rattle.std.proofs.Common.{◌≡◌, ◌-◌, true, false, length, Contains, refl, sym, ap, ◌∙◌, subst, subst₂, arith}
 use Rattle.std.proofs.lemmas.List.{length-map}
 use Rattle.ipnet_base.specs.Network.{truncation}

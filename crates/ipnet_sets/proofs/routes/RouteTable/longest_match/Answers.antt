@@ -1,4 +1,4 @@
--- A network holds the address if it contains the network of this address alone.
+-- A network contains the address if and only if it contains the network of full length with this address.
 use Rattle.std.proofs.Common.{sym, subst}
 use Rattle.std.proofs.lemmas.Option.{IfSome_then}
 use Rattle.ipnet_base.specs.Address.{ip_address}

@@ -1,4 +1,4 @@
--- The networks of the new table are those of the old one, and each value is made of the network's old value.
+-- The new table has the networks of the old one, and each value is made from the network's old value.
 use Rattle.std.proofs.Common.{sym, ◌∙◌}
 use Rattle.ipnet_sets.proofs.RouteLaws.{same_networks}
 use Rattle.ipnet_sets.proofs.RouteChangeLaws.{changed_value}

@@ -2,7 +2,6 @@
 use Rattle.std.proofs.Common.{sym, subst, subst₂}
 use Rattle.ipnet_base.specs.Address.{ip_address}
 use Rattle.ipnet_base.specs.Network.{IsNetwork}
-use Rattle.ipnet.specs.NetworkOf.{ip_network}
 use Rattle.ipnet.specs.NetLaws.{ip_valid}
 use Rattle.ipnet_sets.specs.Routes.{ip_networks, ip_routes, AreMatches}
 use Rattle.ipnet_sets.specs.RouteSteps.{IsPlaceAfter, IsNearest, linked}

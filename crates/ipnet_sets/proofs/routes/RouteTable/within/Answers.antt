@@ -1,5 +1,5 @@
--- What is within a network begins at the place of its first address, and ends after its last address.
-use Rattle.std.proofs.Common.{◌≡◌, ◌≤◌, ◌-◌, length, take, drop, sym, ap, ◌∙◌, subst, subst₂, arith}
+-- The routes within a network begin at the place of its first address, and end after its last address.
+use Rattle.std.proofs.Common.{◌-◌, take, drop, sym, ap, ◌∙◌, subst, subst₂, arith}
 use Rattle.std.proofs.lemmas.List.{length-map}
 use Rattle.ipnet_base.specs.Address.{ip_address}
 use Rattle.ipnet_base.specs.Network.{truncation}

@@ -1,5 +1,4 @@
--- A block is the numbers from its least address to its greatest, and these are inside exactly where the block is in the
--- set.
+-- A block is the numbers from its least address to its greatest. They are inside if and only if the set covers it.
 use Rattle.std.proofs.Common.{map, ap, arith}
 use Rattle.ipnet_base.specs.Address.{ipv4_address, ipv6_address}
 use Rattle.ipnet.specs.NetworkOf.{ipv4_network, ipv6_network}

@@ -1,4 +1,4 @@
--- An IPv4 number comes before all IPv6 ones, so the least IPv6 number is first only where there is no IPv4 one.
+-- IPv4 comes before IPv6, so the least IPv6 number is first only if the set has no IPv4 number.
 use Rattle.std.proofs.Common.{map, ap}
 use Rattle.ipnet_base.specs.Address.{IPv4, IPv6}
 use Rattle.ipnet_sets.proofs.MemberLaws.{some_from_least}

@@ -1,4 +1,4 @@
--- After i turns the builder has the addresses of the first i of the list.
+-- After i boundaries the builder has the addresses of the first i of the list.
 use Rattle.std.proofs.Common.{map}
 use Rattle.ipnet_base.specs.RangeOf.{ip_range}
 use Rattle.ipnet_sets.specs.SetRanges.{IsInRange}

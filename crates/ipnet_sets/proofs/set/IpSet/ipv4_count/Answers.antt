@@ -1,8 +1,7 @@
--- The ranges of IPv4 have at most 2^32 addresses together, so the count fits its word, and it is that of a list of
--- them.
+-- The ranges of IPv4 have at most 2^32 addresses together, so their count fits its word.
 use Rattle.std.proofs.Common.{map, sym, ap, subst, arith}
 use Rattle.ipnet_base.specs.Address.{IPv4}
-use Rattle.ipnet_sets.specs.Turns.{AreTurns}
+use Rattle.ipnet_sets.specs.Boundaries.{AreBoundaries}
 use Rattle.ipnet_sets.specs.Members.{IsMemberOf, IsCountOf}
 use Rattle.ipnet_sets.proofs.CountLaws.{count_fits, count_of_family}
 use Rattle.ipnet_sets.proofs.set.IpSet.ipv4_count.Goals as goal
@@ -12,7 +11,8 @@ count-requires-clause-fits c =
     omega (
       arith,
       count_fits IPv4 (map (λ n. n) c.as_slice.result.now)
-          (subst (λ z. AreTurns IPv4 (map (λ n. n) z)) (sym c.as_slice.ensures.value) c.args.self.now.ipv4_turns),
+          (subst (λ z. AreBoundaries IPv4 (map (λ n. n) z)) (sym c.as_slice.ensures.value)
+          c.args.self.now.ipv4_boundaries),
     )
 
 pub overflow_cast-result : goal.overflow_cast-result
@@ -21,7 +21,8 @@ overflow_cast-result c =
       arith,
       c.count.ensures,
       count_fits IPv4 (map (λ n. n) c.as_slice.result.now)
-          (subst (λ z. AreTurns IPv4 (map (λ n. n) z)) (sym c.as_slice.ensures.value) c.args.self.now.ipv4_turns),
+          (subst (λ z. AreBoundaries IPv4 (map (λ n. n) z)) (sym c.as_slice.ensures.value)
+          c.args.self.now.ipv4_boundaries),
     )
 
 pub returns : goal.returns
@@ -29,4 +30,4 @@ returns c =
     subst (IsCountOf (IsMemberOf IPv4 c.args.self.now)) (sym c.count.ensures)
     (count_of_family c.args.self.now IPv4 (map (λ n. n) c.as_slice.result.now)
     (ap (map (λ n. n)) (sym c.as_slice.ensures.value))
-    (subst (λ z. AreTurns IPv4 (map (λ n. n) z)) (sym c.as_slice.ensures.value) c.args.self.now.ipv4_turns))
+    (subst (λ z. AreBoundaries IPv4 (map (λ n. n) z)) (sym c.as_slice.ensures.value) c.args.self.now.ipv4_boundaries))

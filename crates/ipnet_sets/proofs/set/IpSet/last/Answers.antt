@@ -1,4 +1,4 @@
--- An IPv6 number comes after all IPv4 ones, so the greatest IPv4 number is last only where there is no IPv6 one.
+-- IPv6 comes after IPv4, so the greatest IPv4 number is last only if the set has no IPv6 number.
 use Rattle.std.proofs.Common.{map, ap}
 use Rattle.ipnet_base.specs.Address.{IPv4, IPv6}
 use Rattle.ipnet_sets.proofs.MemberLaws.{some_from_greatest}

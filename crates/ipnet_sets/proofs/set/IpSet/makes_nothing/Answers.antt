@@ -1,4 +1,4 @@
--- Nothing is made of two sets exactly where nothing is made of their numbers of either family.
+-- The result for two sets is empty if and only if it has no number of either family.
 use Rattle.std.proofs.Common.{map, ap}
 use Rattle.ipnet_base.specs.Address.{IPv4, IPv6}
 use Rattle.ipnet_base.proofs.ResultLaws.{false_gives}

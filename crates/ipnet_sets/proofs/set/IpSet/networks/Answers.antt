@@ -1,9 +1,9 @@
--- A set without address has no turns, and then nothing is pushed. The networks pushed are those of the ranges of IPv4
--- and then of IPv6, and these are the maximal blocks of the set.
+-- An empty set has no boundaries, and then nothing is pushed. The networks of the IPv4 ranges are pushed, then the
+-- networks of the IPv6 ranges, and these are the maximal blocks of the set.
 use Rattle.std.proofs.Common.{map, sym, ap, ◌∙◌, subst}
 use Rattle.ipnet_base.specs.Address.{IPv4, IPv6}
 use Rattle.ipnet.specs.NetworkOf.{ip_network}
-use Rattle.ipnet_sets.specs.Turns.{AreTurns}
+use Rattle.ipnet_sets.specs.Boundaries.{AreBoundaries}
 use Rattle.ipnet_sets.proofs.SetEqualLaws.{no_words}
 use Rattle.ipnet_sets.proofs.SetRangeLaws.{networks_of_set}
 use Rattle.ipnet_sets.proofs.set.IpSet.networks.Goals as goal
@@ -24,7 +24,7 @@ returns-clause-blocks c =
     (map ip_network c.new-networks.result.items) (map ip_network c.push_networks.new.networks.items)
     (map ip_network c.push_networks-2.new.networks.items)
     (ap (map (λ n. n)) (sym c.as_slice.ensures.value)) (ap (map (λ n. n)) (sym c.as_slice-2.ensures.value))
-    (subst (λ z. AreTurns IPv4 (map (λ n. n) z)) (sym c.as_slice.ensures.value) c.args.self.now.ipv4_turns)
-    (subst (λ z. AreTurns IPv6 (map (λ n. n) z)) (sym c.as_slice-2.ensures.value) c.args.self.now.ipv6_turns)
+    (subst (λ z. AreBoundaries IPv4 (map (λ n. n) z)) (sym c.as_slice.ensures.value) c.args.self.now.ipv4_boundaries)
+    (subst (λ z. AreBoundaries IPv6 (map (λ n. n) z)) (sym c.as_slice-2.ensures.value) c.args.self.now.ipv6_boundaries)
     (ap (map ip_network) c.new-networks.ensures.items) c.in_ok-push_networks.ensures.blocks
     c.in_ok-push_networks-2.ensures.blocks

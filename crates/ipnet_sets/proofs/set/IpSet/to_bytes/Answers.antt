@@ -1,4 +1,4 @@
--- The bytes are appended one after the other: the header, the IPv6 turns and the IPv4 turns.
+-- The bytes are appended one after the other: the header, the IPv6 boundaries and the IPv4 boundaries.
 use Rattle.std.proofs.Common.{map, ap}
 use Rattle.std.proofs.lemmas.List.{length-map}
 use Rattle.ipnet_sets.proofs.ImageSetLaws.{image_made}

@@ -1,4 +1,4 @@
--- A set of addresses has one list of turns in each family, and `==`, the order and the hash go by these lists.
+-- A set of addresses has one list of boundaries in each family, and `==`, the order and the hash go by these lists.
 use Rattle.std.proofs.Common.{refl}
 use Rattle.ipnet_sets.proofs.SetEqualLaws.{equal_by_addresses, tied_by_addresses, partial_of_sets, same_words}
 use Rattle.ipnet_sets.proofs.HashLaws.{hashed_apart}

@@ -1,4 +1,4 @@
--- The netmask takes the low bits away, by `and_mask_is`.
+-- The netmask clears the low bits, by `and_mask_is`.
 use Rattle.std.proofs.Common.{◌-◌, ◌∙◌, ap₂, arith, bit_and}
 use Rattle.ipnet_base.proofs.MaskLaws.{and_mask_is}
 use Rattle.ipnet.specs.NetworkOf.{ipv4_network}

@@ -1,5 +1,5 @@
--- The number that the leading bits of `self.number() ^ other.number()` write is 1 exactly for the two halves of one
--- supernet: `halves_test`. That the two lengths are equal there, `omega` takes from the test before.
+-- The leading bits of `self.number() ^ other.number()` are the number 1 if and only if the networks are the two halves
+-- of one supernet: `halves_test`. `omega` uses the test of the two lengths before it.
 use Rattle.std.proofs.Common.{◌-◌, ◌/◌, ◌^◌, ◌∙◌, refl, ap₂, arith, bit_xor}
 use Rattle.ipnet.specs.NetworkOf.{ipv4_network}
 use Rattle.ipnet.specs.NetLaws.{ipv4_valid}

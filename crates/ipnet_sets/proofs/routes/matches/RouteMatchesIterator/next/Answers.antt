@@ -1,5 +1,5 @@
 -- A step takes the route before the place, and goes on at its link.
-use Rattle.std.proofs.Common.{◌≡◌, ◌+◌, ◌-◌, ◌<◌, ◌≤◌, rules, length, get_or, ap, arith}
+use Rattle.std.proofs.Common.{◌-◌, ◌<◌, rules, length, get_or, ap, arith}
 use Rattle.ipnet_base.proofs.ListLaws.{at_place}
 use Rattle.ipnet_sets.proofs.RouteMatchLaws.{links_back, way_from, link_inside}
 use Rattle.ipnet_sets.proofs.routes.matches.RouteMatchesIterator.next.Goals as goal

@@ -1,0 +1,141 @@
+/* Tables of routes by their images: longest matches one by one and in bulk, refusals, and questions to hostile
+ * bytes. Each argument is in a block of exactly its length, so that a sanitizer detects a read past its end. */
+#include "ipnet.h"
+
+#include <stdbool.h>
+#include <stdio.h>
+#include <stdlib.h>
+#include <string.h>
+
+#define UNTOUCHED 0xa5a5a5a5u
+
+static unsigned calls, faults;
+
+static void expect(bool holds, const char *label)
+{
+    calls++;
+    if (!holds) {
+        faults++;
+        printf("wrong: %s\n", label);
+    }
+}
+
+/* A copy in a block of exactly this length. */
+static void *copied(const void *bytes, size_t len)
+{
+    void *copy = malloc(len > 0 ? len : 1);
+    if (copy == NULL) {
+        abort();
+    }
+    if (len > 0) {
+        memcpy(copy, bytes, len);
+    }
+    return copy;
+}
+
+static const char list[] = "0.0.0.0/0\n10.0.0.0/8\n10.1.0.0/16\n10.1.2.0/24\n10.0.0.7/8\nfd00::/32\n";
+static const uint32_t numbers[] = {1, 2, 3, 4, 5, 6};
+
+static void texts(void)
+{
+    uint8_t buffer[512];
+    size_t count = 99;
+    expect(ipnet_table_from_text(NULL, 0, NULL, 0, buffer, sizeof buffer, &count) == IPNET_OK && count == 32, "none");
+    expect(ipnet_table_from_text(list, strlen(list), numbers, 6, NULL, 0, &count) == IPNET_BUFFER_TOO_SHORT
+           && count == 192, "no buffer");
+    count = 99;
+    expect(ipnet_table_from_text(list, strlen(list), numbers, 5, buffer, sizeof buffer, &count) == IPNET_WRONG_LENGTH
+           && count == 99, "five values");
+    expect(ipnet_table_from_text("10.0.0.0/8\n\nx\n", 14, numbers, 2, buffer, sizeof buffer, &count) == IPNET_BAD_LINE
+           && count == 3, "a bad line");
+    count = 99;
+    expect(ipnet_table_from_text("\xff", 1, numbers, 1, buffer, sizeof buffer, &count) == IPNET_NOT_UTF8 && count == 99,
+           "not UTF-8");
+}
+
+static const struct {
+    uint8_t octets[16];
+    size_t len;
+    uint32_t status, value;
+} asked[] = {
+    {{10, 1, 2, 3}, 4, 1, 4},
+    {{10, 1, 3, 3}, 4, 1, 3},
+    {{10, 2, 0, 1}, 4, 1, 5},
+    {{11, 0, 0, 1}, 4, 1, 1},
+    {{255, 255, 255, 255}, 4, 1, 1},
+    {{0xfd, 0, 0, 0, 0, 1}, 16, 1, 6},
+    {{0xfd, 0, 0, 1}, 16, 0, 0},
+    {{0}, 16, 0, 0},
+    {{10, 1, 2, 3}, 3, IPNET_WRONG_LENGTH, 0},
+};
+
+static void questions(const uint8_t *table, size_t len)
+{
+    size_t count = 0;
+    expect(ipnet_table_count(table, len, &count) == IPNET_OK && count == 5, "five routes");
+    expect(ipnet_table_check(table, len) == IPNET_OK, "an image");
+    for (size_t i = 0; i < sizeof asked / sizeof asked[0]; i++) {
+        uint32_t value = UNTOUCHED;
+        uint8_t *octets = copied(asked[i].octets, asked[i].len);
+        expect(ipnet_table_longest_match(table, len, octets, asked[i].len, &value) == asked[i].status, "the status");
+        expect(value == (asked[i].status == 1 ? asked[i].value : UNTOUCHED), "the value");
+        free(octets);
+    }
+}
+
+static void bulk(const uint8_t *table, size_t len)
+{
+    static const uint8_t four[] = {10, 1, 2, 3, 10, 2, 0, 1, 11, 0, 0, 1};
+    uint32_t values[3] = {UNTOUCHED, UNTOUCHED, UNTOUCHED};
+    uint8_t *octets = copied(four, sizeof four);
+    expect(ipnet_table_longest_match_all(table, len, octets, 12, 4, 9, values, 2) == IPNET_WRONG_LENGTH, "two values");
+    expect(ipnet_table_longest_match_all(table, len, octets, 12, 12, 9, values, 1) == IPNET_WRONG_LENGTH, "width 12");
+    expect(ipnet_table_longest_match_all(table, 31, octets, 12, 4, 9, values, 3) == IPNET_NOT_A_TABLE, "no header");
+    expect(values[0] == UNTOUCHED && values[2] == UNTOUCHED, "untouched");
+    expect(ipnet_table_longest_match_all(table, len, octets, 12, 4, 9, values, 3) == IPNET_OK, "the call");
+    expect(values[0] == 4 && values[1] == 5 && values[2] == 1, "three values");
+    expect(ipnet_table_longest_match_all(table, len, NULL, 0, 16, 9, NULL, 0) == IPNET_OK, "none");
+    static const uint8_t sixteen[16] = {0xfe, 0x80};
+    expect(ipnet_table_longest_match_all(table, len, sixteen, 16, 16, 9, values, 1) == IPNET_OK && values[0] == 9,
+           "missing");
+    free(octets);
+}
+
+/* Each byte of the image changed, and each shorter image: every call ends, and reads no further. */
+static void hostile(const uint8_t *table, size_t len)
+{
+    for (size_t i = 0; i < len; i++) {
+        for (unsigned flip = 1; flip < 256; flip = flip * 2 + 1) {
+            uint8_t *changed = copied(table, len);
+            uint32_t value = 0;
+            changed[i] ^= (uint8_t)flip;
+            bool is_header = i < 32;
+            ipnet_status status = ipnet_table_check(changed, len);
+            expect(status == IPNET_NOT_A_TABLE || (status == IPNET_OK && !is_header), "a changed byte");
+            for (size_t k = 0; k < sizeof asked / sizeof asked[0]; k++) {
+                ipnet_table_longest_match(changed, len, asked[k].octets, asked[k].len, &value);
+            }
+            free(changed);
+        }
+        uint8_t *shorter = copied(table, i);
+        uint32_t value = UNTOUCHED;
+        expect(ipnet_table_longest_match(shorter, i, asked[0].octets, 4, &value) == IPNET_NOT_A_TABLE
+               && value == UNTOUCHED, "a shorter image");
+        free(shorter);
+    }
+}
+
+int main(void)
+{
+    uint8_t buffer[512];
+    size_t len = 0;
+    texts();
+    expect(ipnet_table_from_text(list, strlen(list), numbers, 6, buffer, sizeof buffer, &len) == IPNET_OK, "the table");
+    uint8_t *table = copied(buffer, len);
+    questions(table, len);
+    bulk(table, len);
+    hostile(table, len);
+    free(table);
+    printf("%u answers, %u faults\n", calls, faults);
+    return faults > 0;
+}

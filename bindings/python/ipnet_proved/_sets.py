@@ -1,0 +1,246 @@
+"""Sets of addresses, kept as images: bytes that can be stored, sent and compared."""
+import ctypes
+import struct
+from ipaddress import IPv4Address, IPv6Address, ip_network
+from typing import Any, Iterator, List, Sequence, Tuple, Union
+
+from . import _library as library
+from ._networks import Address, Network, Networks, OneNetwork, answered, bytes_of, text_of
+
+HEADER = struct.Struct("<8sQQQ")
+WIDTHS = (4, 16)
+
+_contains = library.question("ipnet_set_contains")
+_covers = library.question("ipnet_set_covers")
+_contains_all = library.question("ipnet_set_contains_all")
+_is_subset = library.question("ipnet_set_is_subset")
+_check = library.question("ipnet_set_check")
+
+
+class NotASet(ValueError):
+    """The bytes are not the image of a set.
+
+    >>> IpSet.from_bytes(b"")
+    Traceback (most recent call last):
+        ...
+    ipnet_proved.NotASet: the bytes are not the image of a set
+    """
+
+    def __init__(self, message: str = "the bytes are not the image of a set") -> None:
+        super().__init__(message)
+
+
+class IpSet:
+    """A set of IPv4 and IPv6 addresses. It never changes, so it can be the key of a dictionary.
+
+    It is made of a list of networks, in each form that the functions of this package take; without one it is empty.
+    Raises BadLine and NotANetwork as these do. Sets are equal if and only if they have the same addresses.
+
+    >>> office = IpSet(["10.0.0.0/24", "fd00::/32"])
+    >>> "10.0.0.7" in office, "10.0.0.0/23" in office
+    (True, False)
+    >>> office - IpSet("10.0.0.0/25") == IpSet(["fd00::/32", "10.0.0.128/25"])
+    True
+    >>> list(IpSet("10.0.0.0/31") | IpSet("10.0.0.2"))
+    [IPv4Network('10.0.0.0/31'), IPv4Network('10.0.0.2/32')]
+    """
+
+    __slots__ = ("_image",)
+    _image: bytes
+
+    def __init__(self, networks: Networks = ()) -> None:
+        data = text_of(networks)
+        room = 32 + 16 * (data.count(b"\n") + 1)
+        self._image = answered(library.writer("ipnet_set_from_text", room), [data])
+
+    @classmethod
+    def _of(cls, image: bytes) -> "IpSet":
+        """The set of an image that the library has written."""
+        made = object.__new__(cls)
+        made._image = image
+        return made
+
+    @classmethod
+    def from_bytes(cls, image: Union[bytes, bytearray, memoryview]) -> "IpSet":
+        """The set of which the bytes are the image, as to_bytes returns it. All bytes are tested; raises NotASet if
+        they are not the image of a set.
+
+        >>> IpSet.from_bytes(IpSet("10.0.0.0/8").to_bytes()) == IpSet("10.0.0.0/8")
+        True
+        """
+        data = bytes(image)
+        if _check(data, len(data)) != library.OK:
+            raise NotASet()
+        return cls._of(data)
+
+    def to_bytes(self) -> bytes:
+        """The image of the set. Equal sets have equal images.
+
+        >>> len(IpSet(["10.0.0.0/31", "10.0.0.2/31"]).to_bytes())
+        40
+        """
+        return self._image
+
+    def __reduce__(self) -> Tuple[Any, ...]:
+        return IpSet.from_bytes, (self._image,)
+
+    def __contains__(self, network: OneNetwork) -> bool:
+        """Whether the set contains the address, or every address of the network. Raises NotANetwork if a text is
+        neither."""
+        if isinstance(network, (IPv4Address, IPv6Address)) and getattr(network, "scope_id", None) is None:
+            octets = network.packed
+            return _contains(self._image, len(self._image), octets, len(octets)) == 1
+        wanted = bytes_of(network)
+        return _covers(self._image, len(self._image), wanted, len(wanted)) == 1
+
+    def contains_all(self, addresses: Sequence[Union[str, Address]]) -> List[bool]:
+        """Whether the set contains each of the addresses, in order.
+
+        >>> IpSet("10.0.0.0/31").contains_all(["10.0.0.1", ipaddress.ip_address("10.0.0.2"), "::1"])
+        [True, False, False]
+        """
+        return [address in self for address in addresses]
+
+    def contains_packed(self, octets: Union[bytes, bytearray, memoryview], width: int) -> bytes:
+        """Whether the set contains each of many addresses, of which `octets` has `width` bytes each: 4 for IPv4, or 16
+        for IPv6. Returns one byte for each address, 1 or 0. Raises ValueError if `width` is another number, or the
+        bytes are not a multiple of it.
+
+        >>> IpSet("10.0.0.0/31").contains_packed(bytes([10, 0, 0, 1, 10, 0, 0, 2]), 4)
+        b'\\x01\\x00'
+        """
+        data = bytes(octets)
+        if width not in WIDTHS or len(data) % width:
+            raise ValueError(f"{len(data)} bytes are not addresses of {width} bytes; the width is 4 or 16")
+        answers = ctypes.create_string_buffer(max(len(data) // width, 1))
+        count = len(data) // width
+        _contains_all(self._image, len(self._image), data, len(data), width, answers, count)
+        return ctypes.string_at(answers, count)
+
+    def _combined(self, name: str, other: object) -> "IpSet":
+        if not isinstance(other, IpSet):
+            return NotImplemented
+        room = len(self._image) + len(other._image)
+        status, _, image = library.writer(name, room)(self._image, other._image)
+        if status == library.OUT_OF_MEMORY:
+            raise MemoryError("libipnet: out of memory")
+        return IpSet._of(image)
+
+    def __or__(self, other: "IpSet") -> "IpSet":
+        """The union."""
+        return self._combined("ipnet_set_union", other)
+
+    def __and__(self, other: "IpSet") -> "IpSet":
+        """The intersection."""
+        return self._combined("ipnet_set_intersection", other)
+
+    def __sub__(self, other: "IpSet") -> "IpSet":
+        """The addresses that are in this set and not in the other."""
+        return self._combined("ipnet_set_difference", other)
+
+    def __xor__(self, other: "IpSet") -> "IpSet":
+        """The addresses that are in exactly one of the two sets."""
+        return self._combined("ipnet_set_symmetric_difference", other)
+
+    def __invert__(self) -> "IpSet":
+        """All addresses, IPv4 and IPv6, that are not in the set.
+
+        >>> ~IpSet() == IpSet(["0.0.0.0/0", "::/0"])
+        True
+        """
+        status, _, image = library.writer("ipnet_set_complement", len(self._image) + 20)(self._image)
+        if status == library.OUT_OF_MEMORY:
+            raise MemoryError("libipnet: out of memory")
+        return IpSet._of(image)
+
+    def __le__(self, other: "IpSet") -> bool:
+        """Whether the set is a subset of the other.
+
+        >>> IpSet("10.0.0.0/9") <= IpSet("10.0.0.0/8") < ~IpSet()
+        True
+        """
+        if not isinstance(other, IpSet):
+            return NotImplemented
+        answer = _is_subset(self._image, len(self._image), other._image, len(other._image))
+        if answer == library.OUT_OF_MEMORY:
+            raise MemoryError("libipnet: out of memory")
+        return answer == 1
+
+    def __lt__(self, other: "IpSet") -> bool:
+        if not isinstance(other, IpSet):
+            return NotImplemented
+        return self._image != other._image and self <= other
+
+    def __ge__(self, other: "IpSet") -> bool:
+        if not isinstance(other, IpSet):
+            return NotImplemented
+        return other <= self
+
+    def __gt__(self, other: "IpSet") -> bool:
+        if not isinstance(other, IpSet):
+            return NotImplemented
+        return other < self
+
+    def __eq__(self, other: object) -> bool:
+        if not isinstance(other, IpSet):
+            return NotImplemented
+        return self._image == other._image
+
+    def __hash__(self) -> int:
+        return hash(self._image)
+
+    def __bool__(self) -> bool:
+        """Whether the set has an address."""
+        return len(self._image) > HEADER.size
+
+    def _ranges_of(self, width: int) -> List[Tuple[int, int]]:
+        """The numbers at which the ranges of a family begin and end."""
+        _, _, ipv4, ipv6 = HEADER.unpack_from(self._image)
+        count, start = (ipv4, HEADER.size + 16 * ipv6) if width == 4 else (ipv6, HEADER.size)
+        numbers = [int.from_bytes(self._image[at:at + width], "little")
+                   for at in range(start, start + count * width, width)]
+        if count % 2:
+            numbers.append(1 << 8 * width)
+        return list(zip(numbers[::2], (end - 1 for end in numbers[1::2])))
+
+    def ranges(self) -> List[Tuple[Address, Address]]:
+        """The fewest ranges of the set, each by its first and its last address, IPv4 first, ascending.
+
+        >>> IpSet(["10.0.0.0/31", "10.0.0.2"]).ranges()
+        [(IPv4Address('10.0.0.0'), IPv4Address('10.0.0.2'))]
+        """
+        return ([(IPv4Address(start), IPv4Address(end)) for start, end in self._ranges_of(4)]
+                + [(IPv6Address(start), IPv6Address(end)) for start, end in self._ranges_of(16)])
+
+    @property
+    def ipv4_count(self) -> int:
+        """The number of IPv4 addresses.
+
+        >>> IpSet(["10.0.0.0/24", "::/0"]).ipv4_count, IpSet("::/0").ipv6_count == 2 ** 128
+        (256, True)
+        """
+        return sum(end - start + 1 for start, end in self._ranges_of(4))
+
+    @property
+    def ipv6_count(self) -> int:
+        """The number of IPv6 addresses."""
+        return sum(end - start + 1 for start, end in self._ranges_of(16))
+
+    def to_text(self) -> str:
+        """The fewest networks of the set as text, one per line, IPv4 first, ascending.
+
+        >>> IpSet(["10.0.0.0/31", "10.0.0.2"]).to_text()
+        '10.0.0.0/31\\n10.0.0.2/32\\n'
+        """
+        status, _, text = library.writer("ipnet_set_to_text", 4 * len(self._image))(self._image)
+        if status == library.OUT_OF_MEMORY:
+            raise MemoryError("libipnet: out of memory")
+        return text.decode("ascii")
+
+    def __iter__(self) -> Iterator[Network]:
+        """The fewest networks of the set."""
+        return (ip_network(line) for line in self.to_text().splitlines())
+
+    def __repr__(self) -> str:
+        lines = self.to_text().splitlines()
+        return f"IpSet([{', '.join(map(repr, lines[:5]))}{', ...' if len(lines) > 5 else ''}])"

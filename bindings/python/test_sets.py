@@ -1,0 +1,110 @@
+"""Tests of IpSet: its doctests, sets of Python numbers as a plain model, pickling, and what is refused."""
+import copy
+import ipaddress
+import pickle
+import random
+import struct
+import unittest
+
+import ipnet_proved
+from ipnet_proved import IpSet, NotANetwork, NotASet
+
+# the first address of sixteen in a row, in each family and at its ends
+PLACES = (ipaddress.IPv4Address("0.0.0.0"), ipaddress.IPv4Address("255.255.255.240"),
+          ipaddress.IPv6Address("::"), ipaddress.IPv6Address("ffff:ffff:ffff:ffff:ffff:ffff:ffff:fff0"))
+CELLS = [first + number for first in PLACES for number in range(16)]
+
+
+def drawn(draw):
+    """A random list of networks in the cells, and the cells that it covers."""
+    lines, covered = [], set()
+    for _ in range(draw.randrange(7)):
+        cell, bits = draw.choice(CELLS), draw.randrange(4)
+        network = ipaddress.ip_network((int(cell) & -1 << bits, cell.max_prefixlen - bits)) \
+            if cell.version == 4 else ipaddress.IPv6Network((int(cell) & -1 << bits, 128 - bits))
+        lines.append(str(network))
+        covered.update(other for other in CELLS if other.version == network.version and other in network)
+    return lines, covered
+
+
+class Sets(unittest.TestCase):
+    def check(self, made, covered):
+        self.assertEqual({cell for cell in CELLS if cell in made}, covered)
+        self.assertEqual(IpSet.from_bytes(made.to_bytes()), made)
+        self.assertEqual(IpSet(made.to_text()), made)
+        for version, width in ((4, 4), (6, 16)):
+            cells = [cell for cell in CELLS if cell.version == version]
+            answers = made.contains_packed(b"".join(cell.packed for cell in cells), width)
+            self.assertEqual([cell for cell, answer in zip(cells, answers) if answer],
+                             [cell for cell in cells if cell in covered])
+
+    def test_operations(self):
+        draw = random.Random(4)
+        for _ in range(400):
+            (first, cells), (second, others) = drawn(draw), drawn(draw)
+            one, two = IpSet(first), IpSet("\n".join(second))
+            self.check(one, cells)
+            self.check(one | two, cells | others)
+            self.check(one & two, cells & others)
+            self.check(one - two, cells - others)
+            self.check(one ^ two, cells ^ others)
+            self.assertEqual(~~one, one)
+            self.assertEqual(~(one | two), ~one & ~two)
+            self.assertEqual((one <= two, one < two, one >= two, one == two),
+                             (cells <= others, cells < others, cells >= others, cells == others))
+            self.assertEqual(hash(one) == hash(two), cells == others)
+            self.assertEqual(one.ipv4_count + one.ipv6_count, len(cells))
+            self.assertEqual(bool(one), bool(cells))
+            self.assertEqual(sum(network.num_addresses for network in one), len(cells))
+            self.assertEqual(sum(int(last) - int(start) + 1 for start, last in one.ranges()), len(cells))
+
+    def test_whole(self):
+        every = ~IpSet()
+        self.assertEqual((every.ipv4_count, every.ipv6_count), (2 ** 32, 2 ** 128))
+        self.assertEqual(list(every), [ipaddress.ip_network("0.0.0.0/0"), ipaddress.ip_network("::/0")])
+        self.assertEqual(every.ranges()[0], (ipaddress.ip_address("0.0.0.0"), ipaddress.ip_address("255.255.255.255")))
+
+    def test_forms(self):
+        made = IpSet(["10.0.0.0/24", ipaddress.ip_network("fd00::/32"), ipaddress.ip_address("8.8.8.8")])
+        for inside in ("10.0.0.7", b"10.0.0.0/25", bytearray(b"fd00::1"), memoryview(b"8.8.8.8"),
+                       ipaddress.ip_interface("10.0.0.9/24"), ipaddress.ip_address("fd00::")):
+            self.assertIn(inside, made)
+        for outside in ("10.0.1.0", "10.0.0.0/23", "::ffff:10.0.0.7", ipaddress.ip_network("::/0")):
+            self.assertNotIn(outside, made)
+        for wrong in ("10.0.0.0/33", "x", "", "fe80::1%eth0"):
+            with self.assertRaises(NotANetwork):
+                wrong in made
+        with self.assertRaises(TypeError):
+            7 in made
+        with self.assertRaises(TypeError):
+            made | ["10.0.0.0/8"]
+        with self.assertRaises(ipnet_proved.BadLine) as caught:
+            IpSet(["10.0.0.0/8", "10.0.0.0/33"])
+        self.assertEqual((caught.exception.line, caught.exception.text), (2, "10.0.0.0/33"))
+        self.assertEqual(repr(made), "IpSet(['8.8.8.8/32', '10.0.0.0/24', 'fd00::/32'])")
+
+    def test_copies(self):
+        made = IpSet(["10.0.0.0/24", "fd00::/32"])
+        for other in (pickle.loads(pickle.dumps(made)), copy.copy(made), copy.deepcopy(made)):
+            self.assertEqual((other, hash(other)), (made, hash(made)))
+        self.assertEqual({made: 1}[IpSet("10.0.0.0/25\n10.0.0.128/25\nfd00::/32")], 1)
+
+    def test_images(self):
+        image = IpSet("10.0.0.0/30").to_bytes()
+        self.assertEqual(image, b"ipnetset" + struct.pack("<QQQ", 1, 2, 0) + bytes([0, 0, 0, 10, 4, 0, 0, 10]))
+        for wrong in (b"", image[:-1], image + b"\0", image[:32] + image[36:] + image[32:36], b"x" + image[1:]):
+            with self.assertRaises(NotASet):
+                IpSet.from_bytes(wrong)
+        with self.assertRaises(NotASet):
+            pickle.loads(pickle.dumps(IpSet("10.0.0.0/30")).replace(b"ipnetset", b"ipnetsex"))
+
+    def test_packed(self):
+        made = IpSet("10.0.0.0/30")
+        self.assertEqual(made.contains_packed(b"", 4), b"")
+        for octets, width in ((b"123", 4), (b"1234", 16), (b"1234", 2), (b"", 0)):
+            with self.assertRaises(ValueError):
+                made.contains_packed(octets, width)
+
+
+if __name__ == "__main__":
+    unittest.main()

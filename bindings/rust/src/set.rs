@@ -1,0 +1,169 @@
+//! Sets of addresses.
+use crate::{raw, Error, Network};
+use std::net::{IpAddr, Ipv4Addr, Ipv6Addr};
+use std::str::FromStr;
+
+/// A set of IPv4 and IPv6 addresses. It is kept as its image: bytes that can be stored, mapped and sent. Sets are equal
+/// if and only if they have the same addresses.
+///
+/// ```
+/// use ipnet_proved::{Error, IpSet};
+/// use std::net::Ipv4Addr;
+///
+/// let allowed: IpSet = "10.0.0.0/8\nfd00::/32\n".parse()?;
+/// let denied: IpSet = "10.1.0.0/16".parse()?;
+/// let rest = allowed.difference(&denied)?;
+/// assert!(rest.contains(Ipv4Addr::new(10, 2, 0, 1)));
+/// assert!(!rest.contains(Ipv4Addr::new(10, 1, 0, 1)));
+/// assert_eq!(rest.union(&denied)?, allowed);
+/// # Ok::<(), Error>(())
+/// ```
+#[derive(Clone, Debug, PartialEq, Eq, Hash)]
+pub struct IpSet {
+    image: Vec<u8>,
+}
+
+impl IpSet {
+    /// The set of the addresses of a list: a text with one network per line, in the strict grammar; empty lines are
+    /// skipped. Fails with [`Error::BadLine`] if a line is not a network.
+    pub fn from_text(text: &str) -> Result<IpSet, Error> {
+        let image = raw::bytes_from(text.as_bytes(), text.len().saturating_add(32), raw::ipnet_set_from_text)?;
+        Ok(IpSet { image })
+    }
+
+    /// The set of which the bytes are the image, as [`IpSet::as_bytes`] returns it. All bytes are tested. Fails with
+    /// [`Error::NotASet`].
+    ///
+    /// ```
+    /// use ipnet_proved::{Error, IpSet};
+    ///
+    /// let set: IpSet = "10.0.0.0/30".parse()?;
+    /// assert_eq!(IpSet::from_bytes(set.as_bytes().to_vec())?, set);
+    /// assert_eq!(IpSet::from_bytes(Vec::new()), Err(Error::NotASet));
+    /// # Ok::<(), Error>(())
+    /// ```
+    pub fn from_bytes(image: Vec<u8>) -> Result<IpSet, Error> {
+        raw::check_set(&image)?;
+        Ok(IpSet { image })
+    }
+
+    /// The image of the set. Equal sets have equal images.
+    pub fn as_bytes(&self) -> &[u8] {
+        &self.image
+    }
+
+    /// Whether the set contains the address. Allocates nothing.
+    pub fn contains(&self, address: impl Into<IpAddr>) -> bool {
+        match address.into() {
+            IpAddr::V4(address) => raw::set_contains(&self.image, &address.octets()),
+            IpAddr::V6(address) => raw::set_contains(&self.image, &address.octets()),
+        }
+    }
+
+    /// Whether the set contains each of the addresses, in order.
+    ///
+    /// ```
+    /// use ipnet_proved::{Error, IpSet};
+    /// use std::net::Ipv4Addr;
+    ///
+    /// let set: IpSet = "10.0.0.0/31".parse()?;
+    /// let asked = [Ipv4Addr::new(10, 0, 0, 1), Ipv4Addr::new(10, 0, 0, 2)];
+    /// assert_eq!(set.contains_ipv4(&asked), [true, false]);
+    /// # Ok::<(), Error>(())
+    /// ```
+    pub fn contains_ipv4(&self, addresses: &[Ipv4Addr]) -> Vec<bool> {
+        let octets: Vec<u8> = addresses.iter().flat_map(|address| address.octets()).collect();
+        self.contains_octets(&octets, 4)
+    }
+
+    /// Whether the set contains each of the addresses, in order.
+    pub fn contains_ipv6(&self, addresses: &[Ipv6Addr]) -> Vec<bool> {
+        let octets: Vec<u8> = addresses.iter().flat_map(|address| address.octets()).collect();
+        self.contains_octets(&octets, 16)
+    }
+
+    fn contains_octets(&self, octets: &[u8], width: usize) -> Vec<bool> {
+        let mut answers = vec![0; octets.len() / width];
+        raw::set_contains_all(&self.image, octets, width, &mut answers);
+        answers.into_iter().map(|answer| answer == 1).collect()
+    }
+
+    /// Whether the set contains every address of the network. Allocates nothing.
+    ///
+    /// ```
+    /// use ipnet_proved::{Error, IpSet, Network};
+    ///
+    /// let set: IpSet = "10.0.0.0/25\n10.0.0.128/25".parse()?;
+    /// assert!(set.covers("10.0.0.0/24".parse::<Network>()?));
+    /// assert!(!set.covers("10.0.0.0/23".parse::<Network>()?));
+    /// # Ok::<(), Error>(())
+    /// ```
+    pub fn covers(&self, network: impl Into<Network>) -> bool {
+        raw::set_covers(&self.image, network.into().to_bytes().as_slice())
+    }
+
+    fn combined(&self, other: &IpSet, combine: raw::BothIntoBuffer) -> Result<IpSet, Error> {
+        Ok(IpSet { image: raw::combine(&self.image, &other.image, combine)? })
+    }
+
+    /// The addresses that are in either set.
+    pub fn union(&self, other: &IpSet) -> Result<IpSet, Error> {
+        self.combined(other, raw::ipnet_set_union)
+    }
+
+    /// The addresses that are in both sets.
+    pub fn intersection(&self, other: &IpSet) -> Result<IpSet, Error> {
+        self.combined(other, raw::ipnet_set_intersection)
+    }
+
+    /// The addresses that are in this set and not in the other.
+    pub fn difference(&self, other: &IpSet) -> Result<IpSet, Error> {
+        self.combined(other, raw::ipnet_set_difference)
+    }
+
+    /// The addresses that are in exactly one of the two sets.
+    pub fn symmetric_difference(&self, other: &IpSet) -> Result<IpSet, Error> {
+        self.combined(other, raw::ipnet_set_symmetric_difference)
+    }
+
+    /// All addresses, IPv4 and IPv6, that are not in the set.
+    pub fn complement(&self) -> Result<IpSet, Error> {
+        Ok(IpSet { image: raw::bytes_from(&self.image, self.image.len() + 20, raw::ipnet_set_complement)? })
+    }
+
+    /// Whether the other set contains every address of this one.
+    ///
+    /// ```
+    /// use ipnet_proved::{Error, IpSet};
+    ///
+    /// let set: IpSet = "10.0.0.0/9".parse()?;
+    /// assert!(set.is_subset(&"10.0.0.0/8".parse()?)?);
+    /// assert!(!set.complement()?.is_subset(&set)?);
+    /// # Ok::<(), Error>(())
+    /// ```
+    pub fn is_subset(&self, other: &IpSet) -> Result<bool, Error> {
+        raw::set_is_subset(&self.image, &other.image)
+    }
+
+    /// The fewest networks of the set as text, one per line, IPv4 first, ascending.
+    ///
+    /// ```
+    /// use ipnet_proved::{Error, IpSet};
+    ///
+    /// let set: IpSet = "10.0.0.0/31\n10.0.0.2/32".parse()?;
+    /// assert_eq!(set.to_text()?, "10.0.0.0/31\n10.0.0.2/32\n");
+    /// # Ok::<(), Error>(())
+    /// ```
+    pub fn to_text(&self) -> Result<String, Error> {
+        raw::text_from(&self.image, raw::ipnet_set_to_text)
+    }
+}
+
+/// Like [`IpSet::from_text`].
+impl FromStr for IpSet {
+    type Err = Error;
+
+    fn from_str(text: &str) -> Result<IpSet, Error> {
+        IpSet::from_text(text)
+    }
+}

@@ -1,0 +1,102 @@
+//! Tables of routes.
+use crate::{raw, Error, Network};
+use std::net::{IpAddr, Ipv4Addr, Ipv6Addr};
+
+/// Networks with a number each, which finds the longest network that contains an address. It is kept as its image: bytes
+/// that can be stored, mapped and sent.
+///
+/// ```
+/// use ipnet_proved::{Error, Network, RouteTable};
+/// use std::net::Ipv4Addr;
+///
+/// let routes = [("10.0.0.0/8".parse::<Network>()?, 1), ("10.1.0.0/16".parse::<Network>()?, 2)];
+/// let table = RouteTable::from_routes(&routes)?;
+/// assert_eq!(table.longest_match(Ipv4Addr::new(10, 1, 2, 3)), Some(2));
+/// assert_eq!(table.longest_match(Ipv4Addr::new(11, 0, 0, 1)), None);
+/// # Ok::<(), Error>(())
+/// ```
+#[derive(Clone, Debug)]
+pub struct RouteTable {
+    image: Vec<u8>,
+}
+
+impl RouteTable {
+    /// The table of the routes, in any order. Host bits do not count; if a network is given twice, the last number
+    /// counts. Fails only if memory runs out.
+    pub fn from_routes(routes: &[(Network, u32)]) -> Result<RouteTable, Error> {
+        let mut text = String::new();
+        for (network, _) in routes {
+            text.push_str(&network.to_string());
+            text.push('\n');
+        }
+        let values: Vec<u32> = routes.iter().map(|route| route.1).collect();
+        Ok(RouteTable { image: raw::table_from(&text, &values)? })
+    }
+
+    /// The table of which the bytes are the image, as [`RouteTable::as_bytes`] returns it. All routes are tested.
+    /// Fails with [`Error::NotATable`].
+    ///
+    /// ```
+    /// use ipnet_proved::{Error, RouteTable};
+    ///
+    /// let table = RouteTable::from_routes(&[("10.0.0.0/8".parse()?, 7)])?;
+    /// assert_eq!(RouteTable::from_bytes(table.as_bytes().to_vec())?.len(), 1);
+    /// assert_eq!(RouteTable::from_bytes(Vec::new()).err(), Some(Error::NotATable));
+    /// # Ok::<(), Error>(())
+    /// ```
+    pub fn from_bytes(image: Vec<u8>) -> Result<RouteTable, Error> {
+        raw::check_table(&image)?;
+        Ok(RouteTable { image })
+    }
+
+    /// The image of the table.
+    pub fn as_bytes(&self) -> &[u8] {
+        &self.image
+    }
+
+    /// The number of routes.
+    pub fn len(&self) -> usize {
+        raw::table_count(&self.image).unwrap_or(0)
+    }
+
+    /// Whether the table has no route.
+    pub fn is_empty(&self) -> bool {
+        self.len() == 0
+    }
+
+    /// The number of the longest network that contains the address, or `None` if none does. Allocates nothing.
+    pub fn longest_match(&self, address: impl Into<IpAddr>) -> Option<u32> {
+        match address.into() {
+            IpAddr::V4(address) => raw::table_longest_match(&self.image, &address.octets()),
+            IpAddr::V6(address) => raw::table_longest_match(&self.image, &address.octets()),
+        }
+    }
+
+    /// The number of the longest network for each of the addresses, in order, or `missing`.
+    ///
+    /// ```
+    /// use ipnet_proved::{Error, RouteTable};
+    /// use std::net::Ipv4Addr;
+    ///
+    /// let table = RouteTable::from_routes(&[("10.0.0.0/8".parse()?, 7)])?;
+    /// let asked = [Ipv4Addr::new(10, 0, 0, 1), Ipv4Addr::new(11, 0, 0, 1)];
+    /// assert_eq!(table.longest_match_ipv4(&asked, 0), [7, 0]);
+    /// # Ok::<(), Error>(())
+    /// ```
+    pub fn longest_match_ipv4(&self, addresses: &[Ipv4Addr], missing: u32) -> Vec<u32> {
+        let octets: Vec<u8> = addresses.iter().flat_map(|address| address.octets()).collect();
+        self.longest_match_octets(&octets, 4, missing)
+    }
+
+    /// The number of the longest network for each of the addresses, in order, or `missing`.
+    pub fn longest_match_ipv6(&self, addresses: &[Ipv6Addr], missing: u32) -> Vec<u32> {
+        let octets: Vec<u8> = addresses.iter().flat_map(|address| address.octets()).collect();
+        self.longest_match_octets(&octets, 16, missing)
+    }
+
+    fn longest_match_octets(&self, octets: &[u8], width: usize, missing: u32) -> Vec<u32> {
+        let mut values = vec![missing; octets.len() / width];
+        raw::table_longest_match_all(&self.image, octets, width, missing, &mut values);
+        values
+    }
+}

@@ -1,0 +1,253 @@
+//! Sets of addresses as images: the bytes of a set, which the caller keeps, and what is made of them.
+ghost use Rattle.std.specs.Prelude.{IfOk, string_bytes};
+ghost use Rattle.ipnet_c.specs.SetReplies.{IsCompileReply, IsCombineReply, IsImageReply, IsImageWith};
+ghost use Rattle.ipnet_c.specs.SetReplies.{IsComplementOfImage, IsTextOfImage, IsMadeOfImages};
+ghost use Rattle.ipnet_sets.specs.declared.operation.Operation.TheVariants as Of;
+
+use crate::buffers::write_answer;
+use crate::lists::read_networks;
+use crate::sets::printed;
+use crate::statuses::{BAD_LINE, NOT_A_SET, NOT_UTF8, OTHER_NOT_A_SET, OUT_OF_MEMORY};
+use ipnet_sets::{IpSet, IpSetRef, Operation};
+use ipnet_tool::ToolError;
+use std::alloc::{AllocError, Global};
+use std::str;
+
+/// Writes the image of the addresses of a list into the buffer, and its length in bytes into `count`.
+///
+/// The text has one network per line, in the strict grammar; empty lines are skipped. The image has 32 bytes, and 4 or
+/// 16 for each end of a range. It has a header of its own, so it can be stored, sent and mapped; equal sets have equal
+/// images.
+///
+/// Returns 0; 4 if the buffer is too short, with the length needed in `count`; 1 if a line is not a network, with the
+/// number of the first such line in `count`; 2 if the text is not UTF-8; 3 if memory runs out. The buffer changes only
+/// at 0, `count` only at 0, 1 and 4.
+///
+/// ```text
+/// "10.0.0.0/30\n"               0, and an image of 40 bytes
+/// "10.0.0.0/24\n\nx\n"          1, and the number 3
+/// ```
+#[unsafe(no_mangle)]
+pub extern "C" fn ipnet_set_from_text(
+    alloc: Global,
+    text: &[u8],
+    buffer: &mut [u8],
+    count: &mut usize,
+) -> u32
+    ensures { IsCompileReply text.now buffer.old buffer.new count.old count.new result }
+{
+    let Ok(text) = str::from_utf8(text) else {
+        return NOT_UTF8;
+    };
+    let networks = match read_networks(alloc, text) {
+        Ok(networks) => networks,
+        Err(ToolError::Line(number)) => {
+            *count = number;
+            return BAD_LINE;
+        }
+        Err(ToolError::Memory) => return OUT_OF_MEMORY,
+    };
+    let Ok(set) = IpSet::from_networks(alloc, networks.as_slice()) else {
+        return OUT_OF_MEMORY;
+    };
+    drop(networks);
+    let Ok(image) = set.to_bytes(alloc) else {
+        return OUT_OF_MEMORY;
+    };
+    write_answer(image.as_slice(), buffer, count)
+}
+
+/// Returns the image of the result of the operation on the sets of two images.
+fn combined_image(
+    alloc: Global,
+    operation: Operation,
+    set: IpSetRef<'_>,
+    other: IpSetRef<'_>,
+) -> Result<Vec<u8>, AllocError>
+    ensures { IfOk result (λ image.
+        IsImageWith (IsMadeOfImages operation set.entry.image.bytes.now other.entry.image.bytes.now) image.items) }
+{
+    let first = set.to_set(alloc)?;
+    let second = other.to_set(alloc)?;
+    first.combine(alloc, operation, &second)?.to_bytes(alloc)
+}
+
+/// Writes the image of the result of the operation on the sets of two images into the buffer.
+fn combine(
+    alloc: Global,
+    operation: Operation,
+    set: &[u8],
+    other: &[u8],
+    buffer: &mut [u8],
+    count: &mut usize,
+) -> u32
+    ensures { IsCombineReply operation set.now other.now buffer.old buffer.new count.old count.new result }
+{
+    let Ok(set) = IpSetRef::from_bytes(set) else {
+        return NOT_A_SET;
+    };
+    let Ok(other) = IpSetRef::from_bytes(other) else {
+        return OTHER_NOT_A_SET;
+    };
+    let Ok(image) = combined_image(alloc, operation, set, other) else {
+        return OUT_OF_MEMORY;
+    };
+    write_answer(image.as_slice(), buffer, count)
+}
+
+/// Writes the image of the union of two sets, given by their images, into the buffer, and its length into `count`.
+///
+/// Returns 0; 4 if the buffer is too short, with the length needed in `count`; 11 if the first bytes are not the image
+/// of a set; 12 if only the second are not; 3 if memory runs out. The buffer changes only at 0, `count` only at 0 and
+/// 4.
+///
+/// ```text
+/// 10.0.0.0/31 and 10.0.0.2/31    0, and the image of 10.0.0.0/30
+/// ```
+#[unsafe(no_mangle)]
+pub extern "C" fn ipnet_set_union(
+    alloc: Global,
+    set: &[u8],
+    other: &[u8],
+    buffer: &mut [u8],
+    count: &mut usize,
+) -> u32
+    ensures { IsCombineReply Of.Union set.now other.now buffer.old buffer.new count.old count.new result }
+{
+    combine(alloc, Operation::Union, set, other, buffer, count)
+}
+
+/// Writes the image of the intersection of two sets, as `ipnet_set_union` does with the union.
+///
+/// ```text
+/// 10.0.0.0/30 and 10.0.0.2/31    0, and the image of 10.0.0.2/31
+/// ```
+#[unsafe(no_mangle)]
+pub extern "C" fn ipnet_set_intersection(
+    alloc: Global,
+    set: &[u8],
+    other: &[u8],
+    buffer: &mut [u8],
+    count: &mut usize,
+) -> u32
+    ensures { IsCombineReply Of.Intersection set.now other.now buffer.old buffer.new count.old count.new result }
+{
+    combine(alloc, Operation::Intersection, set, other, buffer, count)
+}
+
+/// Writes the image of the first set without the second, as `ipnet_set_union` does with the union.
+///
+/// ```text
+/// 10.0.0.0/30 and 10.0.0.2/31    0, and the image of 10.0.0.0/31
+/// ```
+#[unsafe(no_mangle)]
+pub extern "C" fn ipnet_set_difference(
+    alloc: Global,
+    set: &[u8],
+    other: &[u8],
+    buffer: &mut [u8],
+    count: &mut usize,
+) -> u32
+    ensures { IsCombineReply Of.Difference set.now other.now buffer.old buffer.new count.old count.new result }
+{
+    combine(alloc, Operation::Difference, set, other, buffer, count)
+}
+
+/// Writes the image of the addresses that are in exactly one of two sets, as `ipnet_set_union` does with the union.
+///
+/// ```text
+/// 10.0.0.0/31 and 10.0.0.1/32    0, and the image of 10.0.0.0/32
+/// ```
+#[unsafe(no_mangle)]
+pub extern "C" fn ipnet_set_symmetric_difference(
+    alloc: Global,
+    set: &[u8],
+    other: &[u8],
+    buffer: &mut [u8],
+    count: &mut usize,
+) -> u32
+    ensures { IsCombineReply Of.SymmetricDifference set.now other.now buffer.old buffer.new count.old count.new
+        result }
+{
+    combine(
+        alloc,
+        Operation::SymmetricDifference,
+        set,
+        other,
+        buffer,
+        count,
+    )
+}
+
+/// Returns the image of the complement of the set of an image.
+fn complement_image(alloc: Global, set: IpSetRef<'_>) -> Result<Vec<u8>, AllocError>
+    ensures { IfOk result (λ image. IsImageWith (IsComplementOfImage set.entry.image.bytes.now) image.items) }
+{
+    let first = set.to_set(alloc)?;
+    first.complement(alloc)?.to_bytes(alloc)
+}
+
+/// Writes the image of all addresses of both families that are not in the set, given by its image, into the buffer, and
+/// its length into `count`.
+///
+/// Returns 0; 4 if the buffer is too short, with the length needed in `count`; 11 if the bytes are not the image of a
+/// set; 3 if memory runs out. The buffer changes only at 0, `count` only at 0 and 4.
+///
+/// ```text
+/// no address    0, and the image of 0.0.0.0/0 and ::/0
+/// ```
+#[unsafe(no_mangle)]
+pub extern "C" fn ipnet_set_complement(
+    alloc: Global,
+    set: &[u8],
+    buffer: &mut [u8],
+    count: &mut usize,
+) -> u32
+    ensures { IsImageReply (IsImageWith (IsComplementOfImage set.now)) set.now buffer.old buffer.new count.old count.new
+        result }
+{
+    let Ok(set) = IpSetRef::from_bytes(set) else {
+        return NOT_A_SET;
+    };
+    let Ok(image) = complement_image(alloc, set) else {
+        return OUT_OF_MEMORY;
+    };
+    write_answer(image.as_slice(), buffer, count)
+}
+
+/// Returns the text of the fewest networks of the set of an image.
+fn image_text(alloc: Global, set: IpSetRef<'_>) -> Result<String, AllocError>
+    ensures { IfOk result (λ text. IsTextOfImage set.entry.image.bytes.now (string_bytes text)) }
+{
+    let first = set.to_set(alloc)?;
+    let networks = first.networks(alloc)?;
+    printed(alloc, networks.as_slice())
+}
+
+/// Writes the fewest networks of the set, given by its image, as text into the buffer, and its length into `count`.
+///
+/// The text has the maximal aligned blocks of the addresses, IPv4 first, ascending, one per line.
+///
+/// Returns 0; 4 if the buffer is too short, with the length needed in `count`; 11 if the bytes are not the image of a
+/// set; 3 if memory runs out. The buffer changes only at 0, `count` only at 0 and 4.
+///
+/// ```text
+/// the image of 10.0.0.0-10.0.0.5    0, and the text "10.0.0.0/30\n10.0.0.4/31\n"
+/// ```
+#[unsafe(no_mangle)]
+pub extern "C" fn ipnet_set_to_text(
+    alloc: Global,
+    set: &[u8],
+    buffer: &mut [u8],
+    count: &mut usize,
+) -> u32
+    ensures { IsImageReply (IsTextOfImage set.now) set.now buffer.old buffer.new count.old count.new result }
+{
+    let Ok(set) = IpSetRef::from_bytes(set) else {
+        return NOT_A_SET;
+    };
+    let Ok(text) = image_text(alloc, set) else {
+        return OUT_OF_MEMORY;
+    };
+    write_answer(text.as_bytes(), buffer, count)
+}

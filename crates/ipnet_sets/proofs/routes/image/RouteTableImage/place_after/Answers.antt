@@ -1,0 +1,65 @@
+-- The network that was read is the network of the table at this place, so the search goes on as in the table.
+use Rattle.std.proofs.Common.{arith, sym, ◌∙◌}
+use Rattle.ipnet.specs.NetworkOf.{ip_network}
+use Rattle.ipnet_sets.specs.Routes.{networks_of}
+use Rattle.ipnet_sets.proofs.RouteLaws.{place_end, less_gives, not_less_gives}
+use Rattle.ipnet_sets.proofs.TableImageLaws.{found_at, none_read, image_start, image_down, image_up}
+use Rattle.ipnet_sets.proofs.routes.image.RouteTableImage.place_after.Goals as goal
+
+pub loop-low-init : goal.loop-low-init
+loop-low-init c =
+    let self = c.args.self.now in
+    record {
+      ordered = omega arith;
+      within = omega (arith, self.routes_stated);
+      search =
+          λ t h. image_start self.bytes.now t h.held (ip_network c.args.network.now) self.routes self.routes_stated;
+    }
+
+pub loop-low-preserved-then-lt : goal.loop-low-preserved-then-lt
+loop-low-preserved-then-lt c =
+    let bytes = c.args.self.now.bytes.now in
+    let n = ip_network c.args.network.now in
+    let middle = c.probe-middle.result in
+    let other = c.in-Some.other in
+    record {
+      ordered = omega (arith, c.probe-middle.ensures.from);
+      within = omega (arith, c.probe-middle.ensures.below, c.loop-low.invariant.within);
+      search = λ t h. image_down bytes t h.held n c.loop-low.low c.loop-low.high middle other
+          (found_at bytes t h.held middle other c.network_at.result
+          (omega (arith, c.probe-middle.ensures.below, c.loop-low.invariant.within)) c.network_at.ensures.read
+          c.in-Some.is)
+          c.probe-middle.ensures.from c.probe-middle.ensures.below
+          (less_gives c.args.network.now other (c.ip_nets_compare_by_network.ensures.compare c.args.network.now other)
+          (sym c.lt.ensures ∙ c.if-lt.true)) (c.loop-low.invariant.search t h);
+    }
+
+pub loop-low-preserved : goal.loop-low-preserved
+loop-low-preserved c =
+    let bytes = c.args.self.now.bytes.now in
+    let n = ip_network c.args.network.now in
+    let middle = c.probe-middle.result in
+    let other = c.in-Some.other in
+    record {
+      ordered = omega (arith, c.probe-middle.ensures.below);
+      within = c.loop-low.invariant.within;
+      search = λ t h. image_up bytes t h.held n c.loop-low.low c.loop-low.high middle other
+          (found_at bytes t h.held middle other c.network_at.result
+          (omega (arith, c.probe-middle.ensures.below, c.loop-low.invariant.within)) c.network_at.ensures.read
+          c.in-Some.is)
+          c.probe-middle.ensures.below
+          (not_less_gives c.args.network.now other
+          (c.ip_nets_compare_by_network.ensures.compare c.args.network.now other) (sym c.lt.ensures ∙ c.if-lt.false))
+          (c.loop-low.invariant.search t h);
+    }
+
+pub returns-in_default-clause-place : goal.returns-in_default-clause-place
+returns-in_default-clause-place c t h =
+    absurd (none_read c.args.self.now.bytes.now t h.held c.probe-middle.result c.network_at.result
+    (omega (arith, c.probe-middle.ensures.below, c.loop-low.invariant.within)) c.network_at.ensures.read
+    c.in_default.is)
+
+pub returns-clause-place : goal.returns-clause-place
+returns-clause-place c t h =
+    place_end (networks_of t) (ip_network c.args.network.now) c.loop-low.low c.loop-low.high (omega arith)
+    (c.loop-low.invariant.search t h)

@@ -1,0 +1,51 @@
+//! The operations on two sets.
+ghost use Rattle.std.specs.Prelude.{IfOk};
+ghost use Rattle.ipnet_sets.specs.Members.{IsResultOf, HasNoMoreRanges};
+
+use crate::set::IpSet;
+use std::alloc::{AllocError, Global};
+
+/// An operation on two sets, for [`IpSet::combine`](crate::IpSet::combine).
+///
+/// ```text
+/// of 10.0.0.0-10.0.0.5 and 10.0.0.3-10.0.0.9
+/// Union                  10.0.0.0-10.0.0.9
+/// Intersection           10.0.0.3-10.0.0.5
+/// Difference             10.0.0.0-10.0.0.2
+/// SymmetricDifference    10.0.0.0-10.0.0.2 and 10.0.0.6-10.0.0.9
+/// ```
+#[derive(Clone, Copy, Debug, PartialEq, Eq)]
+pub enum Operation {
+    /// The addresses that are in one of the sets, or in both.
+    Union,
+    /// The addresses that are in both sets.
+    Intersection,
+    /// The addresses that are in the first set and not in the second.
+    Difference,
+    /// The addresses that are in exactly one of the two sets.
+    SymmetricDifference,
+}
+
+impl IpSet {
+    /// Returns the result of the operation on this set and the other. Fails only if memory runs out.
+    ///
+    /// ```text
+    /// Operation::Intersection of 10.0.0.0-10.0.0.5 and 10.0.0.3-10.0.0.9: 10.0.0.3-10.0.0.5
+    /// ```
+    pub fn combine(
+        &self,
+        alloc: Global,
+        operation: Operation,
+        other: &IpSet,
+    ) -> Result<IpSet, AllocError>
+        ensures members { IfOk result (λ s. IsResultOf operation s self.now other.now) }
+        ensures ranges { IfOk result (λ s. HasNoMoreRanges s self.now other.now) }
+    {
+        match operation {
+            Operation::Union => self.union(alloc, other),
+            Operation::Intersection => self.intersection(alloc, other),
+            Operation::Difference => self.difference(alloc, other),
+            Operation::SymmetricDifference => self.symmetric_difference(alloc, other),
+        }
+    }
+}

@@ -1,0 +1,10 @@
+-- Lemmas of this crate.
+pub mod LineCuts
+pub mod ClosedLines
+pub mod WindowLaws
+pub mod LineTextLaws
+pub mod JoinLaws
+pub mod ListsLaws
+pub mod WritingLaws
+pub mod FrontTexts
+pub mod GroupTexts

@@ -1,0 +1,7 @@
+-- The definitions that the contracts of this crate use.
+pub mod Fronts
+pub mod Inputs
+pub mod LineTexts
+pub mod NetLists
+pub mod Pieces
+pub mod Window

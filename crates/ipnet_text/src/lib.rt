@@ -1,0 +1,15 @@
+//! Texts of networks below the programs: lines, the window on bytes that are read, and what is written in pieces.
+#![tactic(auto)]
+
+pub mod front;
+pub mod lines;
+pub mod net_lists;
+pub mod output;
+pub mod pieces;
+pub mod window;
+
+pub use front::{FrontLine, network_line};
+pub use lines::{first_line, lines_len, push_line};
+pub use net_lists::NetLists;
+pub use output::write_whole;
+pub use window::{ReadError, Window};

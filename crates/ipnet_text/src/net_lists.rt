@@ -1,0 +1,99 @@
+//! Lists of networks by family, whose networks are joined as they are added.
+ghost use Rattle.std.specs.Prelude.{◌≡◌, [], ◌∷◌, ◌++◌, map, OnOk, IfSome};
+ghost use Rattle.ipnet.specs.Blocks.{HaveSameCover, IsAggregateOf};
+ghost use Rattle.ipnet.specs.NetworkOf.{ip_network};
+
+use ipnet::{IpNet, Ipv4Net, Ipv6Net, Net};
+use std::alloc::{AllocError, Global};
+
+/// Networks of both families in two lists, so that each is sorted without the room and the tests that the other needs.
+/// The lists keep what addresses the networks cover, and not each network.
+///
+/// ```text
+/// after 10.0.0.0/25, 10.0.0.128/25 and fd00::/32 are added, the lists have 10.0.0.0/24 and fd00::/32
+/// ```
+#[derive(Drop)]
+pub struct NetLists {
+    /// The IPv4 networks.
+    pub ipv4: Vec<Ipv4Net>,
+    /// The IPv6 networks.
+    pub ipv6: Vec<Ipv6Net>,
+}
+
+impl NetLists {
+    ghost use Rattle.ipnet_text.specs.NetLists.{networks_of};
+
+    /// No networks. Takes no memory.
+    pub fn new(alloc: Global) -> NetLists
+        ensures { networks_of result ≡ [] }
+    {
+        NetLists {
+            ipv4: Vec::new(alloc),
+            ipv6: Vec::new(alloc),
+        }
+    }
+
+    /// Adds the network to the list of its family, and joins it with the last ones there as far as possible. Fails if
+    /// memory runs out.
+    ///
+    /// ```text
+    /// the lists have 10.0.0.0/25, and 10.0.0.128/25 is added: then they have 10.0.0.0/24
+    /// ```
+    #[inline(always)]
+    pub fn push(&mut self, network: IpNet) -> Result<(), AllocError>
+        ensures { OnOk result (HaveSameCover (networks_of self.new) (networks_of self.old ++ ip_network network ∷ [])) }
+    {
+        match network {
+            IpNet::V4(network) => push_joined(&mut self.ipv4, network),
+            IpNet::V6(network) => push_joined(&mut self.ipv6, network),
+        }
+    }
+
+    /// Replaces the networks of each family by their aggregate; together they are the aggregate of all. Takes no
+    /// memory.
+    ///
+    /// ```text
+    /// the lists have 10.0.0.128/25, 10.0.0.0/25 and fd00::/32: then they have 10.0.0.0/24 and fd00::/32
+    /// ```
+    pub fn aggregate(&mut self)
+        ensures empty { networks_of self.old ≡ [] → networks_of self.new ≡ [] }
+        ensures aggregate { IsAggregateOf (networks_of self.new) (networks_of self.old) }
+    {
+        Ipv4Net::aggregate_in_place(&mut self.ipv4);
+        Ipv6Net::aggregate_in_place(&mut self.ipv6);
+    }
+}
+
+/// One network with exactly the addresses of both, if the first contains the second or the two are the halves of their
+/// supernet.
+fn joined<N: Net>(first: &N, second: &N) -> Option<N>
+    ensures { IfSome result (λ whole.
+        HaveSameCover (N.network whole ∷ []) (N.network first.now ∷ N.network second.now ∷ [])) }
+{
+    if first.covers(second) {
+        return Some(*first);
+    }
+    if first.is_other_half(second) {
+        return Some(first.joined());
+    }
+    None
+}
+
+/// Appends a network, and merges it with its predecessors as far as possible. Most lists that people keep are sorted,
+/// so this keeps memory near the size of the result.
+#[inline(always)]
+fn push_joined<N: Net>(list: &mut Vec<N>, network: N) -> Result<(), AllocError>
+    ensures { OnOk result (HaveSameCover (map N.network list.new.items)
+        (map N.network list.old.items ++ N.network network ∷ [])) }
+{
+    let mut next = network;
+    while let Some(last) = list.last() {
+        let Some(whole) = joined(last, &next) else {
+            break;
+        };
+        next = whole;
+        list.pop();
+    }
+    list.push(next)?;
+    Ok(())
+}

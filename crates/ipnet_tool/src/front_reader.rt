@@ -1,0 +1,55 @@
+//! Lines that are read at the front of the text, or left to the reader of texts.
+ghost use Rattle.std.specs.Prelude.{◌≡◌, ◌+◌, ◌<◌, ◌∷◌, length, take, drop, slice_index, IfSome};
+ghost use Rattle.ipnet.specs.Lines.{lines_of};
+ghost use Rattle.ipnet.specs.NetworkOf.{ip_network};
+ghost use Rattle.ipnet.specs.NetworkTexts.{IsNetworkText};
+ghost use Rattle.ipnet.specs.declared.parser.Grammar.TheVariants.{Strict};
+
+use ipnet_text::{FrontLine, network_line};
+
+/// The most lines that are left out at once.
+const LONGEST_PAUSE: u8 = 63;
+
+/// Reads lines by [`network_line`]. After lines that it cannot read, it leaves out more and more of the lines that
+/// follow: similar lines often follow each other, and a vain try costs time.
+#[derive(Clone, Copy)]
+pub(crate) struct FrontReader {
+    pause: u8,
+    next_pause: u8,
+}
+
+impl FrontReader {
+    /// A reader that tries the first line.
+    pub(crate) fn new() -> FrontReader {
+        FrontReader {
+            pause: 0,
+            next_pause: 0,
+        }
+    }
+
+    /// The network of the first line, and the length of the line without its "\n". `None` says nothing about the line.
+    #[inline]
+    pub(crate) fn read(&mut self, bytes: &[u8]) -> Option<FrontLine>
+        ensures network { IfSome result (λ line. IsNetworkText Strict (take line.len bytes.now)
+            (ip_network line.network)) }
+        ensures newline { IfSome result (λ line. slice_index bytes.now line.len ≡ 10) }
+        ensures within { IfSome result (λ line. line.len < length bytes.now) }
+        ensures lines { IfSome result (λ line. lines_of bytes.now
+            ≡ take line.len bytes.now ∷ lines_of (drop (line.len + 1) bytes.now)) }
+    {
+        if self.pause > 0 {
+            self.pause -= 1;
+            return None;
+        }
+        let line = network_line(bytes);
+        if line.is_some() {
+            self.next_pause = 0;
+        } else {
+            self.pause = self.next_pause;
+            if self.next_pause < LONGEST_PAUSE {
+                self.next_pause = self.next_pause * 2 + 1;
+            }
+        }
+        line
+    }
+}

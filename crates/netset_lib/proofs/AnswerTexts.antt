@@ -1,0 +1,75 @@
+-- The text of a set, range by range.
+use Rattle.std.proofs.Common.{◌≡◌, ℕ, ◌≤◌, ◌↔◌, List, [], ◌∷◌, ◌++◌, All, sym, ap, ◌∙◌, append_assoc, append-nil}
+use Rattle.std.proofs.Common.{subst}
+use Rattle.std.proofs.lemmas.List.Elements.{All-head, All-tail}
+use Rattle.ipnet_base.specs.Address.{Address}
+use Rattle.ipnet_base.specs.Ranges.{AddressRange}
+use Rattle.ipnet_sets.specs.SetRanges.{AreRangesOf}
+use Rattle.ipnet_base.proofs.UniqueLaws.{AreMaximalBlocks-same_set}
+use Rattle.netset_lib.specs.declared.answer.Form.{Form}
+use Rattle.netset_lib.specs.declared.answer.Form.TheVariants.{Networks, Ranges}
+use Rattle.netset_lib.specs.Answers.{range_text, text_of_ranges, AreRangeLines, IsSetText}
+
+-- the text is that of the ranges of the set, but for those that are left
+pub record AreRangesWritten (InSet : Address → Type 0) (text : List ℕ) (left : List AddressRange) : Type 0 where
+  pub ranges : List AddressRange
+  pub fewest : AreRangesOf InSet ranges
+  pub spelled : text ++ text_of_ranges left ≡ text_of_ranges ranges
+  pub some : All (λ r. r.start ≤ r.end) left
+
+module _ (InSet : Address → Type 0) where
+  pub none_written : (ranges : List AddressRange) → AreRangesOf InSet ranges → (text : List ℕ) → text ≡ []
+      → AreRangesWritten InSet text ranges
+  none_written ranges fewest text empty = record {
+    ranges = ranges;
+    fewest = fewest;
+    spelled = ap (λ t. t ++ text_of_ranges ranges) empty;
+    some = fewest.some;
+  }
+
+  pub one_written : (text new : List ℕ) (old left : List AddressRange) (r : AddressRange) → old ≡ r ∷ left
+      → new ≡ text ++ range_text r ++ 10 ∷ [] → AreRangesWritten InSet text old → AreRangesWritten InSet new left
+  one_written text new old left r cut e h = record {
+    ranges = h.ranges;
+    fewest = h.fewest;
+    spelled =
+        ap (λ t. t ++ text_of_ranges left) e
+        ∙ append_assoc (text ++ range_text r) (10 ∷ []) (text_of_ranges left)
+        ∙ append_assoc text (range_text r) (10 ∷ text_of_ranges left)
+        ∙ ap (λ t. text ++ t) (sym (append_assoc (range_text r) (10 ∷ []) (text_of_ranges left)))
+        ∙ ap (λ rs. text ++ text_of_ranges rs) (sym cut)
+        ∙ h.spelled;
+    some = All-tail (λ r. r.start ≤ r.end) r left (subst (All (λ r. r.start ≤ r.end)) cut h.some);
+  }
+
+  -- the first of those that are left has an address
+  pub first_some : (text : List ℕ) (old left : List AddressRange) (r : AddressRange) → old ≡ r ∷ left
+      → AreRangesWritten InSet text old → r.start ≤ r.end
+  first_some text old left r cut h =
+      All-head (λ r. r.start ≤ r.end) r left (subst (All (λ r. r.start ≤ r.end)) cut h.some)
+
+  pub all_written : (text : List ℕ) (left : List AddressRange) → left ≡ [] → AreRangesWritten InSet text left
+      → AreRangeLines InSet text
+  all_written text left none h = record {
+    ranges = h.ranges;
+    fewest = h.fewest;
+    spelled = sym (ap (λ rs. text ++ text_of_ranges rs) none ∙ append-nil text) ∙ h.spelled;
+  }
+
+-- sets with the same addresses have the same texts
+pub text_of_same : (form : Form) (A B : Address → Type 0) (text : List ℕ) → ((x : Address) → A x ↔ B x)
+    → IsSetText form A text → IsSetText form B text
+text_of_same Networks A B text same h = record {
+  blocks = h.blocks;
+  maximal = AreMaximalBlocks-same_set A B 0 h.blocks same h.maximal;
+  spelled = h.spelled;
+}
+text_of_same Ranges A B text same h = record {
+  ranges = h.ranges;
+  fewest = record {
+    some = h.fewest.some;
+    apart = h.fewest.apart;
+    members = λ x. (λ b. (h.fewest.members x).0 ((same x).1 b), λ k. (same x).0 ((h.fewest.members x).1 k));
+  };
+  spelled = h.spelled;
+}

@@ -1,0 +1,136 @@
+-- Counts of sets, and of the lists that they were read from.
+use Rattle.std.proofs.Common.{◌≡◌, ℕ, ◌+◌, ◌<◌, ◌↔◌, List, [], ◌∷◌, ◌++◌, length, codes, map, refl, sym, ap, ◌∙◌, subst}
+use Rattle.std.proofs.Common.{arith}
+use Rattle.std.proofs.Common.{if◌then◌else◌, is_ok, decimal, Result, Ok, Err, OnOk}
+use Rattle.std.specs.Fmt.{digits}
+use Rattle.std.proofs.lemmas.List.{length-append}
+use Rattle.ipnet_base.specs.Address.{IPv4, IPv6, Address, IsAddress, greatest_number}
+use Rattle.ipnet.specs.declared.parser.Grammar.{Grammar}
+use Rattle.ipnet_sets.specs.declared.set.IpSet.{IpSet}
+use Rattle.ipnet_sets.specs.Members.{IsCountOf, IsMember, IsMemberOf}
+use Rattle.ipnet_sets.specs.BoundaryRanges.{ranges_of, count_of}
+use Rattle.ipnet_sets.proofs.CountLaws.{count_of_family, all_of_family}
+use Rattle.netset_lib.specs.Counts.{IsCountsLine, AreAloneLines, IsComparison, IsCompareAnswer}
+use Rattle.netset_lib.specs.Lists.{ListEntry, IsInEntries}
+use Rattle.netset_lib.specs.Replies.{AreSameLists, AreOtherLists}
+
+-- a set with all IPv6 addresses has 2^128 of them
+pub all_counted : (s : IpSet) → ((x : Address) → IsAddress x → x.family ≡ IPv6 → IsMember s x)
+    → IsCountOf (IsMemberOf IPv6 s) 340282366920938463463374607431768211456
+all_counted s all =
+    let boundaries : List ℕ = map (λ n. n) s.ipv6.items in
+    let whole : count_of (ranges_of IPv6 boundaries) ≡ greatest_number IPv6 + 1 =
+    (all_of_family s IPv6 boundaries refl s.ipv6_boundaries).1 all in
+    subst (IsCountOf (IsMemberOf IPv6 s)) whole (count_of_family s IPv6 boundaries refl s.ipv6_boundaries)
+
+-- 2 ^ 128 in decimal
+pub all_ipv6 : codes "340282366920938463463374607431768211456" ≡ decimal 340282366920938463463374607431768211456
+unfolding digits
+all_ipv6 = refl
+
+-- a number that is written behind a text, where there was room
+pub count_written : {E : Type 0} (r : Result (Unit {0}) E) (InSet : Address → Type 0) (n : ℕ) (old new : List ℕ)
+    (spelled : List ℕ) → IsCountOf InSet n → spelled ≡ decimal n
+    → new ≡ (if is_ok r then old ++ spelled else old)
+    → OnOk r ((m : ℕ) × IsCountOf InSet m × (new ≡ old ++ decimal m))
+count_written (Ok x) InSet n old new spelled h same e = (n, h, e ∙ ap (λ t. old ++ t) same)
+count_written (Err y) InSet n old new spelled h same e = tt
+
+count_same : (A B : Address → Type 0) (n : ℕ) → ((x : Address) → A x ↔ B x) → IsCountOf A n → IsCountOf B n
+count_same A B n same h = record {
+  addresses = h.addresses;
+  once = h.once;
+  members = λ x. (λ c. (same x).0 ((h.members x).0 c), λ b. (h.members x).1 ((same x).1 b));
+  count = h.count;
+}
+
+-- sets with the same addresses have the same counts
+pub counts_same : (A B : Address → Type 0) (line : List ℕ) → ((x : Address) → A x ↔ B x) → IsCountsLine A line
+    → IsCountsLine B line
+counts_same A B line same h = record {
+  ipv4 = h.ipv4;
+  ipv6 = h.ipv6;
+  counts = record {
+    of_ipv4 = count_same (λ x. (x.family ≡ IPv4) × A x) (λ x. (x.family ≡ IPv4) × B x) h.ipv4
+        (λ x. (λ k. (k.0, (same x).0 k.1), λ k. (k.0, (same x).1 k.1))) h.counts.of_ipv4;
+    of_ipv6 = count_same (λ x. (x.family ≡ IPv6) × A x) (λ x. (x.family ≡ IPv6) × B x) h.ipv6
+        (λ x. (λ k. (k.0, (same x).0 k.1), λ k. (k.0, (same x).1 k.1))) h.counts.of_ipv6;
+  };
+  spelled = h.spelled;
+}
+
+alone_same : (A B C D : Address → Type 0) (text : List ℕ) → ((x : Address) → A x ↔ C x)
+    → ((x : Address) → B x ↔ D x) → AreAloneLines A B text → AreAloneLines C D text
+alone_same A B C D text a b h = record {
+  first_line = h.first_line;
+  second_line = h.second_line;
+  first = counts_same (λ x. A x × ¬ (B x)) (λ x. C x × ¬ (D x)) h.first_line
+      (λ x. (λ k. ((a x).0 k.0, λ d. k.1 ((b x).1 d)), λ k. ((a x).1 k.0, λ d. k.1 ((b x).0 d)))) h.first;
+  second = counts_same (λ x. B x × ¬ (A x)) (λ x. D x × ¬ (C x)) h.second_line
+      (λ x. (λ k. ((b x).0 k.0, λ d. k.1 ((a x).1 d)), λ k. ((b x).1 k.0, λ d. k.1 ((a x).0 d)))) h.second;
+  spelled = h.spelled;
+}
+
+pub comparison_same : (A B C D : Address → Type 0) (text : List ℕ) → ((x : Address) → A x ↔ C x)
+    → ((x : Address) → B x ↔ D x) → IsComparison A B text → IsComparison C D text
+comparison_same A B C D text a b h = record {
+  same = λ s. h.same (λ x. (λ k. (b x).1 ((s x).0 ((a x).0 k)), λ k. (a x).1 ((s x).1 ((b x).0 k))));
+  only = λ none x. (
+    λ k. (b x).0 ((h.only none x).0 ((a x).1 k)),
+    λ k. (a x).0 ((h.only none x).1 ((b x).1 k)),
+  );
+  differ = λ no. alone_same A B C D text a b
+      (h.differ (λ s. no (λ x. (λ k. (b x).0 ((s x).0 ((a x).1 k)), λ k. (a x).0 ((s x).1 ((b x).1 k))))));
+}
+
+-- the lines of what each of two sets has beside the other
+pub lines_alone : (first second a b : IpSet) (first_line second_line text : List ℕ)
+    → ((x : Address) → IsMember a x ↔ (IsMember first x × ¬ (IsMember second x)))
+    → ((x : Address) → IsMember b x ↔ (IsMember second x × ¬ (IsMember first x)))
+    → IsCountsLine (IsMember a) first_line → IsCountsLine (IsMember b) second_line
+    → text ≡ codes "first alone: " ++ first_line ++ codes "second alone: " ++ second_line
+    → AreAloneLines (IsMember first) (IsMember second) text
+lines_alone first second a b first_line second_line text in_a in_b line_a line_b spelled = record {
+  first_line = first_line;
+  second_line = second_line;
+  first = counts_same (IsMember a) (λ x. IsMember first x × ¬ (IsMember second x)) first_line in_a line_a;
+  second = counts_same (IsMember b) (λ x. IsMember second x × ¬ (IsMember first x)) second_line in_b line_b;
+  spelled = spelled;
+}
+
+-- the two lines are some text
+pub lines_some : (First Second : Address → Type 0) (text : List ℕ) → AreAloneLines First Second text → text ≡ [] → ⊥
+lines_some First Second text h none =
+    let a = codes "first alone: " in
+    let b = codes "second alone: " in
+    let long : 0 < length a = omega arith in
+    absurd (omega (
+      arith,
+      long,
+      ap length (sym h.spelled ∙ none),
+      length-append (a ++ h.first_line ++ b) h.second_line,
+      length-append (a ++ h.first_line) b,
+      length-append a h.first_line,
+    ))
+
+-- a text for which the status is not 1 is empty
+pub none_or_some : (text : List ℕ) (status : ℕ) → status ≡ 0 → ((text ≡ [] → ⊥) → status ≡ 1) → text ≡ []
+none_or_some [] status zero some = refl
+none_or_some (b ∷ text) status zero some = absurd (omega (arith, zero, some (λ e. absurd (omega (arith, ap length e)))))
+
+-- a comparison tells whether the two have the same addresses
+pub lists_same : (grammar : Grammar) (lists : List (List ℕ)) (text : List ℕ) → IsCompareAnswer grammar lists text
+    → text ≡ [] → AreSameLists grammar lists
+lists_same grammar lists text h none =
+    record { first = h.first; second = h.second; read = h.read; same = h.right.only none }
+
+pub lists_differ : (grammar : Grammar) (lists : List (List ℕ)) (text : List ℕ) → IsCompareAnswer grammar lists text
+    → (text ≡ [] → ⊥) → AreOtherLists grammar lists
+lists_differ grammar lists text h some =
+    record { first = h.first; second = h.second; read = h.read; differ = λ same. some (h.right.same same) }
+
+-- four texts, one behind the other
+pub four_joined : (t p q r s a b c d : List ℕ) → t ≡ [] → p ≡ t ++ a → q ≡ p ++ b → r ≡ q ++ c → s ≡ r ++ d
+    → s ≡ a ++ b ++ c ++ d
+four_joined t p q r s a b c d e f g h k =
+    k ∙ ap (λ z. z ++ d) (h ∙ ap (λ z. z ++ c) (g ∙ ap (λ z. z ++ b) (f ∙ ap (λ z. z ++ a) e)))

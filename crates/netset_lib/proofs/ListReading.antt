@@ -1,0 +1,194 @@
+-- A list that is read line by line.
+use Rattle.std.proofs.Common.{◌≡◌, ℕ, ◌+◌, ◌<◌, ◌≤◌, ◌↔◌, Bool, true, false, List, [], ◌∷◌, ◌++◌, length, map, take}
+use Rattle.std.proofs.Common.{drop, refl, sym, ap, ◌∙◌, arith, inl, inr, subst, append_assoc, append-nil, Option}
+use Rattle.std.proofs.Common.{take-append-drop, Some, IfSome}
+use Rattle.std.specs.Io.KnownBytes.{Consumes, IsAtEnd}
+use Rattle.std.proofs.KnownBytes.{Consumes-nil, Consumes-trans}
+use Rattle.std.proofs.lemmas.List.{map-append}
+use Rattle.ipnet_base.specs.Ranges.{AddressRange}
+use Rattle.ipnet.specs.declared.parser.Grammar.{Grammar}
+use Rattle.ipnet.specs.Lines.{lines_of}
+use Rattle.ipnet_text.proofs.ClosedLines.{IsClosed, closed_append}
+use Rattle.netset_lib.specs.declared.cause.Cause.{Cause}
+use Rattle.netset_lib.specs.declared.reader.LineReader.{LineReader}
+use Rattle.netset_lib.specs.declared.reading.Reading.{Reading}
+use Rattle.netset_lib.specs.declared.refused.RefusedLines.{RefusedLines}
+use Rattle.netset_lib.specs.Causes.{IsCauseTold}
+use Rattle.netset_lib.specs.Entries.{IsEntryText, IsNoEntry}
+use Rattle.netset_lib.specs.Lists.{ListEntry, Refusal, AreRead, AreContents, IsContents}
+use Rattle.netset_lib.specs.Reading.{HasMore, Adds, AreTexts, AddsLines, ReadsLines}
+use Rattle.netset_lib.proofs.RefusalLaws.{HasMore-nil, HasMore-trans}
+
+-- ---- one line more
+
+empty_line : (grammar : Grammar) (list line : ℕ) (text : List ℕ) (texts : List (List ℕ)) (entries : List ListEntry)
+    (refusals : List Refusal) → length text ≡ 0 → AreRead grammar list (line + 1) texts entries refusals
+    → AreRead grammar list line (text ∷ texts) entries refusals
+empty_line grammar list line [] texts entries refusals none h = h
+empty_line grammar list line (b ∷ text) texts entries refusals none h = absurd (omega arith)
+
+-- the entry that the text is
+abbrev pub entry_at : List ℕ → AddressRange → ListEntry
+entry_at text range = record { text = text; range = range }
+
+-- the line refused
+abbrev pub refusal_at : ℕ → ℕ → List ℕ → Option Cause → Refusal
+refusal_at list line text cause = record { list = list; line = line; text = text; cause = cause }
+
+entry_line : (grammar : Grammar) (list line : ℕ) (text : List ℕ) (texts : List (List ℕ)) (range : AddressRange)
+    (more : List ListEntry) (refusals : List Refusal) → 0 < length text → IsEntryText grammar text range
+    → AreRead grammar list (line + 1) texts more refusals
+    → AreRead grammar list line (text ∷ texts) (entry_at text range ∷ more) refusals
+entry_line grammar list line [] texts range more refusals some is h = absurd (omega arith)
+entry_line grammar list line (b ∷ text) texts range more refusals some is h =
+    inl (more, record { range = range; next = refl; writes = is }, h)
+
+refused_line : (grammar : Grammar) (list line : ℕ) (text : List ℕ) (texts : List (List ℕ)) (entries : List ListEntry)
+    (more : List Refusal) → 0 < length text → IsNoEntry grammar text → (cause : Option Cause)
+    → IsCauseTold grammar text cause → AreRead grammar list (line + 1) texts entries more
+    → AreRead grammar list line (text ∷ texts) entries (refusal_at list line text cause ∷ more)
+refused_line grammar list line [] texts entries more some none cause told h = absurd (omega arith)
+refused_line grammar list line (b ∷ text) texts entries more some none cause told h =
+    inr (more, record { cause = cause; next = refl; no_entry = none; told = told }, h)
+
+-- ---- lines, one after the other
+
+texts_more : (grammar : Grammar) (list : ℕ) (first second : List (List ℕ)) (line mid after : ℕ)
+    (entries others : List ListEntry) (refusals later_refusals : List Refusal)
+    → AreTexts grammar list first line mid entries refusals
+    → AreTexts grammar list second mid after others later_refusals
+    → AreTexts grammar list (first ++ second) line after (entries ++ others) (refusals ++ later_refusals)
+texts_more grammar list first second line mid after entries others refusals later_refusals h k later more refused is =
+    rw (
+      append_assoc first second later,
+      append_assoc entries others more,
+      append_assoc refusals later_refusals refused,
+    )
+    (h (second ++ later) (others ++ more) (later_refusals ++ refused) (k later more refused is))
+
+adds_none : (lines : LineReader) (IsMade : List ListEntry → Type 0) → AddsLines lines lines [] IsMade IsMade
+adds_none lines IsMade = record {
+  same_grammar = refl;
+  same_list = refl;
+  entries = [];
+  refusals = [];
+  read = λ later more refused h. h;
+  added = HasMore-nil lines.refused lines.refused.few;
+  made = λ before h. subst IsMade (sym (append-nil before)) h;
+}
+
+pub adds_more : (old mid new : LineReader) (first second : List (List ℕ))
+    (IsMade IsMadeThen IsMadeNow : List ListEntry → Type 0) → AddsLines old mid first IsMade IsMadeThen
+    → AddsLines mid new second IsMadeThen IsMadeNow → AddsLines old new (first ++ second) IsMade IsMadeNow
+adds_more old mid new first second IsMade IsMadeThen IsMadeNow h k = record {
+  same_grammar = k.same_grammar ∙ h.same_grammar;
+  same_list = k.same_list ∙ h.same_list;
+  entries = h.entries ++ k.entries;
+  refusals = h.refusals ++ k.refusals;
+  read = texts_more old.grammar old.list first second old.line mid.line new.line h.entries k.entries h.refusals
+      k.refusals h.read (subst (λ g. AreTexts g old.list second mid.line new.line k.entries k.refusals) h.same_grammar
+      (subst (λ n. AreTexts mid.grammar n second mid.line new.line k.entries k.refusals) h.same_list k.read));
+  added = HasMore-trans old.refused mid.refused new.refused h.refusals k.refusals h.added k.added;
+  made = λ before is. subst IsMadeNow (append_assoc before h.entries k.entries)
+      (k.made (before ++ h.entries) (h.made before is));
+}
+
+-- ---- what one line adds
+
+module _ (old new : LineReader) (text : List ℕ) (same_grammar : new.grammar ≡ old.grammar)
+    (same_list : new.list ≡ old.list) (next : new.line ≡ old.line + 1) where
+  pub adds_empty : (IsMade : List ListEntry → Type 0) → length text ≡ 0 → new.refused ≡ old.refused
+      → AddsLines old new (text ∷ []) IsMade IsMade
+  adds_empty IsMade none same = record {
+    same_grammar = same_grammar;
+    same_list = same_list;
+    entries = [];
+    refusals = [];
+    read = λ later more refused h. empty_line old.grammar old.list (old.line + 1) text later more refused none
+        (subst (λ n. AreRead old.grammar old.list (n + 1) later more refused) next h);
+    added = subst (λ r. HasMore old.refused r []) (sym same) (HasMore-nil old.refused old.refused.few);
+    made = λ before h. subst IsMade (sym (append-nil before)) h;
+  }
+
+  pub adds_entry : (IsMade IsMadeNow : List ListEntry → Type 0) (range : AddressRange) → 0 < length text
+      → IsEntryText old.grammar text range → new.refused ≡ old.refused
+      → Adds IsMade IsMadeNow (entry_at text range ∷ []) → AddsLines old new (text ∷ []) IsMade IsMadeNow
+  adds_entry IsMade IsMadeNow range some is same made = record {
+    same_grammar = same_grammar;
+    same_list = same_list;
+    entries = entry_at text range ∷ [];
+    refusals = [];
+    read = λ later more refused h. entry_line old.grammar old.list (old.line + 1) text later range more refused some is
+        (subst (λ n. AreRead old.grammar old.list (n + 1) later more refused) next h);
+    added = subst (λ r. HasMore old.refused r []) (sym same) (HasMore-nil old.refused old.refused.few);
+    made = made;
+  }
+
+  pub adds_refusal : (IsMade : List ListEntry → Type 0) (cause : Option Cause) → 0 < length text
+      → IsNoEntry old.grammar text → IsCauseTold old.grammar text cause
+      → HasMore old.refused new.refused (refusal_at old.list (old.line + 1) text cause ∷ [])
+      → AddsLines old new (text ∷ []) IsMade IsMade
+  adds_refusal IsMade cause some none told one = record {
+    same_grammar = same_grammar;
+    same_list = same_list;
+    entries = [];
+    refusals = refusal_at old.list (old.line + 1) text cause ∷ [];
+    read = λ later more refused h. refused_line old.grammar old.list (old.line + 1) text later more refused some none
+        cause told (subst (λ n. AreRead old.grammar old.list (n + 1) later more refused) next h);
+    added = one;
+    made = λ before h. subst IsMade (sym (append-nil before)) h;
+  }
+
+-- ---- the lines of bytes
+
+contents_append : (grammar : Grammar) (lines more : List (List ℕ)) (texts others : List (List ℕ))
+    → AreContents grammar lines texts → AreContents grammar more others
+    → AreContents grammar (lines ++ more) (texts ++ others)
+contents_append grammar [] more texts others h k =
+    subst (λ z. AreContents grammar more (z ++ others)) (sym h) k
+contents_append grammar (line ∷ lines) more texts others (text, rest, cut, is, h) k =
+    (text, rest ++ others, ap (λ z. z ++ others) cut, is, contents_append grammar lines more rest others h k)
+
+pub reads_none : (lines : LineReader) (IsMade : List ListEntry → Type 0) → ReadsLines lines lines [] IsMade IsMade
+reads_none lines IsMade = ([], refl, adds_none lines IsMade)
+
+pub reads_more : (old mid new : LineReader) (first second : List (List ℕ))
+    (IsMade IsMadeThen IsMadeNow : List ListEntry → Type 0) → ReadsLines old mid first IsMade IsMadeThen
+    → ReadsLines mid new second IsMadeThen IsMadeNow → ReadsLines old new (first ++ second) IsMade IsMadeNow
+reads_more old mid new first second IsMade IsMadeThen IsMadeNow (texts, are, adds) (others, later, more) = (
+  texts ++ others,
+  contents_append old.grammar first second texts others are
+      (subst (λ g. AreContents g second others) adds.same_grammar later),
+  adds_more old mid new texts others IsMade IsMadeThen IsMadeNow adds more,
+)
+
+-- one line, with its contents
+pub reads_one : (old new : LineReader) (line text : List ℕ) (IsMade IsMadeNow : List ListEntry → Type 0)
+    → IsContents old.grammar line text → AddsLines old new (text ∷ []) IsMade IsMadeNow
+    → ReadsLines old new (line ∷ []) IsMade IsMadeNow
+reads_one old new line text IsMade IsMadeNow is adds = (text ∷ [], (text, [], refl, is, refl), adds)
+
+-- the lines of the front of the bytes were read
+pub record AreReadUpTo (old now : LineReader) (bytes rest : List ℕ) (IsMade IsMadeNow : List ListEntry → Type 0)
+    : Type 0 where
+  pub done : List (List ℕ)
+  pub is : lines_of bytes ≡ done ++ lines_of rest
+  pub lines : ReadsLines old now done IsMade IsMadeNow
+
+pub up_to_start : (lines : LineReader) (bytes : List ℕ) (IsMade : List ListEntry → Type 0)
+    → AreReadUpTo lines lines bytes bytes IsMade IsMade
+up_to_start lines bytes IsMade = record { done = []; is = refl; lines = reads_none lines IsMade }
+
+pub up_to_more : (old mid new : LineReader) (bytes rest first after : List ℕ)
+    (IsMade IsMadeThen IsMadeNow : List ListEntry → Type 0) → AreReadUpTo old mid bytes rest IsMade IsMadeThen
+    → lines_of rest ≡ first ∷ lines_of after → ReadsLines mid new (first ∷ []) IsMadeThen IsMadeNow
+    → AreReadUpTo old new bytes after IsMade IsMadeNow
+up_to_more old mid new bytes rest first after IsMade IsMadeThen IsMadeNow h cut one = record {
+  done = h.done ++ first ∷ [];
+  is = h.is ∙ ap (λ ls. h.done ++ ls) cut ∙ sym (append_assoc h.done (first ∷ []) (lines_of after));
+  lines = reads_more old mid new h.done (first ∷ []) IsMade IsMadeThen IsMadeNow h.lines one;
+}
+
+-- what was found of an option
+pub if_some : {A : Type 0} (o : Option A) (P : A → Type 0) (a : A) → IfSome o P → o ≡ Some a → P a
+if_some o P a h e = subst (λ z. IfSome z P) e h

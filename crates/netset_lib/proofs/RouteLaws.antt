@@ -1,0 +1,222 @@
+-- The search for the longest network that holds an entry, and the lines of entries. A network holds all of a range with
+-- an address where it has the two ends, so the search asks for these alone: it begins at the longest network with the
+-- first one, and climbs from supernet to supernet, past which no network of the table with both ends can be longer.
+use Rattle.std.proofs.Common.{◌≡◌, ℕ, ◌<◌, ◌≤◌, ◌+◌, ◌↔◌, List, [], ◌∷◌, ◌++◌, All, Option, Some, None}
+use Rattle.std.proofs.Common.{Bool, IsTrue, false, refl, sym, ap, ◌∙◌, subst, arith, inl, inr, append_assoc, append-nil}
+use Rattle.std.proofs.lemmas.Bool.{cases_order, true≢false}
+use Rattle.std.proofs.lemmas.List.Elements.{All-nil, All-cons, All-head, All-tail}
+use Rattle.ipnet_base.specs.Address.{Family, Address, address_at, width}
+use Rattle.ipnet_base.specs.Network.{Network, IsNetwork, InBlock, IsTruncated, IsSupernetOf, host_bits}
+use Rattle.ipnet_base.specs.Network.{IsLeastOf, IsGreatestOf, first_of, last_of, truncation}
+use Rattle.ipnet_base.specs.Ranges.{AddressRange}
+use Rattle.ipnet_base.proofs.BlockLaws.{between_from_block, block_from_between, first_from_least, last_from_greatest}
+use Rattle.ipnet_base.proofs.NestingLaws.{nested}
+use Rattle.ipnet_base.proofs.NetworkLaws.{same_from_block, truncation_of_truncated}
+use Rattle.ipnet.specs.NetworkOf.{ip_network}
+use Rattle.ipnet.specs.declared.net.IpNet.{IpNet}
+use Rattle.ipnet.specs.declared.parser.Grammar.{Grammar}
+use Rattle.ipnet_sets.specs.Routes.{IsLongestMatch}
+use Rattle.ipnet_sets.specs.RoutesOf.{routes_of}
+use Rattle.ipnet_sets.specs.SetRanges.{IsInRange}
+use Rattle.ipnet_sets.specs.declared.routes.RouteTable.{RouteTable}
+use Rattle.netset_lib.specs.Entries.{IsEntryText}
+use Rattle.netset_lib.specs.Lists.{ListEntry, Refusal, AreRead}
+use Rattle.netset_lib.specs.RouteAnswers.{IsTableNetwork, Holds, HaveNone, IsRouteLine, AreRouteLines}
+use Rattle.netset_lib.specs.Routing.{AreTableNetworks, InTable, HasEnds, HoldsEnds, IsLongestIfAny, route_line}
+use Rattle.netset_lib.proofs.TableLaws.{plain_route, table_good}
+
+-- ---- the climb
+
+-- The network has the first end, and no network of the table with both ends is longer.
+pub record IsClimbedTo (IsOne : Network → Type 0) (range : AddressRange) (n : Network) : Type 0 where
+  pub truncated : IsTruncated n
+  pub first : InBlock n (address_at range.family range.start)
+  pub no_longer : (k : Network) → IsOne k → HasEnds range k → k.prefix_len ≤ n.prefix_len
+
+-- it begins at the longest network with the first end
+pub climb_start : (table : RouteTable (Unit {0})) (range : AddressRange) (x : Address) (n : Network)
+    → x ≡ address_at range.family range.start → IsLongestMatch (routes_of table) x (n, tt)
+    → IsClimbedTo (InTable table) range n
+climb_start table range x n is h = record {
+  truncated = (table_good table n ((plain_route (routes_of table) n).0 h.member)).1;
+  first = subst (InBlock n) is h.holds;
+  no_longer = λ k one ends.
+      h.longest (k, tt) ((plain_route (routes_of table) k).1 one) (subst (InBlock k) (sym is) ends.0);
+}
+
+-- a network that the test of a holder refuses has not both ends, or is none of the table's
+pub not_holder : (table : RouteTable (Unit {0})) (range : AddressRange) (n : Network) (x : Address) (r : Bool)
+    → IsTruncated n → x ≡ address_at range.family range.end
+    → (IsTrue r ↔ (InBlock n x × InTable table (truncation n))) → r ≡ false → HasEnds range n → InTable table n → ⊥
+not_holder table range n x r truncated is tested refused ends one =
+    let holds = tested.1 (
+      subst (InBlock n) (sym is) ends.1,
+      subst (InTable table) (sym (truncation_of_truncated n truncated)) one,
+    ) in
+    true≢false (sym holds ∙ refused)
+
+module _ (table : RouteTable (Unit {0})) (range : AddressRange) (n : Network) (valid : IsNetwork n)
+    (climbed : IsClimbedTo (InTable table) range n) (unfit : HasEnds range n → InTable table n → ⊥) where
+  -- one of the table with both ends that is as long is this one
+  as_long : (k : Network) → InTable table k → HasEnds range k → k.prefix_len ≡ n.prefix_len → k ≡ n
+  as_long k one ends same =
+      let x = address_at range.family range.start in
+      let good = table_good table k one in
+      let family : k.family ≡ n.family = sym ends.0.same_family ∙ climbed.first.same_family in
+      let bits : host_bits k ≡ host_bits n = omega (arith, same, ap width family) in
+      same_from_block k n good.0 valid good.1 climbed.truncated
+      (nested k n x ends.0 climbed.first (omega (arith, bits)), nested n k x climbed.first ends.0 (omega (arith, bits)))
+
+  -- a network that is none of the table's, or has not both ends, is no answer: the longest can only be shorter
+  shorter : (k : Network) → InTable table k → HasEnds range k → k.prefix_len < n.prefix_len
+  shorter k one ends = elim (cases_order k.prefix_len n.prefix_len) [
+    | inr (inl less) ↦ less
+    | inr (inr more) ↦ absurd (omega (arith, more, climbed.no_longer k one ends))
+    | inl same ↦
+        let is = as_long k one ends same in
+        absurd (unfit (subst (HasEnds range) is ends) (subst (InTable table) is one))
+  ]
+
+  pub climbed_on : (s : Network) → IsSupernetOf s n → IsClimbedTo (InTable table) range s
+  climbed_on s up = record {
+    truncated = up.truncated;
+    first = up.contains (address_at range.family range.start) climbed.first;
+    no_longer = λ k one ends. omega (arith, up.shorter, shorter k one ends);
+  }
+
+  pub none_above : n.prefix_len ≡ 0 → HaveNone (InTable table) (HasEnds range)
+  none_above top k one ends = omega (arith, top, shorter k one ends)
+
+-- ---- ranges with an address
+
+-- the ends of a network's range are its least and its greatest address
+address_from_parts : (x : Address) (family : Family) (number : ℕ) → x.family ≡ family → x.number ≡ number
+    → x ≡ address_at family number
+address_from_parts x family number f a = λ i. record { family = f i; number = a i }
+
+pub least_is_first : (n : Network) (x : Address) → IsLeastOf n x → x ≡ address_at n.family (first_of n)
+least_is_first n x h = address_from_parts x n.family (first_of n) h.inside.same_family (first_from_least n x h)
+
+pub greatest_is_last : (n : Network) (x : Address) → IsGreatestOf n x → x ≡ address_at n.family (last_of n)
+greatest_is_last n x h = address_from_parts x n.family (last_of n) h.inside.same_family (last_from_greatest n x h)
+
+-- a network has all of a range with an address where it has its two ends
+ends_hold : (range : AddressRange) (n : Network) → range.start ≤ range.end
+    → HasEnds range n ↔ ((x : Address) → IsInRange range x → InBlock n x)
+ends_hold range n some = (
+  λ ends x h.
+      let a = between_from_block n (address_at range.family range.start) ends.0 in
+      let b = between_from_block n (address_at range.family range.end) ends.1 in
+      block_from_between n x (record {
+        of_family = h.of_family ∙ a.of_family;
+        from_start = omega (arith, a.from_start, h.from_start);
+        to_end = omega (arith, b.to_end, h.to_end);
+      }),
+  λ all. (
+    all (address_at range.family range.start)
+        (record { of_family = refl; from_start = omega arith; to_end = omega (arith, some) }),
+    all (address_at range.family range.end)
+        (record { of_family = refl; from_start = omega (arith, some); to_end = omega arith }),
+  ),
+)
+
+-- an entry has an address
+entry_some : (grammar : Grammar) (text : List ℕ) (range : AddressRange) → IsEntryText grammar text range
+    → range.start ≤ range.end
+entry_some grammar text range (inl (inl network)) = rw network.is (omega arith)
+entry_some grammar text range (inl (inr address)) = rw address.is (omega arith)
+entry_some grammar text range (inr ends) = rw ends.ends.addresses.is ends.ends.addresses.ordered
+
+abbrev pub HasSome : ListEntry → Type 0
+HasSome e = e.range.start ≤ e.range.end
+
+pub entries_some : (grammar : Grammar) (list line : ℕ) (texts : List (List ℕ)) (entries : List ListEntry)
+    (refusals : List Refusal) → AreRead grammar list line texts entries refusals → All HasSome entries
+entries_some grammar list line [] entries refusals h = rw h.0 (All-nil HasSome)
+entries_some grammar list line ([] ∷ texts) entries refusals h =
+    entries_some grammar list (line + 1) texts entries refusals h
+entries_some grammar list line ((b ∷ text) ∷ texts) entries refusals (inl (more, next, h)) =
+    rw next.next (All-cons HasSome (record { text = b ∷ text; range = next.range }) more
+    (entry_some grammar (b ∷ text) next.range next.writes)
+    (entries_some grammar list (line + 1) texts more refusals h))
+entries_some grammar list line ((b ∷ text) ∷ texts) entries refusals (inr (more, next, h)) =
+    entries_some grammar list (line + 1) texts entries more h
+
+-- ---- lines
+
+-- the line with what was found
+line_found : (IsOne : Network → Type 0) (e : ListEntry) (found : Option IpNet)
+    → IsLongestIfAny IsOne (HoldsEnds e) found → IsRouteLine IsOne HoldsEnds e (route_line e.text found)
+line_found IsOne e None h = inr (h, refl)
+line_found IsOne e (Some network) h = inl (ip_network network, h, refl)
+
+lines_push : (IsOne : Network → Type 0) (entries : List ListEntry) (e : ListEntry) (text line : List ℕ)
+    → AreRouteLines IsOne HoldsEnds entries text → IsRouteLine IsOne HoldsEnds e line
+    → AreRouteLines IsOne HoldsEnds (entries ++ e ∷ []) (text ++ line)
+lines_push IsOne [] e text line h is =
+    (line, [], ap (λ t. t ++ line) h ∙ sym (append-nil line), is, refl)
+lines_push IsOne (first ∷ entries) e text line (own, rest, cut, is_own, h) is = (
+  own,
+  rest ++ line,
+  ap (λ t. t ++ line) cut ∙ append_assoc own rest line,
+  is_own,
+  lines_push IsOne entries e rest line h is,
+)
+
+-- one line more
+pub one_routed : (IsOne : Network → Type 0) (entries : List ListEntry) (e : ListEntry) (text new : List ℕ)
+    (found : Option IpNet) → AreRouteLines IsOne HoldsEnds entries text → IsLongestIfAny IsOne (HoldsEnds e) found
+    → new ≡ text ++ route_line e.text found → AreRouteLines IsOne HoldsEnds (entries ++ e ∷ []) new
+one_routed IsOne entries e text new found h longest is =
+    subst (AreRouteLines IsOne HoldsEnds (entries ++ e ∷ [])) (sym is)
+    (lines_push IsOne entries e text (route_line e.text found) h (line_found IsOne e found longest))
+
+-- the same lines, where the two tables have the same networks, and the entry has an address
+line_same : (IsOne IsOther : Network → Type 0) (e : ListEntry) (line : List ℕ)
+    → ((n : Network) → IsOne n ↔ IsOther n) → HasSome e → IsRouteLine IsOne HoldsEnds e line
+    → IsRouteLine IsOther Holds e line
+line_same IsOne IsOther e line same some (inl (n, longest, is)) = inl (
+  n,
+  record {
+    network = (same n).0 longest.network;
+    holds = (ends_hold e.range n some).0 longest.holds;
+    longest = λ k one holds. longest.longest k ((same k).1 one) ((ends_hold e.range k some).1 holds);
+  },
+  is,
+)
+line_same IsOne IsOther e line same some (inr (none, is)) =
+    inr (λ k one holds. none k ((same k).1 one) ((ends_hold e.range k some).1 holds), is)
+
+line_by : (IsOne IsOther : Network → Type 0) (e : ListEntry) (line : List ℕ)
+    → ((n : Network) → IsOne n ↔ IsOther n) → IsRouteLine IsOne HoldsEnds e line
+    → IsRouteLine IsOther HoldsEnds e line
+line_by IsOne IsOther e line same (inl (n, longest, is)) = inl (
+  n,
+  record {
+    network = (same n).0 longest.network;
+    holds = longest.holds;
+    longest = λ k one. longest.longest k ((same k).1 one);
+  },
+  is,
+)
+line_by IsOne IsOther e line same (inr (none, is)) = inr (λ k one. none k ((same k).1 one), is)
+
+pub lines_same : (IsOne IsOther : Network → Type 0) (entries : List ListEntry) (text : List ℕ)
+    → ((n : Network) → IsOne n ↔ IsOther n) → All HasSome entries → AreRouteLines IsOne HoldsEnds entries text
+    → AreRouteLines IsOther Holds entries text
+lines_same IsOne IsOther [] text same some h = h
+lines_same IsOne IsOther (e ∷ entries) text same some (line, rest, cut, is, h) = (
+  line,
+  rest,
+  cut,
+  line_same IsOne IsOther e line same (All-head HasSome e entries some) is,
+  lines_same IsOne IsOther entries rest same (All-tail HasSome e entries some) h,
+)
+
+-- the same lines by another table with the same networks
+pub lines_by : (IsOne IsOther : Network → Type 0) (entries : List ListEntry) (text : List ℕ)
+    → ((n : Network) → IsOne n ↔ IsOther n) → AreRouteLines IsOne HoldsEnds entries text
+    → AreRouteLines IsOther HoldsEnds entries text
+lines_by IsOne IsOther [] text same h = h
+lines_by IsOne IsOther (e ∷ entries) text same (line, rest, cut, is, h) =
+    (line, rest, cut, line_by IsOne IsOther e line same is, lines_by IsOne IsOther entries rest same h)

@@ -1,0 +1,251 @@
+-- What a session keeps of lists, and the answer that it makes of that.
+use Rattle.std.proofs.Common.{◌≡◌, ◌≢◌, ℕ, ◌+◌, ◌↔◌, List, [], ◌∷◌, ◌++◌, All, length, refl, sym, ap, ◌∙◌, subst, arith}
+use Rattle.std.proofs.Common.{string_bytes}
+use Rattle.ipnet_base.specs.Address.{Address, IsAddress, address_at}
+use Rattle.ipnet_base.specs.Network.{Network}
+use Rattle.ipnet.specs.declared.parser.Grammar.{Grammar}
+use Rattle.ipnet_sets.specs.declared.set.IpSet.{IpSet}
+use Rattle.ipnet_sets.specs.Members.{IsMember, HasNoAddress}
+use Rattle.ipnet_sets.specs.SetRanges.{IsInRange}
+use Rattle.ipnet_sets.proofs.SetRangeLaws.{any_here}
+use Rattle.ipnet_base.proofs.ListLaws.{contains_nil}
+use Rattle.std.proofs.lemmas.List.Elements.{All-head}
+use Rattle.netset_lib.specs.declared.answer.Request.{Request}
+use Rattle.netset_lib.specs.declared.command.Work.{Work}
+use Rattle.netset_lib.specs.declared.command.Work.TheVariants.{Combine, Ask}
+use Rattle.netset_lib.specs.declared.filter.Side.{Side}
+use Rattle.netset_lib.specs.declared.query.Query.TheVariants.{Count, Compare, Filter, Route}
+use Rattle.netset_lib.specs.declared.session.Session.{Session}
+use Rattle.netset_lib.specs.Answers.{AreListsRead, IsSetText, IsAnswer, IsNamedComplement}
+use Rattle.netset_lib.specs.Counts.{IsCountsLine, IsComparison, IsCountAnswer, IsCompareAnswer}
+use Rattle.netset_lib.specs.Filtering.{AreFiltered}
+use Rattle.netset_lib.specs.Filters.{IsOnSide, IsFilterAnswer}
+use Rattle.netset_lib.specs.Lists.{ListEntry, Refusal, AreRead, IsInEntries, HaveAddresses}
+use Rattle.netset_lib.specs.ListSets.{HaveMembers}
+use Rattle.netset_lib.specs.Operations.{IsInResult, IsCountFor}
+use Rattle.netset_lib.specs.declared.operation.Families.TheVariants.{Named}
+use Rattle.netset_lib.specs.declared.operation.Operation.TheVariants.{Complement}
+use Rattle.netset_lib.specs.Replies.{work_grammar, TakesCount, IsWorkAnswer}
+use Rattle.netset_lib.specs.RouteAnswers.{IsTableNetwork, Holds, AreRouteLines, IsRouteAnswer}
+use Rattle.netset_lib.specs.Routing.{AreTableNetworks, InTable, HoldsEnds}
+use Rattle.netset_lib.specs.Sessions.{WereRead, IsState, IsFilterState, IsRouteState, IsTextFor}
+use Rattle.netset_lib.proofs.AnswerTexts.{text_of_same}
+use Rattle.netset_lib.proofs.CountTexts.{counts_same, comparison_same}
+use Rattle.netset_lib.proofs.FilterLaws.{filtered_same, side_same}
+use Rattle.netset_lib.proofs.ListsReading.{lists_count, none_of_length}
+use Rattle.netset_lib.proofs.RouteLaws.{lines_by, lines_same, entries_some, HasSome}
+use Rattle.netset_lib.proofs.SameResults.{result_same}
+
+-- ---- texts of sets, and of the lists that the sets were read from
+
+pub combined_right : (request : Request) (sets : List IpSet) (entries : List (List ListEntry)) (set : IpSet)
+    (text : List ℕ) → HaveMembers sets entries
+    → ((x : Address) → IsMember set x ↔ IsInResult IsMember request.operation sets x)
+    → IsSetText request.form (IsMember set) text
+    → IsSetText request.form (IsInResult IsInEntries request.operation entries) text
+combined_right request sets entries set text members same right =
+    text_of_same request.form (IsMember set) (IsInResult IsInEntries request.operation entries) text
+    (λ x. (
+      λ m. (result_same x request.operation sets entries members).0 ((same x).0 m),
+      λ k. (same x).1 ((result_same x request.operation sets entries members).1 k),
+    )) right
+
+pub count_right : (sets : List IpSet) (set : IpSet) (entries : List ListEntry) (text : List ℕ) → sets ≡ set ∷ []
+    → HaveMembers sets (entries ∷ []) → IsCountsLine (IsMember set) text → IsCountsLine (IsInEntries entries) text
+count_right sets set entries text one members right =
+    counts_same (IsMember set) (IsInEntries entries) text
+    (subst (λ z. HaveMembers z (entries ∷ [])) one members).0 right
+
+pub compare_right : (sets : List IpSet) (a b : IpSet) (first second : List ListEntry) (text : List ℕ)
+    → sets ≡ a ∷ b ∷ [] → HaveMembers sets (first ∷ second ∷ []) → IsComparison (IsMember a) (IsMember b) text
+    → IsComparison (IsInEntries first) (IsInEntries second) text
+compare_right sets a b first second text two members right =
+    let both = subst (λ z. HaveMembers z (first ∷ second ∷ [])) two members in
+    comparison_same (IsMember a) (IsMember b) (IsInEntries first) (IsInEntries second) text both.0 both.1.0 right
+
+-- ---- a filter, one list after the other
+
+pub filter_first : (side : Side) (s : Session) (set wanted : IpSet) (entries : List ListEntry)
+    (before : List (List ListEntry)) (old : List IpSet) → length before ≡ 0 → (before ≡ [] → old ≡ [])
+    → s.sets.items ≡ old ++ wanted ∷ [] → HaveAddresses (IsMember set) entries
+    → ((x : Address) → IsAddress x → IsMember wanted x ↔ IsOnSide side (IsMember set) x)
+    → IsFilterState side s (before ++ entries ∷ [])
+filter_first side s set wanted entries [] old none start pushed same on = (
+  wanted,
+  pushed ∙ ap (λ z. z ++ wanted ∷ []) (start refl),
+  λ x fits.
+      let sides = side_same side (IsMember set) (IsInEntries entries) x (same x) in
+      (λ m. sides.0 ((on x fits).0 m), λ o. (on x fits).1 (sides.1 o)),
+)
+filter_first side s set wanted entries (first ∷ before) old none start pushed same on = absurd (omega (arith, none))
+
+pub filter_second : (side : Side) (old s : Session) (set : IpSet) (entries : List ListEntry)
+    (before : List (List ListEntry)) → length before ≡ 1 → IsFilterState side old before
+    → old.sets.items ≡ set ∷ [] → AreFiltered (IsMember set) (string_bytes s.text) entries
+    → IsFilterState side s (before ++ entries ∷ [])
+filter_second side old s set entries [] one state is filtered = absurd (omega (arith, one))
+filter_second side old s set entries (first ∷ []) one (kept, sets, same) is filtered =
+    let both : kept ∷ [] ≡ set ∷ [] = sym sets ∙ is in
+    filtered_same (IsMember set) (IsOnSide side (IsInEntries first)) entries (string_bytes s.text)
+    (subst (λ z. (x : Address) → IsAddress x → IsMember z x ↔ IsOnSide side (IsInEntries first) x) (head_same both)
+    same) filtered
+  where
+    head_same : {a b : IpSet} → a ∷ [] ≡ b ∷ [] → a ≡ b
+    head_same e = cc
+filter_second side old s set entries (first ∷ second ∷ before) one state is filtered = absurd (omega (arith, one))
+
+-- ---- a route, one list after the other
+
+pub route_second : (old s : Session) (entries : List ListEntry) (before : List (List ListEntry))
+    → length before ≡ 1 → IsRouteState old before
+    → AreRouteLines (InTable old.table) HoldsEnds entries (string_bytes s.text)
+    → IsRouteState s (before ++ entries ∷ [])
+route_second old s entries [] one state lines = absurd (omega (arith, one))
+route_second old s entries (first ∷ []) one state lines =
+    lines_by (InTable old.table) (IsTableNetwork first) entries (string_bytes s.text) state lines
+route_second old s entries (first ∷ second ∷ before) one state lines = absurd (omega (arith, one))
+
+-- ---- the answer
+
+-- the count of lists is that which the session has
+pub count_taken : (work : Work) (lists : List (List ℕ)) (s : Session) → WereRead work lists s
+    → TakesCount s.work s.reading.lines.list ↔ TakesCount work (length lists)
+count_taken work lists s h = rw (h.same_work, h.count) (λ t. t, λ t. t)
+
+-- the entries of each list have an address
+second_some : (grammar : Grammar) (lists : List (List ℕ)) (first second : List ListEntry)
+    → AreListsRead grammar 0 lists (first ∷ second ∷ []) [] → All HasSome second
+second_some grammar [] first second h = let clash : first ∷ second ∷ [] ≡ [] = h.0 in absurd cc
+second_some grammar (a ∷ []) first second (e, es, r, rs, cut, split, read, h) =
+    let clash : first ∷ second ∷ [] ≡ e ∷ [] = cut ∙ ap (λ z. e ∷ z) h.0 in absurd cc
+second_some grammar (a ∷ b ∷ lists) first second
+    (e, es, r, rs, cut, split, read, (f, fs, q, qs, cut_two, split_two, read_two, h)) =
+    let all : first ∷ second ∷ [] ≡ e ∷ f ∷ fs = cut ∙ ap (λ z. e ∷ z) cut_two in
+    let same : f ≡ second = cc in
+    subst (All HasSome) same (entries_some grammar 1 1 read_two.0 f q read_two.2)
+
+-- ---- a complement for the families of a list
+
+-- entries that are in a set without an address are none
+no_entries : (grammar : Grammar) (list line : ℕ) (texts : List (List ℕ)) (set : IpSet) (entries : List ListEntry)
+    (refusals : List Refusal) → AreRead grammar list line texts entries refusals → HasNoAddress set
+    → HaveAddresses (IsMember set) entries → entries ≡ []
+no_entries grammar list line texts set [] refusals read none same = refl
+no_entries grammar list line texts set (e ∷ entries) refusals read none same =
+    let some = All-head HasSome e entries (entries_some grammar list line texts (e ∷ entries) refusals read) in
+    let x = address_at e.range.family e.range.start in
+    let inside : IsInRange e.range x = record { of_family = refl; from_start = omega arith; to_end = some } in
+    absurd (none x ((same x).1 (any_here (λ y. IsInRange y.range x) e entries inside)))
+
+-- a set of no entry has no address
+none_inside : (set : IpSet) → HaveAddresses (IsMember set) [] → HasNoAddress set
+none_inside set same x h = let inside = (same x).0 h in absurd (contains_nil inside.1 (inside.0, inside.2, inside.3))
+
+family_of_one : (grammar : Grammar) (lists : List (List ℕ)) (sets : List IpSet) (entries : List (List ListEntry))
+    (refusals : List Refusal) → length lists ≡ 1 → AreListsRead grammar 0 lists entries refusals
+    → length refusals ≡ 0 → HaveMembers sets entries → ((set : IpSet) → sets ≡ set ∷ [] → HasNoAddress set)
+    → AreListsRead grammar 0 lists ([] ∷ []) []
+family_of_one grammar [] sets entries refusals one read zero members none = absurd (omega (arith, one))
+family_of_one grammar (bytes ∷ second ∷ lists) sets entries refusals one read zero members none =
+    absurd (omega (arith, one))
+family_of_one grammar (bytes ∷ []) [] [] refusals one read zero members none =
+    let clash : 0 ≡ 1 = lists_count grammar 0 (bytes ∷ []) [] refusals read in absurd (omega (arith, clash))
+family_of_one grammar (bytes ∷ []) [] (es ∷ entries) refusals one read zero members none = absurd members
+family_of_one grammar (bytes ∷ []) (set ∷ sets) [] refusals one read zero members none = absurd members
+family_of_one grammar (bytes ∷ []) (set ∷ []) (es ∷ []) refusals one read zero members none =
+    let (e, others, r, rs, cut, split, list, rest) = read in
+    let same : e ≡ es = cc in
+    let empty : es ≡ [] = no_entries grammar 0 1 list.0 set es r
+    (subst (λ z. AreRead grammar 0 1 list.0 z r) same list.2) (none set refl) members.0 in
+    subst (λ z. AreListsRead grammar 0 (bytes ∷ []) (z ∷ []) []) empty
+    (subst (AreListsRead grammar 0 (bytes ∷ []) (es ∷ [])) (none_of_length refusals zero) read)
+family_of_one grammar (bytes ∷ []) (set ∷ []) (es ∷ fs ∷ entries) refusals one read zero members none =
+    absurd members.1
+family_of_one grammar (bytes ∷ []) (set ∷ other ∷ sets) (es ∷ []) refusals one read zero members none =
+    absurd members.1
+family_of_one grammar (bytes ∷ []) (set ∷ other ∷ sets) (es ∷ fs ∷ entries) refusals one read zero members none =
+    let count : length (es ∷ fs ∷ entries) ≡ 1 = lists_count grammar 0 (bytes ∷ []) (es ∷ fs ∷ entries) refusals read in
+    absurd (omega (arith, count))
+
+pub no_family : (work : Work) (lists : List (List ℕ)) (s : Session) → WereRead work lists s
+    → IsNamedComplement s.work → TakesCount work (length lists) → s.reading.lines.refused.count ≡ 0
+    → ((set : IpSet) → s.sets.items ≡ set ∷ [] → HasNoAddress set)
+    → IsNamedComplement work × AreListsRead (work_grammar work) 0 lists ([] ∷ []) []
+no_family (Combine request) lists s h named count zero none =
+    let is : request.operation ≡ Complement Named = subst IsNamedComplement h.same_work named in (
+      is,
+      family_of_one request.grammar lists s.sets.items h.entries h.refusals
+          (subst (λ o. IsCountFor o (length lists)) is count) h.read (sym h.kept.count ∙ zero) h.state none,
+    )
+no_family (Ask query grammar) lists s h named count zero none =
+    absurd (subst IsNamedComplement h.same_work named)
+
+-- a list without entries has a set without an address
+family_some : (sets : List IpSet) (entries : List (List ListEntry)) → HaveMembers sets entries
+    → ((set : IpSet) → sets ≡ set ∷ [] → ¬ (HasNoAddress set)) → entries ≢ [] ∷ []
+family_some [] entries members some e = absurd (subst (HaveMembers []) e members)
+family_some (set ∷ []) entries members some e =
+    some set refl (none_inside set (subst (HaveMembers (set ∷ [])) e members).0)
+family_some (set ∷ other ∷ sets) entries members some e =
+    absurd (subst (HaveMembers (set ∷ other ∷ sets)) e members).1
+
+module _ (lists : List (List ℕ)) (s : Session) (answer : List ℕ) where
+  right_by_entries : (work : Work) (entries : List (List ListEntry)) → TakesCount work (length lists)
+      → length entries ≡ length lists → AreListsRead (work_grammar work) 0 lists entries [] → IsState work s entries
+      → (IsNamedComplement work → (set : IpSet) → s.sets.items ≡ set ∷ [] → ¬ (HasNoAddress set))
+      → IsTextFor work s.sets.items (string_bytes s.text) answer → IsWorkAnswer work lists answer
+  right_by_entries (Combine request) entries count same read state some text = record {
+    count = count;
+    entries = entries;
+    read = read;
+    right = text entries state;
+    named = λ is. family_some s.sets.items entries state (some is);
+  }
+  right_by_entries (Ask Count grammar) [] count same read state some text = absurd (omega (arith, count, same))
+  right_by_entries (Ask Count grammar) (list ∷ []) count same read state some text =
+      record { entries = list; read = read; right = text list state }
+  right_by_entries (Ask Count grammar) (list ∷ second ∷ others) count same read state some text =
+      absurd (omega (arith, count, same))
+  right_by_entries (Ask Compare grammar) [] count same read state some text = absurd (omega (arith, count, same))
+  right_by_entries (Ask Compare grammar) (a ∷ []) count same read state some text = absurd (omega (arith, count, same))
+  right_by_entries (Ask Compare grammar) (a ∷ b ∷ []) count same read state some text =
+      record { first = a; second = b; read = read; right = text a b state }
+  right_by_entries (Ask Compare grammar) (a ∷ b ∷ c ∷ others) count same read state some text =
+      absurd (omega (arith, count, same))
+  right_by_entries (Ask (Filter side) grammar) [] count same read state some text = absurd (omega (arith, count, same))
+  right_by_entries (Ask (Filter side) grammar) (a ∷ []) count same read state some text =
+      absurd (omega (arith, count, same))
+  right_by_entries (Ask (Filter side) grammar) (a ∷ b ∷ []) count same read state some text = record {
+    set = a;
+    entries = b;
+    read = read;
+    kept = state.kept;
+    are_kept = state.are_kept;
+    spelled = text ∙ state.spelled;
+  }
+  right_by_entries (Ask (Filter side) grammar) (a ∷ b ∷ c ∷ others) count same read state some text =
+      absurd (omega (arith, count, same))
+  right_by_entries (Ask Route grammar) [] count same read state some text = absurd (omega (arith, count, same))
+  right_by_entries (Ask Route grammar) (a ∷ []) count same read state some text = absurd (omega (arith, count, same))
+  right_by_entries (Ask Route grammar) (a ∷ b ∷ []) count same read state some text = record {
+    table = a;
+    entries = b;
+    read = read;
+    right = subst (AreRouteLines (IsTableNetwork a) Holds b) (sym text)
+        (lines_same (IsTableNetwork a) (IsTableNetwork a) b (string_bytes s.text) (λ n. (λ t. t, λ t. t))
+        (second_some grammar lists a b read) state);
+  }
+  right_by_entries (Ask Route grammar) (a ∷ b ∷ c ∷ others) count same read state some text =
+      absurd (omega (arith, count, same))
+
+  pub right_answer : (work : Work) → WereRead work lists s → TakesCount work (length lists)
+      → s.reading.lines.refused.count ≡ 0
+      → (IsNamedComplement s.work → (set : IpSet) → s.sets.items ≡ set ∷ [] → ¬ (HasNoAddress set))
+      → IsTextFor s.work s.sets.items (string_bytes s.text) answer → IsWorkAnswer work lists answer
+  right_answer work h count none some text =
+      right_by_entries work h.entries count (lists_count (work_grammar work) 0 lists h.entries h.refusals h.read)
+      (subst (AreListsRead (work_grammar work) 0 lists h.entries)
+      (none_of_length h.refusals (sym h.kept.count ∙ none)) h.read) h.state
+      (subst (λ w. IsNamedComplement w → (set : IpSet) → s.sets.items ≡ set ∷ [] → ¬ (HasNoAddress set)) h.same_work
+      some)
+      (subst (λ w. IsTextFor w s.sets.items (string_bytes s.text) answer) h.same_work text)

@@ -1,0 +1,41 @@
+use Rattle.std.proofs.Common.{◌≡◌, ◌++◌, ◌∷◌, sym, subst, ap₂, ◌∙◌, lit<, All, ◌≢◌, IfSome}
+use Rattle.netset_lib.specs.Entries.{IsAddressText, IsEntryText, IsPlainEntry, WriteRange, ReadsAs}
+use Rattle.netset_lib.specs.EntryOf.{entry_range, IsWrittenAs}
+use Rattle.netset_lib.specs.EntrySteps.{HasEnds}
+use Rattle.netset_lib.proofs.AddressBytes.{cut_at, front_lacks, all_lack}
+use Rattle.netset_lib.proofs.EntryTexts.{ok_map, reads_cut, reads_uncut, written_range}
+use Rattle.netset_lib.proofs.entry.read_entry.Goals as goal
+
+pub returns-in-Some-clause-reads : goal.returns-in-Some-clause-reads
+returns-in-Some-clause-reads c =
+    let grammar = c.args.grammar in
+    let text = c.args.text.now in
+    let first = c.in-Some.first.now in
+    let last = c.in-Some.last.now in
+    let cut = c.in-Some.ensures.byte (lit< tt) (λ w o h. h) in
+    let spelled : text ≡ first ++ 45 ∷ last =
+    cut_at 45 text cut.2 ∙ ap₂ (λ a b. a ++ 45 ∷ b) (sym cut.0) (sym cut.1) in
+    let lacks : All (λ b. b ≢ 45) first = subst (All (λ b. b ≢ 45)) (sym cut.0) (front_lacks 45 text cut.2) in
+    ok_map (ReadsAs entry_range (WriteRange grammar first) last) (ReadsAs entry_range (IsEntryText grammar) text)
+    c.read_range.result (reads_cut entry_range grammar text first last spelled lacks) c.read_range.ensures.reads
+
+pub returns-in-Some-clause-kind : goal.returns-in-Some-clause-kind
+returns-in-Some-clause-kind c =
+    let grammar = c.args.grammar in
+    let text = c.args.text.now in
+    let first = c.in-Some.first.now in
+    let last = c.in-Some.last.now in
+    let cut = c.in-Some.ensures.byte (lit< tt) (λ w o h. h) in
+    let spelled : text ≡ first ++ 45 ∷ last =
+    cut_at 45 text cut.2 ∙ ap₂ (λ a b. a ++ 45 ∷ b) (sym cut.0) (sym cut.1) in
+    ok_map (λ o. IfSome o (HasEnds (IsAddressText grammar first) (IsAddressText grammar last)))
+    (λ o. IfSome o (IsWrittenAs grammar text)) c.read_range.result (written_range grammar text first last spelled)
+    c.read_range.ensures.kind
+
+pub returns-in-None-clause-reads : goal.returns-in-None-clause-reads
+returns-in-None-clause-reads c =
+    let grammar = c.args.grammar in
+    let text = c.args.text.now in
+    let lacks = all_lack 45 text (c.in-None.ensures.byte (lit< tt) (λ w o h. h)) in
+    ok_map (ReadsAs entry_range (IsPlainEntry grammar) text) (ReadsAs entry_range (IsEntryText grammar) text)
+    c.read_plain.result (reads_uncut entry_range grammar text lacks) c.read_plain.ensures.reads

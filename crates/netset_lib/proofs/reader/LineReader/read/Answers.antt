@@ -1,0 +1,15 @@
+use Rattle.netset_lib.proofs.ListReading.{up_to_start, up_to_more}
+use Rattle.netset_lib.proofs.reader.LineReader.read.Goals as goal
+
+pub lines-init : goal.lines-init
+lines-init g c =
+    up_to_start c.args.self.now c.args.bytes.now (g.C.Collector.is_made c.args.collector.now c.args.made.now)
+
+pub lines-preserved : goal.lines-preserved
+lines-preserved g c =
+    up_to_more c.args.self.now c.lines.self c.read_line.new.self c.args.bytes.now c.lines.rest.now
+    c.first_line.result.0.now c.first_line.result.1.now
+    (g.C.Collector.is_made c.args.collector.now c.args.made.now)
+    (g.C.Collector.is_made c.args.collector.now c.lines.made)
+    (g.C.Collector.is_made c.args.collector.now c.read_line.new.made) c.lines.invariant c.first_line.ensures.lines
+    c.in_ok-read_line.ensures

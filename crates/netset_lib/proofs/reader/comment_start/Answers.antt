@@ -1,0 +1,10 @@
+use Rattle.netset_lib.proofs.CommentLaws.{none_opens}
+use Rattle.netset_lib.proofs.reader.comment_start.Goals as goal
+
+pub loop-index-preserved : goal.loop-index-preserved
+loop-index-preserved c =
+    none_opens c.args.line.now c.loop-index.index c.loop-index.invariant
+    (λ h.
+    let is = c.opens_comment.ensures.1 h in
+    let not = c.if-opens_comment.false in
+    absurd cc)

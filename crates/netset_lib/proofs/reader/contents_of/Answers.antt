@@ -1,0 +1,43 @@
+use Rattle.std.proofs.Common.{take, length, inl, inr, sym, subst}
+use Rattle.ipnet_text.proofs.LineCuts.{no_bytes, empty_text}
+use Rattle.netset_lib.specs.Lists.{HidesEntry}
+use Rattle.netset_lib.proofs.CommentLaws.{behind}
+use Rattle.netset_lib.proofs.ListLines.{trimmed}
+use Rattle.netset_lib.proofs.reader.contents_of.Goals as goal
+
+pub returns-then-is_empty : goal.returns-then-is_empty
+returns-then-is_empty c =
+    let text = c.trim_ascii-text.result.now in record {
+      start = c.comment_start-start.result;
+      comment = c.comment_start-start.ensures;
+      is = inl (
+        trimmed (take c.comment_start-start.result c.args.line.now) text c.trim_ascii-text.ensures.value,
+        inl (empty_text text (no_bytes (length text) c.if-is_empty.ensures)),
+      );
+    }
+
+pub returns-then-branch : goal.returns-then-branch
+returns-then-branch c = record {
+  start = c.comment_start-start.result;
+  comment = c.comment_start-start.ensures;
+  is = inr (
+    trimmed c.args.line.now c.trim_ascii.result.now c.trim_ascii.ensures.value,
+    subst (HidesEntry c.args.grammar) (behind c.args.line.now c.comment_start-start.result)
+        (c.in_ok-hides_entry.ensures.0 c.if-branch.true),
+  );
+}
+
+pub returns : goal.returns
+returns c = record {
+  start = c.comment_start-start.result;
+  comment = c.comment_start-start.ensures;
+  is = inl (
+    trimmed (take c.comment_start-start.result c.args.line.now) c.trim_ascii-text.result.now
+        c.trim_ascii-text.ensures.value,
+    inr (λ h.
+        let is = c.in_ok-hides_entry.ensures.1
+        (subst (HidesEntry c.args.grammar) (sym (behind c.args.line.now c.comment_start-start.result)) h) in
+        let not = c.if-branch.false in
+        absurd cc),
+  );
+}

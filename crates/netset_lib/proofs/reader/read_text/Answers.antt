@@ -1,0 +1,22 @@
+use Rattle.std.proofs.Common.{◌≡◌, sym, subst, rules, ◌∙◌}
+use Rattle.netset_lib.specs.Entries.{IsEntryText}
+use Rattle.netset_lib.specs.EntryOf.{entry_range}
+use Rattle.netset_lib.specs.FoundEntry.{found_range}
+use Rattle.netset_lib.proofs.EntryTexts.{reads_none, none_of}
+use Rattle.netset_lib.proofs.ListLines.{entry_utf8}
+use Rattle.netset_lib.proofs.reader.read_text.Goals as goal
+
+pub returns-in-Err-clause-reads : goal.returns-in-Err-clause-reads
+returns-in-Err-clause-reads c =
+    reads_none found_range (IsEntryText c.args.grammar) c.args.text.now
+    (λ range h. c.in-Err.ensures.cases.0 (entry_utf8 c.args.grammar c.args.text.now range h))
+
+pub returns-in-None-clause-reads : goal.returns-in-None-clause-reads
+returns-in-None-clause-reads c =
+    let grammar = c.args.grammar in
+    let same : c.in-Ok.text.now ≡ c.args.text.now = search rules in
+    let none = none_of entry_range (IsEntryText grammar) c.in-Ok.text.now c.in_ok-entry.field-0
+    c.in_ok-entry.ensures.reads
+    (λ v e. let clash = sym e ∙ c.in-None.is in absurd cc) in
+    reads_none found_range (IsEntryText grammar) c.args.text.now
+    (λ range h. none range (subst (λ z. IsEntryText grammar z range) (sym same) h))

@@ -1,0 +1,11 @@
+use Rattle.ipnet.specs.NetworkOf.{ip_network}
+use Rattle.netset_lib.specs.EntryOf.{entry_range}
+use Rattle.netset_lib.specs.Routing.{InTable}
+use Rattle.netset_lib.proofs.RouteLaws.{IsClimbedTo}
+use Rattle.netset_lib.proofs.route.longest_holding.Given as goal
+
+abbrev pub invariant-climb : goal.invariant-climb
+invariant-climb l = IsClimbedTo (InTable l.table) (entry_range l.fn.entry) (ip_network l.network)
+
+abbrev pub decreases-climb : goal.decreases-climb
+decreases-climb l = (ip_network l.network).prefix_len

@@ -1,0 +1,21 @@
+-- The definitions that the contracts of this crate use.
+pub mod Entries
+pub mod EntryOf
+pub mod Causes
+pub mod EntrySteps
+pub mod Lists
+pub mod RefusedLines
+pub mod FoundEntry
+pub mod Reading
+pub mod Operations
+pub mod Answers
+pub mod Counts
+pub mod Filters
+pub mod Filtering
+pub mod RouteAnswers
+pub mod Routing
+pub mod ListSets
+pub mod Replies
+pub mod Runs
+pub mod Commands
+pub mod Sessions

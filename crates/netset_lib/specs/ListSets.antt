@@ -1,0 +1,13 @@
+-- The sets of lists.
+-- Only private contracts use these.
+use Rattle.std.specs.Prelude.{List, [], ◌∷◌}
+use Rattle.ipnet_sets.specs.declared.set.IpSet.{IpSet}
+use Rattle.ipnet_sets.specs.Members.{IsMember}
+use Rattle.netset_lib.specs.Lists.{ListEntry, HaveAddresses}
+
+-- Each set has the addresses of the entries at its index.
+abbrev pub HaveMembers : List IpSet → List (List ListEntry) → Type 0
+HaveMembers [] [] = Unit {0}
+HaveMembers [] (entries ∷ others) = ⊥
+HaveMembers (set ∷ sets) [] = ⊥
+HaveMembers (set ∷ sets) (entries ∷ others) = HaveAddresses (IsMember set) entries × HaveMembers sets others

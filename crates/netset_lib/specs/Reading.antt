@@ -1,0 +1,81 @@
+-- The private steps of reading lists: what they make of the entries, and what they add to the refused lines.
+-- Only private contracts use these.
+use Rattle.std.specs.Prelude.{◌≡◌, ◌<◌, ℕ, ◌+◌, Bool, true, false, List, [], ◌++◌, length, take, Option}
+use Rattle.std.specs.Io.KnownBytes.{Consumes, IsAtEnd}
+use Rattle.ipnet.specs.declared.parser.Grammar.{Grammar}
+use Rattle.ipnet.specs.Lines.{lines_of}
+use Rattle.ipnet_text.specs.Inputs.{GaveWhole}
+use Rattle.ipnet_text.specs.Window.{held}
+use Rattle.netset_lib.specs.declared.reader.LineReader.{LineReader}
+use Rattle.netset_lib.specs.declared.reading.Reading.{Reading}
+use Rattle.netset_lib.specs.declared.refused.RefusedLines.{RefusedLines}
+use Rattle.netset_lib.specs.Lists.{ListEntry, Refusal, AreRead, IsListRead, AreContents, after_mark}
+use Rattle.netset_lib.specs.RefusedLines.{shown_refusals, most_shown}
+
+-- The refused lines `more` are added: the first ten of all are kept, and all are counted.
+pub record HasMore (old new : RefusedLines) (more : List Refusal) : Type 0 where
+  pub shown : shown_refusals new ≡ take most_shown (shown_refusals old ++ more)
+  pub count : new.count ≡ old.count + length more
+
+-- What was made of some entries is now made of them and of these.
+abbrev pub Adds : (IsMade IsMadeNow : List ListEntry → Type 0) → List ListEntry → Type 0
+Adds IsMade IsMadeNow entries = (before : List ListEntry) → IsMade before → IsMadeNow (before ++ entries)
+
+-- Lines with these contents come after `line` lines, and `line_after` is the number of all. They have these entries and
+-- refused lines, whatever lines follow.
+abbrev pub AreTexts : Grammar → ℕ → List (List ℕ) → ℕ → ℕ → List ListEntry → List Refusal → Type 0
+AreTexts grammar list texts line line_after entries refusals =
+    (later : List (List ℕ)) → (more : List ListEntry) → (more_refusals : List Refusal)
+    → AreRead grammar list (line_after + 1) later more more_refusals
+    → AreRead grammar list (line + 1) (texts ++ later) (entries ++ more) (refusals ++ more_refusals)
+
+-- Lines with these contents were read: something is made of their entries, and their refused lines are added.
+pub record AddsLines (old new : LineReader) (texts : List (List ℕ)) (IsMade IsMadeNow : List ListEntry → Type 0)
+    : Type 0 where
+  pub same_grammar : new.grammar ≡ old.grammar
+  pub same_list : new.list ≡ old.list
+  pub entries : List ListEntry
+  pub refusals : List Refusal
+  pub read : AreTexts old.grammar old.list texts old.line new.line entries refusals
+  pub added : HasMore old.refused new.refused refusals
+  pub made : Adds IsMade IsMadeNow entries
+
+-- These lines were read.
+abbrev pub ReadsLines : LineReader → LineReader → List (List ℕ) → (IsMade IsMadeNow : List ListEntry → Type 0) → Type 0
+ReadsLines old new lines IsMade IsMadeNow = (texts : List (List ℕ)) × AreContents old.grammar lines texts
+    × AddsLines old new texts IsMade IsMadeNow
+
+-- The bytes that were returned by the reader and whose lines are not read yet.
+abbrev pub pending : Reading → List ℕ
+pending r = r.carry.items ++ held r.window
+
+-- The start of a list was read, up to a byte order mark if it has one. If `more` is false, that is the whole list.
+pub record IsPastMark (more : Bool) (left left_after : Option (List ℕ)) (old new : Reading) : Type 0 where
+  pub same_lines : new.lines ≡ old.lines
+  pub same_carry : new.carry ≡ old.carry
+  pub mark : List ℕ
+  pub read : Consumes left left_after (mark ++ held new.window)
+  pub past : (rest : List ℕ) → (more ≡ false → rest ≡ []) → after_mark (mark ++ (held new.window ++ rest))
+      ≡ held new.window ++ rest
+  pub end : more ≡ false → IsAtEnd left_after
+
+-- The front of the pending bytes was read. It is complete lines, and if `more` is false, it is all.
+pub record TakesLines (more : Bool) (old new : Reading) (IsMade IsMadeNow : List ListEntry → Type 0) : Type 0 where
+  pub front : List ℕ
+  pub is : pending old ≡ front ++ pending new
+  pub closed : more ≡ true → (rest : List ℕ) → lines_of (front ++ rest) ≡ lines_of front ++ lines_of rest
+  pub all : more ≡ false → pending new ≡ []
+  pub lines : ReadsLines old.lines new.lines (lines_of front) IsMade IsMadeNow
+
+-- A list was read up to its end, its refused lines are added, and `IsMade` is true of its entries.
+pub record WasMadeOf (left left_after : Option (List ℕ)) (old new : Reading) (IsMade : List ListEntry → Type 0)
+    : Type 0 where
+  pub bytes : List ℕ
+  pub given : GaveWhole left left_after bytes
+  pub entries : List ListEntry
+  pub refusals : List Refusal
+  pub read : IsListRead old.lines.grammar old.lines.list bytes entries refusals
+  pub added : HasMore old.lines.refused new.lines.refused refusals
+  pub same_grammar : new.lines.grammar ≡ old.lines.grammar
+  pub next : new.lines.list ≡ old.lines.list + 1
+  pub made : IsMade entries

@@ -1,0 +1,125 @@
+//! What is asked of lists, and the text of a set.
+ghost use Rattle.std.specs.Prelude.{◌≡◌, ◌≤◌, ◌++◌, ◌∷◌, [], IfOk, OnOk, string_bytes};
+ghost use Rattle.ipnet_base.specs.Address.{ip_address};
+ghost use Rattle.ipnet_base.specs.RangeOf.{ip_range};
+ghost use Rattle.ipnet.specs.CanonicalTexts.{address_text, canonical_text};
+ghost use Rattle.ipnet.specs.NetworkOf.{ip_network};
+ghost use Rattle.ipnet_sets.specs.Members.{IsMember};
+ghost use Rattle.netset_lib.specs.Answers.{range_text, AreNetworkLines, AreRangeLines, IsSetText};
+
+use crate::operation::Operation;
+use crate::refused::RefusedLines;
+use ipnet::text_laws::{ipv4_address_text_is_of_octets, ipv6_address_text_is_of_groups};
+use ipnet::{Grammar, IpAddr, IpAddrRange, IpNet, ipv4_addr_text, ipv6_addr_text};
+use ipnet_sets::IpSet;
+use std::alloc::{AllocError, Global};
+
+/// How a set is written.
+///
+/// ```text
+/// 10.0.0.0 to 10.0.0.5: as Networks 10.0.0.0/30 and 10.0.0.4/31, as Ranges 10.0.0.0-10.0.0.5
+/// ```
+#[derive(Clone, Copy, Debug, PartialEq, Eq)]
+pub enum Form {
+    /// By the fewest networks.
+    Networks,
+    /// By the fewest ranges.
+    Ranges,
+}
+
+/// What is asked of lists.
+#[derive(Clone, Copy, Debug, PartialEq, Eq)]
+pub struct Request {
+    /// What is made of them.
+    pub operation: Operation,
+    /// How their entries are read.
+    pub grammar: Grammar,
+    /// How the answer is written.
+    pub form: Form,
+}
+
+/// Why there is no answer.
+#[derive(Debug, Drop)]
+pub enum Failure {
+    /// The work takes another number of lists.
+    Count,
+    /// The complement of a list without an entry was asked for the families of the list.
+    NoFamily,
+    /// Some lines are not entries.
+    Refused(RefusedLines),
+    /// Memory ran out.
+    Memory,
+}
+
+/// Appends the network's text and a newline.
+fn push_network(text: &mut String, network: IpNet) -> Result<(), AllocError>
+    ensures { OnOk result
+        (string_bytes text.new ≡ (string_bytes text.old ++ canonical_text (ip_network network)) ++ 10 ∷ []) }
+{
+    text.push_str(network.to_text().as_str())?;
+    text.push_str("\n")
+}
+
+/// Appends the address's text.
+fn push_address(text: &mut String, address: IpAddr) -> Result<(), AllocError>
+    ensures { let a = ip_address address in
+        OnOk result (string_bytes text.new ≡ string_bytes text.old ++ address_text a.family a.number) }
+{
+    match address {
+        IpAddr::V4(address) => {
+            ipv4_address_text_is_of_octets(address);
+            text.push_str(ipv4_addr_text(address).as_str())
+        }
+        IpAddr::V6(address) => {
+            ipv6_address_text_is_of_groups(address);
+            text.push_str(ipv6_addr_text(address).as_str())
+        }
+    }
+}
+
+/// Appends the text of the range, which has an address, and a newline.
+fn push_range(text: &mut String, range: IpAddrRange) -> Result<(), AllocError>
+    requires { let r = ip_range range in r.start ≤ r.end }
+    ensures { OnOk result (string_bytes text.new ≡ string_bytes text.old ++ range_text (ip_range range) ++ 10 ∷ []) }
+{
+    if let (Some(first), Some(last)) = (range.min(), range.max()) {
+        push_address(text, first)?;
+        text.push_str("-")?;
+        push_address(text, last)?;
+        text.push_str("\n")?;
+    }
+    Ok(())
+}
+
+/// The fewest networks of the set, one a line.
+fn network_lines(alloc: Global, set: &IpSet) -> Result<String, AllocError>
+    ensures { IfOk result (λ text. AreNetworkLines (IsMember set.now) (string_bytes text)) }
+{
+    let networks = set.networks(alloc)?;
+    let mut text = String::new(alloc);
+    for network in &networks {
+        push_network(&mut text, *network)?;
+    }
+    Ok(text)
+}
+
+/// The fewest ranges of the set, one a line.
+fn range_lines(alloc: Global, set: &IpSet) -> Result<String, AllocError>
+    ensures { IfOk result (λ text. AreRangeLines (IsMember set.now) (string_bytes text)) }
+{
+    let mut text = String::new(alloc);
+    for range in set.ranges() {
+        push_range(&mut text, range)?;
+    }
+    Ok(text)
+}
+
+/// The set in this form.
+pub(crate) fn set_text(alloc: Global, form: Form, set: &IpSet) -> Result<String, AllocError>
+    ensures { IfOk result (λ text. IsSetText form (IsMember set.now) (string_bytes text)) }
+{
+    match form {
+        Form::Networks => network_lines(alloc, set),
+        Form::Ranges => range_lines(alloc, set),
+    }
+}

@@ -1,0 +1,151 @@
+//! The commands of the program netset: their names, and what each asks of lists.
+ghost use Rattle.std.specs.Prelude.{◌≡◌, ◌↔◌, Some};
+ghost use Rattle.netset_lib.specs.Commands.{families_of, grammar_of, combine};
+
+use crate::answer::{Form, Request};
+use crate::filter::Side;
+use crate::operation::{Families, Operation};
+use crate::query::Query;
+use ipnet::Grammar;
+
+/// A command of the program. Each has a name of its own, as `symmetric-difference`.
+#[derive(Clone, Copy, Debug, PartialEq, Eq)]
+pub enum Command {
+    /// The addresses of all lists.
+    Union,
+    /// The addresses that are in every list.
+    Intersection,
+    /// The addresses of the first list that are in no other.
+    Difference,
+    /// The addresses that are in exactly one of two lists.
+    SymmetricDifference,
+    /// The addresses that are not in the list.
+    Complement,
+    /// The number of addresses of the list.
+    Count,
+    /// Whether two lists have the same addresses.
+    Compare,
+    /// The entries of a list that lie on one side of another list.
+    Filter,
+    /// The longest networks of a list that contain the entries of another list.
+    Route,
+}
+
+/// The flags of a call. A flag that the command does not have is ignored.
+#[derive(Clone, Copy, Debug, PartialEq, Eq)]
+pub struct Flags {
+    /// `--legacy`: entries are read by the legacy grammar.
+    pub legacy: bool,
+    /// `--ranges`: a set is written as ranges.
+    pub ranges: bool,
+    /// `--ipv4`: the complement in IPv4.
+    pub ipv4: bool,
+    /// `--ipv6`: the complement in IPv6.
+    pub ipv6: bool,
+    /// `--outside`: the entries outside are kept.
+    pub outside: bool,
+}
+
+/// What is asked of lists.
+#[derive(Clone, Copy, Debug, PartialEq, Eq)]
+pub enum Work {
+    /// The result of an operation.
+    Combine(Request),
+    /// The answer to a query, with the entries read by this grammar.
+    Ask(Query, Grammar),
+}
+
+/// The families of a complement under the flags `--ipv4` and `--ipv6`.
+fn families(ipv4: bool, ipv6: bool) -> Families
+    ensures { result ≡ families_of ipv4 ipv6 }
+{
+    match (ipv4, ipv6) {
+        (false, false) => Families::Named,
+        (true, false) => Families::Ipv4,
+        (false, true) => Families::Ipv6,
+        (true, true) => Families::Both,
+    }
+}
+
+/// The grammar of entries.
+fn grammar(flags: Flags) -> Grammar
+    ensures { result ≡ grammar_of flags.legacy }
+{
+    if flags.legacy {
+        Grammar::Legacy
+    } else {
+        Grammar::Strict
+    }
+}
+
+/// The operation under these flags.
+fn combined(operation: Operation, flags: Flags) -> Work
+    ensures { result ≡ combine operation flags }
+{
+    let form = if flags.ranges {
+        Form::Ranges
+    } else {
+        Form::Networks
+    };
+    Work::Combine(Request {
+        operation,
+        grammar: grammar(flags),
+        form,
+    })
+}
+
+impl Command {
+    ghost use Rattle.netset_lib.specs.Commands.{name_of, work_of};
+
+    /// Returns the command of this name, or `None` if there is none.
+    ///
+    /// ```text
+    /// "symmetric-difference" is SymmetricDifference; "Union" and "" are None
+    /// ```
+    pub fn from_name(name: &str) -> Option<Command>
+        ensures { (command : Command) → (result ≡ Some command) ↔ (name.now ≡ name_of command) }
+    {
+        match name {
+            "union" => Some(Command::Union),
+            "intersection" => Some(Command::Intersection),
+            "difference" => Some(Command::Difference),
+            "symmetric-difference" => Some(Command::SymmetricDifference),
+            "complement" => Some(Command::Complement),
+            "count" => Some(Command::Count),
+            "compare" => Some(Command::Compare),
+            "filter" => Some(Command::Filter),
+            "route" => Some(Command::Route),
+            _ => None,
+        }
+    }
+
+    /// Returns what the command asks of lists under these flags.
+    ///
+    /// ```text
+    /// Complement with --ipv4:  Combine of Complement(Ipv4), the strict grammar and networks
+    /// Filter with --outside:   Ask of Filter(Outside) and the strict grammar
+    /// ```
+    pub fn work(self, flags: Flags) -> Work
+        ensures { result ≡ work_of self flags }
+    {
+        let side = if flags.outside {
+            Side::Outside
+        } else {
+            Side::Inside
+        };
+        match self {
+            Command::Union => combined(Operation::Union, flags),
+            Command::Intersection => combined(Operation::Intersection, flags),
+            Command::Difference => combined(Operation::Difference, flags),
+            Command::SymmetricDifference => combined(Operation::SymmetricDifference, flags),
+            Command::Complement => {
+                let families = families(flags.ipv4, flags.ipv6);
+                combined(Operation::Complement(families), flags)
+            }
+            Command::Count => Work::Ask(Query::Count, grammar(flags)),
+            Command::Compare => Work::Ask(Query::Compare, grammar(flags)),
+            Command::Filter => Work::Ask(Query::Filter(side), grammar(flags)),
+            Command::Route => Work::Ask(Query::Route, grammar(flags)),
+        }
+    }
+}

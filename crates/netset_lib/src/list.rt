@@ -1,0 +1,38 @@
+//! A list, read into a set.
+ghost use Rattle.std.specs.Prelude.{◌↔◌, List, IfOk};
+ghost use Rattle.ipnet_base.specs.Address.{Address};
+ghost use Rattle.ipnet_sets.specs.Members.{IsMember};
+ghost use Rattle.ipnet_sets.specs.Pushed.{IsPushed};
+ghost use Rattle.netset_lib.specs.Lists.{ListEntry, HaveAddresses};
+ghost use Rattle.netset_lib.specs.Reading.{WasMadeOf};
+
+use crate::entry::Entry;
+use crate::reader::Collector;
+use crate::reading::{ReadFailure, Reading};
+use ipnet_sets::{IpSet, IpSetBuilder};
+use std::alloc::AllocError;
+use std::io::Read;
+
+/// Collects the addresses of entries.
+#[derive(Drop)]
+struct Addresses;
+
+impl Collector<IpSetBuilder> for Addresses {
+    ghost is_made = { λ _ builder entries. HaveAddresses (IsPushed builder) entries };
+
+    fn push(&self, made: &mut IpSetBuilder, _: &str, entry: Entry) -> Result<(), AllocError> {
+        let (first, last) = entry.ends();
+        made.push_range(first, last)
+    }
+}
+
+/// Reads one list into a set of its addresses.
+pub(crate) fn read_set<R: Read>(reading: &mut Reading, input: &mut R) -> Result<IpSet, ReadFailure>
+    ensures { IfOk result (λ set. WasMadeOf (R.remaining input.old) (R.remaining input.new) reading.old reading.new
+        (HaveAddresses (IsMember set))) }
+{
+    let alloc = reading.lines.alloc;
+    let mut builder = IpSetBuilder::new(alloc);
+    reading.read_list(input, &Addresses, &mut builder)?;
+    Ok(builder.into_set(alloc)?)
+}

@@ -1,0 +1,138 @@
+//! The program, over any writers.
+ghost use Rattle.std.specs.Prelude.{◌≡◌, ◌≢◌, ◌≤◌, ◌⊎◌, ◌↔◌, List, [], ℕ, IsTrue};
+ghost use Rattle.std.specs.Io.{StartsWith};
+ghost use Rattle.std.specs.Io.KnownBytes.{Appends, Keeps};
+ghost use Rattle.ipnet.specs.declared.parser.Grammar.{Grammar};
+ghost use Rattle.netset_lib.specs.Replies.{AreSameLists, AreOtherLists};
+ghost use Rattle.netset_lib.specs.Runs.{IsAnswered, IsCutShort};
+ghost use Rattle.netset_lib.specs.Sessions.{WereRead};
+ghost use Rattle.netset_lib.specs.declared.command.Work.TheVariants.{Ask};
+ghost use Rattle.netset_lib.specs.declared.query.Query.TheVariants.{Compare};
+
+use crate::answer::Failure;
+use crate::command::Work;
+use crate::query::Query;
+use crate::refused::{RefusedLine, RefusedLines};
+use crate::session::Session;
+use ipnet_text::write_whole;
+use std::io;
+use std::io::Write;
+
+/// At most this many bytes of a refused line are reported.
+const MOST_SHOWN: usize = 100;
+
+/// The report of a complement that has no family.
+const NO_FAMILY: &str = "netset: the list has no entries: choose --ipv4 or --ipv6, or both";
+
+/// Writes the answer of the session to `out`, and returns the exit status.
+///
+/// `names` are the names of the lists, in order, for the reports on `faults`. If a report cannot be written, the status
+/// is the same.
+///
+/// | Status | On `faults` | When |
+/// |---|---|---|
+/// | 2 | `netset: another number of lists is wanted` | the work takes another number of lists |
+/// | 2 | `NAME:LINE: not a network, an address or a range: TEXT (CAUSE)`, ten at most | some lines are not entries |
+/// | 2 | `netset: the list has no entries: choose --ipv4 or --ipv6, or both` | as `Failure::NoFamily` says |
+/// | 2 | `netset: out of memory` | memory runs out |
+/// | 2 | `netset: output cannot be written` | a write fails, or the flush after it; the answer may be out in part |
+/// | 1 | nothing | the lists were compared, and do not have the same addresses; `out` has what differs |
+/// | 0 | nothing | otherwise |
+///
+/// Of a text of more than 100 bytes the first 100 are reported, and `..` after them. The cause is left out if none can
+/// be named.
+///
+/// ```text
+/// Union of "10.0.0.0/9\n10.128.0.0/9\n", named a:  status 0, and out gets "10.0.0.0/8\n"
+/// Union of "10.0.0.0/33\n", named a:               status 2, and faults gets
+///     "a:1: not a network, an address or a range: 10.0.0.0/33 (the prefix length is above 32)\n"
+/// Compare of "10.0.0.0/31\n" and "10.0.0.0\n":     status 1, and out gets
+///     "first alone: IPv4 1, IPv6 0\nsecond alone: IPv4 0, IPv6 0\n"
+/// ```
+pub fn run<W: Write, X: Write>(session: Session, names: &[&str], out: &mut W, faults: &mut X) -> u8
+    ensures status { result ≤ 2 }
+    ensures answered { result ≤ 1 → (work : Work) → (lists : List (List ℕ)) → WereRead work lists session
+        → IsAnswered work lists (W.contents out.old) (W.contents out.new) }
+    ensures different { result ≡ 1 → (work : Work) → (lists : List (List ℕ)) → WereRead work lists session
+        → ((grammar : Grammar) × (work ≡ Ask Compare grammar) × AreOtherLists grammar lists) }
+    ensures same { result ≡ 0 → (grammar : Grammar) → (lists : List (List ℕ))
+        → WereRead (Ask Compare grammar) lists session → AreSameLists grammar lists }
+    ensures cut_short { result ≡ 2 → (work : Work) → (lists : List (List ℕ)) → WereRead work lists session
+        → Keeps (W.contents out.old) (W.contents out.new)
+        ⊎ IsCutShort work lists (W.contents out.old) (W.contents out.new) }
+    ensures faultless { result ≤ 1 → Keeps (X.contents faults.old) (X.contents faults.new) }
+{
+    let work = session.work();
+    let text = match session.answer() {
+        Ok(text) => text,
+        Err(failure) => {
+            let _ = report(faults, names, &failure);
+            return 2;
+        }
+    };
+    if !written(out, text.as_bytes()) {
+        let _ = writeln!(faults, "netset: output cannot be written");
+        return 2;
+    }
+    status_of(work, text.as_str())
+}
+
+/// Returns the exit status for this answer: 1 for a comparison that is not empty, since it says what differs.
+fn status_of(work: Work, text: &str) -> u8
+    ensures status { result ≤ 1 }
+    ensures different { (result ≡ 1) ↔ (((grammar : Grammar) × (work ≡ Ask Compare grammar)) × (text.now ≢ [])) }
+{
+    match work {
+        Work::Ask(Query::Compare, _) if !text.is_empty() => 1,
+        _ => 0,
+    }
+}
+
+/// Writes the bytes and flushes the writer, and returns whether both succeeded.
+fn written<W: Write>(out: &mut W, bytes: &[u8]) -> bool
+    ensures whole { IsTrue result → Appends (W.contents out.old) (W.contents out.new) bytes.now }
+    ensures front { (front : List ℕ) × StartsWith bytes.now front
+        × Appends (W.contents out.old) (W.contents out.new) front }
+{
+    write_whole(out, bytes).is_ok() && out.flush().is_ok()
+}
+
+/// Reports the failure.
+fn report<X: Write>(faults: &mut X, names: &[&str], failure: &Failure) -> io::Result<()> {
+    match failure {
+        Failure::Count => writeln!(faults, "netset: another number of lists is wanted"),
+        Failure::NoFamily => writeln!(faults, "{NO_FAMILY}"),
+        Failure::Memory => writeln!(faults, "netset: out of memory"),
+        Failure::Refused(lines) => report_lines(faults, names, lines),
+    }
+}
+
+/// Reports the first refused lines, and the number of the others.
+fn report_lines<X: Write>(faults: &mut X, names: &[&str], lines: &RefusedLines) -> io::Result<()> {
+    for line in &lines.shown {
+        report_line(faults, names, line)?;
+    }
+    let more = lines.count.saturating_sub(lines.shown.len());
+    if more != 0 {
+        writeln!(faults, "netset: and {more} more")?;
+    }
+    Ok(())
+}
+
+/// Reports one refused line. Bytes of its text that are not printable ASCII are escaped. Of a long text only the
+/// beginning is reported, so that a file that is not a list does not fill the screen.
+fn report_line<X: Write>(faults: &mut X, names: &[&str], line: &RefusedLine) -> io::Result<()> {
+    let name = names.get(line.list).copied().unwrap_or("list");
+    let number = line.line;
+    let shown = line.text.len().min(MOST_SHOWN);
+    let text = line.text.as_slice()[..shown].escape_ascii();
+    let rest = if shown < line.text.len() { ".." } else { "" };
+    write!(
+        faults,
+        "{name}:{number}: not a network, an address or a range: {text}{rest}"
+    )?;
+    match line.cause {
+        Some(cause) => writeln!(faults, " ({cause})"),
+        None => writeln!(faults),
+    }
+}

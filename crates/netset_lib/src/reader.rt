@@ -1,0 +1,237 @@
+//! The lines of a list: blanks around an entry, comments, and the entries, one a line.
+ghost use Rattle.std.specs.Prelude.{◌≡◌, ◌<◌, ◌∷◌, ◌↔◌, List, [], length, IsTrue, OnOk, IfOk, IfSome};
+ghost use Rattle.ipnet.specs.Lines.{lines_of};
+ghost use Rattle.netset_lib.specs.Entries.{IsEntryText, ReadsAs};
+ghost use Rattle.netset_lib.specs.EntryOf.{entry_range};
+ghost use Rattle.netset_lib.specs.Lists.{ListEntry, Opens, IsCommentAt, ends_word, first_word, HidesEntry};
+ghost use Rattle.netset_lib.specs.Lists.{IsContents};
+ghost use Rattle.std.specs.List.{position_or_len};
+ghost use Rattle.netset_lib.specs.FoundEntry.{entry_of, found_range};
+ghost use Rattle.netset_lib.specs.Reading.{Adds};
+
+use crate::cause::cause_of;
+use crate::entry::{Entry, read_entry};
+use crate::refused::RefusedLines;
+use ipnet::Grammar;
+use memchr::{memchr, memchr2};
+use std::alloc::{AllocError, Global};
+use std::str;
+
+/// What takes the entries of a list, one after another, and makes a value of type `M` of them.
+pub(crate) trait Collector<M> {
+    /// Whether the value is made of these entries.
+    ghost is_made: { Self → M → List ListEntry → Type 0 };
+
+    /// Adds an entry, which is spelled as the text. Fails if memory runs out.
+    fn push(&self, made: &mut M, text: &str, entry: Entry) -> Result<(), AllocError>
+        ensures { OnOk result
+            (Adds (is_made self.now made.old) (is_made self.now made.new) (entry_of text.now entry ∷ [])) };
+}
+
+/// The first line of bytes that are not empty, and the bytes after its end.
+fn first_line(bytes: &[u8]) -> (&[u8], &[u8])
+    requires { 0 < length bytes.now }
+    ensures lines { lines_of bytes.now ≡ result.0.now ∷ lines_of result.1.now }
+    ensures shorter { length result.1.now < length bytes.now }
+{
+    match memchr(b'\n', bytes) {
+        Some(end) => (&bytes[..end], &bytes[end + 1..]),
+        None => (bytes, &[]),
+    }
+}
+
+/// An entry of a list, and its text.
+#[derive(Clone, Copy)]
+pub(crate) struct FoundEntry<'a> {
+    pub(crate) text: &'a str,
+    pub(crate) entry: Entry,
+}
+
+/// Returns the entry that the bytes are, or `None` if they are not one.
+fn read_text<'a>(
+    room: &mut String,
+    text: &'a [u8],
+    grammar: Grammar,
+) -> Result<Option<FoundEntry<'a>>, AllocError>
+    ensures reads { IfOk result (ReadsAs found_range (IsEntryText grammar) text.now) }
+    ensures spelled { IfOk result (λ found. IfSome found (λ f. f.text.now ≡ text.now)) }
+{
+    let text = match str::from_utf8(text) {
+        Ok(text) => text,
+        Err(_) => return Ok(None),
+    };
+    match read_entry(room, text, grammar)? {
+        Some(entry) => Ok(Some(FoundEntry { text, entry })),
+        None => Ok(None),
+    }
+}
+
+/// Whether the byte at this index of the line begins a comment.
+fn opens_comment(line: &[u8], index: usize) -> bool
+    requires { index < length line.now }
+    ensures { IsTrue result ↔ Opens line.now index }
+{
+    match line[index] {
+        b'#' => true,
+        b';' => index == 0 || line[index - 1].is_ascii_whitespace(),
+        _ => false,
+    }
+}
+
+/// The index at which the comment of the line begins, or the length of the line if it has none.
+fn comment_start(line: &[u8]) -> usize
+    ensures { IsCommentAt line.now result }
+{
+    if memchr2(b'#', b';', line).is_none() {
+        return line.len();
+    }
+    for index in 0..line.len() {
+        if opens_comment(line, index) {
+            return index;
+        }
+    }
+    line.len()
+}
+
+/// Whether the byte ends the first word of a comment.
+fn is_word_end(byte: u8) -> bool
+    ensures { result ≡ ends_word byte }
+{
+    byte.is_ascii_whitespace() || byte == b';' || byte == b','
+}
+
+/// The length of the first word of the bytes.
+fn word_len(bytes: &[u8]) -> usize
+    ensures { result ≡ position_or_len ends_word bytes.now }
+{
+    for index in 0..bytes.len() {
+        if is_word_end(bytes[index]) {
+            return index;
+        }
+    }
+    bytes.len()
+}
+
+/// The first word of the comment, after its sign and blanks.
+fn first_word_of(comment: &[u8]) -> &[u8]
+    requires { 0 < length comment.now }
+    ensures { result.now ≡ first_word comment.now }
+{
+    let rest = comment[1..].trim_ascii_start();
+    &rest[..word_len(rest)]
+}
+
+/// Whether the comment begins with ";", and its first word is an entry.
+fn hides_entry(room: &mut String, comment: &[u8], grammar: Grammar) -> Result<bool, AllocError>
+    ensures { IfOk result (λ hides. IsTrue hides ↔ HidesEntry grammar comment.now) }
+{
+    if comment.is_empty() || comment[0] != b';' {
+        return Ok(false);
+    }
+    match read_text(room, first_word_of(comment), grammar)? {
+        Some(_) => Ok(true),
+        None => Ok(false),
+    }
+}
+
+/// The contents of the line: the text before its comment, or the whole line if the comment hides an entry. Fails if
+/// memory runs out.
+fn contents_of<'a>(
+    room: &mut String,
+    line: &'a [u8],
+    grammar: Grammar,
+) -> Result<&'a [u8], AllocError>
+    ensures { IfOk result (λ text. IsContents grammar line.now text.now) }
+{
+    let start = comment_start(line);
+    let text = line[..start].trim_ascii();
+    if text.is_empty() {
+        return Ok(text);
+    }
+    if hides_entry(room, &line[start..], grammar)? {
+        return Ok(line.trim_ascii());
+    }
+    Ok(text)
+}
+
+/// Reads the lines of lists. It hands over their entries, and keeps their refused lines.
+#[derive(Drop)]
+pub(crate) struct LineReader {
+    pub(crate) alloc: Global,
+    pub(crate) grammar: Grammar,
+    /// The index of the list, from 0.
+    pub(crate) list: usize,
+    /// The number of lines that were read of the list.
+    pub(crate) line: usize,
+    pub(crate) refused: RefusedLines,
+    room: String,
+}
+
+impl LineReader {
+    ghost use Rattle.netset_lib.specs.Reading.{ReadsLines};
+    ghost use Rattle.netset_lib.specs.RefusedLines.{AreRefused};
+
+    /// A reader of the first list.
+    pub(crate) fn new(alloc: Global, grammar: Grammar) -> LineReader
+        ensures grammar { result.grammar ≡ grammar }
+        ensures first { result.list ≡ 0 }
+        ensures none { AreRefused result.refused [] }
+    {
+        LineReader {
+            alloc,
+            grammar,
+            list: 0,
+            line: 0,
+            refused: RefusedLines::new(alloc),
+            room: String::new(alloc),
+        }
+    }
+
+    /// Reads a line: hands its entry over, if it has one, or keeps it as refused. Fails if memory runs out, or if there
+    /// are more lines than a `usize` counts.
+    fn read_line<M, C: Collector<M>>(
+        &mut self,
+        line: &[u8],
+        collector: &C,
+        made: &mut M,
+    ) -> Result<(), AllocError>
+        ensures { OnOk result (ReadsLines self.old self.new (line.now ∷ [])
+            (C.is_made collector.now made.old) (C.is_made collector.now made.new)) }
+    {
+        let Some(number) = self.line.checked_add(1) else {
+            return Err(AllocError);
+        };
+        self.line = number;
+        let text = contents_of(&mut self.room, line, self.grammar)?;
+        if text.is_empty() {
+            return Ok(());
+        }
+        match read_text(&mut self.room, text, self.grammar)? {
+            Some(found) => collector.push(made, found.text, found.entry),
+            None => {
+                let cause = cause_of(&mut self.room, text, self.grammar)?;
+                self.refused
+                    .push(self.alloc, self.list, number, text, cause)
+            }
+        }
+    }
+
+    /// Reads the lines of the bytes. Fails as `read_line` does.
+    pub(crate) fn read<M, C: Collector<M>>(
+        &mut self,
+        bytes: &[u8],
+        collector: &C,
+        made: &mut M,
+    ) -> Result<(), AllocError>
+        ensures { OnOk result (ReadsLines self.old self.new (lines_of bytes.now)
+            (C.is_made collector.now made.old) (C.is_made collector.now made.new)) }
+    {
+        let mut rest = bytes;
+        'lines: while !rest.is_empty() {
+            let (line, after) = first_line(rest);
+            self.read_line(line, collector, made)?;
+            rest = after;
+        }
+        Ok(())
+    }
+}

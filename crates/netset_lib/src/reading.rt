@@ -1,0 +1,167 @@
+//! Lists, read through a window, so that their bytes are not kept.
+ghost use Rattle.std.specs.Prelude.{◌≡◌, ◌+◌, ◌<◌, [], length, OnOk, IfOk};
+ghost use Rattle.ipnet_text.specs.Window.{held};
+
+use crate::reader::{Collector, LineReader};
+use ipnet::Grammar;
+use ipnet_text::window::SIZE;
+use ipnet_text::{ReadError, Window, lines_len};
+use std::alloc::{AllocError, Global};
+use std::io::Read;
+use thiserror::Error;
+
+/// Bounds the loops, so that they provably end.
+const MOST_READS: u64 = u64::MAX;
+
+/// The byte order mark in UTF-8.
+const BYTE_ORDER_MARK: [u8; 3] = [0xEF, 0xBB, 0xBF];
+
+/// Why a list was not read.
+#[derive(Clone, Copy, Debug, PartialEq, Eq, Drop, Error)]
+pub enum ReadFailure {
+    /// A read failed.
+    #[error("cannot be read")]
+    Unreadable,
+    /// Memory ran out.
+    #[error("out of memory")]
+    Memory,
+}
+
+impl From<AllocError> for ReadFailure {
+    fn from(_: AllocError) -> ReadFailure {
+        ReadFailure::Memory
+    }
+}
+
+impl From<ReadError> for ReadFailure {
+    fn from(_: ReadError) -> ReadFailure {
+        ReadFailure::Unreadable
+    }
+}
+
+/// Reads lists one after another. A line that is longer than the window is kept in `carry` until it ends.
+#[derive(Drop)]
+pub(crate) struct Reading {
+    window: Window,
+    carry: Vec<u8>,
+    pub(crate) lines: LineReader,
+}
+
+impl Reading {
+    ghost use Rattle.netset_lib.specs.RefusedLines.{AreRefused};
+    ghost use Rattle.netset_lib.specs.Reading.{Adds, IsPastMark, TakesLines, WasMadeOf, pending};
+
+    /// Returns what reads the first list. Fails if memory runs out.
+    pub(crate) fn new(alloc: Global, grammar: Grammar) -> Result<Reading, AllocError>
+        ensures grammar { IfOk result (λ reading. reading.lines.grammar ≡ grammar) }
+        ensures first { IfOk result (λ reading. reading.lines.list ≡ 0) }
+        ensures none { IfOk result (λ reading. AreRefused reading.lines.refused []) }
+    {
+        Ok(Reading {
+            window: Window::new(alloc)?,
+            carry: Vec::new(alloc),
+            lines: LineReader::new(alloc, grammar),
+        })
+    }
+
+    /// Fills the window until it has the length of a byte order mark or the input has ended, and returns whether more
+    /// bytes may come. If the bytes begin with a byte order mark, that is taken.
+    fn skip_mark<R: Read>(&mut self, input: &mut R) -> Result<bool, ReadError>
+        requires { held self.old.window ≡ [] }
+        ensures { IfOk result (λ more. IsPastMark more
+            (R.remaining input.old) (R.remaining input.new) self.old self.new) }
+    {
+        let mut more = true;
+        for _ in 0..MOST_READS {
+            let held = self.window.held();
+            if BYTE_ORDER_MARK.len() <= held.len() || !more {
+                if held.starts_with(&BYTE_ORDER_MARK) {
+                    self.window.take(BYTE_ORDER_MARK.len());
+                }
+                return Ok(more);
+            }
+            more = self.window.fill(input)?;
+        }
+        Err(ReadError)
+    }
+
+    /// Reads the lines that are complete. If `more` is false, all lines are.
+    fn take_lines<M, C: Collector<M>>(
+        &mut self,
+        more: bool,
+        collector: &C,
+        made: &mut M,
+    ) -> Result<(), AllocError>
+        ensures { OnOk result (TakesLines more self.old self.new
+            (C.is_made collector.now made.old) (C.is_made collector.now made.new)) }
+    {
+        let held = self.window.held();
+        let count = lines_len(held, more);
+        if self.carry.is_empty() {
+            self.lines.read(&held[..count], collector, made)?;
+            self.window.take(count);
+            return Ok(());
+        }
+        if count == 0 && more {
+            return Ok(());
+        }
+        self.carry.extend_from_slice(&held[..count])?;
+        self.lines.read(self.carry.as_slice(), collector, made)?;
+        self.carry.clear();
+        self.window.take(count);
+        Ok(())
+    }
+
+    /// Makes room in the window: the front of a line that fills it is moved to `carry`. Fails if memory runs out.
+    fn make_room(&mut self) -> Result<(), AllocError>
+        ensures pending { OnOk result (pending self.new ≡ pending self.old) }
+        ensures room { OnOk result (length (held self.new.window) < 65536) }
+        ensures same_lines { self.new.lines ≡ self.old.lines }
+    {
+        let held = self.window.held();
+        if held.len() == SIZE {
+            self.carry.extend_from_slice(held)?;
+            self.window.take(SIZE);
+        }
+        Ok(())
+    }
+
+    /// Reads one list up to its end: hands its entries over, and keeps its refused lines.
+    pub(crate) fn read_list<R: Read, M, C: Collector<M>>(
+        &mut self,
+        input: &mut R,
+        collector: &C,
+        made: &mut M,
+    ) -> Result<(), ReadFailure>
+        ensures { OnOk result (WasMadeOf (R.remaining input.old) (R.remaining input.new) self.old self.new
+            (Adds (C.is_made collector.now made.old) (C.is_made collector.now made.new))) }
+    {
+        self.carry.clear();
+        let left = self.window.held().len();
+        self.window.take(left);
+        self.lines.line = 0;
+        let mut more = self.skip_mark(input)?;
+        for _ in 0..MOST_READS {
+            self.take_lines(more, collector, made)?;
+            if !more {
+                return self.end_list();
+            }
+            self.make_room()?;
+            more = self.window.fill(input)?;
+        }
+        Err(ReadFailure::Unreadable)
+    }
+
+    /// Goes on to the next list. Fails if there are more lists than a `usize` counts.
+    fn end_list(&mut self) -> Result<(), ReadFailure>
+        ensures next { OnOk result (self.new.lines.list ≡ self.old.lines.list + 1) }
+        ensures same_grammar { self.new.lines.grammar ≡ self.old.lines.grammar }
+        ensures same_refused { self.new.lines.refused ≡ self.old.lines.refused }
+    {
+        let Some(list) = self.lines.list.checked_add(1) else {
+            return Err(ReadFailure::Memory);
+        };
+        self.lines.list = list;
+        Ok(())
+    }
+}

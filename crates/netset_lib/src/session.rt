@@ -1,0 +1,294 @@
+//! Lists that are read one after another, and the answer to what is asked of them.
+ghost use Rattle.std.specs.Prelude.{◌≡◌, ◌++◌, ◌∷◌, ◌↔◌, ℕ, List, [], length, IsTrue, IfOk, IfErr, OnOk};
+ghost use Rattle.std.specs.Prelude.{string_bytes, Err, false};
+ghost use Rattle.ipnet_text.specs.Inputs.{GaveWhole};
+ghost use Rattle.netset_lib.specs.Answers.{IsSetText};
+ghost use Rattle.netset_lib.specs.Counts.{IsCountsLine, IsComparison};
+ghost use Rattle.netset_lib.specs.Lists.{ListEntry, IsInEntries};
+ghost use Rattle.netset_lib.specs.ListSets.{HaveMembers};
+ghost use Rattle.ipnet_sets.specs.Members.{HasNoAddress};
+ghost use Rattle.ipnet_sets.specs.declared.set.IpSet.{IpSet};
+ghost use Rattle.netset_lib.specs.Operations.{IsInResult};
+ghost use Rattle.netset_lib.specs.Answers.{IsNamedComplement};
+ghost use Rattle.netset_lib.specs.Replies.{work_grammar, TakesCount, IsWorkAnswer, IsWorkFailure};
+ghost use Rattle.netset_lib.specs.Sessions.{IsTextFor};
+
+use crate::answer::{Failure, Request, set_text};
+use crate::command::Work;
+use crate::counts::{comparison_text, counts_text};
+use crate::filter::{Side, read_filtered, side_set};
+use crate::list::read_set;
+use crate::operation::{Families, Operation, combined};
+use crate::query::Query;
+use crate::reading::{ReadFailure, Reading};
+use crate::route::{read_routed, read_table};
+use ipnet::Grammar;
+use ipnet_sets::{IpSet, RouteTable};
+use std::alloc::{AllocError, Global};
+use std::io::Read;
+
+/// The lists of a call, which are read one after another, and what is asked of them.
+///
+/// The bytes of a list are not kept: of a list of addresses its set is, of a filter or a route the answer's text.
+///
+/// ```text
+/// new(Union), read("10.0.0.0/9\n"), read("10.128.0.0/9\n"), answer(): "10.0.0.0/8\n"
+/// ```
+#[derive(Drop)]
+pub struct Session {
+    work: Work,
+    reading: Reading,
+    sets: Vec<IpSet>,
+    table: RouteTable<()>,
+    text: String,
+}
+
+/// The grammar of the entries.
+fn grammar_of(work: Work) -> Grammar
+    ensures { result ≡ work_grammar work }
+{
+    match work {
+        Work::Combine(request) => request.grammar,
+        Work::Ask(_, grammar) => grammar,
+    }
+}
+
+/// Whether the work takes this number of lists.
+fn takes(work: Work, count: usize) -> bool
+    ensures { IsTrue result ↔ TakesCount work count }
+{
+    match work {
+        Work::Combine(request) => request.operation.takes(count),
+        Work::Ask(query, _) => count == query.count(),
+    }
+}
+
+/// Whether the work is the complement for the families of the list.
+fn is_named_complement(work: Work) -> bool
+    ensures { IsTrue result ↔ IsNamedComplement work }
+{
+    match work {
+        Work::Combine(request) => match request.operation {
+            Operation::Complement(Families::Named) => true,
+            _ => false,
+        },
+        Work::Ask(_, _) => false,
+    }
+}
+
+/// Whether there is one set, and it has no address.
+fn is_one_empty(sets: &[IpSet]) -> bool
+    ensures { (set : IpSet) → sets.now ≡ set ∷ [] → IsTrue result ↔ HasNoAddress set }
+{
+    match sets {
+        [set] => set.is_empty(),
+        _ => false,
+    }
+}
+
+/// Whether the complement is asked for the families of a list without an address.
+fn has_no_family(work: Work, sets: &[IpSet]) -> bool
+    ensures yes { IsTrue result → IsNamedComplement work
+        × ((set : IpSet) → sets.now ≡ set ∷ [] → HasNoAddress set) }
+    ensures no { result ≡ false → IsNamedComplement work → (set : IpSet) → sets.now ≡ set ∷ []
+        → ¬ (HasNoAddress set) }
+{
+    is_named_complement(work) && is_one_empty(sets)
+}
+
+/// Puts a set behind the others. Fails if memory runs out.
+fn keep(sets: &mut Vec<IpSet>, set: IpSet) -> Result<(), AllocError>
+    ensures { OnOk result (sets.new.items ≡ sets.old.items ++ set ∷ []) }
+{
+    sets.push(set)?;
+    Ok(())
+}
+
+/// The text of the set that the operation makes of the sets.
+fn combined_text(alloc: Global, request: Request, sets: &[IpSet]) -> Result<String, AllocError>
+    ensures { IfOk result (λ text. (entries : List (List ListEntry)) → HaveMembers sets.now entries
+        → IsSetText request.form (IsInResult IsInEntries request.operation entries) (string_bytes text)) }
+{
+    let set = combined(alloc, request.operation, sets)?;
+    set_text(alloc, request.form, &set)
+}
+
+/// The counts of the one set.
+fn count_text(alloc: Global, sets: &[IpSet]) -> Result<String, AllocError>
+    ensures { IfOk result (λ text. (entries : List ListEntry) → HaveMembers sets.now (entries ∷ [])
+        → IsCountsLine (IsInEntries entries) (string_bytes text)) }
+{
+    let [set] = sets else {
+        return Err(AllocError);
+    };
+    counts_text(alloc, set)
+}
+
+/// What differs between the two sets.
+fn compare_text(alloc: Global, sets: &[IpSet]) -> Result<String, AllocError>
+    ensures { IfOk result (λ text. (first second : List ListEntry) → HaveMembers sets.now (first ∷ second ∷ [])
+        → IsComparison (IsInEntries first) (IsInEntries second) (string_bytes text)) }
+{
+    let [first, second] = sets else {
+        return Err(AllocError);
+    };
+    comparison_text(alloc, first, second)
+}
+
+/// The text of the answer. Of a filter and a route it is the text that reading made.
+fn text_of(alloc: Global, work: Work, sets: &[IpSet], text: String) -> Result<String, AllocError>
+    ensures { IfOk result (λ answer. IsTextFor work sets.now (string_bytes text) (string_bytes answer)) }
+{
+    match work {
+        Work::Combine(request) => combined_text(alloc, request, sets),
+        Work::Ask(Query::Count, _) => count_text(alloc, sets),
+        Work::Ask(Query::Compare, _) => compare_text(alloc, sets),
+        Work::Ask(Query::Filter(_), _) => Ok(text),
+        Work::Ask(Query::Route, _) => Ok(text),
+    }
+}
+
+impl Session {
+    ghost use Rattle.netset_lib.specs.Sessions.{WereRead, ReadsNext, IsState, IsFilterState, IsRouteState};
+
+    /// Returns a session that has read no list. Fails if memory runs out.
+    pub fn new(alloc: Global, work: Work) -> Result<Session, AllocError>
+        ensures { IfOk result (WereRead work []) }
+    {
+        Ok(Session {
+            work,
+            reading: Reading::new(alloc, grammar_of(work))?,
+            sets: Vec::new(alloc),
+            table: RouteTable::from_routes(alloc, Vec::new(alloc))?,
+            text: String::new(alloc),
+        })
+    }
+
+    /// Returns what is asked of the lists.
+    pub fn work(&self) -> Work
+        ensures { (work : Work) → (lists : List (List ℕ)) → WereRead work lists self.now → result ≡ work }
+    {
+        self.work
+    }
+
+    /// Reads the next list into a set.
+    fn read_into_sets<R: Read>(&mut self, input: &mut R) -> Result<(), ReadFailure>
+        ensures { OnOk result (ReadsNext (λ s entries. HaveMembers s.sets.items entries)
+            (R.remaining input.old) (R.remaining input.new) self.old self.new) }
+    {
+        let set = read_set(&mut self.reading, input)?;
+        Ok(keep(&mut self.sets, set)?)
+    }
+
+    /// Reads the next list of a filter: the first into a set, and the second into the text of the answer.
+    fn read_filter<R: Read>(&mut self, side: Side, input: &mut R) -> Result<(), ReadFailure>
+        ensures { OnOk result (ReadsNext (IsFilterState side)
+            (R.remaining input.old) (R.remaining input.new) self.old self.new) }
+    {
+        match self.reading.lines.list {
+            0 => {
+                let alloc = self.reading.lines.alloc;
+                let set = read_set(&mut self.reading, input)?;
+                let wanted = side_set(alloc, side, set)?;
+                Ok(keep(&mut self.sets, wanted)?)
+            }
+            1 => {
+                let [set] = self.sets.as_slice() else {
+                    return Err(ReadFailure::Memory);
+                };
+                self.text = read_filtered(&mut self.reading, input, set)?;
+                Ok(())
+            }
+            _ => {
+                let _ = read_set(&mut self.reading, input)?;
+                Ok(())
+            }
+        }
+    }
+
+    /// Reads the next list of a route: the first into a table, and the second into the text of the answer.
+    fn read_route<R: Read>(&mut self, input: &mut R) -> Result<(), ReadFailure>
+        ensures { OnOk result (ReadsNext IsRouteState
+            (R.remaining input.old) (R.remaining input.new) self.old self.new) }
+    {
+        match self.reading.lines.list {
+            0 => self.table = read_table(&mut self.reading, input)?,
+            1 => self.text = read_routed(&mut self.reading, input, &self.table)?,
+            _ => {
+                let _ = read_set(&mut self.reading, input)?;
+            }
+        }
+        Ok(())
+    }
+
+    /// Reads the next list as the work asks.
+    fn read_next<R: Read>(&mut self, input: &mut R) -> Result<(), ReadFailure>
+        ensures { OnOk result (ReadsNext (IsState self.old.work)
+            (R.remaining input.old) (R.remaining input.new) self.old self.new) }
+    {
+        match self.work {
+            Work::Ask(Query::Filter(side), _) => self.read_filter(side, input),
+            Work::Ask(Query::Route, _) => self.read_route(input),
+            Work::Ask(Query::Count, _) => self.read_into_sets(input),
+            Work::Ask(Query::Compare, _) => self.read_into_sets(input),
+            Work::Combine(_) => self.read_into_sets(input),
+        }
+    }
+
+    /// Reads the next list up to its end.
+    ///
+    /// A list has an entry a line. Blanks around an entry do not count, nor do a comment, a carriage return at the end
+    /// of a line, lines that contain nothing else, and a byte order mark at the start. A comment begins at "#", or at
+    /// ";" at the start of the line or after a blank. A line that is not an entry is no error here: `answer` reports
+    /// it. A line that has an entry before the ";", and whose comment has an entry as its first word, is not an entry.
+    pub fn read<R: Read>(&mut self, input: &mut R) -> Result<(), ReadFailure>
+        ensures { OnOk result ((work : Work) → (lists : List (List ℕ)) → WereRead work lists self.old
+            → ((bytes : List ℕ) × GaveWhole (R.remaining input.old) (R.remaining input.new) bytes
+            × WereRead work (lists ++ bytes ∷ []) self.new)) }
+    {
+        self.read_next(input)
+    }
+
+    /// Returns the answer over the lists that were read.
+    ///
+    /// The error is `Count` if the work takes another number of lists; `Refused` if lines are not entries, with the
+    /// first ten of these and their number; `NoFamily` for the complement of a list without entries, if no family is
+    /// chosen; and `Memory` if memory runs out.
+    ///
+    /// ```text
+    /// Difference of "10.0.0.0/8 # ours\n" and "10.0.0.0-10.127.255.255\r\n":  "10.128.0.0/9\n"
+    /// Union of "10.0.0.0/33\n":                                               Refused, of list 0 line 1
+    /// ```
+    pub fn answer(self) -> Result<String, Failure>
+        ensures answer { IfOk result (λ text. (work : Work) → (lists : List (List ℕ)) → WereRead work lists self
+            → IsWorkAnswer work lists (string_bytes text)) }
+        ensures failure { IfErr result (λ failure. (work : Work) → (lists : List (List ℕ)) → WereRead work lists self
+            → IsWorkFailure work lists failure) }
+        ensures count { (work : Work) → (lists : List (List ℕ)) → WereRead work lists self
+            → ¬ (TakesCount work (length lists)) → result ≡ Err Failure.Count }
+    {
+        let Session {
+            work,
+            reading,
+            sets,
+            text,
+            ..
+        } = self;
+        let lines = reading.lines;
+        if !takes(work, lines.list) {
+            return Err(Failure::Count);
+        }
+        let alloc = lines.alloc;
+        let refused = lines.refused;
+        if refused.count != 0 {
+            return Err(Failure::Refused(refused));
+        }
+        if has_no_family(work, sets.as_slice()) {
+            return Err(Failure::NoFamily);
+        }
+        match text_of(alloc, work, sets.as_slice(), text) {
+            Ok(text) => Ok(text),
+            Err(_) => Err(Failure::Memory),
+        }
+    }
+}
