@@ -33,7 +33,7 @@ NOT_A_WARNING = "aggregate: maximum prefix length permitted will be 32\n"
 # the columns there with our time and the times of iprange, the Rust crate and netaddr. A ratio as column gives the
 # time by division: ("ours over it", COLUMN).
 SPEED = [
-    ("program `ipnet`: all IPv4 ranges of `tor-geoipdb`, written as networks", "The program", "all IPv4 ranges",
+    ("our program `ipnet`: all IPv4 ranges of `tor-geoipdb`, written as networks", "The program", "all IPv4 ranges",
      "lines", "processor ms", ("ours over it", "processor, of iprange's"),
      ("ours over it", "processor, of the original's"), None),
     ("`netset union`: the same addresses, as ranges `FIRST-LAST`", "netset", "union: all ranges, as FIRST-LAST",
@@ -70,7 +70,7 @@ def cell(command, lines):
                          stderr=subprocess.PIPE, universal_newlines=True)
     parts = ["`%s`" % line for line in ran.stdout.split("\n") if line]
     if len(parts) > MOST_LINES:
-        parts = ["prints %d lines: %s, %s, .., %s" % (len(parts), *parts[:2], parts[-1])]
+        parts = ["%d lines: %s, %s, .., %s" % (len(parts), *parts[:2], parts[-1])]
     if "netaddr" in command[-1] and ran.returncode:
         return "exception"
     if ran.returncode:
