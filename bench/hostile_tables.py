@@ -6,7 +6,7 @@ import os
 import shutil
 import tempfile
 
-from cells import head, mebibytes, milliseconds, ratio, row, shown
+from cells import MIB, head, mebibytes, milliseconds, ratio, row, shown
 from programs import floor, note
 from turns import Command, measured, with_lengths
 
@@ -119,10 +119,11 @@ def folder_of_lists():
         shutil.rmtree(folder)
 
 
-def exponent(sizes, figures, least=0):
-    """The exponent of growth between the second and the third size, of what is above the least figure."""
-    grown = [max(figure - least, 1) for figure in figures[1:]]
-    return math.log(grown[1] / grown[0]) / math.log(sizes[2] / sizes[1])
+def exponent(sizes, figures, least=0, small=1):
+    """The exponent of growth between the second and the third size, of what is above the least figure. 0 if at the
+    third size that is small."""
+    second, third = (max(figure - least, 1) for figure in figures[1:])
+    return math.log(third / second) / math.log(sizes[2] / sizes[1]) if third >= small else 0
 
 
 def hostile(bench):
@@ -160,7 +161,7 @@ def hostile_row(bench, name, make, is_read, status):
         sizes.append(size)
         times.append(found.least("ours", "processor"))
         peaks.append(found.peak("ours"))
-    of_time, of_memory = exponent(sizes, times), exponent(sizes, peaks, floor())
+    of_time, of_memory = exponent(sizes, times), exponent(sizes, peaks, floor(), MIB)
     theirs = found.least("iprange", "processor")
     row(name, format(sizes[-1], ","), milliseconds(times[-1]), shown(of_time),
         bench.judged("time of " + name, of_time, TIME), milliseconds(theirs), shown(ratio(times[-1], theirs)),

@@ -1,6 +1,5 @@
 -- The texts of IPv4 networks, addresses and ranges, as entries.
-use Rattle.std.proofs.Common.{◌≡◌, ℕ, ◌+◌, ◌<◌, ◌≤◌, List, [], ◌∷◌, ◌++◌, length, get_or, take, refl, sym, ap, ◌∙◌}
-use Rattle.std.proofs.Common.{subst, inl, inr, append_assoc, get_or-drop}
+use Rattle.std.proofs.Common.{◌≡◌, ℕ, ◌≤◌, List, [], ◌∷◌, ◌++◌, refl, sym, subst, inl, inr, append_assoc}
 use Rattle.std.specs.Net.Addr.{ipv4_octets, ipv4_bits}
 use Rattle.std.specs.declared.net.ipv4_addr.Ipv4Addr.{Ipv4Addr}
 use Rattle.std.specs.declared.net.ip_addr.IpAddr.TheVariants as Ip
@@ -13,7 +12,7 @@ use Rattle.ipnet.specs.Numerals.{IsOctet}
 use Rattle.ipnet.specs.declared.net.IpNet.TheVariants as Nets
 use Rattle.ipnet.specs.declared.net.ipv4_net.Ipv4Net.{Ipv4Net}
 use Rattle.ipnet.specs.declared.parser.Grammar.TheVariants.{Strict}
-use Rattle.ipnet_text.proofs.FrontTexts.{prefix_len_short, rest_from, rest_is, take_cut}
+use Rattle.ipnet_text.proofs.FrontTexts.{prefix_len_short}
 use Rattle.netset_lib.specs.declared.entry.Entry.TheVariants as Entries
 use Rattle.netset_lib.specs.Entries.{IsAddressText, IsEntryText}
 use Rattle.netset_lib.specs.EntryOf.{entry_range}
@@ -66,9 +65,3 @@ range_entry text last a b h k ordered =
         addresses = record { same_family = refl; ordered = ordered; is = refl };
       };
     }
-
--- the byte at an index behind a cut
-pub past_cut : (bytes : List ℕ) (i n end : ℕ) → get_or (rest_from (i + 1) bytes) n 0 ≡ end
-    → get_or bytes (i + 1 + n) 0 ≡ end
-past_cut bytes i n end is =
-    sym (get_or-drop (i + 1) bytes n 0) ∙ ap (λ z. get_or z n 0) (sym (rest_is (i + 1) bytes)) ∙ is

@@ -76,7 +76,10 @@ fn strict_line<'a>(bytes: &'a [u8]) -> Option<(FoundEntry<'a>, &'a [u8])>
     ensures shorter { IfSome result (λ line. length line.1.now < length bytes.now) }
 {
     let (entry, len) = front_entry(bytes)?;
-    let text = str::from_utf8(&bytes[..len]).ok()?;
+    let text = match str::from_utf8(&bytes[..len]) {
+        Ok(text) => text,
+        Err(_) => return None,
+    };
     Some((FoundEntry { text, entry }, &bytes[len + 1..]))
 }
 
@@ -195,7 +198,7 @@ pub(crate) struct LineReader {
 }
 
 impl LineReader {
-    ghost use Rattle.netset_lib.specs.Reading.{ReadsLines};
+    ghost use Rattle.netset_lib.specs.Reading.{ReadsLines, ReadsFirst};
     ghost use Rattle.netset_lib.specs.RefusedLines.{AreRefused};
 
     /// A reader of the first list.
@@ -244,7 +247,7 @@ impl LineReader {
     }
 
     /// Reads a line that is an entry and nothing else: hands the entry over. Fails as `read_line` does.
-    fn push_entry<M, C: Collector<M>>(
+    fn push_found<M, C: Collector<M>>(
         &mut self,
         found: FoundEntry,
         collector: &C,
@@ -262,6 +265,27 @@ impl LineReader {
         collector.push(made, found.text, found.entry)
     }
 
+    /// Reads the first line of bytes that are not empty, and returns the bytes after its end. Fails as `read_line`
+    /// does.
+    fn read_first<'a, M, C: Collector<M>>(
+        &mut self,
+        bytes: &'a [u8],
+        collector: &C,
+        made: &mut M,
+    ) -> Result<&'a [u8], AllocError>
+        requires { 0 < length bytes.now }
+        ensures { IfOk result (λ rest. ReadsFirst self.old self.new bytes.now rest.now
+            (C.is_made collector.now made.old) (C.is_made collector.now made.new)) }
+    {
+        if let Some((found, after)) = front_line(bytes, self.grammar) {
+            self.push_found(found, collector, made)?;
+            return Ok(after);
+        }
+        let (line, after) = first_line(bytes);
+        self.read_line(line, collector, made)?;
+        Ok(after)
+    }
+
     /// Reads the lines of the bytes. Fails as `read_line` does.
     pub(crate) fn read<M, C: Collector<M>>(
         &mut self,
@@ -274,14 +298,8 @@ impl LineReader {
     {
         let mut rest = bytes;
         'lines: while !rest.is_empty() {
-            if let Some((found, after)) = front_line(rest, self.grammar) {
-                self.push_entry(found, collector, made)?;
-                rest = after;
-            } else {
-                let (line, after) = first_line(rest);
-                self.read_line(line, collector, made)?;
-                rest = after;
-            }
+            let after = self.read_first(rest, collector, made)?;
+            rest = after;
         }
         Ok(())
     }
