@@ -291,8 +291,9 @@ address_at bytes i j k l a b c d long few₁ few₂ few₃ is_a end_a is_b end_b
     ∷ take l fourth)) =
     ap (λ n. take n bytes) size ∙ one ∙ ap (λ z. take i bytes ++ 46 ∷ z) (two ∙ ap (λ z. take j second ++ 46 ∷ z) three)
     in
-    subst (λ z. IsIpv4AddressText Strict z (a ∷ b ∷ c ∷ d ∷ [])) (sym text)
-    (octet_first (take i bytes) (take j second ++ 46 ∷ (take k third ++ 46 ∷ take l fourth)) a b (c ∷ d ∷ []) is_a
-    (octet_first (take j second) (take k third ++ 46 ∷ take l fourth) b c (d ∷ []) is_b
-    (octet_first (take k third) (take l fourth) c d [] is_c is_d)),
-    refl)
+    subst (λ z. IsIpv4AddressText Strict z (a ∷ b ∷ c ∷ d ∷ [])) (sym text) (
+      octet_first (take i bytes) (take j second ++ 46 ∷ (take k third ++ 46 ∷ take l fourth)) a b (c ∷ d ∷ []) is_a
+          (octet_first (take j second) (take k third ++ 46 ∷ take l fourth) b c (d ∷ []) is_b
+          (octet_first (take k third) (take l fourth) c d [] is_c is_d)),
+      refl,
+    )

@@ -61,7 +61,7 @@ last_fails p xs h =
 
 untrimmed : (p : ℕ → Bool) (text : List ℕ) → prefix_len p text ≡ 0 → suffix_len p text ≡ 0
     → take (length (drop (prefix_len p text) text) - suffix_len p (drop (prefix_len p text) text))
-        (drop (prefix_len p text) text) ≡ text
+    (drop (prefix_len p text) text) ≡ text
 untrimmed p text none nor =
     let whole : drop (prefix_len p text) text ≡ text = ap (λ k. drop k text) none in
     ap (λ rest. take (length rest - suffix_len p rest) rest) whole
