@@ -50,7 +50,7 @@ plain_entry grammar text range (inr h) =
 
 first_fails : (p : ℕ → Bool) (xs : List ℕ) → (0 < length xs → p (get_or xs 0 0) ≡ false) → prefix_len p xs ≡ 0
 first_fails p [] h = refl
-first_fails p (x ∷ xs) h = rw (h (omega arith))
+first_fails p (x ∷ xs) h = let fails : p x ≡ false = h (omega arith) in rw fails
 
 last_fails : (p : ℕ → Bool) (xs : List ℕ) → ((i : ℕ) → i < length xs → p (get_or xs i 0) ≡ false)
     → suffix_len p xs ≡ 0
@@ -97,17 +97,20 @@ plain_contents grammar text h =
 
 -- ---- the line at the front of bytes
 
--- it ends at the first newline, since no byte of it is one
+-- no byte of it is a newline
+no_newline : (bytes : List ℕ) (n : ℕ) → n < length bytes → All IsPlainByte (take n bytes) → (k : ℕ) → k < n
+    → get_or bytes k 0 ≡ 10 → ⊥
+no_newline bytes n within h k less e =
+    let size : length (take n bytes) ≡ n = length-take-le n bytes (omega (arith, within)) in
+    let plain = All-get_or IsPlainByte (take n bytes) k 0 (omega (arith, less, size)) h in
+    let clash : true ≡ false =
+    sym (ap is_ascii_whitespace (get_or-take n bytes k 0 less ∙ e)) ∙ plain.no_blank in
+    absurd cc
+
+-- so it ends at the first newline
 pub plain_line : (bytes : List ℕ) (n : ℕ) → n < length bytes → get_or bytes n 0 ≡ 10 → All IsPlainByte (take n bytes)
     → lines_of bytes ≡ take n bytes ∷ lines_of (rest_from (n + 1) bytes)
 plain_line bytes n within found h =
-    let size : length (take n bytes) ≡ n = length-take-le n bytes (omega (arith, within)) in
-    let before : (k : ℕ) → k < n → get_or bytes k 0 ≡ 10 → ⊥ =
-    λ k less e.
-    let plain = All-get_or IsPlainByte (take n bytes) k 0 (omega (arith, less, size)) h in
-    let clash : true ≡ false =
-    subst (λ b. is_ascii_whitespace b ≡ false) (get_or-take n bytes k 0 less ∙ e) plain.no_blank in
-    absurd cc in
-    lines_at bytes n within before found
+    lines_at bytes n within (no_newline bytes n within h) found
     ∙ ap (λ k. take n bytes ∷ lines_of (drop k bytes)) (sym (add-one n))
     ∙ ap (λ z. take n bytes ∷ lines_of z) (sym (rest_is (n + 1) bytes))
