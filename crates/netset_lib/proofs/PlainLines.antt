@@ -13,7 +13,7 @@ use Rattle.ipnet.proofs.LineLaws.{lines_at}
 use Rattle.ipnet_text.proofs.FrontTexts.{rest_from, rest_is}
 use Rattle.ipnet_text.proofs.LineCuts.{empty_text}
 use Rattle.netset_lib.specs.Entries.{IsEntryText}
-use Rattle.netset_lib.specs.Lists.{without_blanks, IsContents, Opens, HidesEntry}
+use Rattle.netset_lib.specs.Lists.{without_blanks, IsContents, Opens}
 use Rattle.netset_lib.proofs.AddressBytes.{IsAddressByte, IsPlainByte}
 use Rattle.netset_lib.proofs.EntryTexts.{address_bytes, network_cut}
 

@@ -255,7 +255,7 @@ impl LineReader {
     ) -> Result<(), AllocError>
         requires entry { IsEntryText self.old.grammar found.text.now (found_range found) }
         requires some { 0 < length found.text.now }
-        ensures { OnOk result (ReadsLines self.old self.new (found.text.now ∷ [])
+        ensures { OnOk result (ReadsLines self.old self.new (found.entry.text.now ∷ [])
             (C.is_made collector.now made.old) (C.is_made collector.now made.new)) }
     {
         let Some(number) = self.line.checked_add(1) else {

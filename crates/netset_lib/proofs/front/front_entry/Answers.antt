@@ -1,5 +1,5 @@
 -- What comes before the byte after the address, and what comes after it (`FrontEntries`).
-use Rattle.std.proofs.Common.{◌+◌, ◌<◌, ◌++◌, ◌∷◌, length, take, sym, subst, arith}
+use Rattle.std.proofs.Common.{◌<◌, length, take, sym, subst, arith}
 use Rattle.ipnet.specs.declared.parser.Grammar.TheVariants.{Strict}
 use Rattle.ipnet_text.proofs.FrontTexts.{take_cut}
 use Rattle.netset_lib.specs.Entries.{IsEntryText}
