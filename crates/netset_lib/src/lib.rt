@@ -7,6 +7,7 @@ pub mod command;
 mod counts;
 pub mod entry;
 pub mod filter;
+mod front;
 mod list;
 pub mod operation;
 pub mod program;
