@@ -41,7 +41,7 @@ class Runs:
         self.asked.append((label, words, folder, wanted))
 
     def add(self, label, command, lists, wanted):
-        """Asks for a run of the command on these lists, each a text or bytes, and for one with a comment behind each."""
+        """Asks for a run of the command on these lists, each a text or bytes, and for one with a comment after each."""
         words = command.split() + list(NAMES[:len(lists)])
         label = "{}: {}".format(command, label)
         longer = [bytes_of(text) + BEHIND for text in lists]
