@@ -41,7 +41,6 @@ impl Entry {
     /// 10.0.0.1               10.0.0.1 and 10.0.0.1
     /// 10.0.0.1-10.0.0.9      10.0.0.1 and 10.0.0.9
     /// ```
-    #[inline]
     pub fn ends(self) -> (IpAddr, IpAddr)
         ensures first { ip_address result.0 ≡ address_at (entry_range self).family (entry_range self).start }
         ensures last { ip_address result.1 ≡ address_at (entry_range self).family (entry_range self).end }
