@@ -5,6 +5,8 @@ pub mod RefusalLaws
 pub mod RangeCovers
 pub mod ListLines
 pub mod CauseTexts
+pub mod LengthTexts
+pub mod PlanLaws
 pub mod ListReading
 pub mod WindowReading
 pub mod OperationLaws
