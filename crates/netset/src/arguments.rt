@@ -99,17 +99,12 @@ fn others<'a>(alloc: Global) -> Arg<'a> {
 }
 
 /// A command with the flags that all commands have.
-<<<<<<< HEAD
 pub fn command_of<'a>(
     alloc: Global,
     name: &'a str,
     about: &'a str,
 ) -> Result<Command<'a>, AllocError> {
-    let legacy = "Accept leading zeros (numbers stay decimal), and a :: for no group";
-=======
-fn command_of<'a>(alloc: Global, name: &'a str, about: &'a str) -> Result<Command<'a>, AllocError> {
     let legacy = "Accept leading zeros (numbers stay decimal), and a :: that replaces no group";
->>>>>>> main
     let progress = "Print the number of bytes read from each list to standard error";
     Command::new(alloc, name)
         .about(about)
