@@ -63,11 +63,16 @@ fn session_of(
     Ok(session)
 }
 
-/// Reads the lists, and runs the operation or the query.
+/// Runs the command of the parsed words, and returns its exit status.
 fn called(rt: &HostRuntime, matches: &ArgMatches) -> u8 {
-    if let Some((PLAN, matches)) = matches.subcommand() {
-        return planned(rt, matches);
+    match matches.subcommand() {
+        Some((name, matches)) if name == PLAN => planned(rt, matches),
+        _ => answered(rt, matches),
     }
+}
+
+/// Reads the lists, and runs the operation or the query.
+fn answered(rt: &HostRuntime, matches: &ArgMatches) -> u8 {
     let Call {
         work,
         names,

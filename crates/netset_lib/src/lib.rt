@@ -27,7 +27,7 @@ pub use entry::Entry;
 pub use filter::Side;
 pub use length::read_length;
 pub use operation::{Families, Operation};
-pub use plan::{PlanFailure, plan_text};
+pub use plan::{PlanFailure, PlanRequest, plan_text};
 pub use plan_program::run_plan;
 pub use program::run;
 pub use query::Query;

@@ -178,43 +178,51 @@ fn plans(rt: HostRuntime) -> Result<(), Fail> {
     Ok(())
 }
 
+/// The outcome of the set of two lists: the number of its IPv4 addresses, or `None` if the error is `Count`.
+fn set_count(alloc: Global, work: Work) -> Result<Option<u64>, Failure> {
+    let Ok(first) = Vec::from_slice(alloc, b"10.0.0.0/30\n") else {
+        return Err(Failure::Memory);
+    };
+    let Ok(second) = Vec::from_slice(alloc, b"10.0.0.3\n::1\n") else {
+        return Err(Failure::Memory);
+    };
+    let lists = [first, second];
+    let Ok(session) = session_of(alloc, work, &lists) else {
+        return Err(Failure::Memory);
+    };
+    match session.into_set() {
+        Ok(set) => Ok(Some(set.ipv4_count())),
+        Err(Failure::Count) => Ok(None),
+        Err(failure) => Err(failure),
+    }
+}
+
+/// The work of an operation.
+fn work_of(operation: Operation) -> Work {
+    Work::Combine(Request {
+        operation,
+        grammar: Grammar::Strict,
+        form: Form::Ranges,
+    })
+}
+
 #[test]
 fn sets(rt: HostRuntime) -> Result<(), Fail> {
-    let alloc = rt.alloc();
-    let lists = [
-        Vec::from_slice(alloc, b"10.0.0.0/30\n")?,
-        Vec::from_slice(alloc, b"10.0.0.3\n::1\n")?,
-    ];
-    let of = |operation| {
-        Work::Combine(Request {
-            operation,
-            grammar: Grammar::Strict,
-            form: Form::Ranges,
-        })
-    };
+    let complement = Operation::Complement(Families::Ipv4);
     // label, the work, the number of IPv4 addresses of the set, or whether the error is `Count`
     let rows = [
-        ("union", of(Operation::Union), Some(4)),
-        ("intersection", of(Operation::Intersection), Some(1)),
-        ("difference", of(Operation::Difference), Some(3)),
-        (
-            "complement of two",
-            of(Operation::Complement(Families::Ipv4)),
-            None,
-        ),
+        ("union", work_of(Operation::Union), Some(4)),
+        ("intersection", work_of(Operation::Intersection), Some(1)),
+        ("difference", work_of(Operation::Difference), Some(3)),
+        ("complement of two", work_of(complement), None),
         ("a query", Work::Ask(Query::Compare, Grammar::Strict), None),
     ];
     for (label, work, wanted) in rows {
-        let Ok(session) = session_of(alloc, work, &lists) else {
-            return Err(Fail);
-        };
-        match session.into_set() {
-            Ok(set) => assert!(&rt; wanted == Some(set.ipv4_count()), "sets: {label}: count"),
-            Err(failure) => {
-                let is_count = matches!(failure, Failure::Count);
-                assert!(&rt; wanted.is_none() && is_count, "sets: {label}: error");
-            }
-        }
+        let found = set_count(rt.alloc(), work);
+        assert!(&rt;
+            matches!(found, Ok(count) if count == wanted),
+            "sets: {label}"
+        );
     }
     Ok(())
 }
