@@ -1,4 +1,5 @@
 //! The command line: the lists to read, and what to do with them.
+use crate::plan::plan_command;
 use crate::version::VERSION;
 use clap::{Arg, ArgAction, ArgMatches, Command, Error};
 use netset_lib::{Flags, Query, Work};
@@ -9,9 +10,10 @@ use std::io::ErrorKind;
 /// The name of standard input.
 pub const STANDARD_INPUT: &str = "-";
 
-/// The ids of the list that is named first, and of those after it.
-const FIRST: &str = "first";
+/// The id of the list that is named first.
+pub const FIRST: &str = "first";
 
+/// The id of the lists after the first.
 const OTHERS: &str = "others";
 
 /// The parsed command line.
@@ -54,7 +56,7 @@ pub fn words(rt: &HostRuntime) -> Result<Vec<String>, ArgumentFailure> {
 }
 
 /// The flag with this name and help text.
-fn flag<'a>(alloc: Global, name: &'a str, help: &'a str) -> Arg<'a> {
+pub fn flag<'a>(alloc: Global, name: &'a str, help: &'a str) -> Arg<'a> {
     Arg::new(alloc, name)
         .long(name)
         .action(ArgAction::SetTrue)
@@ -62,7 +64,7 @@ fn flag<'a>(alloc: Global, name: &'a str, help: &'a str) -> Arg<'a> {
 }
 
 /// The first list.
-fn first<'a>(alloc: Global, name: &'a str, help: &'a str) -> Arg<'a> {
+pub fn first<'a>(alloc: Global, name: &'a str, help: &'a str) -> Arg<'a> {
     Arg::new(alloc, FIRST)
         .value_name(name)
         .required(true)
@@ -97,7 +99,11 @@ fn others<'a>(alloc: Global) -> Arg<'a> {
 }
 
 /// A command with the flags that all commands have.
-fn command_of<'a>(alloc: Global, name: &'a str, about: &'a str) -> Result<Command<'a>, AllocError> {
+pub fn command_of<'a>(
+    alloc: Global,
+    name: &'a str,
+    about: &'a str,
+) -> Result<Command<'a>, AllocError> {
     let legacy = "Accept leading zeros (numbers stay decimal), and a :: that replaces no group";
     let progress = "Print the number of bytes read from each list to standard error";
     Command::new(alloc, name)
@@ -186,7 +192,8 @@ fn with_queries<'a>(alloc: Global, command: Command<'a>) -> Result<Command<'a>, 
             command_of(alloc, "route", route)?
                 .arg(first(alloc, "TABLE", "The list of networks to choose from"))?
                 .arg(other(alloc, asked).required(false))?,
-        )
+        )?
+        .subcommand(plan_command(alloc)?)
 }
 
 /// The command line of the program.
@@ -205,7 +212,7 @@ pub fn matches_of<'a>(alloc: Global, words: &'a [String]) -> Result<ArgMatches<'
 }
 
 /// The flags that are set. A flag that the command does not have is not set.
-fn flags_of(matches: &ArgMatches) -> Flags {
+pub fn flags_of(matches: &ArgMatches) -> Flags {
     Flags {
         legacy: matches.get_flag("legacy"),
         ranges: matches.get_flag("ranges"),

@@ -7,6 +7,8 @@ pub mod ListLines
 pub mod FrontEntries
 pub mod PlainLines
 pub mod CauseTexts
+pub mod LengthTexts
+pub mod PlanLaws
 pub mod ListReading
 pub mod WindowReading
 pub mod OperationLaws

@@ -89,7 +89,7 @@ fn status_of(work: Work, text: &str) -> u8
 }
 
 /// Writes the bytes and flushes the writer, and returns whether both succeeded.
-fn written<W: Write>(out: &mut W, bytes: &[u8]) -> bool
+pub(crate) fn written<W: Write>(out: &mut W, bytes: &[u8]) -> bool
     ensures whole { IsTrue result → Appends (W.contents out.old) (W.contents out.new) bytes.now }
     ensures front { (front : List ℕ) × StartsWith bytes.now front
         × Appends (W.contents out.old) (W.contents out.new) front }
@@ -98,7 +98,11 @@ fn written<W: Write>(out: &mut W, bytes: &[u8]) -> bool
 }
 
 /// Reports the failure.
-fn report<X: Write>(faults: &mut X, names: &[&str], failure: &Failure) -> io::Result<()> {
+pub(crate) fn report<X: Write>(
+    faults: &mut X,
+    names: &[&str],
+    failure: &Failure,
+) -> io::Result<()> {
     match failure {
         Failure::Count => writeln!(faults, "netset: another number of lists is wanted"),
         Failure::NoFamily => writeln!(faults, "{NO_FAMILY}"),
