@@ -7,6 +7,7 @@ pub mod command;
 mod counts;
 pub mod entry;
 pub mod filter;
+mod front;
 pub mod length;
 mod list;
 pub mod operation;
