@@ -12,6 +12,7 @@ from turns import Command, measured, with_lengths
 
 LAST_IPV4, LAST_IPV6 = (1 << 32) - 1, (1 << 128) - 1
 SIZES = 20_000, 80_000, 320_000  # lines
+SIZES_OF_FILES = 62_500, 250_000, 1_000_000
 LINES_OF_A_FILE = 100
 
 # The bounds on the exponents: a sort takes a logarithm more than linear time.
@@ -139,7 +140,7 @@ def hostile(bench):
     for name, make, is_read, status in kinds:
         hostile_row(bench, name, lambda folder, count, make=make: one_file(folder, make(count)), is_read, status)
     if many:
-        hostile_row(bench, FILES, files_of, True, 0)
+        hostile_row(bench, FILES, files_of, True, 0, SIZES_OF_FILES)
 
 
 def one_file(folder, lines):
@@ -148,10 +149,10 @@ def one_file(folder, lines):
     return [path], size
 
 
-def hostile_row(bench, name, make, is_read, status):
+def hostile_row(bench, name, make, is_read, status, counts=SIZES):
     sizes, times, peaks = [], [], []
     with_iprange = is_read and bench.programs.iprange
-    for count in SIZES:
+    for count in counts:
         with folder_of_lists() as folder:
             paths, size = make(folder, count)
             commands = {"ours": Command([bench.programs.our_netset, "union", *paths], status)}

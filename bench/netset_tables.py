@@ -48,7 +48,7 @@ CALLS = [
     Call("difference: countries 1 to 40, and 21 to 60", [FIRST, SECOND],
          "difference {0} {1}", "{0} --except {1}", bound=0.35, peak=12),
     Call("difference: all ranges, and countries 1 to 40", [ALL, FIRST],
-         "difference {0} {1}", "{0} --except {1}", bound=0.35, peak=12),
+         "difference {0} {1}", "{0} --except {1}"),
     Call("symmetric difference: countries 1 to 40, and 21 to 60", [FIRST, SECOND],
          "symmetric-difference {0} {1}", "{0} --diff {1}", models.shortest, other_status=1, bound=0.35, peak=12),
     # iprange reads all addresses from standard input
@@ -57,7 +57,7 @@ CALLS = [
     Call("count: countries 1 to 40, both families", ["countries_both"], "count {0}", model=models.count),
     Call("compare: countries 1 to 40, and 21 to 60", [FIRST, SECOND],
          "compare {0} {1}", "{0} --diff {1} --quiet", None, models.compare, 1, 1),
-    Call("filter: 10^6 addresses by countries 1 to 40", [FIRST, "addresses_ipv4"],
+    Call("filter, beside grepcidr: 10^6 addresses by countries 1 to 40", [FIRST, "addresses_ipv4"],
          "filter {0} {1}", "-f {0} {1}", unchanged, bound=0.3, peak=12, program="grepcidr"),
     Call("filter: of all ranges, those in countries 1 to 40", [FIRST, ALL],
          "filter {0} {1}", model=models.inside),
@@ -84,8 +84,8 @@ def netset(bench):
     if not bench.programs.our_netset:
         note("there is no crate netset: its table is left out")
         return
-    head("netset", "call: lists", "lines", "processor ms", "the other's ms", "of the other's", "bound", "peak MiB",
-         "bound", "the other's", "answers")
+    head("netset", "call: lists", "lines", "processor ms", "iprange's ms", "of iprange's", "bound", "peak MiB", "bound",
+         "iprange's", "answers")
     for call in wanted:
         try:
             netset_row(bench, call, [file_of(named) for named in call.lists])

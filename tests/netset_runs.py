@@ -11,7 +11,7 @@ RUNS_AT_ONCE = 4
 NAMES = "abcd"
 
 # A line that changes no answer. Lines that are not near the end of a list are read by another reader.
-BEHIND = b"\n# a comment that is longer than the longest range of two IPv4 addresses\n"
+AFTER = b"\n# a comment that is longer than the longest range of two IPv4 addresses\n"
 
 
 def bytes_of(text):
@@ -41,12 +41,12 @@ class Runs:
         self.asked.append((label, words, folder, wanted))
 
     def add(self, label, command, lists, wanted):
-        """Asks for a run of the command on these lists, each a text or bytes, and for one with a comment behind each."""
+        """Asks for a run of the command on these lists, each a text or bytes, and for one with a comment after each."""
         words = command.split() + list(NAMES[:len(lists)])
         label = "{}: {}".format(command, label)
-        longer = [bytes_of(text) + BEHIND for text in lists]
+        longer = [bytes_of(text) + AFTER for text in lists]
         self.add_files(label, words, self.folder(lists), wanted)
-        self.add_files(label + ", comments behind", words, self.folder(longer), wanted)
+        self.add_files(label + ", comments after the lists", words, self.folder(longer), wanted)
 
     def made(self, asked):
         """What a run ended with: status, standard output and standard error."""
