@@ -56,6 +56,7 @@ none_same : (A B : Address → Type 0) → ((x : Address) → A x ↔ B x) → (
 none_same A B same families lengths h = record {
   family = h.family;
   chosen = family_same A B same families h.family h.chosen;
+  fits = h.fits;
   none = λ place. h.none (CanPlace-more (requests_of h.family lengths) B A (λ x b. (same x).1 b) place);
 }
 

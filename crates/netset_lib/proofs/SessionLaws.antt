@@ -16,7 +16,7 @@ use Rattle.netset_lib.specs.declared.command.Work.TheVariants.{Combine, Ask}
 use Rattle.netset_lib.specs.declared.filter.Side.{Side}
 use Rattle.netset_lib.specs.declared.query.Query.TheVariants.{Count, Compare, Filter, Route}
 use Rattle.netset_lib.specs.declared.session.Session.{Session}
-use Rattle.netset_lib.specs.Answers.{AreListsRead, IsSetText, IsAnswer, IsNamedComplement}
+use Rattle.netset_lib.specs.Answers.{AreListsRead, IsSetText, IsAnswer, IsNamedComplement, IsNamedOperation}
 use Rattle.netset_lib.specs.Counts.{IsCountsLine, IsComparison, IsCountAnswer, IsCompareAnswer}
 use Rattle.netset_lib.specs.Filtering.{AreFiltered}
 use Rattle.netset_lib.specs.Filters.{IsOnSide, IsFilterAnswer}
@@ -119,24 +119,6 @@ pub operation_taken : (q request : Request) (lists : List (List ℕ)) (s : Sessi
 operation_taken q request lists s h is taken =
     (count_taken (Combine request) lists s h).0 (subst (λ w. TakesCount w s.reading.lines.list) (sym is) taken)
 
-pub result_right : (q request : Request) (lists : List (List ℕ)) (s : Session) (set : IpSet)
-    → WereRead (Combine request) lists s → s.work ≡ Combine q → s.reading.lines.refused.count ≡ 0
-    → ((x : Address) → IsMember set x ↔ IsInResult IsMember q.operation s.sets.items x) → IsResultSet request lists set
-result_right q request lists s set h is none same =
-    let both : Combine q ≡ Combine request = sym is ∙ h.same_work in
-    let one : q ≡ request = cc in
-    let of : (x : Address) → IsMember set x ↔ IsInResult IsMember request.operation s.sets.items x =
-    subst (λ (r : Request). (x : Address) → IsMember set x ↔ IsInResult IsMember r.operation s.sets.items x) one same in
-    record {
-      entries = h.entries;
-      read = subst (AreListsRead request.grammar 0 lists h.entries)
-          (none_of_length h.refusals (sym h.kept.count ∙ none)) h.read;
-      right = λ x. (
-        λ m. (result_same x request.operation s.sets.items h.entries h.state).0 ((of x).0 m),
-        λ k. (of x).1 ((result_same x request.operation s.sets.items h.entries h.state).1 k),
-      );
-    }
-
 -- the entries of each list have an address
 second_some : (grammar : Grammar) (lists : List (List ℕ)) (first second : List ListEntry)
     → AreListsRead grammar 0 lists (first ∷ second ∷ []) [] → All HasSome second
@@ -213,6 +195,30 @@ family_some (set ∷ []) entries members some e =
     some set refl (none_inside set (subst (HaveMembers (set ∷ [])) e members).0)
 family_some (set ∷ other ∷ sets) entries members some e =
     absurd (subst (HaveMembers (set ∷ other ∷ sets)) e members).1
+
+-- the set that an operation makes of the sets is that of its result on the lists
+pub result_right : (q request : Request) (lists : List (List ℕ)) (s : Session) (set : IpSet)
+    → WereRead (Combine request) lists s → s.work ≡ Combine q → s.reading.lines.refused.count ≡ 0
+    → ((x : Address) → IsMember set x ↔ IsInResult IsMember q.operation s.sets.items x)
+    → IsCountFor request.operation (length lists)
+    → (IsNamedOperation request.operation → (one : IpSet) → s.sets.items ≡ one ∷ [] → ¬ (HasNoAddress one))
+    → IsResultSet request lists set
+result_right q request lists s set h is none same count some =
+    let both : Combine q ≡ Combine request = sym is ∙ h.same_work in
+    let one : q ≡ request = cc in
+    let of : (x : Address) → IsMember set x ↔ IsInResult IsMember request.operation s.sets.items x =
+    subst (λ (r : Request). (x : Address) → IsMember set x ↔ IsInResult IsMember r.operation s.sets.items x) one same in
+    record {
+      count = count;
+      entries = h.entries;
+      read = subst (AreListsRead request.grammar 0 lists h.entries)
+          (none_of_length h.refusals (sym h.kept.count ∙ none)) h.read;
+      right = λ x. (
+        λ m. (result_same x request.operation s.sets.items h.entries h.state).0 ((of x).0 m),
+        λ k. (of x).1 ((result_same x request.operation s.sets.items h.entries h.state).1 k),
+      );
+      named = λ is_named. family_some s.sets.items h.entries h.state (some is_named);
+    }
 
 module _ (lists : List (List ℕ)) (s : Session) (answer : List ℕ) where
   right_by_entries : (work : Work) (entries : List (List ListEntry)) → TakesCount work (length lists)

@@ -1,5 +1,5 @@
 -- Plans of networks in the addresses of lists: their text, and why there is none.
-use Rattle.std.specs.Prelude.{◌≡◌, ◌↔◌, ◌<◌, ◌⊎◌, ◌++◌, ℕ, List, [], Any, codes, Option}
+use Rattle.std.specs.Prelude.{◌≡◌, ◌≢◌, ◌↔◌, ◌<◌, ◌≤◌, ◌⊎◌, ◌++◌, ◌∷◌, ℕ, List, [], Any, All, length, codes, Option}
 use Rattle.std.specs.Io.{StartsWith}
 use Rattle.std.specs.Io.KnownBytes.{Appends}
 use Rattle.ipnet_base.specs.Address.{Family, IPv4, IPv6, width, Address}
@@ -16,9 +16,9 @@ use Rattle.netset_lib.specs.declared.operation.Families.{Families}
 use Rattle.netset_lib.specs.declared.operation.Families.TheVariants.{Named, Ipv4, Ipv6, Both}
 use Rattle.netset_lib.specs.declared.plan.PlanFailure.{PlanFailure}
 use Rattle.netset_lib.specs.declared.plan.PlanFailure.TheVariants as Faults
-use Rattle.netset_lib.specs.Answers.{AreListsRead}
+use Rattle.netset_lib.specs.Answers.{AreListsRead, IsNamedOperation}
 use Rattle.netset_lib.specs.Lists.{ListEntry, IsInEntries}
-use Rattle.netset_lib.specs.Operations.{IsInResult}
+use Rattle.netset_lib.specs.Operations.{IsInResult, IsCountFor}
 
 -- The text of a prefix length: a decimal number of at most 128 without leading zeros, after "/" or without it.
 -- Example: `24` and `/24` are 24; `024`, `+24`, `129` and the empty text are not prefix lengths.
@@ -54,6 +54,7 @@ pub record IsPlanText (InSet : Address → Type 0) (families : Families) (length
 pub record HasNoPlacement (InSet : Address → Type 0) (families : Families) (lengths : List ℕ) : Type 0 where
   pub family : Family
   pub chosen : IsPlanFamily families InSet family
+  pub fits : All (λ p. p ≤ width family) lengths
   pub none : ¬ (CanPlace InSet (requests_of family lengths))
 
 -- The prefix length `p` is one of the lengths, and is above `greatest`, the width of the family.
@@ -72,11 +73,14 @@ IsPlanFailure InSet families lengths (Faults.PrefixLen p greatest) = HasLongLeng
 IsPlanFailure InSet families lengths Faults.NoPlacement = HasNoPlacement InSet families lengths
 IsPlanFailure InSet families lengths Faults.Memory = Unit {0}
 
--- No line is refused, and the set has the addresses of the operation's result.
+-- No line is refused, and the set has the addresses of the operation's result. A complement for the families of the
+-- list has a set only if the list has an entry.
 pub record IsResultSet (request : Request) (lists : List (List ℕ)) (set : IpSet) : Type 0 where
+  pub count : IsCountFor request.operation (length lists)
   pub entries : List (List ListEntry)
   pub read : AreListsRead request.grammar 0 lists entries []
   pub right : (x : Address) → IsMember set x ↔ IsInResult IsInEntries request.operation entries x
+  pub named : IsNamedOperation request.operation → entries ≢ [] ∷ []
 
 -- No line is refused, and `Holds` is true of the addresses of the operation's result.
 pub record HoldsOfResult (request : Request) (lists : List (List ℕ)) (Holds : (Address → Type 0) → Type 0) : Type 0

@@ -1,5 +1,5 @@
 //! Plans: networks of given prefix lengths in the addresses of a set, as text.
-ghost use Rattle.std.specs.Prelude.{◌≡◌, ◌↔◌, ◌<◌, ◌≤◌, Any, IfOk, IsOk, IfErr, Err, IfSome, IfNone};
+ghost use Rattle.std.specs.Prelude.{◌≡◌, ◌↔◌, ◌<◌, ◌≤◌, Any, All, IfOk, IsOk, IfErr, Err, IfSome, IfNone};
 ghost use Rattle.std.specs.Prelude.{map, string_bytes};
 ghost use Rattle.ipnet_base.specs.Address.{Family, width};
 ghost use Rattle.ipnet.specs.NetworkOf.{ip_network};
@@ -117,6 +117,7 @@ fn plan_family(families: Families, set: &IpSet) -> Option<PlanFamily>
 /// The first of the lengths that is above `greatest`.
 fn first_above(lengths: &[u8], greatest: u8) -> Option<u8>
     ensures some { IfSome result (λ p. Any (λ q. q ≡ p) lengths.now × (greatest < p)) }
+    ensures none { IfNone result (All (λ q. q ≤ greatest) lengths.now) }
 {
     lengths
         .iter()

@@ -1,9 +1,11 @@
 //! The addresses that an operation makes of the lists of a session.
-ghost use Rattle.std.specs.Prelude.{List, ℕ, IfOk, IfErr};
+ghost use Rattle.std.specs.Prelude.{◌≡◌, List, ℕ, IfOk, IfErr, Err, length};
 ghost use Rattle.netset_lib.specs.PlanAnswers.{IsResultSet};
-ghost use Rattle.netset_lib.specs.Replies.{IsWorkFailure};
+ghost use Rattle.netset_lib.specs.Replies.{IsWorkFailure, TakesCount};
+ghost use Rattle.ipnet.specs.declared.parser.Grammar.{Grammar};
+ghost use Rattle.netset_lib.specs.declared.query.Query.{Query};
 ghost use Rattle.netset_lib.specs.declared.answer.Request.{Request};
-ghost use Rattle.netset_lib.specs.declared.command.Work.TheVariants.{Combine};
+ghost use Rattle.netset_lib.specs.declared.command.Work.TheVariants.{Combine, Ask};
 
 use super::{Session, has_no_family};
 use crate::answer::Failure;
@@ -32,6 +34,10 @@ impl Session {
             → WereRead (Combine request) lists self → IsResultSet request lists set) }
         ensures failure { IfErr result (λ failure. (request : Request) → (lists : List (List ℕ))
             → WereRead (Combine request) lists self → IsWorkFailure (Combine request) lists failure) }
+        ensures count { (request : Request) → (lists : List (List ℕ)) → WereRead (Combine request) lists self
+            → ¬ (TakesCount (Combine request) (length lists)) → result ≡ Err Failure.Count }
+        ensures query { (query : Query) → (grammar : Grammar) → (lists : List (List ℕ))
+            → WereRead (Ask query grammar) lists self → result ≡ Err Failure.Count }
     {
         let Session {
             work,

@@ -22,3 +22,6 @@ returns-in-Ok-clause-set c = λ request lists h.
     result_right q request lists s c.in-Ok.set h c.in-Combine.is c.if-refused-ne0.false
     (subst (λ z. (x : Address) → IsMember c.in-Ok.set x ↔ IsInResult IsMember q.operation z x)
     c.as_slice-2.ensures.value c.in-Ok.ensures)
+    (operation_taken q request lists s h c.in-Combine.is (c.if-not-takes.ensures.0 refl))
+    (λ named set is. c.has_no_family.ensures.no c.if-has_no_family.false
+    (subst IsNamedComplement (sym h.same_work ∙ c.in-Combine.is) named) set (c.as_slice.ensures.value ∙ is))
