@@ -1,4 +1,5 @@
 //! The command line: the lists to read, and what to do with them.
+use crate::rules::with_rules;
 use crate::version::VERSION;
 use clap::{Arg, ArgAction, ArgMatches, Command, Error};
 use netset_lib::{Flags, Query, Work};
@@ -10,7 +11,7 @@ use std::io::ErrorKind;
 pub const STANDARD_INPUT: &str = "-";
 
 /// The ids of the list that is named first, and of those after it.
-const FIRST: &str = "first";
+pub const FIRST: &str = "first";
 
 const OTHERS: &str = "others";
 
@@ -54,7 +55,7 @@ pub fn words(rt: &HostRuntime) -> Result<Vec<String>, ArgumentFailure> {
 }
 
 /// The flag with this name and help text.
-fn flag<'a>(alloc: Global, name: &'a str, help: &'a str) -> Arg<'a> {
+pub fn flag<'a>(alloc: Global, name: &'a str, help: &'a str) -> Arg<'a> {
     Arg::new(alloc, name)
         .long(name)
         .action(ArgAction::SetTrue)
@@ -62,7 +63,7 @@ fn flag<'a>(alloc: Global, name: &'a str, help: &'a str) -> Arg<'a> {
 }
 
 /// The first list.
-fn first<'a>(alloc: Global, name: &'a str, help: &'a str) -> Arg<'a> {
+pub fn first<'a>(alloc: Global, name: &'a str, help: &'a str) -> Arg<'a> {
     Arg::new(alloc, FIRST)
         .value_name(name)
         .required(true)
@@ -97,7 +98,11 @@ fn others<'a>(alloc: Global) -> Arg<'a> {
 }
 
 /// A command with the flags that all commands have.
-fn command_of<'a>(alloc: Global, name: &'a str, about: &'a str) -> Result<Command<'a>, AllocError> {
+pub fn command_of<'a>(
+    alloc: Global,
+    name: &'a str,
+    about: &'a str,
+) -> Result<Command<'a>, AllocError> {
     let legacy = "Accept leading zeros (numbers stay decimal), and a :: for no group";
     let progress = "Print the number of bytes read from each list to standard error";
     Command::new(alloc, name)
@@ -107,7 +112,7 @@ fn command_of<'a>(alloc: Global, name: &'a str, about: &'a str) -> Result<Comman
 }
 
 /// The command of an operation; its lists are still missing.
-fn operation_command<'a>(
+pub fn operation_command<'a>(
     alloc: Global,
     name: &'a str,
     about: &'a str,
@@ -196,7 +201,10 @@ fn command<'a>(alloc: Global) -> Result<Command<'a>, AllocError> {
         .about("Combines and compares lists of networks, addresses and ranges")
         .subcommand_required(true)
         .arg_required_else_help(true);
-    with_queries(alloc, with_operations(alloc, command)?)
+    with_rules(
+        alloc,
+        with_queries(alloc, with_operations(alloc, command)?)?,
+    )
 }
 
 /// Parses the command line. The error is the text to print: help, the version, or what is wrong.

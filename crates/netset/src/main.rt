@@ -3,10 +3,12 @@
 
 mod arguments;
 mod lists;
+mod rules;
 mod version;
 
 use crate::arguments::{ArgumentFailure, Call, call_of, matches_of, words};
 use crate::lists::read_lists;
+use crate::rules::run_if_rules;
 use clap::ArgMatches;
 use netset_lib::{Session, run};
 use std::io::Write;
@@ -46,6 +48,9 @@ fn refused(rt: &HostRuntime, failure: ArgumentFailure) -> u8 {
 
 /// Reads the lists, and runs the operation or the query.
 fn called(rt: &HostRuntime, matches: &ArgMatches) -> u8 {
+    if let Some(status) = run_if_rules(rt, matches) {
+        return status;
+    }
     let Call {
         work,
         names,

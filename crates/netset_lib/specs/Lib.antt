@@ -19,3 +19,7 @@ pub mod Replies
 pub mod Runs
 pub mod Commands
 pub mod Sessions
+pub mod RuleLines
+pub mod RuleContentsOf
+pub mod RuleSteps
+pub mod RuleAnswers
