@@ -1,6 +1,7 @@
 -- The lines of an answer over a list of rules, and what an empty answer means.
 use Rattle.std.proofs.Common.{◌≡◌, ◌≢◌, ◌<◌, ◌⊎◌, ℕ, ◌+◌, zero, suc, List, [], ◌∷◌, ◌++◌, length, map, drop, refl}
-use Rattle.std.proofs.Common.{sym, ap, ◌∙◌, arith, inl, inr, subst, append_assoc, append-nil, codes, decimal, get_or, ◌≤◌, Any}
+use Rattle.std.proofs.Common.{sym, ap, ◌∙◌, arith, inl, inr, subst, append_assoc, append-nil, codes, decimal, get_or}
+use Rattle.std.proofs.Common.{◌≤◌, Any}
 use Rattle.std.proofs.lemmas.List.{length-append, length-map, drop_more, drop_all}
 use Rattle.ipnet.specs.declared.parser.Grammar.{Grammar}
 use Rattle.ipnet_rules.specs.declared.unreached.Unreached.{Unreached}

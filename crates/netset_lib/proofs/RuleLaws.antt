@@ -66,7 +66,8 @@ pub up_to_more : (old mid new : RuleReader) (bytes rest line after : List ℕ) �
     → lines_of rest ≡ line ∷ lines_of after → AddsLine mid new line → AreReadUpTo old new bytes after
 up_to_more old mid new bytes rest line after h cut one = record {
   same_grammar = one.same_grammar ∙ h.same_grammar;
-  whole = λ more (texts, are, read).
+  whole = λ more read_after.
+      let (texts, are, read) = read_after in
       let (whole, wide, same) = text_more old.grammar (mid.number + 1) one.text texts (contents_of mid.list)
       (contents_of new.list) more
       (subst (λ g. AddsText g (mid.number + 1) one.text (contents_of mid.list) (contents_of new.list)) h.same_grammar

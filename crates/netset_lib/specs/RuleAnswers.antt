@@ -1,4 +1,4 @@
--- What is asked of a list of rules, and the answers.
+-- The queries on a list of rules, and the answers.
 use Rattle.std.specs.Prelude.{◌≡◌, ◌≢◌, ℕ, zero, suc, List, [], ◌∷◌, ◌++◌, codes, decimal, map, Option}
 use Rattle.std.specs.Io.{StartsWith}
 use Rattle.std.specs.Io.KnownBytes.{Appends}

@@ -47,8 +47,8 @@ pub record IsRuleText (grammar : Grammar) (text : List ℕ) (rule : Rule) : Type
 abbrev pub IsNoRule : Grammar → List ℕ → Type 0
 IsNoRule grammar text = (rule : Rule) → ¬ (IsRuleText grammar text rule)
 
--- Why a text is not a rule. Of the four examples: the first word is not that of an action; nothing follows the word;
--- more than one word follows; the word that follows is not an entry, here since the prefix length is above 32.
+-- Why a text is not a rule. The causes of the four examples above are: no action has the first word; nothing follows
+-- it; more than one word follows it; the word that follows it is not an entry, and the prefix length is above 32.
 abbrev pub IsRuleCause : Grammar → List ℕ → RuleCause → Type 0
 IsRuleCause grammar text UnknownWord = ¬ (HasRuleWord text)
 IsRuleCause grammar text NoEntry = HasRuleWord text × (after_word text ≡ [])
@@ -68,7 +68,7 @@ pub record RuleRefusal : Type 0 where
   pub text : List ℕ
   pub cause : RuleCause
 
--- What a list of rules contains: the rules, the line of each rule, and the refused lines, all in order.
+-- The contents of a list of rules: the rules, the line of each rule, and the refused lines, all in order.
 pub record RuleContents : Type 0 where
   pub rules : List Rule
   pub lines : List LineOfRule

@@ -1,4 +1,4 @@
-//! What is asked of a list of rules: the addresses that it permits, or the rules that decide on no address.
+//! The queries on a list of rules: the addresses that it permits, and the rules that decide on no address.
 ghost use Rattle.std.specs.Prelude.{◌≡◌, ◌++◌, List, ℕ, IfOk, IfErr, OnOk, map};
 ghost use Rattle.ipnet.specs.declared.parser.Grammar.{Grammar};
 ghost use Rattle.netset_lib.specs.Answers.{IsSetText};
@@ -12,10 +12,10 @@ use crate::rule_list::{RefusedRule, RuleLine, RuleList};
 use ipnet_rules::{Action, Rule, Rules, Unreached};
 use std::alloc::{AllocError, Global};
 
-/// What is asked of a list of rules.
+/// A query on a list of rules.
 #[derive(Clone, Copy, Debug, PartialEq, Eq)]
 pub enum RuleQuery {
-    /// The addresses that the rules permit, in this form. The action is that of the addresses that no rule matches.
+    /// The addresses that the rules permit, in this form. The action is for the addresses that no rule matches.
     Permitted(Action, Form),
     /// The rules that decide on no address, and the earlier rules that decide on their addresses.
     Unreached,

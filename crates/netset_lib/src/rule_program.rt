@@ -29,7 +29,7 @@ const MOST_LINES: usize = 10;
 /// | 1 | nothing | the unreached rules were asked for, and there are some; `out` has them |
 /// | 0 | nothing | otherwise |
 ///
-/// Of a text of more than 100 bytes the first 100 are reported, and `..` after them.
+/// If a text has more than 100 bytes, the first 100 are reported, and `..` after them.
 ///
 /// ```text
 /// Permitted(Deny, Networks) of "permit 10.0.0.0/9\npermit 10.128.0.0/9\n":  status 0, and out gets "10.0.0.0/8\n"

@@ -1,10 +1,11 @@
 //! Lists of rules: their lines, the answers, the reports, and refused memory.
-use ipnet::Grammar;
+use ipnet::{Grammar, IpAddr, Ipv4Addr, Ipv6Addr};
 use ipnet_rules::{Action, Rules};
-use netset_lib::{Form, RuleFailure, RuleList, RuleQuery, run_rules};
+use netset_lib::{Form, ReadFailure, RuleFailure, RuleList, RuleQuery, run_rules};
 use std::alloc::Global;
+use std::io::ErrorKind;
 use std::test::Fail;
-use test_support::devices::{ArrayWriter, ByteReader};
+use test_support::devices::{ArrayWriter, ByteReader, NEVER, WHOLE};
 use test_support::memory::{Outcome, grow_stack, is_refused};
 
 /// The addresses that are permitted, as networks, if the default is to deny.
@@ -173,22 +174,57 @@ fn statuses(rt: HostRuntime) -> Result<(), Fail> {
 #[test]
 fn library(rt: HostRuntime) -> Result<(), Fail> {
     let alloc = rt.alloc();
-    let read = RuleList::read(
-        alloc,
-        &mut ByteReader::whole(LIST.as_bytes()),
-        Grammar::Strict,
-    );
-    let Ok(RuleList { rules, lines, .. }) = read else {
-        return Err(Fail);
-    };
+    let list = RuleList::from_bytes(alloc, LIST.as_bytes(), Grammar::Strict)?;
+    let lines = list.lines.as_slice();
+    assert!(&rt; lines.len() == 5, "lines");
     let numbers = [lines[0].number, lines[1].number, lines[4].number];
     assert!(&rt; numbers == [1, 3, 7], "numbers of lines");
     let rules = Rules {
-        list: rules,
+        list: list.rules,
         default: Action::Deny,
     };
-    let verdict = |text: &str| text.parse().map(|ip| rules.verdict(&ip));
-    assert!(&rt; verdict("10.0.1.200") == Ok(Action::Deny), "denied");
-    assert!(&rt; verdict("fd00::f") == Ok(Action::Permit), "permitted");
+    let denied = IpAddr::V4(Ipv4Addr::new(10, 0, 1, 200));
+    assert!(&rt; rules.verdict(&denied) == Action::Deny, "denied");
+    let permitted = IpAddr::V6(Ipv6Addr::new(0xfd00, 0, 0, 0, 0, 0, 0, 15));
+    assert!(&rt; rules.verdict(&permitted) == Action::Permit, "permitted");
+    Ok(())
+}
+
+#[test]
+fn readers(rt: HostRuntime) -> Result<(), Fail> {
+    let alloc = rt.alloc();
+    let bytes = b"permit 10.0.0.1\ndeny x\n".as_slice();
+    // label, bytes at a time, where it fails, why, the failure
+    let rows = [
+        ("at once", WHOLE, NEVER, ErrorKind::Other, None),
+        ("byte by byte", 1, NEVER, ErrorKind::Other, None),
+        (
+            "fails",
+            1,
+            5,
+            ErrorKind::Other,
+            Some(ReadFailure::Unreadable),
+        ),
+        (
+            "out of memory",
+            1,
+            5,
+            ErrorKind::OutOfMemory,
+            Some(ReadFailure::Memory),
+        ),
+    ];
+    for (label, most, fails_at, kind, failure) in rows {
+        let mut input = ByteReader::new(bytes, most, fails_at, kind);
+        match RuleList::read(alloc, &mut input, Grammar::Strict) {
+            Ok(list) => {
+                assert!(&rt; failure.is_none(), "{label}: no failure");
+                assert!(&rt;
+                    list.rules.len() == 1 && list.refused.len() == 1,
+                    "{label}: lines"
+                );
+            }
+            Err(found) => assert!(&rt; failure == Some(found), "{label}: failure"),
+        }
+    }
     Ok(())
 }
