@@ -86,7 +86,7 @@ static inline int decimal(const unsigned char *text, uint32_t *value) {
     return 3;
 }
 
-/* Reads an IPv4 network and its newline. The place behind it, or NULL. */
+/* Reads an IPv4 network and its newline. Returns the place after it, or NULL. */
 static inline const unsigned char *line4(const unsigned char *text) {
     uint32_t addr = 0, value, len;
     int digits;
@@ -102,7 +102,7 @@ static inline const unsigned char *line4(const unsigned char *text) {
     return text + digits + 1;
 }
 
-/* Reads an IPv6 network and its newline. The place behind it, or NULL. */
+/* Reads an IPv6 network and its newline. Returns the place after it, or NULL. */
 static const unsigned char *line6(const unsigned char *text) {
     uint32_t groups[8], len;
     int count = 0, gap = -1, digits;

@@ -15,6 +15,9 @@ PROVED = "fn c::%s: proved"
 WAITS = "note: `search` has not tried the goals of `c::%s`, which wait for a callee's proof\n" \
     "fn c::%s: not proved: it calls `c::%s`, which is not proved"
 UNREAD = "src/lib.rt:1:1: error: expected an expression"
+LEFT = "note: src/lib.rt:1:1: it is not proved that what the function ensures holds when it returns (`%s`)\n"
+# the goals that edits name, by their function
+CLAUSES = {"k": "returns-then-wrong-clause-value"}
 
 # label; what each check prints, by the edits that it is of; the edits that fail; the number of checks
 CASES = [
@@ -31,6 +34,10 @@ CASES = [
       "g h": GOAL % "g" + "\n" + GOAL % "h"}, [], 2),
     ("an edit that is refused only through another function, also alone, fails",
      {"f g": GOAL % "f" + "\n" + WAITS % ("g", "g", "f"), "g": WAITS % ("g", "g", "f")}, ["g"], 2),
+    ("an edit that a type refuses passes if the goal is left open that it names",
+     {"k": LEFT % "returns-then-wrong-clause-value" + TYPE % ("k", "k")}, [], 1),
+    ("an edit that a type refuses fails if only another goal is left open",
+     {"k": LEFT % "returns-2-clause-value" + TYPE % ("k", "k")}, ["k"], 1),
 ]
 
 
@@ -42,6 +49,8 @@ class Named:
     def __init__(self, name):
         self.name = name
         self.notes = {"at": "c::" + name}
+        if name in CLAUSES:
+            self.notes["clause"] = CLAUSES[name]
 
 
 class Written:

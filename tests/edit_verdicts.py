@@ -9,6 +9,8 @@ VERDICT = re.compile(r"fn (\S+): (.*)")
 OPEN = re.compile(r"did not prove ((?:`[^`]*`(?:, )?)+)")
 WAITS = re.compile(r"note: `search` has not tried the goals of `([^`]*)`, which wait for a callee's proof")
 FALSE = re.compile(r"note: .*\(`([^`]*)`\); the facts known there allow values at which this goal is false")
+# a goal that is left open; the last name in parentheses
+LEFT = re.compile(r"note: src/\S+: (?:.* )?(?:is not proved|found no proof)\b.*\(`([^`]*)`\)")
 ERROR = re.compile(r"(?:\./)?((?:proofs|src|specs)/\S+?):\d+:\d+: error: (?:`([^`]*)`: )?(.*)")
 # an error that only repeats another one
 REPEATED = re.compile(r"declarations? that depends? on|was rejected|was not admitted")
@@ -50,20 +52,24 @@ class Report:
         self.verdicts = {}
         self.errors = collections.defaultdict(list)
         self.false_goals = collections.defaultdict(set)
+        self.left_goals = collections.defaultdict(set)
         self.waiting = {found[1] for found in map(WAITS.match, self.lines) if found}
         self.is_proved = any(line.startswith("logic=proved") for line in self.lines)
         self.read()
 
     def read(self):
-        false = set()
+        false, left = set(), set()
         for at, line in enumerate(self.lines):
-            verdict, error, goal = VERDICT.match(line), ERROR.match(line), FALSE.match(line)
+            verdict, error, goal, open_goal = (it.match(line) for it in (VERDICT, ERROR, FALSE, LEFT))
             if verdict:
                 self.verdicts[verdict[1]] = verdict[2]
                 self.false_goals[verdict[1]] |= false
-                false = set()
+                self.left_goals[verdict[1]] |= left
+                false, left = set(), set()
             elif goal:
                 false.add(goal[1])
+            elif open_goal:
+                left.add(open_goal[1])
             elif error:
                 more = self.lines[at + 1] if at + 1 < len(self.lines) else ""
                 self.errors[owner(error[1])].append((error[1], error[2] or "", error[3], more))
@@ -76,8 +82,9 @@ class Report:
                     return path + ": " + message
         return None if self.verdicts else "\n".join(self.lines[-6:])
 
-    def refusal_of(self, function):
-        """Why the check refuses the function, or that it does not."""
+    def refusal_of(self, function, goal=None):
+        """Why the check refuses the function, or that it does not. If its hand proof has errors, only this goal counts
+        as left open: others may have lost an answer that has another name now."""
         text = self.verdicts.get(function)
         if text is None:
             return Refusal("missing", function)
@@ -88,6 +95,8 @@ class Report:
         false = self.false_goals[function]
         if goals or false:
             return Refusal("goal", text, {*goals, *false}, bool(false))
+        if goal in self.left_goals[function]:
+            return Refusal("goal", text, [goal])
         errors = [it for it in self.errors["/".join(function.split("::")[1:])] if not REPEATED.search(it[2])]
         kinds = [(kind_of(message, more), goal, message) for _, goal, message, more in errors]
         for kind in ("goal", "type", "name", "other"):

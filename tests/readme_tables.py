@@ -33,16 +33,16 @@ NOT_A_WARNING = "aggregate: maximum prefix length permitted will be 32\n"
 # the columns there with our time and the times of iprange, the Rust crate and netaddr. A ratio as column gives the
 # time by division: ("ours over it", COLUMN).
 SPEED = [
-    ("aggregate all IPv4 ranges of `tor-geoipdb`, written as networks (Dewikonu: program `ipnet`)", "The program",
-     "all IPv4 ranges", "lines", "processor ms", ("ours over it", "processor, of iprange's"), ("ours over it", "processor, of the original's"),
-     None),
-    ("`netset union`, the same addresses, as ranges `FIRST-LAST`", "netset", "union: all ranges, as FIRST-LAST",
+    ("our program `ipnet`: all IPv4 ranges of `tor-geoipdb`, written as networks", "The program", "all IPv4 ranges",
+     "lines", "processor ms", ("ours over it", "processor, of iprange's"),
+     ("ours over it", "processor, of the original's"), None),
+    ("`netset union`: the same addresses, as ranges `FIRST-LAST`", "netset", "union: all ranges, as FIRST-LAST",
      "lines", "processor ms", "iprange's ms", None, None),
-    ("`netset difference`, two lists, each of forty countries", "netset",
+    ("`netset difference`: two lists, each with the networks of forty countries", "netset",
      "difference: countries 1 to 40, and 21 to 60", "lines", "processor ms", "iprange's ms", None, None),
-    ("library call: `IpNet::aggregate`, random IPv4 networks", "Calls", "`IpNet::aggregate`, random IPv4", "items",
+    ("library call `IpNet::aggregate`: random IPv4 networks", "Calls", "`IpNet::aggregate`, random IPv4", "items",
      "ours ms", None, "original ms", None),
-    ("library call: union of two lists of networks", "Sets", "union, random_ipv4", "200,000", "ours ms", None,
+    ("library call for the union: two lists of networks", "Sets", "union, random_ipv4", "200,000", "ours ms", None,
      "original ms", "netaddr ms"),
 ]
 
@@ -70,7 +70,7 @@ def cell(command, lines):
                          stderr=subprocess.PIPE, universal_newlines=True)
     parts = ["`%s`" % line for line in ran.stdout.split("\n") if line]
     if len(parts) > MOST_LINES:
-        parts = ["prints %d lines: %s, %s, .., %s" % (len(parts), *parts[:2], parts[-1])]
+        parts = ["%d lines: %s, %s, .., %s" % (len(parts), *parts[:2], parts[-1])]
     if "netaddr" in command[-1] and ran.returncode:
         return "exception"
     if ran.returncode:

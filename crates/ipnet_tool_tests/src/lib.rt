@@ -1,11 +1,13 @@
 //! Tests of `ipnet_tool` that call the library: texts, the arguments of a test system, readers and writers that fail or
-//! move few bytes, and refused memory. They also test `test_support`.
+//! move few bytes, and refused memory. They also test `write_whole` of `ipnet_text` and `test_support`.
 #![tactic(auto)]
 
 #[cfg(test)]
 mod arguments;
 #[cfg(test)]
 mod memory;
+#[cfg(test)]
+mod output;
 #[cfg(test)]
 mod pieces;
 #[cfg(test)]

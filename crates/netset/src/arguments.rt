@@ -103,7 +103,7 @@ pub fn command_of<'a>(
     name: &'a str,
     about: &'a str,
 ) -> Result<Command<'a>, AllocError> {
-    let legacy = "Accept leading zeros (numbers stay decimal), and a :: for no group";
+    let legacy = "Accept leading zeros (numbers stay decimal), and a :: that replaces no group";
     let progress = "Print the number of bytes read from each list to standard error";
     Command::new(alloc, name)
         .about(about)

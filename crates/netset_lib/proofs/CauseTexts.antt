@@ -1,5 +1,5 @@
--- Why a text is no entry. A text with a cause in its parts is cut at "/" or at "-", at one place alone, and has one
--- address at most on each side of it. So it has one cause at most, and none if it is an entry of the legacy grammar.
+-- Why a text is not an entry. A text with a cause in its parts is cut at "/" or at "-", at only one place, and each
+-- side of it is at most one address. So it has at most one cause, and none if it is an entry of the legacy grammar.
 use Rattle.std.proofs.Common.{◌≡◌, ◌≢◌, ℕ, ◌<◌, ◌≤◌, ◌^◌, ◌⊎◌, List, [], ◌∷◌, ◌++◌, All, length, true, false}
 use Rattle.std.proofs.Common.{◌&&◌, refl, sym, ap, ◌∙◌, subst, arith, inl, inr, append_assoc, codes}
 use Rattle.std.proofs.Common.{Option, Some, None, IfSome, IfNone, Result, Err}
@@ -35,7 +35,7 @@ use Rattle.netset_lib.proofs.EntryTexts.{reads_some, reads_none, one_address, ad
 use Rattle.netset_lib.proofs.EntryTexts.{cut_no_address, with_32, with_length, without_length}
 use Rattle.netset_lib.proofs.ListLines.{ascii_cut, entry_utf8}
 
--- ---- digits alone, of a number above another
+-- ---- only digits, of a number above another
 
 same_digits : (ds : List ℕ) → list_all is_ascii_digit ds ≡ all_ascii_digits ds
 same_digits [] = refl
@@ -129,7 +129,7 @@ one_pair R Q text h k clash =
 
 -- ---- an entry has no cause in its parts
 
--- the texts of an address and a length are no network where the length is too long
+-- an address and a length that is too long are not a network
 long_at : (f g : Family) (a l address_text length_text : List ℕ) (x : Address) (n : ℕ) → IsTooLong f a l
     → (a ≡ address_text) × (l ≡ length_text) → IsAddressText Legacy address_text x → x.family ≡ g
     → digits_value 10 length_text ≡ n → n ≤ width g → ⊥
@@ -246,7 +246,7 @@ one_in_parts text TwoFamilies TwoFamilies h k = refl
 one_in_parts text TwoFamilies LegacyAlone h k = absurd k
 one_in_parts text LegacyAlone d h k = absurd h
 
--- a cause is in the parts of the text, or the legacy grammar alone has it as an entry
+-- a cause is in the parts of the text, or only the legacy grammar reads the text as an entry
 by_parts : (grammar : Grammar) (text : List ℕ) (cause : Cause) → IsCauseOf grammar text cause
     → IsCauseInParts text cause ⊎ ((cause ≡ LegacyAlone) × IsOfLegacyAlone grammar text)
 by_parts grammar text LengthAbove32 h = inl h
@@ -279,7 +279,7 @@ one_cause grammar text c d h k =
           ]
     ]
 
--- so the cause that holds is told, and no other
+-- so the result is the cause that holds, and no other
 told : (grammar : Grammar) (text : List ℕ) (o : Option Cause) → ReadsAs (λ cause. cause) (IsCauseOf grammar) text o
     → IsCauseTold grammar text o
 told grammar text (Some c) h = λ d. (
@@ -289,7 +289,7 @@ told grammar text (Some c) h = λ d. (
 told grammar text None h = λ d. (λ e. absurd cc, λ k. absurd (h.none.0 refl d k))
 
 module _ (grammar : Grammar) (text : List ℕ) where
-  -- of a text that is no entry of the legacy grammar
+  -- of a text that is not an entry of the legacy grammar
   pub told_parts : IsNoEntry Legacy text → (o : Option Cause) → ReadsAs (λ cause. cause) IsCauseInParts text o
       → IsCauseTold grammar text o
   told_parts none (Some c) h =
@@ -312,7 +312,7 @@ module _ (grammar : Grammar) (text : List ℕ) where
         | inr b ↦ b.1.no_entry other is
       ]))
 
-  -- of one that is an entry of the legacy grammar alone
+  -- of a text that is an entry only of the legacy grammar
   pub told_legacy : (range : AddressRange) → IsEntryText Legacy text range → IsNoEntry grammar text
       → IsCauseTold grammar text (Some LegacyAlone)
   told_legacy range legacy none =
@@ -320,7 +320,7 @@ module _ (grammar : Grammar) (text : List ℕ) where
       (reads_some (λ cause. cause) (IsCauseOf grammar) text LegacyAlone
       (record { no_entry = none; range = range; legacy = legacy }))
 
--- ---- a text with a cause is no entry
+-- ---- a text with a cause is not an entry
 
 -- what either grammar takes is taken by the legacy grammar
 legacy_network : (grammar : Grammar) (text : List ℕ) (n : Network) → IsNetworkText grammar text n
@@ -394,7 +394,7 @@ cause_utf8 grammar text LegacyAlone h = entry_utf8 Legacy text h.range h.legacy
 pub told_other_bytes : (grammar : Grammar) (text : List ℕ) → ¬ (IsUtf8 text) → IsCauseTold grammar text None
 told_other_bytes grammar text not cause = (λ e. absurd cc, λ k. absurd (not (cause_utf8 grammar text cause k)))
 
--- ---- a cause behind "/"
+-- ---- a cause after "/"
 
 long_in_network : (a l : List ℕ) (x : Address) (cause : Cause) → IsAddressText Legacy a x
     → IsCauseInLength x.family l cause → IsCauseInNetwork a l cause

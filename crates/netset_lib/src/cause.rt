@@ -40,8 +40,8 @@ pub enum Cause {
     /// Two addresses joined by "-", one of each family.
     #[error("the range has addresses of two families")]
     TwoFamilies,
-    /// An entry of the legacy grammar, which is none of the strict one.
-    #[error("a leading zero, or \"::\" for no group: only --legacy reads it")]
+    /// An entry of the legacy grammar that is not an entry of the strict grammar.
+    #[error("a leading zero, or a \"::\" that replaces no group: use --legacy to accept it")]
     LegacyAlone,
 }
 
@@ -65,7 +65,7 @@ fn writes_above(most: u32, text: &str) -> bool
     }
 }
 
-/// The cause in the length behind an address.
+/// The cause in the length after an address.
 fn cause_in_length(address: IpAddr, length: &str) -> Option<Cause>
     ensures some { IfSome result (IsCauseInLength (ip_address address).family length.now) }
     ensures none { IfNone result (¬ (WritesAbove (width (ip_address address).family) length.now)) }
@@ -154,8 +154,8 @@ fn cause_in_text(
 /// Why the whole text is not an entry in this grammar, or `None` if it is one or no cause can be named. Bytes that are
 /// not UTF-8 have none.
 ///
-/// `room` is where addresses are read: what it holds does not matter, and one `String` can serve many calls. The error
-/// is want of memory.
+/// Addresses are read into `room`. Its content does not matter, and one `String` can serve many calls. The error means
+/// that memory ran out.
 ///
 /// ```text
 /// 10.0.0.0/33                  Some(LengthAbove32)

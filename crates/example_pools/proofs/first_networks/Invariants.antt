@@ -1,4 +1,4 @@
--- What was taken stands before what is left of the walk, and each turn takes one network from that.
+-- The networks taken, then those left in the walk, are the whole walk. Each turn takes one network.
 use Rattle.std.proofs.Common.{◌≡◌, ◌≤◌, ◌++◌, length, map}
 use Rattle.ipnet.specs.NetworkOf.{ipv4_network}
 use Rattle.ipnet.specs.SubnetsLeft.{ipv4_subnets_left}
