@@ -10,11 +10,16 @@ use Rattle.ipnet.specs.declared.parser.Grammar.{Grammar}
 use Rattle.ipnet.specs.Lines.{lines_of}
 use Rattle.ipnet_rules.specs.declared.rules.Rule.{Rule}
 use Rattle.netset_lib.specs.declared.rule_line.RuleCause.{RuleCause}
+use Rattle.netset_lib.specs.declared.rule_list.RefusedRule.{RefusedRule}
+use Rattle.netset_lib.specs.declared.rule_list.RuleLine.{RuleLine}
+use Rattle.netset_lib.specs.declared.rule_list.RuleList.{RuleList}
 use Rattle.netset_lib.specs.declared.rule_list.RuleReader.{RuleReader}
+use Rattle.std.proofs.lemmas.List.{map-append}
 use Rattle.netset_lib.specs.Lists.{IsContents}
-use Rattle.netset_lib.specs.RuleContentsOf.{contents_of}
+use Rattle.netset_lib.specs.RuleContentsOf.{contents_of, line_of_rule, rule_refusal}
 use Rattle.netset_lib.specs.RuleLines.{RuleContents, LineOfRule, no_rules, IsNextRule, IsNextRuleRefusal}
 use Rattle.netset_lib.specs.RuleLines.{AreRulesRead, AreRuleLines, rule_and, refusal_and, after_word}
+use Rattle.netset_lib.specs.RuleLines.{IsRuleText, IsNoRule, IsRuleCause}
 use Rattle.netset_lib.proofs.CommentLaws.{behind}
 use Rattle.netset_lib.specs.RuleSteps.{joined, AddsText, AddsLine, AreReadUpTo}
 
@@ -110,3 +115,50 @@ pub no_blank : (text : List ℕ) (i : ℕ) → length text ≤ i
 no_blank text i past before =
     sym (position_or_len_is is_ascii_whitespace text (length text) 0 (omega arith)
     (λ k less. before k (omega (arith, past))) (λ less. absurd (omega (arith, less))))
+
+-- a rule and its line at the end
+pub rule_pushed : (old new : RuleList) (number : ℕ) (text : List ℕ) (rule : Rule) (line : RuleLine)
+    → line_of_rule line ≡ record { number = number; text = text } → new.rules.items ≡ old.rules.items ++ rule ∷ []
+    → new.lines.items ≡ old.lines.items ++ line ∷ [] → new.refused.items ≡ old.refused.items
+    → contents_of new ≡ joined (contents_of old) (rule_and number text rule no_rules)
+rule_pushed old new number text rule line is rules lines refused =
+    same_contents (contents_of new) (joined (contents_of old) (rule_and number text rule no_rules)) rules
+    (ap (map line_of_rule) lines ∙ map-append line_of_rule old.lines.items (line ∷ [])
+    ∙ ap (λ z. map line_of_rule old.lines.items ++ z ∷ []) is)
+    (ap (map rule_refusal) refused ∙ sym (append-nil (map rule_refusal old.refused.items)))
+
+-- a refused line at the end
+pub refusal_pushed : (old new : RuleList) (number : ℕ) (text : List ℕ) (cause : RuleCause) (line : RefusedRule)
+    → rule_refusal line ≡ record { number = number; text = text; cause = cause }
+    → new.rules.items ≡ old.rules.items → new.lines.items ≡ old.lines.items
+    → new.refused.items ≡ old.refused.items ++ line ∷ []
+    → contents_of new ≡ joined (contents_of old) (refusal_and number text cause no_rules)
+refusal_pushed old new number text cause line is rules lines refused =
+    same_contents (contents_of new) (joined (contents_of old) (refusal_and number text cause no_rules))
+    (rules ∙ sym (append-nil old.rules.items))
+    (ap (map line_of_rule) lines ∙ sym (append-nil (map line_of_rule old.lines.items)))
+    (ap (map rule_refusal) refused ∙ map-append rule_refusal old.refused.items (line ∷ [])
+    ∙ ap (λ z. map rule_refusal old.refused.items ++ z ∷ []) is)
+
+-- what a text adds
+pub adds_rule : (grammar : Grammar) (number : ℕ) (text : List ℕ) (old new : RuleContents) (rule : Rule)
+    → 0 < length text → IsRuleText grammar text rule → new ≡ joined old (rule_and number text rule no_rules)
+    → AddsText grammar number text old new
+adds_rule grammar number [] old new rule some is adds = absurd (omega (arith, some))
+adds_rule grammar number (b ∷ text) old new rule some is adds =
+    (rule_and number (b ∷ text) rule no_rules, adds, inl (record { rule = rule; is = is; next = refl }))
+
+pub adds_refusal : (grammar : Grammar) (number : ℕ) (text : List ℕ) (old new : RuleContents) (cause : RuleCause)
+    → 0 < length text → IsNoRule grammar text → IsRuleCause grammar text cause
+    → new ≡ joined old (refusal_and number text cause no_rules) → AddsText grammar number text old new
+adds_refusal grammar number [] old new cause some none told adds = absurd (omega (arith, some))
+adds_refusal grammar number (b ∷ text) old new cause some none told adds = (
+  refusal_and number (b ∷ text) cause no_rules,
+  adds,
+  inr (record { cause = cause; none = none; told = told; next = refl }),
+)
+
+pub adds_nothing : (grammar : Grammar) (number : ℕ) (text : List ℕ) (old : RuleContents) → length text ≡ 0
+    → AddsText grammar number text old old
+adds_nothing grammar number [] old none = refl
+adds_nothing grammar number (b ∷ text) old none = absurd (omega (arith, none))

@@ -41,7 +41,7 @@ pub record AddsLine (old new : RuleReader) (line : List ℕ) : Type 0 where
   pub contents : IsContents old.grammar line text
   pub adds : AddsText old.grammar (old.number + 1) text (contents_of old.list) (contents_of new.list)
 
--- The lines before the rest of the bytes were read. The list and the contents of the rest are the contents of all lines.
+-- The lines before the rest of the bytes were read. The list and the contents of the rest are the contents of all.
 pub record AreReadUpTo (old new : RuleReader) (bytes rest : List ℕ) : Type 0 where
   pub same_grammar : new.grammar ≡ old.grammar
   pub whole : (more : RuleContents) → AreRuleLines old.grammar (new.number + 1) (lines_of rest) more

@@ -109,21 +109,9 @@ impl RuleReader {
             return Ok(());
         }
         match read_rule(&mut self.room, text, self.grammar)? {
-            Ok(rule) => {
-                let text = text.to_vec(self.list.alloc)?;
-                self.list.rules.push(rule)?;
-                self.list.lines.push(RuleLine { number, text })?;
-            }
-            Err(cause) => {
-                let text = text.to_vec(self.list.alloc)?;
-                self.list.refused.push(RefusedRule {
-                    number,
-                    text,
-                    cause,
-                })?;
-            }
+            Ok(rule) => self.list.push_rule(number, text, rule),
+            Err(cause) => self.list.push_refused(number, text, cause),
         }
-        Ok(())
     }
 
     /// Reads a line. Fails if memory runs out, or if there are more lines than a `usize` counts.
@@ -155,6 +143,39 @@ impl RuleReader {
 }
 
 impl RuleList {
+    ghost use Rattle.netset_lib.specs.RuleLines.{rule_and, refusal_and};
+    ghost use Rattle.netset_lib.specs.RuleSteps.{joined};
+
+    /// Adds a rule and its line. Fails if memory runs out.
+    fn push_rule(&mut self, number: usize, text: &[u8], rule: Rule) -> Result<(), AllocError>
+        ensures { OnOk result (contents_of self.new
+            ≡ joined (contents_of self.old) (rule_and number text.now rule no_rules)) }
+    {
+        let text = text.to_vec(self.alloc)?;
+        self.rules.push(rule)?;
+        self.lines.push(RuleLine { number, text })?;
+        Ok(())
+    }
+
+    /// Adds a refused line. Fails if memory runs out.
+    fn push_refused(
+        &mut self,
+        number: usize,
+        text: &[u8],
+        cause: RuleCause,
+    ) -> Result<(), AllocError>
+        ensures { OnOk result (contents_of self.new
+            ≡ joined (contents_of self.old) (refusal_and number text.now cause no_rules)) }
+    {
+        let text = text.to_vec(self.alloc)?;
+        self.refused.push(RefusedRule {
+            number,
+            text,
+            cause,
+        })?;
+        Ok(())
+    }
+
     /// Returns the list of rules that the bytes are.
     ///
     /// A line has one rule: `permit` or `deny`, blanks, and a network, an address or a range. Empty lines, comments, a
