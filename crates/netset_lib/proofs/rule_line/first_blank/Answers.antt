@@ -5,7 +5,7 @@ use Rattle.netset_lib.proofs.rule_line.first_blank.Goals as goal
 pub returns-then-is_ascii_whitespace : goal.returns-then-is_ascii_whitespace
 returns-then-is_ascii_whitespace c =
     blank_at c.args.text.now c.loop-index.index c.loop-index-test.true c.loop-index.invariant
-    (sym c.is_ascii_whitespace.ensures ∙ c.if-is_ascii_whitespace.true)
+    (sym c.is_ascii_whitespace.ensures.value ∙ c.if-is_ascii_whitespace.true)
 
 pub returns : goal.returns
 returns c =
