@@ -160,6 +160,13 @@ class Programs:
         return found
 
     @functools.cached_property
+    def grepcidr(self):
+        found = shutil.which("grepcidr")
+        if not found:
+            note("there is no grepcidr (apt-get install grepcidr): its column stays empty")
+        return found
+
+    @functools.cached_property
     def netaddr(self):
         """The command of netaddr_sets.py."""
         return netaddr_sets()

@@ -3,6 +3,7 @@ import os
 import tempfile
 from typing import NamedTuple
 
+import hostile_tables
 import netset_tables
 import set_tables
 from cells import MIB, head, least, mebibytes, milliseconds, ratio, row, shown
@@ -239,4 +240,4 @@ def unbroken(bench):
 
 
 PARTS = {"calls": calls, "growth": growth, "memory": memory, "sets": set_tables.sets, "program": program,
-         "lengths": lengths, "netset": netset_tables.netset}
+         "lengths": lengths, "netset": netset_tables.netset, "hostile": hostile_tables.hostile}

@@ -35,13 +35,17 @@ KINDS = {
 
 
 class Refusal:
-    """The kind of a verdict (a key of KINDS), the goals that the check names, and the text that it prints."""
+    """The kind of a verdict (a key of KINDS), the goals that the check names, and the text that it prints.
 
-    def __init__(self, kind, text="", goals=(), is_false=False):
+    `is_false` says whether values were found that make a goal false, and `is_beside` whether the hand proof has errors
+    beside the open goal."""
+
+    def __init__(self, kind, text="", goals=(), is_false=False, is_beside=False):
         self.kind = kind
         self.text = text
         self.goals = set(goals)
         self.is_false = is_false
+        self.is_beside = is_beside
 
 
 class Report:
@@ -96,7 +100,7 @@ class Report:
         if goals or false:
             return Refusal("goal", text, {*goals, *false}, bool(false))
         if goal in self.left_goals[function]:
-            return Refusal("goal", text, [goal])
+            return Refusal("goal", text, [goal], is_beside=True)
         errors = [it for it in self.errors["/".join(function.split("::")[1:])] if not REPEATED.search(it[2])]
         kinds = [(kind_of(message, more), goal, message) for _, goal, message, more in errors]
         for kind in ("goal", "type", "name", "other"):

@@ -10,6 +10,13 @@ RUNS_AT_ONCE = 4
 # The names of the lists of a run, in order.
 NAMES = "abcd"
 
+# A line that changes no answer. Lines that are not near the end of a list are read by another reader.
+AFTER = b"\n# a comment that is longer than the longest range of two IPv4 addresses\n"
+
+
+def bytes_of(text):
+    return text if isinstance(text, bytes) else text.encode()
+
 
 class Runs:
     """Runs that are asked for, and then made and checked together."""
@@ -25,7 +32,7 @@ class Runs:
         folder = tempfile.mkdtemp(dir=self.room.name)
         for name, text in zip(NAMES, lists):
             with open(os.path.join(folder, name), "wb") as file:
-                file.write(text if isinstance(text, bytes) else text.encode())
+                file.write(bytes_of(text))
         return folder
 
     def add_files(self, label, words, folder, wanted):
@@ -34,9 +41,12 @@ class Runs:
         self.asked.append((label, words, folder, wanted))
 
     def add(self, label, command, lists, wanted):
-        """Asks for a run of the command on these lists."""
+        """Asks for a run of the command on these lists, each a text or bytes, and for one with a comment after each."""
         words = command.split() + list(NAMES[:len(lists)])
-        self.add_files("{}: {}".format(command, label), words, self.folder(lists), wanted)
+        label = "{}: {}".format(command, label)
+        longer = [bytes_of(text) + AFTER for text in lists]
+        self.add_files(label, words, self.folder(lists), wanted)
+        self.add_files(label + ", comments after the lists", words, self.folder(longer), wanted)
 
     def made(self, asked):
         """What a run ended with: status, standard output and standard error."""

@@ -1,7 +1,7 @@
 -- A line at the front of bytes; and an IPv4 network's line: five numbers, and the byte that ends each.
 use Rattle.std.proofs.Common.{◌≡◌, ◌≢◌, ℕ, suc, ◌+◌, ◌<◌, ◌≤◌, List, [], ◌∷◌, ◌++◌, length, get_or, take, drop}
 use Rattle.std.proofs.Common.{inl, inr, take_all, ◌-◌, refl, sym, ap, ◌∙◌, subst, arith, append_assoc, ne_eqb}
-use Rattle.std.proofs.Common.{length-append, add-one}
+use Rattle.std.proofs.Common.{length-append, add-one, codes, take-add, take-suc}
 use Rattle.std.proofs.lemmas.List.{length-take-le, length-drop}
 use Rattle.std.proofs.Math.Seq.{split_at, take-append_seam, drop-append-add}
 use Rattle.std.proofs.lemmas.Bool.{cases_lt}
@@ -10,6 +10,7 @@ use Rattle.std.proofs.lemmas.Str.Parse.{digit_from_value}
 use Rattle.std.specs.Char.{digit_value}
 use Rattle.std.specs.Int.{w32, from_be_bytes}
 use Rattle.std.specs.Str.Parse.{AllDigits}
+use Rattle.ipnet.specs.AddressTexts.{IsIpv4AddressText, IsJoined}
 use Rattle.ipnet.specs.Lines.{lines_of}
 use Rattle.ipnet.specs.NetworkOf.{ipv4_network_of}
 use Rattle.ipnet.specs.NetworkTexts.{IsIpv4NetworkText}
@@ -88,7 +89,7 @@ first_line_of Writes bytes line rest len spelled size unbroken is =
 -- ---- the prefix length
 
 -- three digits without a leading zero write at least 100
-prefix_len_short : (digits : List ℕ) (n : ℕ) → IsOctet Strict digits n → n ≤ 32 → IsDecimal Strict 2 32 digits n
+pub prefix_len_short : (digits : List ℕ) (n : ℕ) → IsOctet Strict digits n → n ≤ 32 → IsDecimal Strict 2 32 digits n
 prefix_len_short digits n h small = record {
   digits = h.digits;
   value = h.value;
@@ -246,3 +247,53 @@ front_at bytes i j k l m a b c d n long few₁ few₂ few₃ few₄ few₅ is_a 
     (length-take-le i bytes (omega arith)) (length-take-le j second (omega arith))
     (length-take-le k third (omega arith))
     (length-take-le l fourth (omega arith)) (length-take-le m fifth (omega arith))
+
+-- ---- an IPv4 address at the front
+
+-- what stands before a byte, that byte, and the front of what comes after it
+pub take_cut : (bytes : List ℕ) (i n end : ℕ) → i < length bytes → get_or bytes i 0 ≡ end
+    → take (i + 1 + n) bytes ≡ take i bytes ++ end ∷ take n (rest_from (i + 1) bytes)
+take_cut bytes i n end within is =
+    take-add (i + 1) n bytes
+    ∙ ap (λ z. z ++ take n (drop (i + 1) bytes))
+    (ap (λ k. take k bytes) (add-one i) ∙ take-suc bytes i 0 within ∙ ap (λ b. take i bytes ++ b ∷ []) is)
+    ∙ append_assoc (take i bytes) (end ∷ []) (take n (drop (i + 1) bytes))
+    ∙ ap (λ z. take i bytes ++ end ∷ take n z) (sym (rest_is (i + 1) bytes))
+
+-- the first of joined octets
+octet_first : (first rest : List ℕ) (a b : ℕ) (octets : List ℕ) → IsOctet Strict first a
+    → IsJoined (codes ".") (IsOctet Strict) rest (b ∷ octets)
+    → IsJoined (codes ".") (IsOctet Strict) (first ++ 46 ∷ rest) (a ∷ b ∷ octets)
+octet_first first rest a b octets is later = (first, rest, simp append_assoc, is, later)
+
+-- four octets, by the places of the dots between them
+pub address_at : (bytes : List ℕ) (i j k l a b c d : ℕ) → 16 ≤ length bytes → i ≤ 3 → j ≤ 3 → k ≤ 3
+    → IsOctet Strict (take i bytes) a → get_or bytes i 0 ≡ 46
+    → IsOctet Strict (take j (rest_from (i + 1) bytes)) b → get_or (rest_from (i + 1) bytes) j 0 ≡ 46
+    → IsOctet Strict (take k (rest_from (j + 1) (rest_from (i + 1) bytes))) c
+    → get_or (rest_from (j + 1) (rest_from (i + 1) bytes)) k 0 ≡ 46
+    → IsOctet Strict (take l (rest_from (k + 1) (rest_from (j + 1) (rest_from (i + 1) bytes)))) d
+    → IsIpv4AddressText Strict (take (i + j + k + l + 3) bytes) (a ∷ b ∷ c ∷ d ∷ [])
+address_at bytes i j k l a b c d long few₁ few₂ few₃ is_a end_a is_b end_b is_c end_c is_d =
+    let second = rest_from (i + 1) bytes in
+    let third = rest_from (j + 1) second in
+    let fourth = rest_from (k + 1) third in
+    let long₂ : 12 ≤ length second = after_short bytes i 12 few₁ long in
+    let long₃ : 8 ≤ length third = after_short second j 8 few₂ long₂ in
+    let three : take (k + 1 + l) third ≡ take k third ++ 46 ∷ take l fourth =
+    take_cut third k l 46 (omega arith) end_c in
+    let two : take (j + 1 + (k + 1 + l)) second ≡ take j second ++ 46 ∷ take (k + 1 + l) third =
+    take_cut second j (k + 1 + l) 46 (omega arith) end_b in
+    let one : take (i + 1 + (j + 1 + (k + 1 + l))) bytes ≡ take i bytes ++ 46 ∷ take (j + 1 + (k + 1 + l)) second =
+    take_cut bytes i (j + 1 + (k + 1 + l)) 46 (omega arith) end_a in
+    let size : i + j + k + l + 3 ≡ i + 1 + (j + 1 + (k + 1 + l)) = omega arith in
+    let text : take (i + j + k + l + 3) bytes ≡ take i bytes ++ 46 ∷ (take j second ++ 46 ∷ (take k third ++ 46
+    ∷ take l fourth)) =
+    ap (λ n. take n bytes) size ∙ one ∙ ap (λ z. take i bytes ++ 46 ∷ z) (two ∙ ap (λ z. take j second ++ 46 ∷ z) three)
+    in
+    subst (λ z. IsIpv4AddressText Strict z (a ∷ b ∷ c ∷ d ∷ [])) (sym text) (
+      octet_first (take i bytes) (take j second ++ 46 ∷ (take k third ++ 46 ∷ take l fourth)) a b (c ∷ d ∷ []) is_a
+          (octet_first (take j second) (take k third ++ 46 ∷ take l fourth) b c (d ∷ []) is_b
+          (octet_first (take k third) (take l fourth) c d [] is_c is_d)),
+      refl,
+    )

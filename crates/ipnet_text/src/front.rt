@@ -1,6 +1,8 @@
 //! The network of a line at the front of bytes, read before the end of the line is known.
 ghost use Rattle.std.specs.Prelude.{◌≡◌, ◌+◌, ◌<◌, ◌≤◌, min, [], ◌∷◌, length, take, drop, slice_index, IfSome};
 ghost use Rattle.std.specs.Char.{digit_value};
+ghost use Rattle.std.specs.Net.Addr.{ipv4_octets};
+ghost use Rattle.ipnet.specs.AddressTexts.{IsIpv4AddressText};
 ghost use Rattle.ipnet.specs.Lines.{lines_of};
 ghost use Rattle.ipnet.specs.Numerals.{IsOctet, IsGroup};
 ghost use Rattle.ipnet.specs.NetworkOf.{ipv4_network, ipv6_network, ip_network};
@@ -35,34 +37,76 @@ fn digit(byte: u8) -> u8
     byte.wrapping_sub(b'0')
 }
 
-/// The octet at the front that ends before the byte `end`, and how many digits it has. No octet has a leading zero.
+/// The octet at the front, and how many digits it has. No octet has a leading zero: of "07" the octet is the 0.
 #[inline]
-fn octet_before(bytes: &[u8], end: u8) -> Option<(u8, usize)>
-    requires { 4 ≤ length bytes.now }
+fn octet_at(bytes: &[u8]) -> Option<(u8, usize)>
+    requires { 3 ≤ length bytes.now }
     ensures octet { IfSome result (λ octet. IsOctet Strict (take octet.1 bytes.now) octet.0) }
     ensures few { IfSome result (λ octet. octet.1 ≤ 3) }
-    ensures end { IfSome result (λ octet. slice_index bytes.now octet.1 ≡ end) }
 {
     let first = digit(bytes[0]);
     if first >= 10 {
         return None;
     }
-    if bytes[1] == end {
-        return Some((first, 1));
-    }
     let second = digit(bytes[1]);
     if first == 0 || second >= 10 {
-        return None;
-    }
-    if bytes[2] == end {
-        return Some((first * 10 + second, 2));
+        return Some((first, 1));
     }
     let third = digit(bytes[2]);
+    if third >= 10 {
+        return Some((first * 10 + second, 2));
+    }
     let number = u16::from(first) * 100 + u16::from(second) * 10 + u16::from(third);
-    if third >= 10 || number > 255 || bytes[3] != end {
+    if number > 255 {
         return None;
     }
     Some((number as u8, 3))
+}
+
+/// The octet at the front that ends before the byte `end`, and how many digits it has. No octet has a leading zero.
+///
+/// ```text
+/// "10.0.0.1" and ".": 10, and 2
+/// "010.0.0.1" and ".", "256.1" and ".", "10.0.0.1" and "/": None
+/// ```
+#[inline]
+pub fn octet_before(bytes: &[u8], end: u8) -> Option<(u8, usize)>
+    requires { 4 ≤ length bytes.now }
+    ensures octet { IfSome result (λ octet. IsOctet Strict (take octet.1 bytes.now) octet.0) }
+    ensures few { IfSome result (λ octet. octet.1 ≤ 3) }
+    ensures end { IfSome result (λ octet. slice_index bytes.now octet.1 ≡ end) }
+{
+    let (octet, len) = octet_at(bytes)?;
+    if bytes[len] != end {
+        return None;
+    }
+    Some((octet, len))
+}
+
+/// Returns the IPv4 address at the front of the bytes in the strict grammar, and the length of its text. What comes
+/// after it does not matter.
+///
+/// ```text
+/// "10.0.0.1-10.0.0.9\n": 10.0.0.1, and 8
+/// "010.0.0.1/8 and more", "fd00::1 and more bytes": None
+/// ```
+#[inline]
+pub fn ipv4_addr_at(bytes: &[u8]) -> Option<(Ipv4Addr, usize)>
+    requires { 16 ≤ length bytes.now }
+    ensures address { IfSome result (λ addr.
+        IsIpv4AddressText Strict (take addr.1 bytes.now) (ipv4_octets addr.0)) }
+    ensures some { IfSome result (λ addr. 0 < addr.1) }
+    ensures few { IfSome result (λ addr. addr.1 ≤ 15) }
+{
+    let (a, first) = octet_before(bytes, b'.')?;
+    let second_on = &bytes[first + 1..];
+    let (b, second) = octet_before(second_on, b'.')?;
+    let third_on = &second_on[second + 1..];
+    let (c, third) = octet_before(third_on, b'.')?;
+    let fourth_on = &third_on[third + 1..];
+    let (d, fourth) = octet_at(fourth_on)?;
+    let address = Ipv4Addr::new(a, b, c, d);
+    Some((address, first + second + third + fourth + 3))
 }
 
 /// The IPv4 network of the first line, and the length of the line without its "\n".

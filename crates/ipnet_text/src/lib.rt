@@ -8,7 +8,7 @@ pub mod output;
 pub mod pieces;
 pub mod window;
 
-pub use front::{FrontLine, network_line};
+pub use front::{FrontLine, ipv4_addr_at, network_line, octet_before};
 pub use lines::{first_line, lines_len, push_line};
 pub use net_lists::NetLists;
 pub use output::write_whole;

@@ -1,4 +1,5 @@
 //! The command line: the lists to read, and what to do with them.
+use crate::plan::plan_command;
 use crate::rules::with_rules;
 use crate::version::VERSION;
 use clap::{Arg, ArgAction, ArgMatches, Command, Error};
@@ -10,9 +11,10 @@ use std::io::ErrorKind;
 /// The name of standard input.
 pub const STANDARD_INPUT: &str = "-";
 
-/// The ids of the list that is named first, and of those after it.
+/// The id of the list that is named first.
 pub const FIRST: &str = "first";
 
+/// The id of the lists after the first.
 const OTHERS: &str = "others";
 
 /// The parsed command line.
@@ -191,7 +193,8 @@ fn with_queries<'a>(alloc: Global, command: Command<'a>) -> Result<Command<'a>, 
             command_of(alloc, "route", route)?
                 .arg(first(alloc, "TABLE", "The list of networks to choose from"))?
                 .arg(other(alloc, asked).required(false))?,
-        )
+        )?
+        .subcommand(plan_command(alloc)?)
 }
 
 /// The command line of the program.
@@ -213,7 +216,7 @@ pub fn matches_of<'a>(alloc: Global, words: &'a [String]) -> Result<ArgMatches<'
 }
 
 /// The flags that are set. A flag that the command does not have is not set.
-fn flags_of(matches: &ArgMatches) -> Flags {
+pub fn flags_of(matches: &ArgMatches) -> Flags {
     Flags {
         legacy: matches.get_flag("legacy"),
         ranges: matches.get_flag("ranges"),

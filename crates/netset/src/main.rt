@@ -3,14 +3,16 @@
 
 mod arguments;
 mod lists;
+mod plan;
 mod rules;
 mod version;
 
 use crate::arguments::{ArgumentFailure, Call, call_of, matches_of, words};
 use crate::lists::read_lists;
+use crate::plan::{PLAN, planned};
 use crate::rules::run_if_rules;
 use clap::ArgMatches;
-use netset_lib::{Session, run};
+use netset_lib::{Session, Work, run};
 use std::io::Write;
 use std::process::ExitCode;
 
@@ -46,11 +48,36 @@ fn refused(rt: &HostRuntime, failure: ArgumentFailure) -> u8 {
     2
 }
 
-/// Reads the lists, and runs the operation or the query.
+/// Reads the lists of these names. If that fails, it is reported, and the error is the exit status.
+fn session_of(
+    rt: &HostRuntime,
+    work: Work,
+    names: &[&str],
+    tells_progress: bool,
+) -> Result<Session, u8> {
+    let Ok(mut session) = Session::new(rt.alloc(), work) else {
+        return Err(refused(rt, ArgumentFailure::Memory));
+    };
+    if let Err((name, failure)) = read_lists(rt, &mut session, names, tells_progress) {
+        let _ = writeln!(rt.stderr(), "netset: {name}: {failure}");
+        return Err(2);
+    }
+    Ok(session)
+}
+
+/// Runs the command of the parsed words, and returns its exit status.
 fn called(rt: &HostRuntime, matches: &ArgMatches) -> u8 {
     if let Some(status) = run_if_rules(rt, matches) {
         return status;
     }
+    match matches.subcommand() {
+        Some((name, matches)) if name == PLAN => planned(rt, matches),
+        _ => answered(rt, matches),
+    }
+}
+
+/// Reads the lists, and runs the operation or the query.
+fn answered(rt: &HostRuntime, matches: &ArgMatches) -> u8 {
     let Call {
         work,
         names,
@@ -59,13 +86,9 @@ fn called(rt: &HostRuntime, matches: &ArgMatches) -> u8 {
         Ok(call) => call,
         Err(failure) => return refused(rt, failure),
     };
-    let Ok(mut session) = Session::new(rt.alloc(), work) else {
-        return refused(rt, ArgumentFailure::Memory);
-    };
     let names = names.as_slice();
-    if let Err((name, failure)) = read_lists(rt, &mut session, names, tells_progress) {
-        let _ = writeln!(rt.stderr(), "netset: {name}: {failure}");
-        return 2;
+    match session_of(rt, work, names, tells_progress) {
+        Ok(session) => run(session, names, &mut rt.stdout(), &mut rt.stderr()),
+        Err(status) => status,
     }
-    run(session, names, &mut rt.stdout(), &mut rt.stderr())
 }

@@ -1,26 +1,47 @@
 -- The bytes of the texts of addresses and networks, and where such a text is cut.
 use Rattle.std.proofs.Common.{◌≡◌, ◌≢◌, ℕ, ◌<◌, ◌⊎◌, List, [], ◌∷◌, ◌++◌, All, length, get_or}
-use Rattle.std.proofs.Common.{refl, sym, ap, ◌∙◌, subst, arith, inl, inr, append_assoc, true, false, ◌==◌, eq-eqb}
+use Rattle.std.proofs.Common.{refl, sym, ap, ◌∙◌, subst, arith, inl, inr, append_assoc, Bool, true, false, ◌==◌}
+use Rattle.std.proofs.Common.{eq-eqb}
 use Rattle.std.proofs.Common.{eqb-true, get_or-take, length-take-le, take}
 use Rattle.std.specs.List.{position_or_len, before_first, after_first}
 use Rattle.std.proofs.lemmas.List.Sums.{fails_before_first, passes_at_first, split_at_first}
 use Rattle.std.proofs.lemmas.List.Elements.{All-nil, All-cons, All-head, All-tail, All-append, All-from_get_or}
 use Rattle.std.proofs.lemmas.Bool.Decides.{nat_tests}
-use Rattle.std.specs.Char.{digit_value}
+use Rattle.std.specs.Char.{digit_value, is_ascii_whitespace}
 use Rattle.std.specs.Str.Parse.{AllDigits}
 use Rattle.ipnet.specs.declared.parser.Grammar.{Grammar}
 use Rattle.ipnet.specs.AddressTexts.{IsIpv4AddressText, IsIpv6AddressText, IsGroups, EndsInIpv4, IsCompressed}
 use Rattle.ipnet.proofs.DigitTexts.{AllDigits_hex}
 use Rattle.ipnet.proofs.Ipv4Texts.{Dots-from}
 
--- a byte of ASCII that is neither "-" nor "/"
+-- a byte that is no blank, and begins no comment
+pub record IsPlainByte (b : ℕ) : Type 0 where
+  pub no_blank : is_ascii_whitespace b ≡ false
+  pub no_hash : b ≢ 35
+  pub no_semicolon : b ≢ 59
+
+-- a plain byte of ASCII that is neither "-" nor "/"
 pub record IsAddressByte (b : ℕ) : Type 0 where
+  pub plain : IsPlainByte b
   pub ascii : b < 128
   pub no_dash : b ≢ 45
   pub no_slash : b ≢ 47
 
+-- the digit value of a blank, and of "#" and ";", is 36
+hex_plain : (b : ℕ) → digit_value b < 16 → IsPlainByte b
+hex_plain b h = record {
+  no_blank = by (is_ascii_whitespace b) refl;
+  no_hash = λ e. grind (arith, nat_tests, h, e);
+  no_semicolon = λ e. grind (arith, nat_tests, h, e);
+}
+  where
+    by : (r : Bool) → is_ascii_whitespace b ≡ r → is_ascii_whitespace b ≡ false
+    by false e = e
+    by true e = absurd (grind (arith, nat_tests, h, e))
+
 hex_byte : (b : ℕ) → digit_value b < 16 → IsAddressByte b
 hex_byte b h = record {
+  plain = hex_plain b h;
   ascii = grind (arith, nat_tests, h);
   no_dash = λ e. grind (arith, nat_tests, h, e);
   no_slash = λ e. grind (arith, nat_tests, h, e);
@@ -33,11 +54,27 @@ hex_bytes (d ∷ ds) h = All-cons IsAddressByte d ds (hex_byte d h.0) (hex_bytes
 pub decimal_bytes : (ds : List ℕ) → AllDigits 10 ds → All IsAddressByte ds
 decimal_bytes ds h = hex_bytes ds (AllDigits_hex ds h)
 
+plain_dot : IsPlainByte 46
+plain_dot = record { no_blank = refl; no_hash = λ e. omega (arith, e); no_semicolon = λ e. omega (arith, e) }
+
+plain_colon : IsPlainByte 58
+plain_colon = record { no_blank = refl; no_hash = λ e. omega (arith, e); no_semicolon = λ e. omega (arith, e) }
+
 dot : IsAddressByte 46
-dot = record { ascii = omega arith; no_dash = λ e. omega (arith, e); no_slash = λ e. omega (arith, e) }
+dot = record {
+  plain = plain_dot;
+  ascii = omega arith;
+  no_dash = λ e. omega (arith, e);
+  no_slash = λ e. omega (arith, e);
+}
 
 colon : IsAddressByte 58
-colon = record { ascii = omega arith; no_dash = λ e. omega (arith, e); no_slash = λ e. omega (arith, e) }
+colon = record {
+  plain = plain_colon;
+  ascii = omega arith;
+  no_dash = λ e. omega (arith, e);
+  no_slash = λ e. omega (arith, e);
+}
 
 -- a part, one byte and the rest
 joined : (front : List ℕ) (b : ℕ) (back : List ℕ) → All IsAddressByte front → IsAddressByte b → All IsAddressByte back

@@ -37,11 +37,11 @@ use Rattle.netset_lib.proofs.ListLines.{ascii_cut, entry_utf8}
 
 -- ---- only digits, of a number above another
 
-same_digits : (ds : List ℕ) → list_all is_ascii_digit ds ≡ all_ascii_digits ds
+pub same_digits : (ds : List ℕ) → list_all is_ascii_digit ds ≡ all_ascii_digits ds
 same_digits [] = refl
 same_digits (d ∷ ds) = ap (λ t. is_ascii_digit d && t) (same_digits ds)
 
-digits_model : IsNumeralModel (λ ds. all_ascii_digits ds ≡ true) (digits_value 10)
+pub digits_model : IsNumeralModel (λ ds. all_ascii_digits ds ≡ true) (digits_value 10)
 digits_model = numerals_by_value (λ ds. all_ascii_digits ds ≡ true) tells_all_ascii_digits
 
 pub no_digits : (most : ℕ) (text : List ℕ) → list_all is_ascii_digit text ≡ false → WritesAbove most text → ⊥

@@ -92,11 +92,13 @@ front_before_slash : (text front digits : List ℕ) → All IsAddressByte digits
     → text ++ codes "/32" ≡ front ++ codes "/" ++ digits → text ≡ front
 front_before_slash text front digits h e =
     let three : IsAddressByte 51 = record {
+      plain = record { no_blank = refl; no_hash = λ e. omega (arith, e); no_semicolon = λ e. omega (arith, e) };
       ascii = omega arith;
       no_dash = λ e. omega (arith, e);
       no_slash = λ e. omega (arith, e);
     } in
     let two : IsAddressByte 50 = record {
+      plain = record { no_blank = refl; no_hash = λ e. omega (arith, e); no_semicolon = λ e. omega (arith, e) };
       ascii = omega arith;
       no_dash = λ e. omega (arith, e);
       no_slash = λ e. omega (arith, e);

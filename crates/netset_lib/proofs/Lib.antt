@@ -4,7 +4,11 @@ pub mod EntryTexts
 pub mod RefusalLaws
 pub mod RangeCovers
 pub mod ListLines
+pub mod FrontEntries
+pub mod PlainLines
 pub mod CauseTexts
+pub mod LengthTexts
+pub mod PlanLaws
 pub mod ListReading
 pub mod WindowReading
 pub mod OperationLaws

@@ -23,6 +23,7 @@ use Rattle.netset_lib.specs.Filters.{IsOnSide, IsFilterAnswer}
 use Rattle.netset_lib.specs.Lists.{ListEntry, Refusal, AreRead, IsInEntries, HaveAddresses}
 use Rattle.netset_lib.specs.ListSets.{HaveMembers}
 use Rattle.netset_lib.specs.Operations.{IsInResult, IsCountFor}
+use Rattle.netset_lib.specs.PlanAnswers.{IsResultSet}
 use Rattle.netset_lib.specs.declared.operation.Families.TheVariants.{Named}
 use Rattle.netset_lib.specs.declared.operation.Operation.TheVariants.{Complement}
 use Rattle.netset_lib.specs.Replies.{work_grammar, TakesCount, IsWorkAnswer}
@@ -111,6 +112,30 @@ route_second old s entries (first ∷ second ∷ before) one state lines = absur
 pub count_taken : (work : Work) (lists : List (List ℕ)) (s : Session) → WereRead work lists s
     → TakesCount s.work s.reading.lines.list ↔ TakesCount work (length lists)
 count_taken work lists s h = rw (h.same_work, h.count) (λ t. t, λ t. t)
+
+-- the set that an operation makes of the sets has the addresses of its result on the lists
+pub operation_taken : (q request : Request) (lists : List (List ℕ)) (s : Session) → WereRead (Combine request) lists s
+    → s.work ≡ Combine q → IsCountFor q.operation s.reading.lines.list → IsCountFor request.operation (length lists)
+operation_taken q request lists s h is taken =
+    (count_taken (Combine request) lists s h).0 (subst (λ w. TakesCount w s.reading.lines.list) (sym is) taken)
+
+pub result_right : (q request : Request) (lists : List (List ℕ)) (s : Session) (set : IpSet)
+    → WereRead (Combine request) lists s → s.work ≡ Combine q → s.reading.lines.refused.count ≡ 0
+    → ((x : Address) → IsMember set x ↔ IsInResult IsMember q.operation s.sets.items x) → IsResultSet request lists set
+result_right q request lists s set h is none same =
+    let both : Combine q ≡ Combine request = sym is ∙ h.same_work in
+    let one : q ≡ request = cc in
+    let of : (x : Address) → IsMember set x ↔ IsInResult IsMember request.operation s.sets.items x =
+    subst (λ (r : Request). (x : Address) → IsMember set x ↔ IsInResult IsMember r.operation s.sets.items x) one same in
+    record {
+      entries = h.entries;
+      read = subst (AreListsRead request.grammar 0 lists h.entries)
+          (none_of_length h.refusals (sym h.kept.count ∙ none)) h.read;
+      right = λ x. (
+        λ m. (result_same x request.operation s.sets.items h.entries h.state).0 ((of x).0 m),
+        λ k. (of x).1 ((result_same x request.operation s.sets.items h.entries h.state).1 k),
+      );
+    }
 
 -- the entries of each list have an address
 second_some : (grammar : Grammar) (lists : List (List ℕ)) (first second : List ListEntry)

@@ -16,6 +16,8 @@ pub mod RouteAnswers
 pub mod Routing
 pub mod ListSets
 pub mod Replies
+pub mod PlanAnswers
+pub mod Planning
 pub mod Runs
 pub mod Commands
 pub mod Sessions

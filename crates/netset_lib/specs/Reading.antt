@@ -1,6 +1,6 @@
 -- The private steps of reading lists: what they make of the entries, and what they add to the refused lines.
 -- Only private contracts use these.
-use Rattle.std.specs.Prelude.{◌≡◌, ◌<◌, ℕ, ◌+◌, Bool, true, false, List, [], ◌++◌, length, take, Option}
+use Rattle.std.specs.Prelude.{◌≡◌, ◌<◌, ℕ, ◌+◌, Bool, true, false, List, [], ◌∷◌, ◌++◌, length, take, Option}
 use Rattle.std.specs.Io.KnownBytes.{Consumes, IsAtEnd}
 use Rattle.ipnet.specs.declared.parser.Grammar.{Grammar}
 use Rattle.ipnet.specs.Lines.{lines_of}
@@ -44,6 +44,14 @@ pub record AddsLines (old new : LineReader) (texts : List (List ℕ)) (IsMade Is
 abbrev pub ReadsLines : LineReader → LineReader → List (List ℕ) → (IsMade IsMadeNow : List ListEntry → Type 0) → Type 0
 ReadsLines old new lines IsMade IsMadeNow = (texts : List (List ℕ)) × AreContents old.grammar lines texts
     × AddsLines old new texts IsMade IsMadeNow
+
+-- The first line of the bytes was read, and these are the bytes after its end.
+pub record ReadsFirst (old new : LineReader) (bytes rest : List ℕ) (IsMade IsMadeNow : List ListEntry → Type 0)
+    : Type 0 where
+  pub line : List ℕ
+  pub first : lines_of bytes ≡ line ∷ lines_of rest
+  pub shorter : length rest < length bytes
+  pub read : ReadsLines old new (line ∷ []) IsMade IsMadeNow
 
 -- The bytes that were returned by the reader and whose lines are not read yet.
 abbrev pub pending : Reading → List ℕ

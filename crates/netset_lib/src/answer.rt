@@ -1,10 +1,11 @@
 //! What is asked of lists, and the text of a set.
-ghost use Rattle.std.specs.Prelude.{◌≡◌, ◌≤◌, ◌++◌, ◌∷◌, [], IfOk, OnOk, string_bytes};
+ghost use Rattle.std.specs.Prelude.{◌≡◌, ◌≤◌, ◌++◌, ◌∷◌, [], IfOk, OnOk, map, string_bytes};
 ghost use Rattle.ipnet_base.specs.Address.{ip_address};
 ghost use Rattle.ipnet_base.specs.RangeOf.{ip_range};
 ghost use Rattle.ipnet.specs.CanonicalTexts.{address_text, canonical_text};
 ghost use Rattle.ipnet.specs.NetworkOf.{ip_network};
 ghost use Rattle.ipnet_sets.specs.Members.{IsMember};
+ghost use Rattle.ipnet_text.specs.LineTexts.{text_of_lines};
 ghost use Rattle.netset_lib.specs.Answers.{range_text, AreNetworkLines, AreRangeLines, IsSetText};
 
 use crate::operation::Operation;
@@ -91,16 +92,23 @@ fn push_range(text: &mut String, range: IpAddrRange) -> Result<(), AllocError>
     Ok(())
 }
 
+/// The networks, one a line.
+pub(crate) fn lines_of_networks(alloc: Global, networks: &[IpNet]) -> Result<String, AllocError>
+    ensures { IfOk result (λ text. string_bytes text ≡ text_of_lines (map ip_network networks.now)) }
+{
+    let mut text = String::new(alloc);
+    for network in networks {
+        push_network(&mut text, *network)?;
+    }
+    Ok(text)
+}
+
 /// The fewest networks of the set, one a line.
 fn network_lines(alloc: Global, set: &IpSet) -> Result<String, AllocError>
     ensures { IfOk result (λ text. AreNetworkLines (IsMember set.now) (string_bytes text)) }
 {
     let networks = set.networks(alloc)?;
-    let mut text = String::new(alloc);
-    for network in &networks {
-        push_network(&mut text, *network)?;
-    }
-    Ok(text)
+    lines_of_networks(alloc, networks.as_slice())
 }
 
 /// The fewest ranges of the set, one a line.

@@ -46,7 +46,7 @@ pub enum Cause {
 }
 
 /// Whether all bytes are decimal digits.
-fn are_digits(text: &[u8]) -> bool
+pub(crate) fn are_digits(text: &[u8]) -> bool
     ensures { result ≡ list_all is_ascii_digit text.now }
 {
     text.iter().all(|byte| byte.is_ascii_digit())

@@ -55,8 +55,12 @@ pub enum Work {
     Ask(Query, Grammar),
 }
 
-/// The families of a complement under the flags `--ipv4` and `--ipv6`.
-fn families(ipv4: bool, ipv6: bool) -> Families
+/// Returns the families that the flags `--ipv4` and `--ipv6` choose. Without a flag, the list names them.
+///
+/// ```text
+/// neither: Named; --ipv4: Ipv4; both: Both
+/// ```
+pub fn families(ipv4: bool, ipv6: bool) -> Families
     ensures { result ≡ families_of ipv4 ipv6 }
 {
     match (ipv4, ipv6) {

@@ -10,10 +10,10 @@ use ipnet::{IpAddr, Ipv4Addr, Ipv6Addr};
 use ipnet_sets::IpSet;
 use std::alloc::{AllocError, Global};
 
-/// The families of a complement.
+/// The families of a complement, or of a plan.
 #[derive(Clone, Copy, Debug, PartialEq, Eq)]
 pub enum Families {
-    /// Those of which the list has an address.
+    /// The families of the list's addresses.
     Named,
     /// Only IPv4.
     Ipv4,

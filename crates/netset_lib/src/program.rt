@@ -101,7 +101,11 @@ pub(crate) fn written<W: Write>(out: &mut W, bytes: &[u8]) -> bool
 }
 
 /// Reports the failure.
-fn report<X: Write>(faults: &mut X, names: &[&str], failure: &Failure) -> io::Result<()> {
+pub(crate) fn report<X: Write>(
+    faults: &mut X,
+    names: &[&str],
+    failure: &Failure,
+) -> io::Result<()> {
     match failure {
         Failure::Count => writeln!(faults, "netset: another number of lists is wanted"),
         Failure::NoFamily => writeln!(faults, "{NO_FAMILY}"),

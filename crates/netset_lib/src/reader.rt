@@ -1,6 +1,7 @@
 //! The lines of a list: blanks around an entry, comments, and the entries, one a line.
 ghost use Rattle.std.specs.Prelude.{◌≡◌, ◌<◌, ◌∷◌, ◌↔◌, List, [], length, IsTrue, OnOk, IfOk, IfSome};
 ghost use Rattle.ipnet.specs.Lines.{lines_of};
+ghost use Rattle.ipnet.specs.declared.parser.Grammar.TheVariants.{Strict};
 ghost use Rattle.netset_lib.specs.Entries.{IsEntryText, ReadsAs};
 ghost use Rattle.netset_lib.specs.EntryOf.{entry_range};
 ghost use Rattle.netset_lib.specs.Lists.{ListEntry, Opens, IsCommentAt, ends_word, first_word, HidesEntry};
@@ -11,6 +12,7 @@ ghost use Rattle.netset_lib.specs.Reading.{Adds};
 
 use crate::cause::cause_of;
 use crate::entry::{Entry, read_entry};
+use crate::front::front_entry;
 use crate::refused::RefusedLines;
 use ipnet::Grammar;
 use memchr::{memchr, memchr2};
@@ -63,6 +65,34 @@ pub(crate) fn read_text<'a>(
     match read_entry(room, text, grammar)? {
         Some(entry) => Ok(Some(FoundEntry { text, entry })),
         None => Ok(None),
+    }
+}
+
+/// The entry of the first line in the strict grammar, and the bytes after its end.
+fn strict_line<'a>(bytes: &'a [u8]) -> Option<(FoundEntry<'a>, &'a [u8])>
+    ensures entry { IfSome result (λ line. IsEntryText Strict line.0.text.now (found_range line.0)) }
+    ensures some { IfSome result (λ line. 0 < length line.0.text.now) }
+    ensures lines { IfSome result (λ line. lines_of bytes.now ≡ line.0.text.now ∷ lines_of line.1.now) }
+    ensures shorter { IfSome result (λ line. length line.1.now < length bytes.now) }
+{
+    let (entry, len) = front_entry(bytes)?;
+    let text = match str::from_utf8(&bytes[..len]) {
+        Ok(text) => text,
+        Err(_) => return None,
+    };
+    Some((FoundEntry { text, entry }, &bytes[len + 1..]))
+}
+
+/// The entry of the first line, and the bytes after its end. `None` says nothing about the line.
+fn front_line<'a>(bytes: &'a [u8], grammar: Grammar) -> Option<(FoundEntry<'a>, &'a [u8])>
+    ensures entry { IfSome result (λ line. IsEntryText grammar line.0.text.now (found_range line.0)) }
+    ensures some { IfSome result (λ line. 0 < length line.0.text.now) }
+    ensures lines { IfSome result (λ line. lines_of bytes.now ≡ line.0.text.now ∷ lines_of line.1.now) }
+    ensures shorter { IfSome result (λ line. length line.1.now < length bytes.now) }
+{
+    match grammar {
+        Grammar::Strict => strict_line(bytes),
+        Grammar::Legacy => None,
     }
 }
 
@@ -168,7 +198,7 @@ pub(crate) struct LineReader {
 }
 
 impl LineReader {
-    ghost use Rattle.netset_lib.specs.Reading.{ReadsLines};
+    ghost use Rattle.netset_lib.specs.Reading.{ReadsLines, ReadsFirst};
     ghost use Rattle.netset_lib.specs.RefusedLines.{AreRefused};
 
     /// A reader of the first list.
@@ -216,6 +246,46 @@ impl LineReader {
         }
     }
 
+    /// Reads a line that is an entry and nothing else: hands the entry over. Fails as `read_line` does.
+    fn push_found<M, C: Collector<M>>(
+        &mut self,
+        found: FoundEntry,
+        collector: &C,
+        made: &mut M,
+    ) -> Result<(), AllocError>
+        requires entry { IsEntryText self.old.grammar found.text.now (found_range found) }
+        requires some { 0 < length found.text.now }
+        ensures { OnOk result (ReadsLines self.old self.new (found.entry.text.now ∷ [])
+            (C.is_made collector.now made.old) (C.is_made collector.now made.new)) }
+    {
+        let Some(number) = self.line.checked_add(1) else {
+            return Err(AllocError);
+        };
+        self.line = number;
+        collector.push(made, found.text, found.entry)
+    }
+
+    /// Reads the first line of bytes that are not empty, and returns the bytes after its end. Fails as `read_line`
+    /// does.
+    fn read_first<'a, M, C: Collector<M>>(
+        &mut self,
+        bytes: &'a [u8],
+        collector: &C,
+        made: &mut M,
+    ) -> Result<&'a [u8], AllocError>
+        requires { 0 < length bytes.now }
+        ensures { IfOk result (λ rest. ReadsFirst self.old self.new bytes.now rest.now
+            (C.is_made collector.now made.old) (C.is_made collector.now made.new)) }
+    {
+        if let Some((found, after)) = front_line(bytes, self.grammar) {
+            self.push_found(found, collector, made)?;
+            return Ok(after);
+        }
+        let (line, after) = first_line(bytes);
+        self.read_line(line, collector, made)?;
+        Ok(after)
+    }
+
     /// Reads the lines of the bytes. Fails as `read_line` does.
     pub(crate) fn read<M, C: Collector<M>>(
         &mut self,
@@ -228,8 +298,7 @@ impl LineReader {
     {
         let mut rest = bytes;
         'lines: while !rest.is_empty() {
-            let (line, after) = first_line(rest);
-            self.read_line(line, collector, made)?;
+            let after = self.read_first(rest, collector, made)?;
             rest = after;
         }
         Ok(())

@@ -1,22 +1,20 @@
-use Rattle.std.proofs.Common.{[], ◌∙◌, map, ap, string_bytes, take_all}
+use Rattle.std.proofs.Common.{◌≡◌, ◌∙◌, map, ap, string_bytes}
+use Rattle.std.proofs.lemmas.Result.{IfOk-weaker}
 use Rattle.ipnet.specs.NetworkOf.{ip_network}
+use Rattle.ipnet_sets.specs.Members.{IsMember}
 use Rattle.ipnet_text.specs.LineTexts.{text_of_lines}
-use Rattle.ipnet_text.proofs.LineTextLaws.{one_line_more}
+use Rattle.netset_lib.specs.Answers.{AreNetworkLines}
 use Rattle.netset_lib.proofs.answer.network_lines.Goals as goal
 
-pub loop-network-preserved : goal.loop-network-preserved
-loop-network-preserved c =
-    one_line_more ip_network [] c.deref-network-items.result.now c.loop-network.network-index c.network-item.result
-    (string_bytes c.loop-network.text) (string_bytes c.push_network.new.text) c.loop-network-test.true c.network-item.is
-    c.loop-network.invariant c.in_ok-push_network.ensures
-
 pub returns : goal.returns
-returns c = record {
-  blocks = map ip_network c.in_ok-networks.networks.items;
-  maximal = c.in_ok-networks.ensures.blocks;
-  spelled =
-      c.loop-network.invariant
-      ∙ ap (λ z. text_of_lines (map ip_network z))
-      (take_all c.loop-network.network-index c.deref-network-items.result.now c.loop-network-test.false
-      ∙ c.deref-network-items.ensures.value);
-}
+returns c =
+    let networks = c.in_ok-networks.networks.items in
+    IfOk-weaker c.lines_of_networks.result
+    (λ text. string_bytes text ≡ text_of_lines (map ip_network c.as_slice.result.now))
+    (λ text. AreNetworkLines (IsMember c.args.set.now) (string_bytes text))
+    (λ text spelled. record {
+      blocks = map ip_network networks;
+      maximal = c.in_ok-networks.ensures.blocks;
+      spelled = spelled ∙ ap (λ z. text_of_lines (map ip_network z)) c.as_slice.ensures.value;
+    })
+    c.lines_of_networks.ensures

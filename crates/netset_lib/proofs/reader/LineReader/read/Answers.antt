@@ -7,9 +7,9 @@ lines-init g c =
 
 pub lines-preserved : goal.lines-preserved
 lines-preserved g c =
-    up_to_more c.args.self.now c.lines.self c.read_line.new.self c.args.bytes.now c.lines.rest.now
-    c.first_line.result.0.now c.first_line.result.1.now
+    let first = c.in_ok-after.ensures in
+    up_to_more c.args.self.now c.lines.self c.read_first.new.self c.args.bytes.now c.lines.rest.now
+    first.line c.in_ok-after.after.now
     (g.C.Collector.is_made c.args.collector.now c.args.made.now)
     (g.C.Collector.is_made c.args.collector.now c.lines.made)
-    (g.C.Collector.is_made c.args.collector.now c.read_line.new.made) c.lines.invariant c.first_line.ensures.lines
-    c.in_ok-read_line.ensures
+    (g.C.Collector.is_made c.args.collector.now c.read_first.new.made) c.lines.invariant first.first first.read

@@ -1,0 +1,72 @@
+//! The command `plan`: its arguments, and its run.
+use crate::arguments::{ArgumentFailure, FIRST, command_of, first, flag, flags_of};
+use crate::{refused, session_of};
+use clap::{Arg, ArgAction, ArgMatches, Command};
+use netset_lib::{PlanRequest, families, read_length, run_plan};
+use std::alloc::{AllocError, Global};
+use std::io::Write;
+
+/// The name of the command.
+pub const PLAN: &str = "plan";
+
+/// The id of the prefix lengths.
+const LENGTHS: &str = "lengths";
+
+/// The command `plan`.
+pub fn plan_command<'a>(alloc: Global) -> Result<Command<'a>, AllocError> {
+    let about =
+        "Networks of these prefix lengths inside FREE that share no address; status 1 if none exist";
+    let ipv4 = "Plan IPv4 networks; by default, the only family of the list";
+    let ipv6 = "Plan IPv6 networks";
+    let free = first(
+        alloc,
+        "FREE",
+        "The list of the free addresses, - for standard input",
+    );
+    let lengths = Arg::new(alloc, LENGTHS)
+        .value_name("LEN")
+        .required(true)
+        .num_args(1..)
+        .action(ArgAction::Append)
+        .help("The prefix lengths, such as 24 or /24, one for each network");
+    command_of(alloc, PLAN, about)?
+        .arg(flag(alloc, "ipv4", ipv4))?
+        .arg(flag(alloc, "ipv6", ipv6))?
+        .arg(free)?
+        .arg(lengths)
+}
+
+/// Reads the prefix lengths. If a word is not one, it is reported, and the error is the exit status.
+fn lengths_of(rt: &HostRuntime, words: &[&str]) -> Result<Vec<u8>, u8> {
+    let mut lengths = Vec::new(rt.alloc());
+    for word in words {
+        let Some(length) = read_length(word) else {
+            let _ = writeln!(rt.stderr(), "netset: not a prefix length: {word}");
+            return Err(2);
+        };
+        if lengths.push(length).is_err() {
+            return Err(refused(rt, ArgumentFailure::Memory));
+        }
+    }
+    Ok(lengths)
+}
+
+/// Reads the arguments and the list, prints the plan, and returns the exit status.
+pub fn planned(rt: &HostRuntime, matches: &ArgMatches) -> u8 {
+    let words = matches.get_strs(LENGTHS).unwrap_or(&[]);
+    let lengths = match lengths_of(rt, words) {
+        Ok(lengths) => lengths,
+        Err(status) => return status,
+    };
+    let work = netset_lib::Command::Union.work(flags_of(matches));
+    let names = matches.get_strs(FIRST).unwrap_or(&[]);
+    let session = match session_of(rt, work, names, matches.get_flag("progress")) {
+        Ok(session) => session,
+        Err(status) => return status,
+    };
+    let request = PlanRequest {
+        families: families(matches.get_flag("ipv4"), matches.get_flag("ipv6")),
+        lengths: lengths.as_slice(),
+    };
+    run_plan(session, request, names, &mut rt.stdout(), &mut rt.stderr())
+}

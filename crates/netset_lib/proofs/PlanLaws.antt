@@ -1,0 +1,90 @@
+-- Plans in two sets with the same addresses, and in the addresses of lists.
+use Rattle.std.proofs.Common.{◌↔◌, ℕ, List}
+use Rattle.std.proofs.lemmas.List.Elements.{All-weaker}
+use Rattle.ipnet_base.specs.Address.{Family, Address}
+use Rattle.ipnet_base.specs.Blocks.{IsInside}
+use Rattle.ipnet_base.specs.Network.{Network}
+use Rattle.ipnet_pools.specs.Plans.{requests_of}
+use Rattle.ipnet_pools.proofs.PlacementLaws.{CanPlace-more}
+use Rattle.ipnet_sets.specs.declared.set.IpSet.{IpSet}
+use Rattle.ipnet_sets.specs.Members.{IsMember}
+use Rattle.netset_lib.specs.declared.operation.Families.{Families}
+use Rattle.netset_lib.specs.declared.operation.Families.TheVariants.{Named, Ipv4, Ipv6, Both}
+use Rattle.netset_lib.specs.declared.answer.Request.{Request}
+use Rattle.netset_lib.specs.Lists.{IsInEntries}
+use Rattle.netset_lib.specs.Operations.{IsInResult}
+use Rattle.netset_lib.specs.PlanAnswers.{IsPlanFamily, IsPlanText, HasNoPlacement}
+use Rattle.netset_lib.specs.PlanAnswers.{IsResultSet, HoldsOfResult}
+
+-- ---- two sets with the same addresses
+
+family_same : (A B : Address → Type 0) → ((x : Address) → A x ↔ B x) → (families : Families) (f : Family)
+    → IsPlanFamily families A f → IsPlanFamily families B f
+family_same A B same Named f h = record {
+  member = h.member;
+  some = (same h.member).0 h.some;
+  only = λ x b. h.only x ((same x).1 b);
+}
+family_same A B same Ipv4 f h = h
+family_same A B same Ipv6 f h = h
+family_same A B same Both f h = h
+
+text_same : (A B : Address → Type 0) → ((x : Address) → A x ↔ B x) → (families : Families) (lengths text : List ℕ)
+    → IsPlanText A families lengths text → IsPlanText B families lengths text
+text_same A B same families lengths text h = record {
+  family = h.family;
+  chosen = family_same A B same families h.family h.chosen;
+  networks = h.networks;
+  plan = record {
+    requested = h.plan.requested;
+    inside = All-weaker (IsInside A 0) (IsInside B 0) inside h.networks h.plan.inside;
+    disjoint = h.plan.disjoint;
+  };
+  spelled = h.spelled;
+}
+  where
+    inside : (n : Network) → IsInside A 0 n → IsInside B 0 n
+    inside n i = record {
+      network = i.network;
+      truncated = i.truncated;
+      long_enough = i.long_enough;
+      within = λ x b. (same x).0 (i.within x b);
+    }
+
+none_same : (A B : Address → Type 0) → ((x : Address) → A x ↔ B x) → (families : Families) (lengths : List ℕ)
+    → HasNoPlacement A families lengths → HasNoPlacement B families lengths
+none_same A B same families lengths h = record {
+  family = h.family;
+  chosen = family_same A B same families h.family h.chosen;
+  none = λ place. h.none (CanPlace-more (requests_of h.family lengths) B A (λ x b. (same x).1 b) place);
+}
+
+-- ---- plans in the addresses of lists
+
+module _ (r : Request) (lists : List (List ℕ)) (set : IpSet) (families : Families) (lengths : List ℕ)
+    (of : IsResultSet r lists set) where
+  pub plan_of_lists : (text : List ℕ) → IsPlanText (IsMember set) families lengths text
+      → HoldsOfResult r lists (λ S. IsPlanText S families lengths text)
+  plan_of_lists text right = record {
+    entries = of.entries;
+    read = of.read;
+    right = text_same (IsMember set) (IsInResult IsInEntries r.operation of.entries) of.right families lengths text
+        right;
+  }
+
+  pub none_of_lists : HasNoPlacement (IsMember set) families lengths
+      → HoldsOfResult r lists (λ S. HasNoPlacement S families lengths)
+  none_of_lists right = record {
+    entries = of.entries;
+    read = of.read;
+    right = none_same (IsMember set) (IsInResult IsInEntries r.operation of.entries) of.right families lengths right;
+  }
+
+  pub placed_of_lists : ¬ (HasNoPlacement (IsMember set) families lengths)
+      → HoldsOfResult r lists (λ S. ¬ (HasNoPlacement S families lengths))
+  placed_of_lists placed = record {
+    entries = of.entries;
+    read = of.read;
+    right = λ h. placed (none_same (IsInResult IsInEntries r.operation of.entries) (IsMember set)
+        (λ x. ((of.right x).1, (of.right x).0)) families lengths h);
+  }

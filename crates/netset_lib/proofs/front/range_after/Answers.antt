@@ -1,0 +1,10 @@
+-- Two addresses with "-" between them are a range (`FrontEntries`).
+use Rattle.std.proofs.Common.{take, arith}
+use Rattle.netset_lib.proofs.FrontEntries.{range_entry}
+use Rattle.netset_lib.proofs.front.range_after.Goals as goal
+
+pub returns-clause-entry : goal.returns-clause-entry
+returns-clause-entry c = λ text h.
+    range_entry text (take c.in_ok-last.len c.args.bytes.now) c.args.first c.in_ok-last.last h
+    c.in_ok-last.ensures.address
+    (omega (arith, c.if-to_bits.false, c.to_bits-else-bytes-len-ne10.ensures, c.to_bits.ensures))

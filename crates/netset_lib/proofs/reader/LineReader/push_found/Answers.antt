@@ -1,0 +1,20 @@
+-- An entry with nothing around it is the contents of its line (`PlainLines`).
+use Rattle.std.proofs.Common.{refl}
+use Rattle.ipnet_text.proofs.ListsLaws.{OnOk_then}
+use Rattle.netset_lib.specs.FoundEntry.{found_range}
+use Rattle.netset_lib.proofs.ListReading.{adds_entry, reads_one}
+use Rattle.netset_lib.proofs.PlainLines.{plain_contents, plain_entry}
+use Rattle.netset_lib.proofs.reader.LineReader.push_found.Goals as goal
+
+pub returns : goal.returns
+returns g c =
+    let old = c.args.self.now in
+    let text = c.args.found.text.now in
+    let range = found_range c.args.found in
+    let before = g.C.Collector.is_made c.args.collector.now c.args.made.now in
+    let after = g.C.Collector.is_made c.args.collector.now c.push.new.made in
+    OnOk_then c.push.result c.push.ensures
+    (λ made. reads_one old _ text text before after
+    (plain_contents old.grammar text (plain_entry old.grammar text range c.requires.entry))
+    (adds_entry old _ text refl refl c.in-Some.ensures.1 before after range c.requires.some c.requires.entry refl
+    made))

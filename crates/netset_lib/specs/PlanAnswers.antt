@@ -1,0 +1,102 @@
+-- Plans of networks in the addresses of lists: their text, and why there is none.
+use Rattle.std.specs.Prelude.{◌≡◌, ◌↔◌, ◌<◌, ◌⊎◌, ◌++◌, ℕ, List, [], Any, codes, Option}
+use Rattle.std.specs.Io.{StartsWith}
+use Rattle.std.specs.Io.KnownBytes.{Appends}
+use Rattle.ipnet_base.specs.Address.{Family, IPv4, IPv6, width, Address}
+use Rattle.ipnet_base.specs.Network.{Network}
+use Rattle.ipnet.specs.Numerals.{IsDecimal}
+use Rattle.ipnet.specs.declared.parser.Grammar.TheVariants.{Strict}
+use Rattle.ipnet_pools.specs.Placements.{CanPlace}
+use Rattle.ipnet_pools.specs.Plans.{requests_of, IsPlan}
+use Rattle.ipnet_sets.specs.declared.set.IpSet.{IpSet}
+use Rattle.ipnet_sets.specs.Members.{IsMember}
+use Rattle.ipnet_text.specs.LineTexts.{text_of_lines}
+use Rattle.netset_lib.specs.declared.answer.Request.{Request}
+use Rattle.netset_lib.specs.declared.operation.Families.{Families}
+use Rattle.netset_lib.specs.declared.operation.Families.TheVariants.{Named, Ipv4, Ipv6, Both}
+use Rattle.netset_lib.specs.declared.plan.PlanFailure.{PlanFailure}
+use Rattle.netset_lib.specs.declared.plan.PlanFailure.TheVariants as Faults
+use Rattle.netset_lib.specs.Answers.{AreListsRead}
+use Rattle.netset_lib.specs.Lists.{ListEntry, IsInEntries}
+use Rattle.netset_lib.specs.Operations.{IsInResult}
+
+-- The text of a prefix length: a decimal number of at most 128 without leading zeros, after "/" or without it.
+-- Example: `24` and `/24` are 24; `024`, `+24`, `129` and the empty text are not prefix lengths.
+abbrev pub IsLengthText : List ℕ → ℕ → Type 0
+IsLengthText text n = IsDecimal Strict 3 128 text n
+    ⊎ ((digits : List ℕ) × (text ≡ codes "/" ++ digits) × IsDecimal Strict 3 128 digits n)
+
+-- The set has addresses of the family, and of no other family.
+pub record HasOnly (InSet : Address → Type 0) (family : Family) : Type 0 where
+  pub member : Address
+  pub some : InSet member
+  pub only : (x : Address) → InSet x → x.family ≡ family
+
+-- The family of the planned networks: the only family of the set, or the one that is chosen.
+-- Example: IPv4 for 10.0.0.0/8 and `Named`. With fd00::/8 beside it, `Named` has no family.
+abbrev pub IsPlanFamily : Families → (Address → Type 0) → Family → Type 0
+IsPlanFamily Named InSet family = HasOnly InSet family
+IsPlanFamily Ipv4 InSet family = family ≡ IPv4
+IsPlanFamily Ipv6 InSet family = family ≡ IPv6
+IsPlanFamily Both InSet family = ⊥
+
+-- The text is the lines of networks in the set: one for each prefix length, in the order of the lengths. No two of the
+-- networks share an address.
+-- Example: `10.0.0.0/26`, `10.0.0.128/25` for the lengths 26 and 25 in 10.0.0.0/24.
+pub record IsPlanText (InSet : Address → Type 0) (families : Families) (lengths : List ℕ) (text : List ℕ) : Type 0 where
+  pub family : Family
+  pub chosen : IsPlanFamily families InSet family
+  pub networks : List Network
+  pub plan : IsPlan InSet family lengths networks
+  pub spelled : text ≡ text_of_lines networks
+
+-- No networks of these prefix lengths can be placed in the set. Example: the lengths 25, 25 and 27 in 10.0.0.0/24.
+pub record HasNoPlacement (InSet : Address → Type 0) (families : Families) (lengths : List ℕ) : Type 0 where
+  pub family : Family
+  pub chosen : IsPlanFamily families InSet family
+  pub none : ¬ (CanPlace InSet (requests_of family lengths))
+
+-- The prefix length `p` is one of the lengths, and is above `greatest`, the width of the family.
+pub record HasLongLength (InSet : Address → Type 0) (families : Families) (lengths : List ℕ) (p greatest : ℕ) : Type 0
+  where
+    pub family : Family
+    pub chosen : IsPlanFamily families InSet family
+    pub member : Any (λ q. q ≡ p) lengths
+    pub width_is : greatest ≡ width family
+    pub long : greatest < p
+
+-- Why a set has no plan. When memory runs out is not specified.
+abbrev pub IsPlanFailure : (Address → Type 0) → Families → List ℕ → PlanFailure → Type 0
+IsPlanFailure InSet families lengths Faults.Family = (family : Family) → ¬ (IsPlanFamily families InSet family)
+IsPlanFailure InSet families lengths (Faults.PrefixLen p greatest) = HasLongLength InSet families lengths p greatest
+IsPlanFailure InSet families lengths Faults.NoPlacement = HasNoPlacement InSet families lengths
+IsPlanFailure InSet families lengths Faults.Memory = Unit {0}
+
+-- No line is refused, and the set has the addresses of the operation's result.
+pub record IsResultSet (request : Request) (lists : List (List ℕ)) (set : IpSet) : Type 0 where
+  pub entries : List (List ListEntry)
+  pub read : AreListsRead request.grammar 0 lists entries []
+  pub right : (x : Address) → IsMember set x ↔ IsInResult IsInEntries request.operation entries x
+
+-- No line is refused, and `Holds` is true of the addresses of the operation's result.
+pub record HoldsOfResult (request : Request) (lists : List (List ℕ)) (Holds : (Address → Type 0) → Type 0) : Type 0
+  where
+    pub entries : List (List ListEntry)
+    pub read : AreListsRead request.grammar 0 lists entries []
+    pub right : Holds (IsInResult IsInEntries request.operation entries)
+
+-- There is a plan in the addresses of the lists, and all of its text was written.
+pub record IsPlanned (request : Request) (families : Families) (lengths : List ℕ) (lists : List (List ℕ))
+    (held held_after : Option (List ℕ)) : Type 0 where
+  pub text : List ℕ
+  pub right : HoldsOfResult request lists (λ InSet. IsPlanText InSet families lengths text)
+  pub written : Appends held held_after text
+
+-- There is a plan in the addresses of the lists, and a front of its text was written, perhaps all of it.
+pub record IsPlanCutShort (request : Request) (families : Families) (lengths : List ℕ) (lists : List (List ℕ))
+    (held held_after : Option (List ℕ)) : Type 0 where
+  pub text : List ℕ
+  pub right : HoldsOfResult request lists (λ InSet. IsPlanText InSet families lengths text)
+  pub front : List ℕ
+  pub begins : StartsWith text front
+  pub written : Appends held held_after front

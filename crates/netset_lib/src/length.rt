@@ -1,0 +1,45 @@
+//! Prefix lengths, as words of a command line.
+ghost use Rattle.std.specs.Prelude.{◌≡◌, ◌↔◌, ℕ, Some};
+ghost use Rattle.ipnet.specs.Numerals.{IsDecimal};
+ghost use Rattle.ipnet.specs.declared.parser.Grammar.TheVariants.{Strict};
+ghost use Rattle.netset_lib.specs.PlanAnswers.{IsLengthText};
+
+use crate::cause::are_digits;
+
+/// The greatest prefix length of a family.
+const GREATEST: u8 = 128;
+
+/// The number of at most 128 that the decimal digits are.
+fn read_decimal(digits: &str) -> Option<u8>
+    ensures { (n : ℕ) → (result ≡ Some n) ↔ IsDecimal Strict 3 128 digits.now n }
+{
+    let bytes = digits.as_bytes();
+    if bytes.is_empty() || bytes.len() > 3 {
+        return None;
+    }
+    if !are_digits(bytes) {
+        return None;
+    }
+    if bytes[0] == b'0' && bytes.len() > 1 {
+        return None;
+    }
+    match digits.parse::<u8>() {
+        Ok(number) if number <= GREATEST => Some(number),
+        _ => None,
+    }
+}
+
+/// Returns the prefix length that the text is, or `None` if it is not one. It has no leading zeros and is at most 128,
+/// with "/" before it or without.
+///
+/// ```text
+/// "24" and "/24" are 24; "024", "+24", "129", "/" and "" are None
+/// ```
+pub fn read_length(text: &str) -> Option<u8>
+    ensures { (n : ℕ) → (result ≡ Some n) ↔ IsLengthText text.now n }
+{
+    match text.strip_prefix('/') {
+        Some(digits) => read_decimal(digits),
+        None => read_decimal(text),
+    }
+}

@@ -1,0 +1,180 @@
+//! Plans: networks of given prefix lengths in the addresses of a set, as text.
+ghost use Rattle.std.specs.Prelude.{◌≡◌, ◌↔◌, ◌<◌, ◌≤◌, Any, IfOk, IsOk, IfErr, Err, IfSome, IfNone};
+ghost use Rattle.std.specs.Prelude.{map, string_bytes};
+ghost use Rattle.ipnet_base.specs.Address.{Family, width};
+ghost use Rattle.ipnet.specs.NetworkOf.{ip_network};
+ghost use Rattle.ipnet_sets.specs.Members.{IsMember};
+ghost use Rattle.ipnet_pools.specs.Placements.{CanPlace};
+ghost use Rattle.ipnet_pools.specs.Plans.{requests_of, IsPlan};
+ghost use Rattle.ipnet_pools.specs.declared.error.PoolError.TheVariants.{Exhausted};
+ghost use Rattle.netset_lib.specs.PlanAnswers.{HasOnly, IsPlanFamily, IsPlanText, HasNoPlacement, IsPlanFailure};
+ghost use Rattle.netset_lib.specs.Planning.{family_of};
+ghost use Rattle.netset_lib.specs.declared.plan.PlanFailure.TheVariants.{NoPlacement, Memory};
+
+use crate::answer::lines_of_networks;
+use crate::operation::Families;
+use ipnet::IpNet;
+use ipnet_pools::PoolError;
+use ipnet_pools::plan::{plan_ipv4, plan_ipv6};
+use ipnet_sets::IpSet;
+use std::alloc::{AllocError, Global};
+use thiserror::Error;
+
+/// Why there is no plan.
+#[derive(Clone, Copy, Debug, PartialEq, Eq, Drop, Error)]
+pub enum PlanFailure {
+    /// The family is not chosen: the set has addresses of both families or none, or both families are asked for.
+    #[error("choose one family: --ipv4 or --ipv6")]
+    Family,
+    /// The first prefix length that is above the greatest of its family, and the greatest: 32 or 128.
+    #[error("/{0}: the prefix length is above {1}")]
+    PrefixLen(u8, u8),
+    /// The set has no room for networks of all the lengths at once.
+    #[error("no placement: the list has no room for these networks")]
+    NoPlacement,
+    /// Memory ran out.
+    #[error("out of memory")]
+    Memory,
+}
+
+impl From<AllocError> for PlanFailure {
+    ghost from_gives = { λ _ result. result ≡ Memory };
+
+    fn from(_: AllocError) -> PlanFailure {
+        PlanFailure::Memory
+    }
+}
+
+impl PlanFailure {
+    /// Returns the exit status of the program for this failure: 1 if no placement exists, and otherwise 2.
+    pub(crate) fn status(self) -> u8
+        ensures status { result ≤ 2 }
+        ensures positive { 1 ≤ result }
+        ensures none { (result ≡ 1) ↔ (self ≡ NoPlacement) }
+    {
+        match self {
+            PlanFailure::NoPlacement => 1,
+            PlanFailure::Family | PlanFailure::PrefixLen(_, _) | PlanFailure::Memory => 2,
+        }
+    }
+}
+
+/// The networks that a plan has to have.
+#[derive(Clone, Copy, Debug)]
+pub struct PlanRequest<'a> {
+    /// The family of the networks: the only family of the set for `Named`. `Both` is refused.
+    pub families: Families,
+    /// The prefix lengths, one for each network.
+    pub lengths: &'a [u8],
+}
+
+/// The family of the planned networks.
+#[derive(Clone, Copy)]
+pub(crate) enum PlanFamily {
+    Ipv4,
+    Ipv6,
+}
+
+impl PlanFamily {
+    ghost use Rattle.netset_lib.specs.Planning.{family_of};
+
+    /// The greatest prefix length of the family.
+    fn width(self) -> u8
+        ensures { result ≡ width (family_of self) }
+    {
+        match self {
+            PlanFamily::Ipv4 => 32,
+            PlanFamily::Ipv6 => 128,
+        }
+    }
+}
+
+/// The family of all addresses of the set, if there is one.
+fn only_family(set: &IpSet) -> Option<PlanFamily>
+    ensures some { IfSome result (λ f. HasOnly (IsMember set.now) (family_of f)) }
+    ensures none { IfNone result ((f : Family) → ¬ (HasOnly (IsMember set.now) f)) }
+{
+    match (set.has_ipv4(), set.has_ipv6()) {
+        (true, false) => Some(PlanFamily::Ipv4),
+        (false, true) => Some(PlanFamily::Ipv6),
+        _ => None,
+    }
+}
+
+/// The family of the planned networks, if it is chosen.
+fn plan_family(families: Families, set: &IpSet) -> Option<PlanFamily>
+    ensures some { IfSome result (λ f. IsPlanFamily families (IsMember set.now) (family_of f)) }
+    ensures none { IfNone result ((f : Family) → ¬ (IsPlanFamily families (IsMember set.now) f)) }
+{
+    match families {
+        Families::Named => only_family(set),
+        Families::Ipv4 => Some(PlanFamily::Ipv4),
+        Families::Ipv6 => Some(PlanFamily::Ipv6),
+        Families::Both => None,
+    }
+}
+
+/// The first of the lengths that is above `greatest`.
+fn first_above(lengths: &[u8], greatest: u8) -> Option<u8>
+    ensures some { IfSome result (λ p. Any (λ q. q ≡ p) lengths.now × (greatest < p)) }
+{
+    lengths
+        .iter()
+        .copied()
+        .find(|prefix_len| *prefix_len > greatest)
+}
+
+/// The plan of this family.
+fn plan_of(
+    alloc: Global,
+    set: &IpSet,
+    family: PlanFamily,
+    lengths: &[u8],
+) -> Result<Vec<IpNet>, PoolError>
+    ensures plan { IfOk result (λ list. IsPlan (IsMember set.now) (family_of family) lengths.now
+        (map ip_network list.items)) }
+    ensures placed { IsOk result → CanPlace (IsMember set.now) (requests_of (family_of family) lengths.now) }
+    ensures exhausted { result ≡ Err Exhausted
+        → ¬ (CanPlace (IsMember set.now) (requests_of (family_of family) lengths.now)) }
+{
+    match family {
+        PlanFamily::Ipv4 => plan_ipv4(alloc, set, lengths),
+        PlanFamily::Ipv6 => plan_ipv6(alloc, set, lengths),
+    }
+}
+
+/// Returns networks in the set as text, one a line: a network for each prefix length, in the order of the lengths. No
+/// two of them share an address.
+///
+/// The error is `Family` if the family is not chosen. Otherwise it is `PrefixLen` if a length is too long for the
+/// family, with the first such length and the greatest length of the family. Otherwise it is `NoPlacement` exactly if
+/// no such networks exist, unless memory runs out.
+///
+/// ```text
+/// lengths 26, 25 in 10.0.0.0/24: "10.0.0.0/26\n10.0.0.128/25\n"
+/// lengths 25, 25, 27 in 10.0.0.0/24: NoPlacement
+/// ```
+pub fn plan_text(
+    alloc: Global,
+    set: &IpSet,
+    request: PlanRequest<'_>,
+) -> Result<String, PlanFailure>
+    ensures plan { let r = request.entry in
+        IfOk result (λ text. IsPlanText (IsMember set.now) r.families r.lengths.now (string_bytes text)) }
+    ensures placed { let r = request.entry in
+        IsOk result → ¬ (HasNoPlacement (IsMember set.now) r.families r.lengths.now) }
+    ensures failure { let r = request.entry in
+        IfErr result (IsPlanFailure (IsMember set.now) r.families r.lengths.now) }
+{
+    let Some(family) = plan_family(request.families, set) else {
+        return Err(PlanFailure::Family);
+    };
+    if let Some(long) = first_above(request.lengths, family.width()) {
+        return Err(PlanFailure::PrefixLen(long, family.width()));
+    }
+    match plan_of(alloc, set, family, request.lengths) {
+        Ok(networks) => Ok(lines_of_networks(alloc, networks.as_slice())?),
+        Err(PoolError::Exhausted) => Err(PlanFailure::NoPlacement),
+        Err(_) => Err(PlanFailure::Memory),
+    }
+}

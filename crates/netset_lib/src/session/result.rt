@@ -1,0 +1,62 @@
+//! The addresses that an operation makes of the lists of a session.
+ghost use Rattle.std.specs.Prelude.{List, ℕ, IfOk, IfErr};
+ghost use Rattle.netset_lib.specs.PlanAnswers.{IsResultSet};
+ghost use Rattle.netset_lib.specs.Replies.{IsWorkFailure};
+ghost use Rattle.netset_lib.specs.declared.answer.Request.{Request};
+ghost use Rattle.netset_lib.specs.declared.command.Work.TheVariants.{Combine};
+
+use super::{Session, has_no_family};
+use crate::answer::Failure;
+use crate::command::Work;
+use crate::operation::combined;
+use ipnet_sets::IpSet;
+use std::alloc::Global;
+
+impl Session {
+    ghost use Rattle.netset_lib.specs.Sessions.{WereRead};
+
+    /// The allocator of the session.
+    pub(crate) fn alloc(&self) -> Global {
+        self.reading.lines.alloc
+    }
+
+    /// Returns the addresses that the operation makes of the lists that were read.
+    ///
+    /// The errors are those of `answer`. The work of a query makes no addresses: its error is `Count`.
+    ///
+    /// ```text
+    /// Difference of "10.0.0.0/30\n" and "10.0.0.3\n":  the set of 10.0.0.0 to 10.0.0.2
+    /// ```
+    pub fn into_set(self) -> Result<IpSet, Failure>
+        ensures set { IfOk result (λ set. (request : Request) → (lists : List (List ℕ))
+            → WereRead (Combine request) lists self → IsResultSet request lists set) }
+        ensures failure { IfErr result (λ failure. (request : Request) → (lists : List (List ℕ))
+            → WereRead (Combine request) lists self → IsWorkFailure (Combine request) lists failure) }
+    {
+        let Session {
+            work,
+            reading,
+            sets,
+            ..
+        } = self;
+        let Work::Combine(request) = work else {
+            return Err(Failure::Count);
+        };
+        let lines = reading.lines;
+        if !request.operation.takes(lines.list) {
+            return Err(Failure::Count);
+        }
+        let alloc = lines.alloc;
+        let refused = lines.refused;
+        if refused.count != 0 {
+            return Err(Failure::Refused(refused));
+        }
+        if has_no_family(work, sets.as_slice()) {
+            return Err(Failure::NoFamily);
+        }
+        match combined(alloc, request.operation, sets.as_slice()) {
+            Ok(set) => Ok(set),
+            Err(_) => Err(Failure::Memory),
+        }
+    }
+}
