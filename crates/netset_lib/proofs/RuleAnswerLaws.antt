@@ -110,16 +110,14 @@ all_reached grammar bytes text h none = of h.right.found refl
 
 -- ---- lines, one after the other
 
-pub cover_more : (lines : List LineOfRule) (indexes : List ℕ) (i place : ℕ) (old text indented new : List ℕ)
-    → i < length indexes → place ≡ get_or indexes i place → indented ≡ text ++ codes "  "
-    → new ≡ indented ++ line_at lines place
+pub cover_more : (lines : List LineOfRule) (indexes : List ℕ) (i : ℕ) (old text indented new : List ℕ)
+    → i < length indexes → indented ≡ text ++ codes "  " → new ≡ indented ++ line_at lines (get_or indexes i 0)
     → text ++ covering_lines lines (drop i indexes) ≡ old ++ covering_lines lines indexes
     → new ++ covering_lines lines (drop (i + 1) indexes) ≡ old ++ covering_lines lines indexes
-cover_more lines indexes i place old text indented new less is e f h =
-    let cut : drop i indexes ≡ place ∷ drop (i + 1) indexes =
-    drop_more indexes i place less ∙ ap (λ z. z ∷ drop (i + 1) indexes) (sym is) in
+cover_more lines indexes i old text indented new less e f h =
+    let cut = drop_more indexes i 0 less in
     let rest = covering_lines lines (drop (i + 1) indexes) in
-    let line = line_at lines place in
+    let line = line_at lines (get_or indexes i 0) in
     ap (λ z. z ++ rest) (f ∙ ap (λ z. z ++ line) e ∙ append_assoc text (codes "  ") line)
     ∙ append_assoc text (codes "  " ++ line) rest
     ∙ ap (λ z. text ++ covering_lines lines z) (sym cut)

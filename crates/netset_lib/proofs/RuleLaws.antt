@@ -1,5 +1,5 @@
 -- Lists of rules that are read line by line, and the lines of an answer.
-use Rattle.std.proofs.Common.{◌≡◌, ℕ, ◌+◌, ◌<◌, ◌≤◌, List, [], ◌∷◌, ◌++◌, length, map, take, drop, refl, sym, ap, ◌∙◌}
+use Rattle.std.proofs.Common.{◌≡◌, ◌≢◌, ℕ, ◌+◌, ◌<◌, ◌≤◌, List, [], ◌∷◌, ◌++◌, length, map, take, drop, refl, sym, ap, ◌∙◌}
 use Rattle.std.proofs.Common.{arith, inl, inr, subst, append_assoc, append-nil, get_or, ◌-◌, true, false}
 use Rattle.std.specs.Char.{is_ascii_whitespace}
 use Rattle.std.specs.List.{position_or_len, prefix_len}
@@ -19,9 +19,13 @@ use Rattle.netset_lib.specs.Lists.{IsContents}
 use Rattle.netset_lib.specs.RuleContentsOf.{contents_of, line_of_rule, rule_refusal}
 use Rattle.netset_lib.specs.RuleLines.{RuleContents, LineOfRule, no_rules, IsNextRule, IsNextRuleRefusal}
 use Rattle.netset_lib.specs.RuleLines.{AreRulesRead, AreRuleLines, rule_and, refusal_and, after_word}
-use Rattle.netset_lib.specs.RuleLines.{IsRuleText, IsNoRule, IsRuleCause}
+use Rattle.netset_lib.specs.RuleLines.{IsRuleText, IsNoRule, IsRuleCause, leading_word, word_of}
+use Rattle.ipnet_rules.specs.declared.rules.Action.{Action}
+use Rattle.netset_lib.specs.declared.rule_line.RuleCause.TheVariants.{UnknownWord, NoEntry, TwoEntries, BadEntry}
+use Rattle.netset_lib.specs.Causes.{IsCauseTold}
+use Rattle.netset_lib.specs.Entries.{IsEntryText, IsNoEntry}
 use Rattle.netset_lib.proofs.CommentLaws.{behind}
-use Rattle.netset_lib.specs.RuleSteps.{joined, AddsText, AddsLine, AreReadUpTo}
+use Rattle.netset_lib.specs.RuleSteps.{joined, AddsText, AddsLine, AreReadUpTo, IsEntryCause}
 
 -- contents with the same rules, lines and refused lines
 same_contents : (a b : RuleContents) → a.rules ≡ b.rules → a.lines ≡ b.lines → a.refused ≡ b.refused → a ≡ b
@@ -142,16 +146,16 @@ refusal_pushed old new number text cause line is rules lines refused =
 
 -- what a text adds
 pub adds_rule : (grammar : Grammar) (number : ℕ) (text : List ℕ) (old new : RuleContents) (rule : Rule)
-    → 0 < length text → IsRuleText grammar text rule → new ≡ joined old (rule_and number text rule no_rules)
+    → length text ≢ 0 → IsRuleText grammar text rule → new ≡ joined old (rule_and number text rule no_rules)
     → AddsText grammar number text old new
-adds_rule grammar number [] old new rule some is adds = absurd (omega (arith, some))
+adds_rule grammar number [] old new rule some is adds = absurd (some refl)
 adds_rule grammar number (b ∷ text) old new rule some is adds =
     (rule_and number (b ∷ text) rule no_rules, adds, inl (record { rule = rule; is = is; next = refl }))
 
 pub adds_refusal : (grammar : Grammar) (number : ℕ) (text : List ℕ) (old new : RuleContents) (cause : RuleCause)
-    → 0 < length text → IsNoRule grammar text → IsRuleCause grammar text cause
+    → length text ≢ 0 → IsNoRule grammar text → IsRuleCause grammar text cause
     → new ≡ joined old (refusal_and number text cause no_rules) → AddsText grammar number text old new
-adds_refusal grammar number [] old new cause some none told adds = absurd (omega (arith, some))
+adds_refusal grammar number [] old new cause some none told adds = absurd (some refl)
 adds_refusal grammar number (b ∷ text) old new cause some none told adds = (
   refusal_and number (b ∷ text) cause no_rules,
   adds,
@@ -162,3 +166,25 @@ pub adds_nothing : (grammar : Grammar) (number : ℕ) (text : List ℕ) (old : R
     → AddsText grammar number text old old
 adds_nothing grammar number [] old none = refl
 adds_nothing grammar number (b ∷ text) old none = absurd (omega (arith, none))
+
+-- no rule without an entry after the word
+pub no_rule : (grammar : Grammar) (text rest : List ℕ) → rest ≡ after_word text → IsNoEntry grammar rest
+    → IsNoRule grammar text
+no_rule grammar text rest is none rule h =
+    none h.range (subst (λ z. IsEntryText grammar z h.range) (sym is) h.entry)
+
+-- why what follows the word is no entry
+pub rule_cause : (grammar : Grammar) (text word rest : List ℕ) (action : Action) (cause : RuleCause)
+    → word ≡ leading_word text → rest ≡ after_word text → word ≡ word_of action → IsNoEntry grammar rest
+    → IsEntryCause grammar rest cause → IsRuleCause grammar text cause
+rule_cause grammar text word rest action UnknownWord first is has none h = absurd h
+rule_cause grammar text word rest action NoEntry first is has none h = ((action, sym first ∙ has), sym is ∙ h)
+rule_cause grammar text word rest action TwoEntries first is has none h =
+    ((action, sym first ∙ has), λ e. h (subst (λ z. leading_word z ≡ z) (sym is) e))
+rule_cause grammar text word rest action (BadEntry told) first is has none h = (
+  (action, sym first ∙ has),
+  λ e. h.0 (is ∙ e),
+  subst (λ z. leading_word z ≡ z) is h.1,
+  subst (IsNoEntry grammar) is none,
+  subst (λ z. IsCauseTold grammar z told) is h.2,
+)

@@ -85,9 +85,9 @@ fn push_covering(
     ensures { OnOk result
         (text.new.items ≡ text.old.items ++ covering_lines (map line_of_rule lines.now) indexes.now) }
 {
-    for place in indexes {
+    for place in 0..indexes.len() {
         text.extend_from_slice(b"  ")?;
-        push_line_at(alloc, text, lines, *place)?;
+        push_line_at(alloc, text, lines, indexes[place])?;
     }
     Ok(())
 }

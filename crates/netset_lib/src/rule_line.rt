@@ -1,5 +1,5 @@
 //! A line of a list of rules: `permit` or `deny`, and an entry.
-ghost use Rattle.std.specs.Prelude.{◌≡◌, ◌↔◌, ◌≢◌, List, ℕ, IfOk, IfErr, IfSome, IfNone, Some, length, IsTrue};
+ghost use Rattle.std.specs.Prelude.{◌≡◌, ◌↔◌, ◌≢◌, ◌≤◌, List, ℕ, IfOk, IfErr, IfSome, IfNone, Some, length, IsTrue};
 ghost use Rattle.std.specs.Char.{is_ascii_whitespace};
 ghost use Rattle.std.specs.List.{position_or_len};
 ghost use Rattle.ipnet_base.specs.Address.{Address};
@@ -42,7 +42,8 @@ pub enum RuleCause {
 
 /// Returns the index of the first blank, or the length of the text if it has none.
 fn first_blank(text: &[u8]) -> usize
-    ensures { result ≡ position_or_len is_ascii_whitespace text.now }
+    ensures index { result ≡ position_or_len is_ascii_whitespace text.now }
+    ensures within { result ≤ length text.now }
 {
     for index in 0..text.len() {
         if text[index].is_ascii_whitespace() {

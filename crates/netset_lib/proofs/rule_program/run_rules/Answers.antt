@@ -1,4 +1,5 @@
-use Rattle.std.proofs.Common.{refl, sym, subst, ◌∙◌}
+use Rattle.std.proofs.Common.{refl, sym, subst, inr, ◌∙◌}
+use Rattle.std.specs.Io.{StartsWith}
 use Rattle.std.specs.Io.KnownBytes.{Appends}
 use Rattle.netset_lib.specs.RuleAnswers.{IsRuleAnswer}
 use Rattle.netset_lib.proofs.CountTexts.{none_or_some}
@@ -31,3 +32,14 @@ returns-clause-reached g c = λ zero is grammar bytes h.
     (sym c.as_slice-2.ensures.value
     ∙ none_or_some c.as_slice-2.result.now c.status_of.result zero
     (λ some. c.status_of.ensures.unreached.1 (is, some)))
+
+pub returns-then-not-written-clause-cut_short : goal.returns-then-not-written-clause-cut_short
+returns-then-not-written-clause-cut_short g c = λ two grammar bytes h.
+    let (front, begins, written) = c.written.ensures.front in
+    inr record {
+      text = c.in-Ok.text.items;
+      right = c.in-Ok.ensures.answer grammar bytes h;
+      front = front;
+      begins = subst (λ z. StartsWith z front) c.as_slice.ensures.value begins;
+      written = written;
+    }
