@@ -1,26 +1,17 @@
 -- The lines of an answer over a list of rules, and what an empty answer means.
-use Rattle.std.proofs.Common.{◌≡◌, ◌≢◌, ◌<◌, ◌⊎◌, ℕ, ◌+◌, zero, suc, List, [], ◌∷◌, ◌++◌, length, map, drop, refl}
+use Rattle.std.proofs.Common.{◌≡◌, ◌≢◌, ◌<◌, ℕ, ◌+◌, zero, suc, List, [], ◌∷◌, ◌++◌, length, map, drop, refl}
 use Rattle.std.proofs.Common.{sym, ap, ◌∙◌, arith, inl, inr, subst, append_assoc, append-nil, codes, decimal, get_or}
 use Rattle.std.proofs.Common.{◌≤◌, Any}
-use Rattle.std.proofs.lemmas.List.{length-append, length-map, drop_more, drop_all}
+use Rattle.std.proofs.lemmas.List.{length-append, drop_more, drop_all}
 use Rattle.ipnet.specs.declared.parser.Grammar.{Grammar}
 use Rattle.ipnet_rules.specs.declared.unreached.Unreached.{Unreached}
 use Rattle.ipnet_rules.proofs.VerdictLaws.{any_cons, any_nil}
 use Rattle.netset_lib.specs.declared.rule_answer.RuleQuery.TheVariants as Queries
-use Rattle.netset_lib.specs.declared.rule_list.RefusedRule.{RefusedRule}
 use Rattle.netset_lib.specs.declared.rule_list.RuleLine.{RuleLine}
 use Rattle.netset_lib.specs.RuleAnswers.{line_text, line_at, covering_lines, unreached_lines, IsRuleAnswer}
-use Rattle.netset_lib.specs.RuleAnswers.{AreUnreachedLines, AreAllReached, IsOneUnreached}
-use Rattle.netset_lib.specs.RuleContentsOf.{line_of_rule, rule_refusal}
-use Rattle.netset_lib.specs.RuleLines.{LineOfRule, RuleContents, AreRulesRead, IsRuleList}
-
--- no refused line
-pub none_refused : (lines : List RefusedRule) → length lines ≡ 0 → map rule_refusal lines ≡ []
-none_refused [] none = refl
-none_refused (l ∷ lines) none = absurd (omega (arith, none))
-
-pub some_refused : (lines : List RefusedRule) → 0 < length lines → map rule_refusal lines ≢ []
-some_refused lines some e = omega (arith, some, length-map lines rule_refusal, ap length e)
+use Rattle.netset_lib.specs.RuleAnswers.{AreAllReached, IsOneUnreached}
+use Rattle.netset_lib.specs.RuleContentsOf.{line_of_rule}
+use Rattle.netset_lib.specs.RuleLines.{LineOfRule, RuleContents, AreRulesRead}
 
 -- the line at an index of values
 pub line_here : (lines : List RuleLine) (i : ℕ) (l : RuleLine) → i < length lines → l ≡ get_or lines i l

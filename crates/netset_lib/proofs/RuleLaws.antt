@@ -1,6 +1,6 @@
 -- Lists of rules that are read line by line, and the lines of an answer.
-use Rattle.std.proofs.Common.{◌≡◌, ◌≢◌, ℕ, ◌+◌, ◌<◌, ◌≤◌, List, [], ◌∷◌, ◌++◌, length, map, take, drop, refl, sym, ap, ◌∙◌}
-use Rattle.std.proofs.Common.{arith, inl, inr, subst, append_assoc, append-nil, get_or, ◌-◌, true, false}
+use Rattle.std.proofs.Common.{◌≡◌, ◌≢◌, ℕ, ◌+◌, ◌<◌, ◌≤◌, List, [], ◌∷◌, length, take, drop, refl}
+use Rattle.std.proofs.Common.{sym, ap, ◌∙◌, arith, inl, inr, subst, append_assoc, append-nil, get_or, ◌-◌, true, false}
 use Rattle.std.specs.Char.{is_ascii_whitespace}
 use Rattle.std.specs.List.{position_or_len, prefix_len}
 use Rattle.std.specs.Str.{IsTrimAsciiStart}
@@ -10,14 +10,10 @@ use Rattle.ipnet.specs.declared.parser.Grammar.{Grammar}
 use Rattle.ipnet.specs.Lines.{lines_of}
 use Rattle.ipnet_rules.specs.declared.rules.Rule.{Rule}
 use Rattle.netset_lib.specs.declared.rule_line.RuleCause.{RuleCause}
-use Rattle.netset_lib.specs.declared.rule_list.RefusedRule.{RefusedRule}
-use Rattle.netset_lib.specs.declared.rule_list.RuleLine.{RuleLine}
-use Rattle.netset_lib.specs.declared.rule_list.RuleList.{RuleList}
 use Rattle.netset_lib.specs.declared.rule_list.RuleReader.{RuleReader}
-use Rattle.std.proofs.lemmas.List.{map-append}
 use Rattle.netset_lib.specs.Lists.{IsContents}
-use Rattle.netset_lib.specs.RuleContentsOf.{contents_of, line_of_rule, rule_refusal}
-use Rattle.netset_lib.specs.RuleLines.{RuleContents, LineOfRule, no_rules, IsNextRule, IsNextRuleRefusal}
+use Rattle.netset_lib.specs.RuleContentsOf.{contents_of}
+use Rattle.netset_lib.specs.RuleLines.{RuleContents, no_rules}
 use Rattle.netset_lib.specs.RuleLines.{AreRulesRead, AreRuleLines, rule_and, refusal_and, after_word}
 use Rattle.netset_lib.specs.RuleLines.{IsRuleText, IsNoRule, IsRuleCause, leading_word, word_of}
 use Rattle.ipnet_rules.specs.declared.rules.Action.{Action}
@@ -120,30 +116,6 @@ no_blank text i past before =
     sym (position_or_len_is is_ascii_whitespace text (length text) 0 (omega arith)
     (λ k less. before k (omega (arith, past))) (λ less. absurd (omega (arith, less))))
 
--- a rule and its line at the end
-pub rule_pushed : (old new : RuleList) (number : ℕ) (text : List ℕ) (rule : Rule) (line : RuleLine)
-    → line_of_rule line ≡ record { number = number; text = text } → new.rules.items ≡ old.rules.items ++ rule ∷ []
-    → new.lines.items ≡ old.lines.items ++ line ∷ [] → new.refused.items ≡ old.refused.items
-    → contents_of new ≡ joined (contents_of old) (rule_and number text rule no_rules)
-rule_pushed old new number text rule line is rules lines refused =
-    same_contents (contents_of new) (joined (contents_of old) (rule_and number text rule no_rules)) rules
-    (ap (map line_of_rule) lines ∙ map-append line_of_rule old.lines.items (line ∷ [])
-    ∙ ap (λ z. map line_of_rule old.lines.items ++ z ∷ []) is)
-    (ap (map rule_refusal) refused ∙ sym (append-nil (map rule_refusal old.refused.items)))
-
--- a refused line at the end
-pub refusal_pushed : (old new : RuleList) (number : ℕ) (text : List ℕ) (cause : RuleCause) (line : RefusedRule)
-    → rule_refusal line ≡ record { number = number; text = text; cause = cause }
-    → new.rules.items ≡ old.rules.items → new.lines.items ≡ old.lines.items
-    → new.refused.items ≡ old.refused.items ++ line ∷ []
-    → contents_of new ≡ joined (contents_of old) (refusal_and number text cause no_rules)
-refusal_pushed old new number text cause line is rules lines refused =
-    same_contents (contents_of new) (joined (contents_of old) (refusal_and number text cause no_rules))
-    (rules ∙ sym (append-nil old.rules.items))
-    (ap (map line_of_rule) lines ∙ sym (append-nil (map line_of_rule old.lines.items)))
-    (ap (map rule_refusal) refused ∙ map-append rule_refusal old.refused.items (line ∷ [])
-    ∙ ap (λ z. map rule_refusal old.refused.items ++ z ∷ []) is)
-
 -- what a text adds
 pub adds_rule : (grammar : Grammar) (number : ℕ) (text : List ℕ) (old new : RuleContents) (rule : Rule)
     → length text ≢ 0 → IsRuleText grammar text rule → new ≡ joined old (rule_and number text rule no_rules)
@@ -161,11 +133,6 @@ adds_refusal grammar number (b ∷ text) old new cause some none told adds = (
   adds,
   inr (record { cause = cause; none = none; told = told; next = refl }),
 )
-
-pub adds_nothing : (grammar : Grammar) (number : ℕ) (text : List ℕ) (old : RuleContents) → length text ≡ 0
-    → AddsText grammar number text old old
-adds_nothing grammar number [] old none = refl
-adds_nothing grammar number (b ∷ text) old none = absurd (omega (arith, none))
 
 -- no rule without an entry after the word
 pub no_rule : (grammar : Grammar) (text rest : List ℕ) → rest ≡ after_word text → IsNoEntry grammar rest

@@ -1,5 +1,5 @@
 -- A list of rules that was read, as contracts see it.
-use Rattle.std.specs.Prelude.{ℕ, List, map}
+use Rattle.std.specs.Prelude.{map}
 use Rattle.netset_lib.specs.declared.rule_list.RefusedRule.{RefusedRule}
 use Rattle.netset_lib.specs.declared.rule_list.RuleLine.{RuleLine}
 use Rattle.netset_lib.specs.declared.rule_list.RuleList.{RuleList}

@@ -1,4 +1,4 @@
-use Rattle.std.proofs.Common.{◌≤◌, length, sym, ◌∙◌, arith}
+use Rattle.std.proofs.Common.{sym, ◌∙◌, arith}
 use Rattle.netset_lib.proofs.RuleLaws.{blank_at, no_blank}
 use Rattle.netset_lib.proofs.rule_line.first_blank.Goals as goal
 
