@@ -22,9 +22,17 @@ fn outcome(alloc: Global, list: &str, query: RuleQuery, wanted: &str) -> Outcome
         Err(_) => return Outcome::Refused,
     };
     match list.answer(query) {
-        Ok(text) if text.as_slice() == wanted.as_bytes() => Outcome::Answered,
-        Err(RuleFailure::Memory) => Outcome::Refused,
-        _ => Outcome::Wrong,
+        Ok(text) => {
+            if text.as_slice() == wanted.as_bytes() {
+                Outcome::Answered
+            } else {
+                Outcome::Wrong
+            }
+        }
+        Err(failure) => match failure {
+            RuleFailure::Memory => Outcome::Refused,
+            RuleFailure::Refused(_lines) => Outcome::Wrong,
+        },
     }
 }
 
