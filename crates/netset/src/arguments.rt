@@ -1,5 +1,6 @@
 //! The command line: the lists to read, and what to do with them.
 use crate::plan::plan_command;
+use crate::rules::with_rules;
 use crate::version::VERSION;
 use clap::{Arg, ArgAction, ArgMatches, Command, Error};
 use netset_lib::{Flags, Query, Work};
@@ -113,7 +114,7 @@ pub fn command_of<'a>(
 }
 
 /// The command of an operation; its lists are still missing.
-fn operation_command<'a>(
+pub fn operation_command<'a>(
     alloc: Global,
     name: &'a str,
     about: &'a str,
@@ -203,7 +204,10 @@ fn command<'a>(alloc: Global) -> Result<Command<'a>, AllocError> {
         .about("Combines and compares lists of networks, addresses and ranges")
         .subcommand_required(true)
         .arg_required_else_help(true);
-    with_queries(alloc, with_operations(alloc, command)?)
+    with_rules(
+        alloc,
+        with_queries(alloc, with_operations(alloc, command)?)?,
+    )
 }
 
 /// Parses the command line. The error is the text to print: help, the version, or what is wrong.

@@ -1,6 +1,7 @@
 //! The lists, read from files and from standard input.
 use crate::arguments::STANDARD_INPUT;
-use netset_lib::{ReadFailure, Session};
+use ipnet::Grammar;
+use netset_lib::{ReadFailure, RuleList, Session};
 use std::fs::File;
 use std::io;
 use std::io::{ErrorKind, IsTerminal, Read, Write};
@@ -44,6 +45,13 @@ fn read_list(rt: &HostRuntime, session: &mut Session, name: &str) -> Result<usiz
     }
 }
 
+/// Reports the number of bytes of a list: always, or only to a terminal.
+fn tell_count(rt: &HostRuntime, name: &str, count: usize, always: bool) {
+    if always || rt.stderr().is_terminal() {
+        let _ = writeln!(rt.stderr(), "netset: {name}: {count} bytes read");
+    }
+}
+
 /// Reads the lists of these names one after another. A file is opened when its turn comes, and then closed. Fails with
 /// the name of the first that could not be read, and the reason.
 ///
@@ -59,9 +67,50 @@ pub fn read_lists<'a>(
     for name in names {
         let count = read_list(rt, session, name).map_err(|failure| (*name, failure))?;
         total = total.saturating_add(count);
-        if tells_progress || (total >= MUCH && rt.stderr().is_terminal()) {
-            let _ = writeln!(rt.stderr(), "netset: {name}: {count} bytes read");
+        if tells_progress || total >= MUCH {
+            tell_count(rt, name, count, tells_progress);
         }
     }
     Ok(())
+}
+
+/// Reads a list of rules, and returns it with the number of its bytes.
+fn rules_from<R: Read + Drop>(
+    rt: &HostRuntime,
+    input: R,
+    grammar: Grammar,
+) -> Result<(RuleList, usize), ReadFailure> {
+    let mut counted = Counted { input, count: 0 };
+    let list = RuleList::read(rt.alloc(), &mut counted, grammar)?;
+    Ok((list, counted.count))
+}
+
+/// Reads the list of rules of this name: from standard input if it is "-", and otherwise from a file.
+fn open_rules(
+    rt: &HostRuntime,
+    name: &str,
+    grammar: Grammar,
+) -> Result<(RuleList, usize), ReadFailure> {
+    if name == STANDARD_INPUT {
+        return rules_from(rt, rt.stdin(), grammar);
+    }
+    match File::open(rt, name) {
+        Ok(file) => rules_from(rt, file, grammar),
+        Err(error) if error.kind() == ErrorKind::OutOfMemory => Err(ReadFailure::Memory),
+        Err(_) => Err(ReadFailure::Unreadable),
+    }
+}
+
+/// Reads the list of rules of this name, and reports its bytes as `read_lists` does.
+pub fn read_rules(
+    rt: &HostRuntime,
+    name: &str,
+    grammar: Grammar,
+    tells_progress: bool,
+) -> Result<RuleList, ReadFailure> {
+    let (list, count) = open_rules(rt, name, grammar)?;
+    if tells_progress || count >= MUCH {
+        tell_count(rt, name, count, tells_progress);
+    }
+    Ok(list)
 }

@@ -4,11 +4,13 @@
 mod arguments;
 mod lists;
 mod plan;
+mod rules;
 mod version;
 
 use crate::arguments::{ArgumentFailure, Call, call_of, matches_of, words};
 use crate::lists::read_lists;
 use crate::plan::{PLAN, planned};
+use crate::rules::run_if_rules;
 use clap::ArgMatches;
 use netset_lib::{Session, Work, run};
 use std::io::Write;
@@ -65,6 +67,9 @@ fn session_of(
 
 /// Runs the command of the parsed words, and returns its exit status.
 fn called(rt: &HostRuntime, matches: &ArgMatches) -> u8 {
+    if let Some(status) = run_if_rules(rt, matches) {
+        return status;
+    }
     match matches.subcommand() {
         Some((name, matches)) if name == PLAN => planned(rt, matches),
         _ => answered(rt, matches),

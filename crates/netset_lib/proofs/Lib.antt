@@ -21,3 +21,5 @@ pub mod TableLaws
 pub mod RouteLaws
 pub mod SessionLaws
 pub mod CommentLaws
+pub mod RuleLaws
+pub mod RuleAnswerLaws

@@ -21,3 +21,7 @@ pub mod Planning
 pub mod Runs
 pub mod Commands
 pub mod Sessions
+pub mod RuleLines
+pub mod RuleContentsOf
+pub mod RuleSteps
+pub mod RuleAnswers

@@ -21,6 +21,9 @@ use std::io::Write;
 /// At most this many bytes of a refused line are reported.
 const MOST_SHOWN: usize = 100;
 
+/// What a refused line is not.
+pub(crate) const NO_ENTRY: &str = "not a network, an address or a range";
+
 /// The report of a complement that has no family.
 const NO_FAMILY: &str = "netset: the list has no entries: choose --ipv4 or --ipv6, or both";
 
@@ -123,18 +126,26 @@ fn report_lines<X: Write>(faults: &mut X, names: &[&str], lines: &RefusedLines) 
     Ok(())
 }
 
-/// Reports one refused line. Bytes of its text that are not printable ASCII are escaped. Of a long text only the
-/// beginning is reported, so that a file that is not a list does not fill the screen.
+/// Reports a refused text of this line, and what it is not. Bytes that are not printable ASCII are escaped. Of a long
+/// text only the beginning is reported, so that a file that is not a list does not fill the screen.
+pub(crate) fn report_text<X: Write>(
+    faults: &mut X,
+    name: &str,
+    number: usize,
+    what: &str,
+    text: &[u8],
+) -> io::Result<()> {
+    let shown = text.len().min(MOST_SHOWN);
+    let rest = if shown < text.len() { ".." } else { "" };
+    let text = text[..shown].escape_ascii();
+    write!(faults, "{name}:{number}: {what}: {text}{rest}")
+}
+
+/// Reports one refused line.
 fn report_line<X: Write>(faults: &mut X, names: &[&str], line: &RefusedLine) -> io::Result<()> {
     let name = names.get(line.list).copied().unwrap_or("list");
-    let number = line.line;
-    let shown = line.text.len().min(MOST_SHOWN);
-    let text = line.text.as_slice()[..shown].escape_ascii();
-    let rest = if shown < line.text.len() { ".." } else { "" };
-    write!(
-        faults,
-        "{name}:{number}: not a network, an address or a range: {text}{rest}"
-    )?;
+    let text = line.text.as_slice();
+    report_text(faults, name, line.line, NO_ENTRY, text)?;
     match line.cause {
         Some(cause) => writeln!(faults, " ({cause})"),
         None => writeln!(faults),

@@ -31,7 +31,7 @@ pub(crate) trait Collector<M> {
 }
 
 /// The first line of bytes that are not empty, and the bytes after its end.
-fn first_line(bytes: &[u8]) -> (&[u8], &[u8])
+pub(crate) fn first_line(bytes: &[u8]) -> (&[u8], &[u8])
     requires { 0 < length bytes.now }
     ensures lines { lines_of bytes.now ≡ result.0.now ∷ lines_of result.1.now }
     ensures shorter { length result.1.now < length bytes.now }
@@ -50,7 +50,7 @@ pub(crate) struct FoundEntry<'a> {
 }
 
 /// Returns the entry that the bytes are, or `None` if they are not one.
-fn read_text<'a>(
+pub(crate) fn read_text<'a>(
     room: &mut String,
     text: &'a [u8],
     grammar: Grammar,
@@ -166,7 +166,7 @@ fn hides_entry(room: &mut String, comment: &[u8], grammar: Grammar) -> Result<bo
 
 /// The contents of the line: the text before its comment, or the whole line if the comment hides an entry. Fails if
 /// memory runs out.
-fn contents_of<'a>(
+pub(crate) fn contents_of<'a>(
     room: &mut String,
     line: &'a [u8],
     grammar: Grammar,

@@ -14,7 +14,7 @@ use thiserror::Error;
 const MOST_READS: u64 = u64::MAX;
 
 /// The byte order mark in UTF-8.
-const BYTE_ORDER_MARK: [u8; 3] = [0xEF, 0xBB, 0xBF];
+pub(crate) const BYTE_ORDER_MARK: [u8; 3] = [0xEF, 0xBB, 0xBF];
 
 /// Why a list was not read.
 #[derive(Clone, Copy, Debug, PartialEq, Eq, Drop, Error)]

@@ -1,5 +1,5 @@
 //! Tests of `netset_lib` that call the library: the kinds of entries, the numbers of lists, plans, readers and
-//! writers that fail, and refused memory.
+//! writers that fail, lists of rules, and refused memory.
 #![tactic(auto)]
 
 #[cfg(test)]
@@ -8,6 +8,8 @@ mod entries;
 mod memory;
 #[cfg(test)]
 mod plans;
+#[cfg(test)]
+mod rules;
 #[cfg(test)]
 mod runs;
 #[cfg(test)]

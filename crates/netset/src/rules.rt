@@ -1,0 +1,84 @@
+//! The commands that read a list of rules.
+use crate::arguments::{FIRST, command_of, first, operation_command};
+use crate::lists::read_rules;
+use clap::{Arg, ArgMatches, Command};
+use ipnet::Grammar;
+use ipnet_rules::Action;
+use netset_lib::{Form, RuleQuery, run_rules};
+use std::alloc::{AllocError, Global};
+use std::io::Write;
+
+/// The names of the two commands.
+const PERMITTED: &str = "permitted";
+
+const UNREACHED: &str = "unreached";
+
+/// The option for the action of the addresses that no rule matches, and its values.
+const DEFAULT: &str = "default";
+
+const PERMIT: &str = "permit";
+
+const ACTIONS: &[&str] = &[PERMIT, "deny"];
+
+/// The list of rules.
+fn rules_file<'a>(alloc: Global) -> Arg<'a> {
+    first(alloc, "RULES", "The list of rules, - for standard input")
+}
+
+/// Adds the commands that read a list of rules.
+pub fn with_rules<'a>(alloc: Global, command: Command<'a>) -> Result<Command<'a>, AllocError> {
+    let permitted = "The addresses whose first matching rule in RULES permits them";
+    let unreached =
+        "The rules of RULES that decide on no address, and the rules that do; status 1 if any";
+    let default = "What happens to the addresses that no rule matches";
+    let default = Arg::new(alloc, DEFAULT)
+        .long(DEFAULT)
+        .value_name("ACTION")
+        .value_parser(ACTIONS)
+        .default_value("deny")
+        .help(default);
+    let permitted = operation_command(alloc, PERMITTED, permitted)?
+        .arg(default)?
+        .arg(rules_file(alloc))?;
+    let unreached = command_of(alloc, UNREACHED, unreached)?.arg(rules_file(alloc))?;
+    command.subcommand(permitted)?.subcommand(unreached)
+}
+
+/// Returns what the command of this name asks of a list of rules, or `None` if it reads no such list.
+fn query_of(name: &str, matches: &ArgMatches) -> Option<RuleQuery> {
+    let form = if matches.get_flag("ranges") {
+        Form::Ranges
+    } else {
+        Form::Networks
+    };
+    let default = if matches.get_str(DEFAULT) == Some(PERMIT) {
+        Action::Permit
+    } else {
+        Action::Deny
+    };
+    match name {
+        PERMITTED => Some(RuleQuery::Permitted(default, form)),
+        UNREACHED => Some(RuleQuery::Unreached),
+        _ => None,
+    }
+}
+
+/// Runs the command if it reads a list of rules, and returns the status. `None` if it does not.
+pub fn run_if_rules(rt: &HostRuntime, matches: &ArgMatches) -> Option<u8> {
+    let (name, matches) = matches.subcommand()?;
+    let query = query_of(name, matches)?;
+    let file = matches.get_str(FIRST)?;
+    let grammar = if matches.get_flag("legacy") {
+        Grammar::Legacy
+    } else {
+        Grammar::Strict
+    };
+    let list = match read_rules(rt, file, grammar, matches.get_flag("progress")) {
+        Ok(list) => list,
+        Err(failure) => {
+            let _ = writeln!(rt.stderr(), "netset: {file}: {failure}");
+            return Some(2);
+        }
+    };
+    Some(run_rules(list, query, file, &mut rt.stdout(), &mut rt.stderr()))
+}

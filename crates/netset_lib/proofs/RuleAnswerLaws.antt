@@ -1,0 +1,143 @@
+-- The lines of an answer over a list of rules, and what an empty answer means.
+use Rattle.std.proofs.Common.{◌≡◌, ◌≢◌, ◌<◌, ℕ, ◌+◌, zero, suc, List, [], ◌∷◌, ◌++◌, length, map, drop, refl}
+use Rattle.std.proofs.Common.{sym, ap, ◌∙◌, arith, inl, inr, subst, append_assoc, append-nil, codes, decimal, get_or}
+use Rattle.std.proofs.Common.{◌≤◌, Any}
+use Rattle.std.proofs.lemmas.List.{length-append, drop_more, drop_all}
+use Rattle.ipnet.specs.declared.parser.Grammar.{Grammar}
+use Rattle.ipnet_rules.specs.declared.unreached.Unreached.{Unreached}
+use Rattle.ipnet_rules.proofs.VerdictLaws.{any_cons, any_nil}
+use Rattle.netset_lib.specs.declared.rule_answer.RuleQuery.TheVariants as Queries
+use Rattle.netset_lib.specs.declared.rule_list.RuleLine.{RuleLine}
+use Rattle.netset_lib.specs.RuleAnswers.{line_text, line_at, covering_lines, unreached_lines, IsRuleAnswer}
+use Rattle.netset_lib.specs.RuleAnswers.{AreAllReached, IsOneUnreached}
+use Rattle.netset_lib.specs.RuleContentsOf.{line_of_rule}
+use Rattle.netset_lib.specs.RuleLines.{LineOfRule, RuleContents, AreRulesRead}
+
+-- the line at an index of values
+pub line_here : (lines : List RuleLine) (i : ℕ) (l : RuleLine) → i < length lines → l ≡ get_or lines i l
+    → line_text (line_of_rule l) ≡ line_at (map line_of_rule lines) i
+line_here [] i l less is = absurd (omega (arith, less))
+line_here (k ∷ lines) zero l less is = ap (λ z. line_text (line_of_rule z)) is
+line_here (k ∷ lines) (suc i) l less is = line_here lines i l (omega (arith, less)) is
+
+pub no_line : (lines : List RuleLine) (i : ℕ) → length lines ≤ i → line_at (map line_of_rule lines) i ≡ []
+no_line [] i past = refl
+no_line (k ∷ lines) zero past = absurd (omega (arith, past))
+no_line (k ∷ lines) (suc i) past = no_line lines i (omega (arith, past))
+
+-- as many lines as rules
+rules_have_lines : (grammar : Grammar) (number : ℕ) (texts : List (List ℕ)) (c : RuleContents)
+    → AreRulesRead grammar number texts c → length c.lines ≡ length c.rules
+rules_have_lines grammar number [] c h =
+    omega (arith, ap (λ z. length z.lines) h, ap (λ z. length z.rules) h)
+rules_have_lines grammar number ([] ∷ texts) c h = rules_have_lines grammar (number + 1) texts c h
+rules_have_lines grammar number ((b ∷ text) ∷ texts) c (more, h, inl next) =
+    omega (
+      arith,
+      ap (λ z. length z.lines) next.next,
+      ap (λ z. length z.rules) next.next,
+      rules_have_lines grammar (number + 1) texts more h,
+    )
+rules_have_lines grammar number ((b ∷ text) ∷ texts) c (more, h, inr next) =
+    omega (
+      arith,
+      ap (λ z. length z.lines) next.next,
+      ap (λ z. length z.rules) next.next,
+      rules_have_lines grammar (number + 1) texts more h,
+    )
+
+line_some : (lines : List LineOfRule) (i : ℕ) → i < length lines → 0 < length (line_at lines i)
+line_some [] i less = absurd (omega (arith, less))
+line_some (l ∷ lines) zero less =
+    omega (arith, length-append (codes "line " ++ decimal l.number ++ codes ": " ++ l.text) (10 ∷ []))
+line_some (l ∷ lines) (suc i) less = line_some lines i (omega (arith, less))
+
+-- a text with a line is of an unreached rule
+pub one_unreached : (grammar : Grammar) (bytes text : List ℕ) → IsRuleAnswer Queries.Unreached grammar bytes text
+    → text ≢ [] → IsOneUnreached grammar bytes
+one_unreached grammar bytes text h some = of h.right.found refl
+  where
+    of : (found : List Unreached) → h.right.found ≡ found → IsOneUnreached grammar bytes
+    of [] e = absurd (some (h.right.spelled ∙ ap (unreached_lines h.contents.lines) e))
+    of (u ∷ found) e = record {
+      contents = h.contents;
+      read = h.read;
+      none = h.none;
+      index = u.rule;
+      unreached = (h.right.unreached.members u.rule).0
+          (subst (λ z. Any (λ v. v.rule ≡ u.rule) z) (sym e)
+          ((any_cons (λ v. v.rule ≡ u.rule) u found).1 (inl refl)));
+    }
+
+-- an empty text is of a list whose rules all decide on some address
+pub all_reached : (grammar : Grammar) (bytes text : List ℕ) → IsRuleAnswer Queries.Unreached grammar bytes text
+    → text ≡ [] → AreAllReached grammar bytes
+all_reached grammar bytes text h none = of h.right.found refl
+  where
+    of : (found : List Unreached) → h.right.found ≡ found → AreAllReached grammar bytes
+    of [] e = record {
+      contents = h.contents;
+      read = h.read;
+      none = h.none;
+      reached = λ index is. any_nil (λ v. v.rule ≡ index)
+          (subst (λ z. Any (λ v. v.rule ≡ index) z) e ((h.right.unreached.members index).1 is));
+    }
+    of (u ∷ found) e =
+        let is = (h.right.unreached.members u.rule).0
+        (subst (λ z. Any (λ v. v.rule ≡ u.rule) z) (sym e)
+        ((any_cons (λ v. v.rule ≡ u.rule) u found).1 (inl refl))) in
+        let (texts, are, read) = h.read in
+        let within : u.rule < length h.contents.lines =
+        omega (arith, is.within, rules_have_lines grammar 1 texts h.contents read) in
+        let line = line_at h.contents.lines u.rule in
+        let covering = covering_lines h.contents.lines u.deciders.items in
+        absurd (omega (
+          arith,
+          line_some h.contents.lines u.rule within,
+          length-append line covering,
+          length-append (line ++ covering) (unreached_lines h.contents.lines found),
+          ap length (sym none ∙ h.right.spelled ∙ ap (unreached_lines h.contents.lines) e),
+        ))
+
+-- ---- lines, one after the other
+
+pub cover_more : (lines : List LineOfRule) (indexes : List ℕ) (i : ℕ) (old text indented new : List ℕ)
+    → i < length indexes → indented ≡ text ++ codes "  " → new ≡ indented ++ line_at lines (get_or indexes i 0)
+    → text ++ covering_lines lines (drop i indexes) ≡ old ++ covering_lines lines indexes
+    → new ++ covering_lines lines (drop (i + 1) indexes) ≡ old ++ covering_lines lines indexes
+cover_more lines indexes i old text indented new less e f h =
+    let cut = drop_more indexes i 0 less in
+    let rest = covering_lines lines (drop (i + 1) indexes) in
+    let line = line_at lines (get_or indexes i 0) in
+    ap (λ z. z ++ rest) (f ∙ ap (λ z. z ++ line) e ∙ append_assoc text (codes "  ") line)
+    ∙ append_assoc text (codes "  " ++ line) rest
+    ∙ ap (λ z. text ++ covering_lines lines z) (sym cut)
+    ∙ h
+
+pub unreached_more : (lines : List LineOfRule) (found : List Unreached) (i : ℕ) (u : Unreached)
+    (old text with_line new : List ℕ) → i < length found → u ≡ get_or found i u
+    → with_line ≡ text ++ line_at lines u.rule → new ≡ with_line ++ covering_lines lines u.deciders.items
+    → text ++ unreached_lines lines (drop i found) ≡ old ++ unreached_lines lines found
+    → new ++ unreached_lines lines (drop (i + 1) found) ≡ old ++ unreached_lines lines found
+unreached_more lines found i u old text with_line new less is e f h =
+    let cut : drop i found ≡ u ∷ drop (i + 1) found =
+    drop_more found i u less ∙ ap (λ z. z ∷ drop (i + 1) found) (sym is) in
+    let rest = unreached_lines lines (drop (i + 1) found) in
+    let covering = covering_lines lines u.deciders.items in
+    let line = line_at lines u.rule in
+    ap (λ z. z ++ rest) (f ∙ ap (λ z. z ++ covering) e ∙ append_assoc text line covering)
+    ∙ append_assoc text (line ++ covering) rest
+    ∙ ap (λ z. text ++ unreached_lines lines z) (sym cut)
+    ∙ h
+
+pub cover_all : (lines : List LineOfRule) (indexes : List ℕ) (i : ℕ) (old text : List ℕ) → length indexes ≤ i
+    → text ++ covering_lines lines (drop i indexes) ≡ old ++ covering_lines lines indexes
+    → text ≡ old ++ covering_lines lines indexes
+cover_all lines indexes i old text past h =
+    sym (ap (λ z. text ++ covering_lines lines z) (drop_all i indexes past) ∙ append-nil text) ∙ h
+
+pub unreached_all : (lines : List LineOfRule) (found : List Unreached) (i : ℕ) (old text : List ℕ) → length found ≤ i
+    → text ++ unreached_lines lines (drop i found) ≡ old ++ unreached_lines lines found
+    → text ≡ old ++ unreached_lines lines found
+unreached_all lines found i old text past h =
+    sym (ap (λ z. text ++ unreached_lines lines z) (drop_all i found past) ∙ append-nil text) ∙ h

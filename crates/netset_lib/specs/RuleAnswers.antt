@@ -1,0 +1,107 @@
+-- The queries on a list of rules, and the answers.
+use Rattle.std.specs.Prelude.{◌≡◌, ◌≢◌, ℕ, zero, suc, List, [], ◌∷◌, ◌++◌, codes, decimal, map, Option}
+use Rattle.std.specs.Io.{StartsWith}
+use Rattle.std.specs.Io.KnownBytes.{Appends}
+use Rattle.ipnet_base.specs.Address.{Address, IsAddress}
+use Rattle.ipnet.specs.declared.parser.Grammar.{Grammar}
+use Rattle.ipnet_rules.specs.declared.rules.Action.{Action}
+use Rattle.ipnet_rules.specs.declared.rules.Action.TheVariants.{Permit}
+use Rattle.ipnet_rules.specs.declared.rules.Rule.{Rule}
+use Rattle.ipnet_rules.specs.declared.unreached.Unreached.{Unreached}
+use Rattle.ipnet_rules.specs.Rules.{HasRuleVerdict}
+use Rattle.ipnet_rules.specs.UnreachedRules.{IsUnreached, AreUnreached}
+use Rattle.netset_lib.specs.declared.rule_answer.RuleFailure.{RuleFailure}
+use Rattle.netset_lib.specs.declared.rule_answer.RuleFailure.TheVariants as Failures
+use Rattle.netset_lib.specs.declared.rule_answer.RuleQuery.{RuleQuery}
+use Rattle.netset_lib.specs.declared.rule_answer.RuleQuery.TheVariants as Queries
+use Rattle.netset_lib.specs.declared.rule_list.RefusedRule.{RefusedRule}
+use Rattle.netset_lib.specs.Answers.{IsSetText}
+use Rattle.netset_lib.specs.RuleContentsOf.{rule_refusal}
+use Rattle.netset_lib.specs.RuleLines.{LineOfRule, RuleContents, IsRuleList}
+
+-- The addresses that the rules permit: the first rule that matches the address permits it; or no rule matches it, and
+-- the default is to permit.
+abbrev pub IsPermittedBy : List Rule → Action → Address → Type 0
+IsPermittedBy rules default x = IsAddress x × HasRuleVerdict rules default x Permit
+
+-- The number of a line and its text. Example: `line 4: permit 10.0.1.192/26`.
+abbrev pub line_text : LineOfRule → List ℕ
+line_text l = codes "line " ++ decimal l.number ++ codes ": " ++ l.text ++ 10 ∷ []
+
+-- The text of the line at this index, counted from 0, or nothing if there is none.
+abbrev pub line_at : List LineOfRule → ℕ → List ℕ
+line_at [] index = []
+line_at (l ∷ lines) zero = line_text l
+line_at (l ∷ lines) (suc index) = line_at lines index
+
+-- The lines at these indexes, each after two spaces.
+abbrev pub covering_lines : List LineOfRule → List ℕ → List ℕ
+covering_lines lines [] = []
+covering_lines lines (index ∷ indexes) = codes "  " ++ line_at lines index ++ covering_lines lines indexes
+
+-- The line of each unreached rule, and after it the lines of the rules that decide on its addresses.
+abbrev pub unreached_lines : List LineOfRule → List Unreached → List ℕ
+unreached_lines lines [] = []
+unreached_lines lines (u ∷ found) =
+    line_at lines u.rule ++ covering_lines lines u.deciders.items ++ unreached_lines lines found
+
+-- The text has the rules that decide on no address, in order, each with the earlier rules that decide on its addresses.
+-- Example: of `deny 10.0.0.0/8` and `permit 10.1.0.0/16`, the lines `line 2: permit 10.1.0.0/16` and
+-- `  line 1: deny 10.0.0.0/8`.
+pub record AreUnreachedLines (contents : RuleContents) (text : List ℕ) : Type 0 where
+  pub found : List Unreached
+  pub unreached : AreUnreached contents.rules found
+  pub spelled : text ≡ unreached_lines contents.lines found
+
+-- The text that is asked for: the set of the addresses that the rules permit, in this form, or the unreached rules.
+abbrev pub IsRuleReply : RuleQuery → RuleContents → List ℕ → Type 0
+IsRuleReply (Queries.Permitted default form) contents = IsSetText form (IsPermittedBy contents.rules default)
+IsRuleReply Queries.Unreached contents = AreUnreachedLines contents
+
+-- No line of the list is refused, and the text is what is asked for.
+pub record IsRuleAnswer (query : RuleQuery) (grammar : Grammar) (bytes text : List ℕ) : Type 0 where
+  pub contents : RuleContents
+  pub read : IsRuleList grammar bytes contents
+  pub none : contents.refused ≡ []
+  pub right : IsRuleReply query contents text
+
+-- Some lines are refused, and these are all of them.
+pub record HasRefusedRules (grammar : Grammar) (bytes : List ℕ) (lines : List RefusedRule) : Type 0 where
+  pub contents : RuleContents
+  pub read : IsRuleList grammar bytes contents
+  pub some : contents.refused ≢ []
+  pub kept : map rule_refusal lines ≡ contents.refused
+
+-- Why there is no answer: refused lines, or out of memory. When memory runs out is not specified.
+abbrev pub IsRuleFailure : Grammar → List ℕ → RuleFailure → Type 0
+IsRuleFailure grammar bytes (Failures.Refused lines) = HasRefusedRules grammar bytes lines.items
+IsRuleFailure grammar bytes Failures.Memory = Unit {0}
+
+-- No line of the list is refused, and each of its rules decides on some address.
+pub record AreAllReached (grammar : Grammar) (bytes : List ℕ) : Type 0 where
+  pub contents : RuleContents
+  pub read : IsRuleList grammar bytes contents
+  pub none : contents.refused ≡ []
+  pub reached : (index : ℕ) → ¬ (IsUnreached contents.rules index)
+
+-- No line of the list is refused, and one of its rules decides on no address.
+pub record IsOneUnreached (grammar : Grammar) (bytes : List ℕ) : Type 0 where
+  pub contents : RuleContents
+  pub read : IsRuleList grammar bytes contents
+  pub none : contents.refused ≡ []
+  pub index : ℕ
+  pub unreached : IsUnreached contents.rules index
+
+-- There is a text with this property, and all of it was written.
+pub record IsWritten (IsText : List ℕ → Type 0) (held held_after : Option (List ℕ)) : Type 0 where
+  pub text : List ℕ
+  pub right : IsText text
+  pub written : Appends held held_after text
+
+-- There is a text with this property, and a front of it was written, perhaps all of it.
+pub record IsFrontWritten (IsText : List ℕ → Type 0) (held held_after : Option (List ℕ)) : Type 0 where
+  pub text : List ℕ
+  pub right : IsText text
+  pub front : List ℕ
+  pub begins : StartsWith text front
+  pub written : Appends held held_after front

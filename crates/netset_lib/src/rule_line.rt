@@ -1,0 +1,122 @@
+//! A line of a list of rules: `permit` or `deny`, and an entry.
+ghost use Rattle.std.specs.Prelude.{◌≡◌, ◌↔◌, ◌≢◌, ◌≤◌, List, ℕ, IfOk, IfErr, IfSome, IfNone, Some, length, IsTrue};
+ghost use Rattle.std.specs.Char.{is_ascii_whitespace};
+ghost use Rattle.std.specs.List.{position_or_len};
+ghost use Rattle.ipnet_base.specs.Address.{Address};
+ghost use Rattle.ipnet_rules.specs.declared.rules.Action.{Action};
+ghost use Rattle.ipnet_rules.specs.Rules.{Matches};
+ghost use Rattle.ipnet_sets.specs.SetRanges.{IsInRange};
+ghost use Rattle.netset_lib.specs.Causes.{IsCauseTold};
+ghost use Rattle.netset_lib.specs.Entries.{IsNoEntry};
+ghost use Rattle.netset_lib.specs.EntryOf.{entry_range};
+ghost use Rattle.netset_lib.specs.RuleLines.{word_of, leading_word, after_word, IsRuleText, IsNoRule, IsRuleCause};
+ghost use Rattle.netset_lib.specs.RuleSteps.{IsEntryCause};
+
+use crate::cause::{Cause, cause_of};
+use crate::entry::Entry;
+use crate::reader::read_text;
+use ipnet::Grammar;
+use ipnet_rules::{Action, Addresses, Rule};
+use std::alloc::AllocError;
+
+/// Why a line is not a rule.
+///
+/// ```text
+/// allow 10.0.0.0/8                UnknownWord
+/// permit                          NoEntry
+/// permit 10.0.0.0/8 10.1.0.0/16   TwoEntries
+/// deny 10.0.0.0/33                BadEntry(Some(LengthAbove32))
+/// deny all                        BadEntry(None)
+/// ```
+#[derive(Clone, Copy, Debug, PartialEq, Eq, Drop)]
+pub enum RuleCause {
+    /// The first word is neither `permit` nor `deny`.
+    UnknownWord,
+    /// Nothing follows the word.
+    NoEntry,
+    /// More than one word follows.
+    TwoEntries,
+    /// The word that follows is not an entry. Has the cause, if one can be named.
+    BadEntry(Option<Cause>),
+}
+
+/// Returns the index of the first blank, or the length of the text if it has none.
+fn first_blank(text: &[u8]) -> usize
+    ensures index { result ≡ position_or_len is_ascii_whitespace text.now }
+    ensures within { result ≤ length text.now }
+{
+    for index in 0..text.len() {
+        if text[index].is_ascii_whitespace() {
+            return index;
+        }
+    }
+    text.len()
+}
+
+/// Cuts the text into its first word and the rest, without the blanks between.
+fn cut_word(text: &[u8]) -> (&[u8], &[u8])
+    ensures word { result.0.now ≡ leading_word text.now }
+    ensures rest { result.1.now ≡ after_word text.now }
+{
+    let end = first_blank(text);
+    (&text[..end], text[end..].trim_ascii_start())
+}
+
+/// Returns the action of this word, or `None` if it has none.
+fn action_of(word: &[u8]) -> Option<Action>
+    ensures { (action : Action) → (result ≡ Some action) ↔ (word.now ≡ word_of action) }
+{
+    if word == b"permit".as_slice() {
+        Some(Action::Permit)
+    } else if word == b"deny".as_slice() {
+        Some(Action::Deny)
+    } else {
+        None
+    }
+}
+
+/// Returns the rule for the addresses of the entry.
+fn rule_for(action: Action, entry: Entry) -> Rule
+    ensures action { result.action ≡ action }
+    ensures matched { (x : Address) → Matches result x ↔ IsInRange (entry_range entry) x }
+{
+    let (first, last) = entry.ends();
+    Rule {
+        action,
+        addresses: Addresses::Range(first, last),
+    }
+}
+
+/// Returns why the text after the word is not an entry.
+fn entry_cause(room: &mut String, text: &[u8], grammar: Grammar) -> Result<RuleCause, AllocError>
+    requires { IsNoEntry grammar text.now }
+    ensures { IfOk result (IsEntryCause grammar text.now) }
+{
+    if text.is_empty() {
+        return Ok(RuleCause::NoEntry);
+    }
+    if first_blank(text) < text.len() {
+        return Ok(RuleCause::TwoEntries);
+    }
+    Ok(RuleCause::BadEntry(cause_of(room, text, grammar)?))
+}
+
+/// Returns the rule that the text is, or why it is not one. Fails if memory runs out.
+pub(crate) fn read_rule(
+    room: &mut String,
+    text: &[u8],
+    grammar: Grammar,
+) -> Result<Result<Rule, RuleCause>, AllocError>
+    ensures rule { IfOk result (λ read. IfOk read (IsRuleText grammar text.now)) }
+    ensures none { IfOk result (λ read. IfErr read (λ _. IsNoRule grammar text.now)) }
+    ensures cause { IfOk result (λ read. IfErr read (IsRuleCause grammar text.now)) }
+{
+    let (word, rest) = cut_word(text);
+    let Some(action) = action_of(word) else {
+        return Ok(Err(RuleCause::UnknownWord));
+    };
+    match read_text(room, rest, grammar)? {
+        Some(found) => Ok(Ok(rule_for(action, found.entry))),
+        None => Ok(Err(entry_cause(room, rest, grammar)?)),
+    }
+}
