@@ -140,7 +140,7 @@ pub no_rule : (grammar : Grammar) (text rest : List ℕ) → rest ≡ after_word
 no_rule grammar text rest is none rule h =
     none h.range (subst (λ z. IsEntryText grammar z h.range) (sym is) h.entry)
 
--- why what follows the word is no entry
+-- why the text after the word is not an entry
 pub rule_cause : (grammar : Grammar) (text word rest : List ℕ) (action : Action) (cause : RuleCause)
     → word ≡ leading_word text → rest ≡ after_word text → word ≡ word_of action → IsNoEntry grammar rest
     → IsEntryCause grammar rest cause → IsRuleCause grammar text cause

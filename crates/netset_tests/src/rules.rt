@@ -202,7 +202,7 @@ fn library(rt: HostRuntime) -> Result<(), Fail> {
 fn readers(rt: HostRuntime) -> Result<(), Fail> {
     let alloc = rt.alloc();
     let bytes = b"permit 10.0.0.1\ndeny x\n".as_slice();
-    // label, bytes at a time, where it fails, why, the failure
+    // label, bytes at a time, the read that fails, its kind, the failure
     let rows = [
         ("at once", WHOLE, NEVER, ErrorKind::Other, None),
         ("byte by byte", 1, NEVER, ErrorKind::Other, None),
