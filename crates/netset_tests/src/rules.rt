@@ -37,11 +37,16 @@ fn outcome(alloc: Global, list: &str, query: RuleQuery, wanted: &str) -> Outcome
 }
 
 #[test]
+fn no_rule(rt: HostRuntime) {
+    let found = outcome(rt.alloc(), "# none\n", PERMITTED, "");
+    assert!(&rt; found == Outcome::Answered, "no rule");
+}
+
+#[test]
 fn answers(rt: HostRuntime) -> Result<(), Fail> {
     grow_stack(rt.alloc())?;
     // label, list, query, answer
     let rows = [
-        ("no rule", "# none\n", PERMITTED, ""),
         (
             "no rule, permit by default",
             "",
