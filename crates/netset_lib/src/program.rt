@@ -21,7 +21,7 @@ use std::io::Write;
 /// At most this many bytes of a refused line are reported.
 const MOST_SHOWN: usize = 100;
 
-/// What a refused line is not.
+/// The words of a report for a line that is not an entry.
 pub(crate) const NO_ENTRY: &str = "not a network, an address or a range";
 
 /// The report of a complement that has no family.
