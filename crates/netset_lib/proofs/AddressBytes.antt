@@ -14,7 +14,7 @@ use Rattle.ipnet.specs.AddressTexts.{IsIpv4AddressText, IsIpv6AddressText, IsGro
 use Rattle.ipnet.proofs.DigitTexts.{AllDigits_hex}
 use Rattle.ipnet.proofs.Ipv4Texts.{Dots-from}
 
--- a byte that is no blank, and begins no comment
+-- a byte that is not a blank, and does not begin a comment
 pub record IsPlainByte (b : ℕ) : Type 0 where
   pub no_blank : is_ascii_whitespace b ≡ false
   pub no_hash : b ≢ 35

@@ -9,7 +9,7 @@ use Rattle.ipnet.specs.declared.parser.Grammar.TheVariants.{Strict}
 use Rattle.netset_lib.specs.PlanAnswers.{IsLengthText}
 use Rattle.netset_lib.proofs.CauseTexts.{same_digits, digits_model}
 
--- a number has decimal digits alone
+-- a number has only decimal digits
 pub number_digits : (text : List ℕ) (n : ℕ) → IsDecimal Strict 3 128 text n → list_all is_ascii_digit text ≡ true
 number_digits text n h = same_digits text ∙ digits_model.from text h.digits.1
 

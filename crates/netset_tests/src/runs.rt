@@ -348,7 +348,7 @@ fn long_lines_and_cuts(rt: HostRuntime) -> Result<(), Fail> {
             assert!(&rt; is_right, "cuts: {wanted}: reads of {most}");
         }
     }
-    // bytes that are a part of a mark are no mark
+    // a part of a mark is not a mark
     for bytes in [
         b"\xEF".as_slice(),
         b"\xEF\xBB",
