@@ -43,11 +43,7 @@ pub fn put_line<W: Write>(
 /// ```text
 /// the piece "::1\n" and the text "::2": nothing is written, the piece is "::1\n::2\n"
 /// ```
-pub fn put_text<W: Write>(
-    out: &mut W,
-    piece: &mut ArrayString<PIECE>,
-    text: &str,
-) -> io::Result<()>
+pub fn put_text<W: Write>(out: &mut W, piece: &mut ArrayString<PIECE>, text: &str) -> io::Result<()>
     requires { length text.now < 8192 }
     ensures ok { OnOk result (IsInPieces (W.contents out.old) (W.contents out.new) piece.new.bytes
         ((piece.old.bytes ++ text.now) ++ 10 ∷ [])) }

@@ -13,14 +13,19 @@ const HOSTS: &str = "hosts";
 
 /// The network that is listed.
 fn network<'a>(alloc: Global) -> Arg<'a> {
-    first(alloc, "NETWORK", "A network, such as 10.0.0.0/24; host bits do not matter")
+    first(
+        alloc,
+        "NETWORK",
+        "A network, such as 10.0.0.0/24; host bits do not matter",
+    )
 }
 
 /// Adds the commands that list what a network contains.
 pub fn with_listings<'a>(alloc: Global, command: Command<'a>) -> Result<Command<'a>, AllocError> {
     let legacy = "Accept leading zeros (numbers stay decimal), and a :: that replaces no group";
     let split = "The subnets of a network that have this prefix length";
-    let hosts = "The hosts of a network: its addresses, without both ends if it is IPv4 and larger than /31";
+    let hosts =
+        "The hosts of a network: its addresses, without both ends if it is IPv4 and larger than /31";
     let length = Arg::new(alloc, OTHERS)
         .value_name("LEN")
         .required(true)

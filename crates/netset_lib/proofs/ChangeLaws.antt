@@ -1,13 +1,13 @@
 -- The changes between two ascending lists of networks, by the first networks of both.
-use Rattle.std.proofs.Common.{◌≡◌, ℕ, ◌<◌, ◌⊎◌, ◌↔◌, List, [], ◌∷◌, ◌++◌, Contains, Option, Some, None, map, refl, sym, ap}
-use Rattle.std.proofs.Common.{◌∙◌, subst, arith, inl, inr}
+use Rattle.std.proofs.Common.{◌≡◌, ℕ, ◌<◌, ◌⊎◌, ◌↔◌, List, [], ◌∷◌, ◌++◌, Contains, Option, Some, None, map}
+use Rattle.std.proofs.Common.{refl, sym, ap, ◌∙◌, subst, arith, inl, inr}
 use Rattle.std.proofs.lemmas.List.{append_assoc, append-nil}
 use Rattle.ipnet_base.specs.Address.{Address}
 use Rattle.ipnet_base.specs.Network.{Network, IsBefore}
 use Rattle.ipnet_base.specs.Blocks.{AreMaximalBlocks, IsAscending}
 use Rattle.ipnet_base.specs.Stack.{IsBeforeOrEqual}
-use Rattle.ipnet_base.proofs.ListLaws.{contains_nil, contains_here, contains_there, contains_cases, pairs_head, pairs_tail}
-use Rattle.ipnet_base.proofs.ListLaws.{pairs_cons}
+use Rattle.ipnet_base.proofs.ListLaws.{contains_nil, contains_here, contains_there, contains_cases}
+use Rattle.ipnet_base.proofs.ListLaws.{pairs_head, pairs_tail, pairs_cons}
 use Rattle.ipnet_base.proofs.OrderLaws.{IsBefore-asymmetric, IsBefore-transitive}
 use Rattle.ipnet_base.proofs.UniqueLaws.{AreMaximalBlocks-same_set}
 use Rattle.ipnet.specs.NetworkOf.{ip_network}
@@ -15,8 +15,8 @@ use Rattle.ipnet.specs.declared.net.IpNet.{IpNet}
 use Rattle.ipnet.specs.declared.parser.Grammar.{Grammar}
 use Rattle.ipnet_sets.specs.declared.set.IpSet.{IpSet}
 use Rattle.ipnet_sets.specs.Members.{IsMember}
-use Rattle.netset_lib.specs.Changes.{ListChange, Added, Removed, changed_network, change_line, text_of_changes, AreChanges}
-use Rattle.netset_lib.specs.Changes.{AreChangeLines, IsChangesAnswer}
+use Rattle.netset_lib.specs.Changes.{ListChange, Added, Removed, changed_network, change_line, text_of_changes}
+use Rattle.netset_lib.specs.Changes.{AreChanges, AreChangeLines, IsChangesAnswer}
 use Rattle.netset_lib.specs.ChangeSteps.{change_of, IsBeforeFirst, IsFirstStep, AreWrittenUpTo}
 use Rattle.netset_lib.specs.declared.changes.Change.{Change}
 use Rattle.netset_lib.specs.declared.changes.Change.TheVariants as Variants
@@ -56,7 +56,7 @@ neither_before n k (inl e) h = e
 neither_before n k (inr b) (inl e) = sym e
 neither_before n k (inr b) (inr d) = absurd (IsBefore-asymmetric k n b d)
 
--- ---- changes, from those of shorter lists
+-- ---- the changes of lists, from the changes of shorter lists
 
 changes_nil : AreChanges [] [] []
 changes_nil = record {
@@ -78,7 +78,8 @@ module _ (n : Network) (before after : List Network) (changes : List ListChange)
 
   removed_first : AreChanges (n ∷ before) after (Removed n ∷ changes)
   removed_first = record {
-    ascending = pairs_cons IsBefore n (map changed_network changes) (before_changed n changes before_removed) h.ascending;
+    ascending =
+        pairs_cons IsBefore n (map changed_network changes) (before_changed n changes before_removed) h.ascending;
     added = λ k. (
       λ c. elim (contains_cases (Removed n) changes (Added k) c) [
         | inl e ↦ absurd cc
@@ -204,7 +205,7 @@ step_ascending before after before_left after_left (Some (Variants.Removed n)) (
 step_ascending before after before_left after_left (Some (Variants.Added n)) (e, same, first) a b =
     (subst IsAscending (sym same) a, pairs_tail IsBefore (ip_network n) after_left (subst IsAscending e b))
 
--- the changes of lists, from those of what a step leaves
+-- the changes of lists, from the changes of the lists that a step leaves
 abbrev step_changes : Option Change → List ListChange → List ListChange
 step_changes None changes = changes
 step_changes (Some c) changes = change_of c ∷ changes
@@ -270,26 +271,26 @@ changes_of_lists grammar lists one other text pair h = record {
 }
 
 module _ (grammar : Grammar) (lists : List (List ℕ)) (one other : IpSet) (pair : ArePairSets grammar lists one other)
-    where
-  pub same_of_sets : ((x : Address) → IsMember one x → IsMember other x)
-      → ((x : Address) → IsMember other x → IsMember one x) → AreSameLists grammar lists
-  same_of_sets to from = record {
-    first = pair.first;
-    second = pair.second;
-    read = pair.read;
-    same = λ x. (
-      λ a. (pair.of_second x).0 (to x ((pair.of_first x).1 a)),
-      λ b. (pair.of_first x).0 (from x ((pair.of_second x).1 b)),
-    );
-  }
+  where
+    pub same_of_sets : ((x : Address) → IsMember one x → IsMember other x)
+        → ((x : Address) → IsMember other x → IsMember one x) → AreSameLists grammar lists
+    same_of_sets to from = record {
+      first = pair.first;
+      second = pair.second;
+      read = pair.read;
+      same = λ x. (
+        λ a. (pair.of_second x).0 (to x ((pair.of_first x).1 a)),
+        λ b. (pair.of_first x).0 (from x ((pair.of_second x).1 b)),
+      );
+    }
 
-  pub other_of_sets : (((x : Address) → IsMember one x → IsMember other x)
-      → ((x : Address) → IsMember other x → IsMember one x) → ⊥) → AreOtherLists grammar lists
-  other_of_sets clash = record {
-    first = pair.first;
-    second = pair.second;
-    read = pair.read;
-    differ = λ same. clash
-        (λ x a. (pair.of_second x).1 ((same x).0 ((pair.of_first x).0 a)))
-        (λ x b. (pair.of_first x).1 ((same x).1 ((pair.of_second x).0 b)));
-  }
+    pub other_of_sets : (((x : Address) → IsMember one x → IsMember other x)
+        → ((x : Address) → IsMember other x → IsMember one x) → ⊥) → AreOtherLists grammar lists
+    other_of_sets clash = record {
+      first = pair.first;
+      second = pair.second;
+      read = pair.read;
+      differ = λ same. clash
+          (λ x a. (pair.of_second x).1 ((same x).0 ((pair.of_first x).0 a)))
+          (λ x b. (pair.of_first x).1 ((same x).1 ((pair.of_second x).0 b)));
+    }

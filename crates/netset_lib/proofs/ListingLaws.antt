@@ -2,9 +2,19 @@
 use Rattle.std.proofs.Common.{◌≡◌, ℕ, List, [], ◌∷◌, ◌++◌, refl, sym, ap, ◌∙◌, subst, Option, append_assoc, append-nil}
 use Rattle.std.specs.Io.{StartsWith}
 use Rattle.std.specs.Io.KnownBytes.{Appends}
+use Rattle.std.proofs.KnownBytes.{Appends-nil}
 use Rattle.ipnet_text.specs.Pieces.{IsInPieces}
 use Rattle.ipnet_text.proofs.WritingLaws.{pieces_more, front_written, all_written, whole_front}
 use Rattle.netset_lib.specs.ListingSteps.{IsWrittenUpTo}
+
+-- before the first line
+pub nothing_written : (a : Option (List ℕ)) (piece rest whole : List ℕ) → piece ≡ [] → rest ≡ whole
+    → IsWrittenUpTo a a piece rest whole
+nothing_written a piece rest whole empty same = record {
+  front = [];
+  pieces = record { done = []; written = Appends-nil a; is = empty };
+  split = same;
+}
 
 -- one line more
 pub line_more : (a b c : Option (List ℕ)) (piece new line rest left whole : List ℕ) → IsWrittenUpTo a b piece rest whole

@@ -241,7 +241,8 @@ pub pair_right : (grammar : Grammar) (lists : List (List ℕ)) (s : Session) (fr
     → s.sets.items ≡ (front ++ one ∷ []) ++ other ∷ [] → ArePairSets grammar lists one other
 pair_right grammar lists s front one other h none two is =
     go h.entries (lists_count grammar 0 lists h.entries h.refusals h.read ∙ two)
-    (subst (AreListsRead grammar 0 lists h.entries) (none_of_length h.refusals (sym h.kept.count ∙ none)) h.read) h.state
+    (subst (AreListsRead grammar 0 lists h.entries) (none_of_length h.refusals (sym h.kept.count ∙ none)) h.read)
+    h.state
   where
     go : (entries : List (List ListEntry)) → length entries ≡ 2 → AreListsRead grammar 0 lists entries []
         → HaveMembers s.sets.items entries → ArePairSets grammar lists one other

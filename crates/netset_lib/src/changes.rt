@@ -1,5 +1,6 @@
 //! The changes that turn the networks of one set into the networks of another.
-ghost use Rattle.std.specs.Prelude.{◌≡◌, ◌+◌, ◌<◌, ◌++◌, List, [], IfOk, OnOk, IfSome, IfNone, map, length, string_bytes};
+ghost use Rattle.std.specs.Prelude.{◌≡◌, ◌+◌, ◌<◌, ◌++◌, List, [], IfOk, OnOk, IfSome, IfNone};
+ghost use Rattle.std.specs.Prelude.{map, length, string_bytes};
 ghost use Rattle.ipnet.specs.NetworkOf.{ip_network};
 ghost use Rattle.ipnet_base.specs.Blocks.{IsAscending};
 ghost use Rattle.ipnet_sets.specs.Members.{IsMember};

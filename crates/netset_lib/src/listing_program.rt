@@ -10,11 +10,11 @@ use ipnet::IpNet;
 use std::io::Write;
 
 /// Writes the subnets of the network that have this prefix length to `out`, one a line, ascending, and returns the exit
-/// status. Host bits of the network do not matter. It takes no memory, whatever the number of the subnets.
+/// status. Host bits of the network do not matter. It allocates nothing, whatever the number of the subnets.
 ///
 /// | Status | On `faults` | When |
 /// |---|---|---|
-/// | 2 | `netset: /7: no subnet of 10.0.0.0/8 has this prefix length` | it is shorter than the network's, or too long for the family |
+/// | 2 | `netset: /7: no subnet of 10.0.0.0/8 has this prefix length` | it is below the network's, or above 32 or 128 |
 /// | 2 | `netset: output cannot be written` | a write fails, or the flush after it; the list may be out in part |
 /// | 0 | nothing | otherwise |
 ///
@@ -39,7 +39,10 @@ pub fn run_split<W: Write, X: Write>(
     ensures faultless { result ≡ 0 → Keeps (X.contents faults.old) (X.contents faults.new) }
 {
     let Ok(subnets) = network.subnets(prefix_len) else {
-        let _ = writeln!(faults, "netset: /{prefix_len}: no subnet of {network} has this prefix length");
+        let _ = writeln!(
+            faults,
+            "netset: /{prefix_len}: no subnet of {network} has this prefix length"
+        );
         return 2;
     };
     if write_networks(out, subnets).is_err() {
@@ -50,7 +53,7 @@ pub fn run_split<W: Write, X: Write>(
 }
 
 /// Writes the hosts of the network to `out`, one a line, ascending, and returns the exit status. They are the addresses
-/// of its block; of an IPv4 network that is larger than /31, without the first and the last. It takes no memory,
+/// of its block; of an IPv4 network that is larger than /31, without the first and the last. It allocates nothing,
 /// whatever the number of the hosts.
 ///
 /// | Status | On `faults` | When |

@@ -1,19 +1,16 @@
 //! The addresses that an operation makes of the lists of a session.
 ghost use Rattle.std.specs.Prelude.{◌≡◌, List, ℕ, IfOk, IfErr, Err, length};
-ghost use Rattle.netset_lib.specs.PairSets.{ArePairSets};
 ghost use Rattle.netset_lib.specs.PlanAnswers.{IsResultSet};
 ghost use Rattle.netset_lib.specs.Replies.{IsWorkFailure, TakesCount};
 ghost use Rattle.ipnet.specs.declared.parser.Grammar.{Grammar};
 ghost use Rattle.netset_lib.specs.declared.query.Query.{Query};
-ghost use Rattle.netset_lib.specs.declared.query.Query.TheVariants.{Compare};
 ghost use Rattle.netset_lib.specs.declared.answer.Request.{Request};
 ghost use Rattle.netset_lib.specs.declared.command.Work.TheVariants.{Combine, Ask};
 
-use super::{Session, has_no_family, takes};
+use super::{Session, has_no_family};
 use crate::answer::Failure;
 use crate::command::Work;
 use crate::operation::combined;
-use crate::query::Query;
 use ipnet_sets::IpSet;
 use std::alloc::Global;
 
@@ -66,38 +63,6 @@ impl Session {
         match combined(alloc, request.operation, sets.as_slice()) {
             Ok(set) => Ok(set),
             Err(_) => Err(Failure::Memory),
-        }
-    }
-    /// Returns the addresses of each of the two lists that a comparison has read.
-    ///
-    /// The errors are those of `answer`. Other work has no two sets: its error is `Count`.
-    ///
-    /// ```text
-    /// Compare of "10.0.0.0/30\n" and "10.0.0.3\n":  the sets 10.0.0.0 to 10.0.0.3, and 10.0.0.3
-    /// ```
-    pub fn into_pair(self) -> Result<(IpSet, IpSet), Failure>
-        ensures pair { IfOk result (λ pair. (grammar : Grammar) → (lists : List (List ℕ))
-            → WereRead (Ask Compare grammar) lists self → ArePairSets grammar lists pair.0 pair.1) }
-        ensures failure { IfErr result (λ failure. (grammar : Grammar) → (lists : List (List ℕ))
-            → WereRead (Ask Compare grammar) lists self → IsWorkFailure (Ask Compare grammar) lists failure) }
-    {
-        let Session {
-            work,
-            reading,
-            mut sets,
-            ..
-        } = self;
-        let lines = reading.lines;
-        if !matches!(work, Work::Ask(Query::Compare, _)) || !takes(work, lines.list) {
-            return Err(Failure::Count);
-        }
-        let refused = lines.refused;
-        if refused.count != 0 {
-            return Err(Failure::Refused(refused));
-        }
-        match (sets.pop(), sets.pop()) {
-            (Some(second), Some(first)) => Ok((first, second)),
-            _ => Err(Failure::Memory),
         }
     }
 }

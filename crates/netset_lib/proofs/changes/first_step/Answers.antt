@@ -16,5 +16,6 @@ returns-else-lt-2-clause-step c =
     (not_less_gives b a (law b a) (sym c.lt-in-Some-Some.ensures ∙ c.if-lt-2.false)) in (
       ip_network a,
       ap (map ip_network) c.in-Some-Some.ensures.cases.0,
-      ap (map ip_network) c.in-Some-Some.ensures'.cases.0 ∙ ap (λ z. z ∷ map ip_network c.in-Some-Some.after_rest.now) same,
+      ap (map ip_network) c.in-Some-Some.ensures'.cases.0
+          ∙ ap (λ z. z ∷ map ip_network c.in-Some-Some.after_rest.now) same,
     )

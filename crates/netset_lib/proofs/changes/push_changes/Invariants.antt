@@ -1,4 +1,4 @@
--- The lists that are left are ascending. What is written and the changes of the lists that are left are all changes.
+-- The lists that are left are ascending. The written lines and the changes of the lists that are left are all changes.
 use Rattle.std.proofs.Common.{map, length, ◌+◌, string_bytes}
 use Rattle.ipnet.specs.NetworkOf.{ip_network}
 use Rattle.ipnet_base.specs.Blocks.{IsAscending}

@@ -1,4 +1,4 @@
--- What is written and the addresses that are left are the text of all addresses.
+-- The written lines and the addresses that are left are the text of all addresses.
 use Rattle.std.proofs.Common.{length}
 use Rattle.ipnet_base.specs.RangeOf.{ip_addresses}
 use Rattle.netset_lib.specs.Listings.{text_of_addresses}

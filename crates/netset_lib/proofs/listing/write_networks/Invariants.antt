@@ -1,4 +1,4 @@
--- What is written and the networks that are left are the text of all networks.
+-- The written lines and the networks that are left are the text of all networks.
 use Rattle.std.proofs.Common.{length}
 use Rattle.ipnet.specs.SubnetsLeft.{ip_subnets_left}
 use Rattle.ipnet_text.specs.LineTexts.{text_of_lines}
