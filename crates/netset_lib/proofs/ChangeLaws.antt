@@ -8,7 +8,7 @@ use Rattle.ipnet_base.specs.Blocks.{AreMaximalBlocks, IsAscending}
 use Rattle.ipnet_base.specs.Stack.{IsBeforeOrEqual}
 use Rattle.ipnet_base.proofs.ListLaws.{contains_nil, contains_here, contains_there, contains_cases}
 use Rattle.ipnet_base.proofs.ListLaws.{pairs_head, pairs_tail, pairs_cons}
-use Rattle.ipnet_base.proofs.OrderLaws.{IsBefore-asymmetric, IsBefore-transitive}
+use Rattle.ipnet_base.proofs.OrderLaws.{IsBefore-asymmetric, IsBefore-transitive, order_total}
 use Rattle.ipnet_base.proofs.UniqueLaws.{AreMaximalBlocks-same_set}
 use Rattle.ipnet.specs.NetworkOf.{ip_network}
 use Rattle.ipnet.specs.declared.net.IpNet.{IpNet}
@@ -294,3 +294,50 @@ module _ (grammar : Grammar) (lists : List (List ℕ)) (one other : IpSet) (pair
           (λ x a. (pair.of_second x).1 ((same x).0 ((pair.of_first x).0 a)))
           (λ x b. (pair.of_first x).1 ((same x).1 ((pair.of_second x).0 b)));
     }
+
+-- ---- what changes make
+
+-- two networks are equal, or they are not
+same_or_other : (n k : Network) → (n ≡ k) ⊎ (n ≡ k → ⊥)
+same_or_other n k = elim (order_total n k) [
+  | inl (inl e) ↦ inl e
+  | inl (inr before) ↦ inr (λ e. not_before_itself n (subst (IsBefore n) (sym e) before))
+  | inr after ↦ inr (λ e. not_before_itself k (subst (IsBefore k) e after))
+]
+
+contains_or_not : (networks : List Network) (n : Network) → Contains networks n ⊎ (Contains networks n → ⊥)
+contains_or_not [] n = inr (contains_nil n)
+contains_or_not (k ∷ networks) n =
+    elim (same_or_other k n) [
+      | inl e ↦ inl (subst (Contains (k ∷ networks)) e (contains_here k networks))
+      | inr other ↦ elim (contains_or_not networks n) [
+        | inl c ↦ inl (contains_there k networks n c)
+        | inr out ↦ inr (λ c. elim (contains_cases k networks n c) [ inl e ↦ other e | inr m ↦ out m ])
+      ]
+    ]
+
+pub other_list_made : (before after : List Network) (changes : List ListChange) → AreChanges before after changes
+    → (n : Network) → Contains after n
+    ↔ ((Contains before n × ¬ (Contains changes (Removed n))) ⊎ Contains changes (Added n))
+other_list_made before after changes h n = (
+  λ a. elim (contains_or_not before n) [
+    | inl b ↦ inl (b, λ r. ((h.removed n).0 r).1 a)
+    | inr out ↦ inr ((h.added n).1 (a, out))
+  ],
+  back,
+)
+  where
+    back : (Contains before n × ¬ (Contains changes (Removed n))) ⊎ Contains changes (Added n) → Contains after n
+    back (inl (b, kept)) = elim (contains_or_not after n) [
+      | inl a ↦ a
+      | inr out ↦ absurd (kept ((h.removed n).1 (b, out)))
+    ]
+    back (inr added) = ((h.added n).0 added).0
+
+pub no_changes : (networks : List Network) (changes : List ListChange) → AreChanges networks networks changes
+    → changes ≡ []
+no_changes networks [] h = refl
+no_changes networks (Added n ∷ changes) h =
+    let (to, out) = (h.added n).0 (contains_here (Added n) changes) in absurd (out to)
+no_changes networks (Removed n ∷ changes) h =
+    let (from, out) = (h.removed n).0 (contains_here (Removed n) changes) in absurd (out from)

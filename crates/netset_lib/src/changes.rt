@@ -7,6 +7,8 @@ ghost use Rattle.ipnet_sets.specs.Members.{IsMember};
 ghost use Rattle.netset_lib.specs.Changes.{ListChange, AreChanges, AreChangeLines, change_line, text_of_changes};
 ghost use Rattle.netset_lib.specs.ChangeSteps.{change_of, IsFirstStep};
 
+pub mod laws;
+
 use ipnet::IpNet;
 use ipnet::net::laws::ip_nets_compare_by_network;
 use ipnet_sets::IpSet;
