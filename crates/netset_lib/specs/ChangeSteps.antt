@@ -1,9 +1,8 @@
 -- The private steps of comparing two lists of networks.
 -- Only private contracts use these.
-use Rattle.std.specs.Prelude.{◌≡◌, ℕ, List, [], ◌∷◌, ◌++◌, Option, Some, None, map, Contains}
+use Rattle.std.specs.Prelude.{◌≡◌, ℕ, List, [], ◌∷◌, ◌++◌, Option, Some, None}
 use Rattle.ipnet_base.specs.Network.{Network, IsBefore}
 use Rattle.ipnet.specs.NetworkOf.{ip_network}
-use Rattle.ipnet.specs.declared.net.IpNet.{IpNet}
 use Rattle.netset_lib.specs.Changes.{ListChange, Added, Removed, AreChanges, text_of_changes}
 use Rattle.netset_lib.specs.declared.changes.Change.{Change}
 use Rattle.netset_lib.specs.declared.changes.Change.TheVariants as Variants

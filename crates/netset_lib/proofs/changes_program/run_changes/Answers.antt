@@ -1,8 +1,6 @@
-use Rattle.std.proofs.Common.{◌≡◌, refl, subst, inr, string_bytes}
+use Rattle.std.proofs.Common.{refl, subst, inr, string_bytes}
 use Rattle.std.specs.Io.{StartsWith}
 use Rattle.std.specs.Io.KnownBytes.{Appends}
-use Rattle.ipnet_base.specs.Address.{Address}
-use Rattle.ipnet_sets.specs.Members.{IsMember}
 use Rattle.netset_lib.proofs.ChangeLaws.{changes_of_lists, same_of_sets, other_of_sets}
 use Rattle.netset_lib.proofs.changes_program.run_changes.Goals as goal
 use Rattle.netset_lib.proofs.changes_program.run_changes.Goals.{else-is_subset-via-then-is_subset+else-is_subset-2}
