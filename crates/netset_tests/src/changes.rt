@@ -7,6 +7,9 @@ use std::test::Fail;
 use test_support::devices::{ArrayWriter, NEVER, WHOLE};
 use test_support::memory::{Outcome, grow_stack, is_refused_beside_room};
 
+/// The error message for a wrong number of lists.
+const COUNT: &[u8] = b"netset: another number of lists is wanted\n";
+
 /// The error message for a writer that fails.
 const UNWRITABLE: &[u8] = b"netset: output cannot be written\n";
 
@@ -84,10 +87,7 @@ fn another_number_of_lists(rt: HostRuntime) -> Result<(), Fail> {
     };
     assert!(&rt; status == 2, "one list: status");
     assert!(&rt; out.held().is_empty(), "one list: output");
-    assert!(&rt;
-        faults.held() == b"netset: another number of lists is wanted\n",
-        "one list: report"
-    );
+    assert!(&rt; faults.held() == COUNT, "one list: report");
     Ok(())
 }
 
