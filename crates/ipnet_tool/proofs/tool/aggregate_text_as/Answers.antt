@@ -1,6 +1,6 @@
 -- An answer is the lines' networks, aggregated and printed (`answer_from`). Memory runs out neither for a text of empty
 -- lines nor if the first line that is not empty is bad, as each step promises.
-use Rattle.std.proofs.Common.{◌≡◌, ◌+◌, ◌∙◌, ◌++◌, string_bytes, Ok, Err, Result, IsErrAnd, String, Global, sym}
+use Rattle.std.proofs.Common.{◌≡◌, ◌+◌, ◌∙◌, [], string_bytes, Ok, Err, Result, IsErrAnd, String, Global, sym}
 use Rattle.std.proofs.Common.{subst, ap, arith}
 use Rattle.std.proofs.lemmas.Bool.{false≢true}
 use Rattle.ipnet.specs.Lines.{lines_of, IsFirstBadLine}
@@ -11,7 +11,7 @@ use Rattle.ipnet_tool.specs.declared.tool.ToolError.TheVariants as ToolErrors
 use Rattle.ipnet_text.specs.NetLists.{networks_of}
 use Rattle.ipnet.specs.Blocks.{HaveSameCover}
 use Rattle.ipnet_tool.proofs.AnswerLaws.{answer_from, answered, not_answered}
-use Rattle.ipnet_tool.proofs.tool.answer_to.Goals as goal
+use Rattle.ipnet_tool.proofs.tool.aggregate_text_as.Goals as goal
 
 -- what `?` hands on is the error itself
 pub returns-in_err-push_lines : goal.returns-in_err-push_lines
@@ -40,21 +40,21 @@ pub returns-in_default : goal.returns-in_default
 returns-in_default c =
     not_answered c.args.grammar c.args.text.now ToolErrors.Memory
     (λ h. false≢true (c.in_default.ensures.empty (c.aggregate.ensures.empty
-    ((c.in_ok-push_lines.ensures.empty h).1 ∙ c.new-families.ensures))))
+    (ap networks_of (c.in_ok-push_lines.ensures.empty h).1 ∙ c.new-families.ensures))))
     (λ number e. absurd cc)
     (λ number h. let clash = c.in_ok-push_lines.ensures.bad_at_once number h in absurd cc)
 
 pub returns : goal.returns
 returns c =
     let grammar = c.args.grammar in
-    let families = networks_of c.push_lines.new.families in
-    let (networks, written, after_none) = c.in_ok-push_lines.ensures.networks in
+    let families = networks_of c.push_lines.new.sink in
+    let (networks, written, made) = c.in_ok-push_lines.ensures.networks in
     let same : HaveSameCover networks families =
-    subst (λ z. HaveSameCover (z ++ networks) families) c.new-families.ensures after_none in
+    made [] (subst (HaveSameCover []) (sym c.new-families.ensures) (λ x. (λ h. h, λ h. h))) in
     let spelled = c.in-Ok.ensures.text in
     answered grammar c.args.text.now c.in-Ok.answer
     (λ h. spelled ∙ ap text_of_lines (c.aggregate.ensures.empty
-    ((c.in_ok-push_lines.ensures.empty h).1 ∙ c.new-families.ensures)))
+    (ap networks_of (c.in_ok-push_lines.ensures.empty h).1 ∙ c.new-families.ensures)))
     (answer_from grammar c.args.text.now (string_bytes c.in-Ok.answer) networks families
     (networks_of c.aggregate.new.self) written same c.aggregate.ensures.aggregate spelled)
     (λ number h. let clash = c.in_ok-push_lines.ensures.bad_at_once number h in absurd cc)
