@@ -1,6 +1,5 @@
 -- Lemmas of this crate.
-pub mod CoveredBlocks
-pub mod BlockLists
+pub mod TakenLaws
 pub mod StatusLaws
 pub mod AddressBytes
 pub mod NetworkReplies

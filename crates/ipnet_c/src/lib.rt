@@ -3,7 +3,6 @@
 #![tactic(auto)]
 
 pub mod aggregates;
-mod blocks;
 mod buffers;
 pub mod covers;
 mod lists;
