@@ -1,7 +1,7 @@
 /* Questions about images of sets and tables, without ctypes, whose calls take several times as long as the library's.
  *
- * Each function answers for the plain cases, and leaves the others and all errors to the Python code, which reads the
- * same text again. Without this module the package gives the same answers, more slowly. It is linked to the library that
+ * Each function decides the plain cases, and leaves the others and all errors to the Python code, which reads the same
+ * text again. Without this module the package gives the same answers, more slowly. It is linked to the library that
  * the package has loaded: both have the name libipnet.so.1. */
 #define PY_SSIZE_T_CLEAN
 #define Py_LIMITED_API 0x030A0000

@@ -1,5 +1,5 @@
-/* Measures calls of the library: calls SET LIST OTHER ADDRESSES, where SET and LIST are lists of networks, OTHER is a
- * second list, and ADDRESSES has the octets of IPv4 addresses. Prints a line for each call: its name, and the least
+/* Measures calls of the library: calls SET LIST OTHER ADDRESSES. SET, LIST and OTHER are lists of networks, and
+ * ADDRESSES has the octets of IPv4 addresses. Prints a line for each call: its name, and the least
  * processor time of five rounds in seconds. */
 #define _POSIX_C_SOURCE 200112L
 #include "ipnet.h"

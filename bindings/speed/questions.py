@@ -1,5 +1,5 @@
-"""Measures questions from Python beside py-radix: questions.py SET ADDRESSES, where SET is a list of networks and
-ADDRESSES has the octets of IPv4 addresses. Prints a line for each: its name, and the least processor time of five
+"""Measures questions from Python beside py-radix: questions.py SET ADDRESSES. SET is a list of networks, and ADDRESSES
+has the octets of IPv4 addresses. Prints a line for each: its name, and the least processor time of five
 rounds in seconds for a million questions."""
 import ipaddress
 import sys

@@ -6,5 +6,6 @@ pub mod NetworkReplies
 pub mod ListReplies
 pub mod SetReplies
 pub mod SetImageReplies
+pub mod RefusedLists
 pub mod SetQuestionReplies
 pub mod TableReplies

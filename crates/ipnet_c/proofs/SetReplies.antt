@@ -30,7 +30,7 @@ IsCombined-same SymmetricDifference A B C D first second (inl a) = inl (first.0 
 IsCombined-same SymmetricDifference A B C D first second (inr b) = inr (second.0 b.0, λ c. b.1 (first.1 c))
 
 -- the maximal blocks of the set that the operation makes of the sets of two lists
-pub blocks_of_both : (operation : Operation) (networks others blocks : List Network) (set first second : IpSet)
+blocks_of_both : (operation : Operation) (networks others blocks : List Network) (set first second : IpSet)
     → ((x : Address) → IsMember first x ↔ IsCoveredBy networks x)
     → ((x : Address) → IsMember second x ↔ IsCoveredBy others x)
     → ((x : Address) → IsMember set x ↔ IsCombined operation (IsMember first x) (IsMember second x))

@@ -1,6 +1,6 @@
 -- Sets of the networks that are taken from the lines of a text.
-use Rattle.std.proofs.Common.{◌≡◌, ℕ, ◌⊎◌, ◌↔◌, Bool, List, [], ◌∷◌, ◌++◌, Result, Ok, Err, IsErrAnd, All, ap, subst}
-use Rattle.std.proofs.Common.{inl, inr, refl}
+use Rattle.std.proofs.Common.{◌≡◌, ℕ, ◌⊎◌, ◌↔◌, Bool, false, List, [], ◌∷◌, ◌++◌, Result, Ok, Err, IsErrAnd, All}
+use Rattle.std.proofs.Common.{ap, subst, inl, inr, refl}
 use Rattle.std.proofs.lemmas.Bool.{false≢true}
 use Rattle.std.proofs.lemmas.List.Elements.{All-head, All-tail}
 use Rattle.ipnet.specs.Address.{Address}

@@ -8,6 +8,7 @@ pub mod covers;
 mod lists;
 pub mod networks;
 pub mod set_images;
+pub mod set_lists;
 pub mod set_questions;
 pub mod sets;
 mod statuses;

@@ -28,7 +28,8 @@ pub one_taken_more : (grammar : Grammar) (lines rest after : List (List ℕ))
     → IsTakenTo grammar lines after IsMade IsMadeNow
 one_taken_more grammar lines rest after IsMade IsMadeThen IsMadeNow n (front, are, made) reads pushed = (
   front ++ n ∷ [],
-  λ more h. subst (AreNetworksOf grammar lines) (sym (append_assoc front (n ∷ []) more)) (are (n ∷ more) (reads more h)),
+  λ more h. subst (AreNetworksOf grammar lines) (sym (append_assoc front (n ∷ []) more))
+      (are (n ∷ more) (reads more h)),
   λ before h. subst IsMadeNow (append_assoc before front (n ∷ [])) (pushed (before ++ front) (made before h)),
 )
 

@@ -31,11 +31,7 @@ pub struct ListText {
 /// ```text
 /// "# ours\n10.0.0.1\r\n10.0.0.0\n": the set of 10.0.0.0/31, and no refused line
 /// ```
-pub fn read_list_text(
-    alloc: Global,
-    bytes: &[u8],
-    grammar: Grammar,
-) -> Result<ListText, AllocError>
+pub fn read_list_text(alloc: Global, bytes: &[u8], grammar: Grammar) -> Result<ListText, AllocError>
     ensures { IfOk result (λ list. IsReadList grammar bytes.now list.set list.refused) }
 {
     let mut lines = LineReader::new(alloc, grammar);
