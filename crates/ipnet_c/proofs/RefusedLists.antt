@@ -55,7 +55,8 @@ list_compiled text image old new count_old count status set refused h none is kn
       image_of = is;
       holds = (
         h.entries,
-        subst (IsListRead Strict 0 text h.entries) (none_refused refused.shown.items h.refusals h.kept.shown none) h.read,
+        subst (IsListRead Strict 0 text h.entries) (none_refused refused.shown.items h.refusals h.kept.shown none)
+            h.read,
         h.addresses,
       );
     } in

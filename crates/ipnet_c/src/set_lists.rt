@@ -9,8 +9,8 @@ use std::alloc::Global;
 
 /// Writes the image of the addresses of a list as people keep it into the buffer, and its length in bytes into `count`.
 ///
-/// The text is read as the program `netset` reads its files, in the strict grammar: a line is a network, an address, or
-/// a range of addresses, `FIRST-LAST`, or empty; it may have blanks around it, end with "\r\n", and have a comment after
+/// The text is read as the program `netset` reads its files, in the strict grammar. A line is a network, an address, a
+/// range of addresses, `FIRST-LAST`, or empty. It may have blanks around it, end with "\r\n", and have a comment after
 /// `#` or `;`. A byte order mark at the start is skipped. The text need not be UTF-8.
 ///
 /// Returns 0; 4 if the buffer is too short, with the length needed in `count`; 1 if a line is not an entry, with the

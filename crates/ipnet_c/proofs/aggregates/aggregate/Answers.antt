@@ -13,7 +13,8 @@ returns-in-Ok-aggregate_text_as c =
     made.result) same
     (aggregated c.args.grammar c.in-Ok.text.now c.as_bytes.result.now c.args.buffer.now made.new.buffer c.args.count.now
     made.new.count made.result c.in-Ok-aggregate_text_as.answer (subst IsUtf8 (sym same) utf8)
-    c.in-Ok-aggregate_text_as.ensures c.as_bytes.ensures.value made.ensures.known made.ensures.ok made.ensures.too_short)
+    c.in-Ok-aggregate_text_as.ensures c.as_bytes.ensures.value made.ensures.known made.ensures.ok
+    made.ensures.too_short)
 
 pub returns-in-Err-Memory : goal.returns-in-Err-Memory
 returns-in-Err-Memory c =
