@@ -12,7 +12,8 @@ returns-then-not-is_empty c =
     let list = c.in-Ok.list in
     let shown = c.as_slice-refused.ensures.value in
     let line = c.index-refused-0.result in
-    subst (λ (z : RefusedLine). IsListReply c.args.text.now c.args.buffer.now c.args.buffer.now c.args.count.now z.line 1)
+    subst (λ (z : RefusedLine). IsListReply c.args.text.now c.args.buffer.now c.args.buffer.now c.args.count.now z.line
+    1)
     c.index-refused-0.is
     (list_refused c.args.text.now c.args.buffer.now c.args.count.now list.set list.refused line c.in-Ok.ensures
     (subst (λ z. 0 < length z) shown (some_bytes (length c.as_slice-refused.result.now) c.if-not-is_empty.ensures))
