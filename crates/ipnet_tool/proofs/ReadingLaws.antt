@@ -83,7 +83,7 @@ read_more grammar a b c held given now networks number h is more = record {
 -- what a call that takes the lines of a piece makes of the networks so far
 abbrev pub AddsNetworksOf : Grammar → List ℕ → List Network → List Network → Type 0
 AddsNetworksOf grammar piece old new = (networks : List Network) × AreNetworksOf grammar (lines_of piece) networks
-    × HaveSameCover (old ++ networks) new
+    × ((before : List Network) → HaveSameCover before old → HaveSameCover (before ++ networks) new)
 
 -- whole lines are taken
 pub piece_taken : (grammar : Grammar) (a b : Option (List ℕ)) (held after : List ℕ) (old new : List Network)

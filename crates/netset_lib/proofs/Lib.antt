@@ -17,6 +17,7 @@ pub mod OperationLaws
 pub mod SameResults
 pub mod AnswerTexts
 pub mod ListsReading
+pub mod ListTexts
 pub mod CountTexts
 pub mod FilterLaws
 pub mod TableLaws

@@ -15,6 +15,7 @@ pub mod Filtering
 pub mod RouteAnswers
 pub mod Routing
 pub mod ListSets
+pub mod ListTexts
 pub mod Replies
 pub mod PlanAnswers
 pub mod Planning
