@@ -1,7 +1,7 @@
 """Which edits are tried in one check: the batches of a crate.
 
 The edits of one batch change different functions. Edits of contracts, ghost members, derives and definitions can change
-the verdict on other functions: they come after those of bodies, and only with edits of types that do not use each
+the verdict on other functions: they come after edits of bodies, and only with edits of types that do not use each
 other. Controls, which have to be proved, come last, and only with wrong bodies of functions that theirs does not call.
 Edits of the self-test share no batch with others. This module is not run: `tests/wrong_bodies` imports it.
 """

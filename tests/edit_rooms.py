@@ -82,7 +82,7 @@ class Rooms:
 
     def check(self, crate, edits, title, functions=None):
         """Puts the edits, which change different lines, into a room, and checks the crate there. If the tree has no
-        proofs, it gets those of this check."""
+        proofs, it gets what this check proves."""
         room = os.path.join(self.folder, "rooms", file_name(title))
         shutil.rmtree(room, ignore_errors=True)
         write_lists(room, [*self.libraries_below(crate), crate])
