@@ -3,6 +3,9 @@
 
 pub mod answer;
 pub mod cause;
+mod cause_bytes;
+mod cause_parts;
+mod cause_words;
 pub mod command;
 mod counts;
 pub mod entry;
@@ -24,9 +27,11 @@ pub mod rule_line;
 pub mod rule_list;
 pub mod rule_program;
 pub mod session;
+mod word;
 
 pub use answer::{Failure, Form, Request};
 pub use cause::Cause;
+pub use cause_parts::is_entry_text;
 pub use command::{Command, Flags, Work, families};
 pub use entry::Entry;
 pub use filter::Side;
