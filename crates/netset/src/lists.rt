@@ -152,11 +152,7 @@ fn rules_from<R: Read + Drop>(
 }
 
 /// Reads the list of rules of this name: from standard input if it is "-", and otherwise from a file.
-fn open_rules(
-    rt: &HostRuntime,
-    name: &str,
-    grammar: Grammar,
-) -> Result<(RuleList, usize), Unread> {
+fn open_rules(rt: &HostRuntime, name: &str, grammar: Grammar) -> Result<(RuleList, usize), Unread> {
     if name == STANDARD_INPUT {
         return rules_from(rt, rt.stdin(), grammar);
     }

@@ -14,10 +14,10 @@ use Rattle.netset_lib.proofs.AddressBytes.{IsAddressByte}
 
 -- ---- what blanks are not
 
-pub blank_ascii : (b : ℕ) → is_ascii_whitespace b ≡ true → b < 128
+blank_ascii : (b : ℕ) → is_ascii_whitespace b ≡ true → b < 128
 blank_ascii b h = grind (arith, nat_tests, h)
 
-pub blank_no_dash : (b : ℕ) → is_ascii_whitespace b ≡ true → b ≢ 45
+blank_no_dash : (b : ℕ) → is_ascii_whitespace b ≡ true → b ≢ 45
 blank_no_dash b h e = grind (arith, nat_tests, h, e)
 
 -- ---- what holds of the bytes of a text, if it does of blanks
@@ -33,7 +33,7 @@ ends_blank text i less behind =
     ap is_ascii_whitespace (sym (get_or-reverse text k 0 inside ∙ ap (λ j. get_or text j 0) back))
     ∙ prefix_len_passes is_ascii_whitespace (reverse text) k 0 within
 
-pub with_end : (P : ℕ → Type 0) → ((b : ℕ) → is_ascii_whitespace b ≡ true → P b) → (text : List ℕ)
+with_end : (P : ℕ → Type 0) → ((b : ℕ) → is_ascii_whitespace b ≡ true → P b) → (text : List ℕ)
     → All P (before_blanks text) → All P text
 with_end P blank text h =
     let n = length text - suffix_len is_ascii_whitespace text in
@@ -44,7 +44,7 @@ with_end P blank text h =
       | inr behind ↦ blank (get_or text i 0) (ends_blank text i less behind)
     ])
 
-pub with_start : (P : ℕ → Type 0) → ((b : ℕ) → is_ascii_whitespace b ≡ true → P b) → (text : List ℕ)
+with_start : (P : ℕ → Type 0) → ((b : ℕ) → is_ascii_whitespace b ≡ true → P b) → (text : List ℕ)
     → All P (after_blanks text) → All P text
 with_start P blank text h =
     let n = prefix_len is_ascii_whitespace text in

@@ -31,24 +31,13 @@ is_false not = (λ e. absurd cc, λ k. absurd (not k))
 pub both : {P Q : Type 0} (a b : Bool) → (IsTrue a ↔ P) → a ≡ true → (IsTrue b ↔ Q) → IsTrue b ↔ (P × Q)
 both a b h holds k = (λ e. (h.0 holds, k.0 e), λ p. k.1 p.1)
 
-pub not_first : {P Q : Type 0} (a : Bool) → (IsTrue a ↔ P) → a ≡ false → IsTrue false ↔ (P × Q)
-not_first a h fails = is_false (λ p. let holds : a ≡ true = h.1 p.0 in absurd cc)
-
 -- ---- what was read, or not
 
 module _ {V T : Type 0} (thing_of : V → T) (Writes : List ℕ → T → Type 0) (text : List ℕ) where
-  pub some_is : (o : Option V) (v : V) → ReadsAs thing_of Writes text o → o ≡ Some v
-      → IsTrue true ↔ ((t : T) × Writes text t)
-  some_is o v h e = is_true (thing_of v, some_of thing_of Writes text o v h e)
-
   pub none_is : (o : Option V) → ReadsAs thing_of Writes text o → o ≡ None
       → IsTrue false ↔ ((t : T) × Writes text t)
   none_is o h e =
       is_false (λ p. none_of thing_of Writes text o h (λ v is. let clash = sym e ∙ is in absurd cc) p.0 p.1)
-
-pub family_yes : (family : Family) (text : List ℕ) (x : Address) → IsAddressText Legacy text x → x.family ≡ family
-    → IsTrue true ↔ IsOfFamily family text
-family_yes family text x h same = is_true (x, h, same)
 
 pub family_no : (family : Family) (text : List ℕ) (x : Address) → IsAddressText Legacy text x → x.family ≢ family
     → IsTrue false ↔ IsOfFamily family text
@@ -64,7 +53,9 @@ pub mask_is : (text : List ℕ) (x : Address) → IsAddressText Legacy text x �
     → (IsTrue is ↔ IsMaskNumber x.number) → IsTrue is ↔ IsMaskText text
 mask_is text x writes family is h = (
   λ e. record { mask = x; writes = writes; family = family; is_mask = h.0 e },
-  λ p. h.1 (subst (λ (y : Address). IsMaskNumber y.number) (one_address Legacy text p.mask x p.writes writes) p.is_mask),
+  λ p.
+      let one = one_address Legacy text p.mask x p.writes writes in
+      h.1 (subst (λ (y : Address). IsMaskNumber y.number) one p.is_mask),
 )
 
 pub mask_not : (text : List ℕ) (x : Address) → IsAddressText Legacy text x → x.family ≢ IPv4
@@ -105,19 +96,6 @@ above_unread most text some digits fits r e is h =
 
 -- ---- the two parts of a text
 
-module _ (b : ℕ) (Parts : List ℕ → List ℕ → Type 0) (text : List ℕ) where
-  pub cut_no : position_or_len (λ c. c == b) text ≡ length text → IsTrue false ↔ IsCutAt b Parts text
-  cut_no lacks = is_false (λ p. absurd (omega (arith, p.0, lacks)))
-
-  pub cut_is : (front back : List ℕ) → front ≡ before_first (λ c. c == b) text
-      → back ≡ after_first (λ c. c == b) text → position_or_len (λ c. c == b) text < length text → (is : Bool)
-      → (IsTrue is ↔ Parts front back) → IsTrue is ↔ IsCutAt b Parts text
-  cut_is front back f k within is h = (
-    λ e. (within, subst (Parts (before_first (λ c. c == b) text)) k (subst (λ z. Parts z back) f (h.0 e))),
-    λ p. h.1 (subst (λ z. Parts z back) (sym f)
-        (subst (Parts (before_first (λ c. c == b) text)) (sym k) p.1)),
-  )
-
 -- the two addresses of a pair
 pub pair_is : (Related : Address → Address → Type 0) (front back : List ℕ) (x y : Address)
     → WriteEnds front back (x, y) → (is : Bool) → (IsTrue is ↔ Related x y)
@@ -142,13 +120,3 @@ pub told_no_entry : (grammar : Grammar) (text : List ℕ) (o : Option Cause) →
 told_no_entry grammar text None h = tt
 told_no_entry grammar text (Some c) (inl h) = let clash = h.1 in absurd cc
 told_no_entry grammar text (Some c) (inr h) = h.0
-
--- a cause that does not explain the text is passed over
-pub passed : (cause : Cause) (causes more : List Cause) (text : List ℕ) (told : Option Cause)
-    → causes ≡ cause ∷ more → ¬ (Explains text cause) → IsFirstOf more text told → IsFirstOf causes text told
-passed cause causes more text told e not h =
-    subst (λ z. IsFirstOf z text told) (sym e) (inr (not, h))
-
-pub found : (cause : Cause) (causes more : List Cause) (text : List ℕ) → causes ≡ cause ∷ more
-    → Explains text cause → IsFirstOf causes text (Some cause)
-found cause causes more text e is = subst (λ z. IsFirstOf z text (Some cause)) (sym e) (inl (is, refl))

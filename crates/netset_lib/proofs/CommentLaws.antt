@@ -57,7 +57,7 @@ word_cut comment rest trimmed =
 pub second_cut : (bytes : List ℕ) (n g : ℕ) → n ≡ position_or_len ends_word bytes
     → g ≡ prefix_len ends_word (take (length bytes - n) (drop n bytes))
     → leading (take (length (take (length bytes - n) (drop n bytes)) - g)
-        (drop g (take (length bytes - n) (drop n bytes)))) ≡ second_word bytes
+    (drop g (take (length bytes - n) (drop n bytes)))) ≡ second_word bytes
 second_cut bytes n g first gap =
     let rest = take (length bytes - n) (drop n bytes) in
     ap leading (behind rest g)

@@ -180,10 +180,10 @@ network_cut grammar text n (inl (inr h)) = record {
 -- ---- what a text with "-" or "/", or with none, is not
 
 -- each byte is none of "-"
-pub no_dashes : (text : List ℕ) → All IsAddressByte text → All (λ b. b ≢ 45) text
+no_dashes : (text : List ℕ) → All IsAddressByte text → All (λ b. b ≢ 45) text
 no_dashes text h = All-weaker IsAddressByte (λ b. b ≢ 45) (λ b is. is.no_dash) text h
 
-pub plain_no_dash : (grammar : Grammar) (text : List ℕ) (range : AddressRange) → IsPlainEntry grammar text range
+plain_no_dash : (grammar : Grammar) (text : List ℕ) (range : AddressRange) → IsPlainEntry grammar text range
     → All (λ b. b ≢ 45) text
 plain_no_dash grammar text range (inl h) =
     let cut = network_cut grammar text h.network h.writes in

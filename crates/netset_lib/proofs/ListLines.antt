@@ -50,7 +50,7 @@ ascii_bytes : (text : List ℕ) → All IsAddressByte text → All (λ b. b < 12
 ascii_bytes text h = All-weaker IsAddressByte (λ b. b < 128) (λ b is. is.ascii) text h
 
 -- two parts with a byte between them
-pub ascii_cut : (front : List ℕ) (b : ℕ) (back : List ℕ) → b < 128 → All IsAddressByte front → All IsAddressByte back
+ascii_cut : (front : List ℕ) (b : ℕ) (back : List ℕ) → b < 128 → All IsAddressByte front → All IsAddressByte back
     → All (λ b. b < 128) (front ++ b ∷ back)
 ascii_cut front b back low h k =
     All-append (λ b. b < 128) front (b ∷ back) (ascii_bytes front h)

@@ -3,7 +3,8 @@
 --
 -- Addresses in a sentence may be texts of the legacy grammar, which includes the strict one: for `010.0.0.0/33` the
 -- length is too long in both grammars.
-use Rattle.std.specs.Prelude.{◌≡◌, ◌≢◌, ◌<◌, ◌⊎◌, ℕ, ◌-◌, Bool, ◌||◌, ◌==◌, true, List, [], ◌∷◌, length, Option, Some, None}
+use Rattle.std.specs.Prelude.{◌≡◌, ◌≢◌, ◌<◌, ◌⊎◌, ℕ, ◌-◌, Bool, ◌||◌, ◌==◌, true, List, [], ◌∷◌, length}
+use Rattle.std.specs.Prelude.{Option, Some, None}
 use Rattle.std.specs.Char.{is_ascii_alphabetic, is_ascii_digit}
 use Rattle.std.specs.List.{after_first, before_first, list_all, list_any, position_or_len}
 use Rattle.std.specs.Str.{IsUtf8}
@@ -77,7 +78,8 @@ IsEntryFirst front back = IsSomeEntry front
 abbrev pub IsAddressFirst : Family → List ℕ → List ℕ → Type 0
 IsAddressFirst family front back = IsOfFamily family front
 
--- Nothing is before the cut, and after it an entry that this byte follows. Example: `::1` of `[::1]:80` at "[", with "]".
+-- Nothing is before the cut, and after it an entry that this byte follows.
+-- Example: `::1` of `[::1]:80` at "[", with "]".
 abbrev pub IsEnclosed : ℕ → List ℕ → List ℕ → Type 0
 IsEnclosed close front back = (front ≡ []) × IsCutAt close IsEntryFirst back
 

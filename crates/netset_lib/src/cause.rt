@@ -148,11 +148,7 @@ fn explains(room: &mut String, text: &str, cause: Cause) -> Result<bool, AllocEr
 }
 
 /// The first of the causes whose sentence is true of the text.
-fn first_cause(
-    room: &mut String,
-    text: &str,
-    causes: &[Cause],
-) -> Result<Option<Cause>, AllocError>
+fn first_cause(room: &mut String, text: &str, causes: &[Cause]) -> Result<Option<Cause>, AllocError>
     requires { IsUtf8 text.now }
     ensures { IfOk result (IsFirstOf causes.now text.now) }
 {

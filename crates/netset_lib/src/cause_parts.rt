@@ -223,12 +223,7 @@ fn are_ipv4(room: &mut String, front: &str, back: &str) -> Result<bool, AllocErr
 }
 
 /// Whether the front is empty, and the back has an entry before its first byte `close`.
-fn are_enclosed(
-    room: &mut String,
-    front: &str,
-    back: &str,
-    close: char,
-) -> Result<bool, AllocError>
+fn are_enclosed(room: &mut String, front: &str, back: &str, close: char) -> Result<bool, AllocError>
     requires { close < 128 }
     ensures { IfOk result (λ is. IsTrue is ↔ IsEnclosed close front.now back.now) }
 {

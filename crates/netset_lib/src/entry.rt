@@ -183,9 +183,9 @@ fn read_plain(room: &mut String, text: &str, grammar: Grammar) -> Result<Option<
 /// The entry that the whole text is in this grammar, or `None` if it is none.
 ///
 /// An entry is a network, an address or a range. Host bits of a network do not matter. An IPv4 network can have a
-/// netmask in place of the prefix length; a netmask of zeros only follows the address of zeros. A range is a first and a
-/// last address of one family joined by "-". Its last address does not come before its first, and blanks around the "-"
-/// do not matter. The variant of the value says which of these the text is; a range of one address is a range.
+/// netmask in place of the prefix length; a netmask of zeros only follows the address of zeros. A range is a first and
+/// a last address of one family joined by "-". Its last address does not come before its first, and blanks around the
+/// "-" do not matter. The variant of the value says which of these the text is; a range of one address is a range.
 ///
 /// The legacy grammar accepts leading zeros in decimal numbers, and a "::" that replaces no group. Addresses are read
 /// into `room`. Its content does not matter, and one `String` can serve many calls. Fails if memory runs out.

@@ -9,7 +9,7 @@ pub returns-in-None : goal.returns-in-None
 returns-in-None c =
     let grammar = c.args.grammar in
     let text = c.args.text.now in
-    let none = none_of entry_range (IsEntryText grammar) text c.in_ok-read_entry.field-0 c.in_ok-read_entry.ensures.reads
-    (λ v e. let clash = sym e ∙ c.in-None.is in absurd cc) in
+    let none = none_of entry_range (IsEntryText grammar) text c.in_ok-read_entry.field-0
+    c.in_ok-read_entry.ensures.reads (λ v e. let clash = sym e ∙ c.in-None.is in absurd cc) in
     ok_map (IsFirstOf causes text) (IsCauseTold grammar text) c.first_cause.result (λ told h. inr (none, h))
     c.first_cause.ensures

@@ -8,7 +8,8 @@ use Rattle.netset_lib.proofs.cause_words.has_two_entries.Goals as goal
 pub returns-then-branch : goal.returns-then-branch
 returns-then-branch c =
     let text = c.args.text.now in
-    let first : c.leading_word.result.now ≡ leading text = c.leading_word.ensures ∙ ap leading c.as_bytes-text.ensures.value in
+    let first : c.leading_word.result.now ≡ leading text =
+    c.leading_word.ensures ∙ ap leading c.as_bytes-text.ensures.value in
     let second : c.second_word.result.now ≡ second_word text =
     c.second_word.ensures ∙ ap second_word c.as_bytes-text.ensures.value in
     let value = c.in_ok-is_entry_word.field-0 in

@@ -25,7 +25,7 @@ returns-in-Some-clause-reads c =
     (reads_cut entry_range grammar text first last spelled lacks)
     (subst (λ z. IfOk c.read_range.result (ReadsAs entry_range (WriteRange grammar z) (after_blanks last))) before
     (subst (λ z. IfOk c.read_range.result
-        (ReadsAs entry_range (WriteRange grammar c.trim_ascii_end.result.now) z)) after c.read_range.ensures.reads))
+    (ReadsAs entry_range (WriteRange grammar c.trim_ascii_end.result.now) z)) after c.read_range.ensures.reads))
 
 pub returns-in-Some-clause-kind : goal.returns-in-Some-clause-kind
 returns-in-Some-clause-kind c =
@@ -39,12 +39,12 @@ returns-in-Some-clause-kind c =
     let before = trim_ascii_end_is first c.trim_ascii_end.result.now c.trim_ascii_end.ensures.value in
     let after = trim_ascii_start_is last c.trim_ascii_start.result.now c.trim_ascii_start.ensures.value in
     ok_map (λ o. IfSome o (HasEnds (IsAddressText grammar (before_blanks first))
-        (IsAddressText grammar (after_blanks last))))
+    (IsAddressText grammar (after_blanks last))))
     (λ o. IfSome o (IsWrittenAs grammar text)) c.read_range.result (written_range grammar text first last spelled)
     (subst (λ z. IfOk c.read_range.result (λ o. IfSome o (HasEnds (IsAddressText grammar z)
-        (IsAddressText grammar (after_blanks last))))) before
+    (IsAddressText grammar (after_blanks last))))) before
     (subst (λ z. IfOk c.read_range.result (λ o. IfSome o
-        (HasEnds (IsAddressText grammar c.trim_ascii_end.result.now) (IsAddressText grammar z)))) after
+    (HasEnds (IsAddressText grammar c.trim_ascii_end.result.now) (IsAddressText grammar z)))) after
     c.read_range.ensures.kind))
 
 pub returns-in-None-clause-reads : goal.returns-in-None-clause-reads
