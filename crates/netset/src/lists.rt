@@ -24,8 +24,8 @@ struct Counted<R: Drop> {
     code: Option<i32>,
 }
 
-/// A reader that has counted nothing.
-fn counted<R: Drop>(input: R) -> Counted<R> {
+/// A reader that has counted nothing yet.
+fn start_count<R: Drop>(input: R) -> Counted<R> {
     Counted {
         input,
         count: 0,
@@ -52,7 +52,7 @@ impl<R: Read + Drop> Read for Counted<R> {
 
 /// Reads a list, and returns the number of its bytes.
 fn read_from<R: Read + Drop>(session: &mut Session, input: R) -> Result<usize, Unread> {
-    let mut counted = counted(input);
+    let mut counted = start_count(input);
     match session.read(&mut counted) {
         Ok(()) => Ok(counted.count),
         Err(failure) => Err(Unread {
@@ -141,7 +141,7 @@ fn rules_from<R: Read + Drop>(
     input: R,
     grammar: Grammar,
 ) -> Result<(RuleList, usize), Unread> {
-    let mut counted = counted(input);
+    let mut counted = start_count(input);
     match RuleList::read(rt.alloc(), &mut counted, grammar) {
         Ok(list) => Ok((list, counted.count)),
         Err(failure) => Err(Unread {
