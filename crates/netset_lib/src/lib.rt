@@ -3,6 +3,9 @@
 
 pub mod answer;
 pub mod cause;
+mod cause_bytes;
+mod cause_parts;
+mod cause_words;
 pub mod changes;
 pub mod changes_program;
 pub mod command;
@@ -29,9 +32,11 @@ pub mod rule_line;
 pub mod rule_list;
 pub mod rule_program;
 pub mod session;
+mod word;
 
 pub use answer::{Failure, Form, Request};
 pub use cause::Cause;
+pub use cause_parts::is_entry_text;
 pub use changes::changes_text;
 pub use changes_program::run_changes;
 pub use command::{Command, Flags, Work, families};
