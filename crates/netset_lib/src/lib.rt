@@ -3,6 +3,8 @@
 
 pub mod answer;
 pub mod cause;
+pub mod changes;
+pub mod changes_program;
 pub mod command;
 mod counts;
 pub mod entry;
@@ -11,6 +13,8 @@ mod front;
 pub mod length;
 mod list;
 pub mod list_text;
+mod listing;
+pub mod listing_program;
 pub mod operation;
 pub mod plan;
 pub mod plan_program;
@@ -28,11 +32,14 @@ pub mod session;
 
 pub use answer::{Failure, Form, Request};
 pub use cause::Cause;
+pub use changes::changes_text;
+pub use changes_program::run_changes;
 pub use command::{Command, Flags, Work, families};
 pub use entry::Entry;
 pub use filter::Side;
 pub use length::read_length;
 pub use list_text::{ListText, read_list_text};
+pub use listing_program::{run_hosts, run_split};
 pub use operation::{Families, Operation};
 pub use plan::{PlanFailure, PlanRequest, plan_text};
 pub use plan_program::run_plan;
