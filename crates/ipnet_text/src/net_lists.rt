@@ -8,7 +8,7 @@ ghost use Rattle.ipnet_text.specs.NetLists.{networks_of};
 use ipnet::{IpNet, Ipv4Net, Ipv6Net, Net};
 use std::alloc::{AllocError, Global};
 
-/// What takes the networks of a list, one after another.
+/// A collection that takes the networks of a list, one after another.
 pub trait NetworkSink {
     /// Whether it is made of these networks, in this order.
     ghost is_made: { Self → List Network → Type 0 };
@@ -49,7 +49,7 @@ pub struct NetLists {
 }
 
 impl NetLists {
-    /// No networks. Takes no memory.
+    /// No networks. Allocates nothing.
     pub fn new(alloc: Global) -> NetLists
         ensures { networks_of result ≡ [] }
     {

@@ -166,7 +166,7 @@ long_then_text grammar a b c held networks number h long none left = record {
       (long_is_bad grammar held left.more long none);
 }
 
--- no line ends behind the last one that does
+-- no line ends after the last one that does
 pub none_after : (held after : List ℕ) (count : ℕ) → after ≡ drop count held
     → ((k : ℕ) → count ≤ k → k < length held → get_or held k 0 ≢ 10)
     → (k : ℕ) → k < length after → get_or after k 0 ≢ 10

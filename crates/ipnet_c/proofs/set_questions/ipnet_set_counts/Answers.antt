@@ -1,4 +1,4 @@
--- The counts are those of the set of the image.
+-- The counts are the counts of the set of the image.
 use Rattle.std.proofs.Common.{sym, subst}
 use Rattle.ipnet_sets.specs.Images.{IsImage, IsImageOf}
 use Rattle.ipnet_c.specs.SetReplies.{AreCountsOf}
