@@ -2,13 +2,17 @@
 #![tactic(auto)]
 
 mod arguments;
+mod changes;
+mod listing;
 mod lists;
 mod plan;
 mod rules;
 mod version;
 
 use crate::arguments::{ArgumentFailure, Call, call_of, matches_of, words};
-use crate::lists::read_lists;
+use crate::changes::{CHANGES, changed};
+use crate::listing::run_if_listing;
+use crate::lists::{read_lists, report_unread};
 use crate::plan::{PLAN, planned};
 use crate::rules::run_if_rules;
 use clap::ArgMatches;
@@ -58,8 +62,8 @@ fn session_of(
     let Ok(mut session) = Session::new(rt.alloc(), work) else {
         return Err(refused(rt, ArgumentFailure::Memory));
     };
-    if let Err((name, failure)) = read_lists(rt, &mut session, names, tells_progress) {
-        let _ = writeln!(rt.stderr(), "netset: {name}: {failure}");
+    if let Err((name, unread)) = read_lists(rt, &mut session, names, tells_progress) {
+        report_unread(rt, name, &unread);
         return Err(2);
     }
     Ok(session)
@@ -70,8 +74,12 @@ fn called(rt: &HostRuntime, matches: &ArgMatches) -> u8 {
     if let Some(status) = run_if_rules(rt, matches) {
         return status;
     }
+    if let Some(status) = run_if_listing(rt, matches) {
+        return status;
+    }
     match matches.subcommand() {
         Some((name, matches)) if name == PLAN => planned(rt, matches),
+        Some((name, matches)) if name == CHANGES => changed(rt, matches),
         _ => answered(rt, matches),
     }
 }
