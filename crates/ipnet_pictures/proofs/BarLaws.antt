@@ -2,7 +2,7 @@
 use Rattle.std.proofs.Common.{◌≡◌, ℕ, ◌+◌, ◌<◌, ◌≤◌, List, [], ◌∷◌, ◌++◌, length, get_or, take, map, Contains, All}
 use Rattle.std.proofs.Common.{refl, sym, ap, ◌∙◌, subst, arith, append_assoc, append-nil}
 use Rattle.std.proofs.lemmas.List.{map_push, take_more, get_or-map, length-map}
-use Rattle.std.proofs.lemmas.List.Elements.{All-map}
+use Rattle.std.proofs.lemmas.List.Elements.{All-map, All-more, All-weaker}
 use Rattle.ipnet_base.specs.Address.{Address, width}
 use Rattle.ipnet_base.specs.Network.{Network}
 use Rattle.ipnet_base.proofs.BlockLaws.{own, own_in}
@@ -11,18 +11,29 @@ use Rattle.ipnet.specs.NetworkParts.{AreSubnetsOfLength}
 use Rattle.ipnet_pictures.specs.declared.marks.Marks.{Marks}
 use Rattle.ipnet_pictures.specs.Bars.{IsRow, AreRows}
 
--- a text behind another, in three and in four parts
+-- a text behind another, in several parts
 pub three_joined : (old t1 t2 t3 a b c : List ℕ) → t1 ≡ old ++ a → t2 ≡ t1 ++ b → t3 ≡ t2 ++ c
     → t3 ≡ old ++ (a ++ b ++ c)
-three_joined old t1 t2 t3 a b c e f g =
-    g ∙ ap (λ z. z ++ c) (f ∙ ap (λ z. z ++ b) e) ∙ append_assoc (old ++ a) b c ∙ append_assoc old a (b ++ c)
+three_joined old t1 t2 t3 a b c e f g = g ∙ ap (λ z. z ++ c) (f ∙ ap (λ z. z ++ b) e) ∙ simp append_assoc
 
-pub row_joined : (old t1 t2 t3 name blanks bar marks tail : List ℕ) → t1 ≡ old ++ (name ++ blanks ++ bar)
-    → t2 ≡ t1 ++ marks → t3 ≡ t2 ++ tail → t3 ≡ old ++ (name ++ blanks ++ bar ++ marks ++ tail)
-row_joined old t1 t2 t3 name blanks bar marks tail e f g =
-    three_joined old t1 t2 t3 (name ++ blanks ++ bar) marks tail e f g
-    ∙ ap (λ z. old ++ z) (append_assoc name (blanks ++ bar) (marks ++ tail)
-    ∙ ap (λ z. name ++ z) (append_assoc blanks bar (marks ++ tail)))
+pub four_joined : (old t1 t2 t3 t4 a b c d : List ℕ) → t1 ≡ old ++ a → t2 ≡ t1 ++ b → t3 ≡ t2 ++ c → t4 ≡ t3 ++ d
+    → t4 ≡ old ++ (a ++ b ++ c ++ d)
+four_joined old t1 t2 t3 t4 a b c d e f g h =
+    h ∙ ap (λ z. z ++ d) (g ∙ ap (λ z. z ++ c) (f ∙ ap (λ z. z ++ b) e)) ∙ simp append_assoc
+
+pub row_joined : (old t1 t2 t3 head marks bar share end : List ℕ) → t1 ≡ old ++ head → t2 ≡ t1 ++ marks
+    → t3 ≡ t2 ++ (bar ++ share ++ end) → t3 ≡ old ++ (head ++ marks ++ bar ++ share ++ end)
+row_joined old t1 t2 t3 head marks bar share end e f g =
+    g ∙ ap (λ z. z ++ (bar ++ share ++ end)) (f ∙ ap (λ z. z ++ marks) e) ∙ simp append_assoc
+
+-- the longest so far, and one more
+pub longest_more : {X : Type 0} (f : X → ℕ) (xs : List X) (i : ℕ) (item : X) (old new : ℕ) → i < length xs
+    → item ≡ get_or xs i item → All (λ x. f x ≤ old) (take i xs) → old ≤ new → f item ≤ new
+    → All (λ x. f x ≤ new) (take (i + 1) xs)
+longest_more f xs i item old new less is so_far grown fits =
+    All-more (λ x. f x ≤ new) xs i item less
+    (All-weaker (λ x. f x ≤ old) (λ x. f x ≤ new) (λ x l. omega (arith, l, grown)) (take i xs) so_far)
+    (subst (λ z. f z ≤ new) is fits)
 
 -- the rows so far, and one more
 rows_push : (InSet : Address → Type 0) (marks : Marks) (len column : ℕ) (ns : List Network) (n : Network)

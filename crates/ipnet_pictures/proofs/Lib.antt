@@ -4,3 +4,4 @@ pub mod MarkLaws
 pub mod PartLaws
 pub mod SummaryLaws
 pub mod BarLaws
+pub mod FrameLaws

@@ -1,6 +1,7 @@
 -- How many addresses of a set are in a block, and when these are none or all.
 use Rattle.std.proofs.Common.{◌≡◌, ◌≢◌, ℕ, ◌+◌, ◌-◌, ◌*◌, ◌^◌, ◌<◌, ◌≤◌, ◌⊎◌, ◌↔◌, inl, inr}
-use Rattle.std.proofs.Common.{List, [], ◌∷◌, ◌++◌, length, map, Option, Some, None, IfSome, IsNone, Contains, AllPairs, refl, sym, ap, ◌∙◌, subst, arith}
+use Rattle.std.proofs.Common.{List, [], ◌∷◌, ◌++◌, length, map, Option, Some, None, IfSome, IsNone, Contains, AllPairs}
+use Rattle.std.proofs.Common.{refl, sym, ap, ◌∙◌, subst, arith}
 use Rattle.std.proofs.Common.{get_or, take}
 use Rattle.std.proofs.lemmas.List.{map_push, take_more}
 use Rattle.std.proofs.lemmas.Nat.{pow_pos}
@@ -26,7 +27,7 @@ use Rattle.ipnet_pictures.specs.Parts.{IsInPart, HasNone, HasAll, IsLevelOf, blo
 use Rattle.ipnet_pictures.specs.Shares.{IsShare, tenths}
 
 -- two sets with the same addresses have the same count
-pub same_count : (A B : Address → Type 0) (n : ℕ) → ((x : Address) → A x ↔ B x) → IsCountOf A n → IsCountOf B n
+same_count : (A B : Address → Type 0) (n : ℕ) → ((x : Address) → A x ↔ B x) → IsCountOf A n → IsCountOf B n
 same_count A B n same h = record {
   addresses = h.addresses;
   once = h.once;
@@ -74,18 +75,18 @@ fewer A B m n x within in_b out h k =
     from y (inr a) = contains_there x h.addresses y ((h.members y).1 a)
 
 -- a set without an address has the count 0, and only such a set
-pub none_counted : (A : Address → Type 0) (n : ℕ) → ((x : Address) → A x → ⊥) → IsCountOf A n → n ≡ 0
+none_counted : (A : Address → Type 0) (n : ℕ) → ((x : Address) → A x → ⊥) → IsCountOf A n → n ≡ 0
 none_counted A n none h = sym h.count ∙ empty h.addresses (λ x c. none x ((h.members x).0 c))
   where
     empty : (xs : List Address) → ((x : Address) → Contains xs x → ⊥) → length xs ≡ 0
     empty [] out = refl
     empty (x ∷ xs) out = absurd (out x (contains_here x xs))
 
-pub counted_none : (A : Address → Type 0) (x : Address) → IsCountOf A 0 → A x → ⊥
+counted_none : (A : Address → Type 0) (x : Address) → IsCountOf A 0 → A x → ⊥
 counted_none A x h a = let c = (h.members x).1 a in omega (arith, c.1, h.count)
 
 -- the addresses of a block can be listed
-pub block_counted : (n : Network) → IsCountOf (InBlock n) (block_size n)
+block_counted : (n : Network) → IsCountOf (InBlock n) (block_size n)
 block_counted n = record {
   addresses = addresses_of block;
   once = pairs_weaker (λ x y. x.number < y.number) (λ x y. x ≢ y)
@@ -107,7 +108,7 @@ part_fits InSet n count h =
     no_more (IsInPart InSet n) (InBlock n) count (block_size n) (λ x i. i.in_block) h (block_counted n)
 
 -- the count is 0 exactly if the block has none of the set
-pub nothing_counted : (InSet : Address → Type 0) (n : Network) (count : ℕ) → IsCountOf (IsInPart InSet n) count
+nothing_counted : (InSet : Address → Type 0) (n : Network) (count : ℕ) → IsCountOf (IsInPart InSet n) count
     → (count ≡ 0) ↔ HasNone InSet n
 nothing_counted InSet n count h = (
   λ e x b i. counted_none (IsInPart InSet n) x (subst (IsCountOf (IsInPart InSet n)) e h)
@@ -137,7 +138,7 @@ all_counted s n count h = (to, from)
         (λ x. (λ i. i.in_block, λ b. record { in_block = b; in_set = all x b })) h) (block_counted n)
 
 -- the lowest level is for nothing, and the highest for all
-pub nothing_level : (level : Level) (count size : ℕ) → 0 < size → IsShare level count size
+nothing_level : (level : Level) (count size : ℕ) → 0 < size → IsShare level count size
     → (level ≡ Nothing) ↔ (count ≡ 0)
 nothing_level Nothing count size some h = (λ e. h, λ e. refl)
 nothing_level BelowThird count size some h = (λ e. absurd (cc), λ e. absurd (omega (arith, h, e)))
@@ -145,7 +146,7 @@ nothing_level FromThird count size some h = (λ e. absurd (cc), λ e. absurd (om
 nothing_level FromTwoThirds count size some h = (λ e. absurd (cc), λ e. absurd (omega (arith, h, e)))
 nothing_level Whole count size some h = (λ e. absurd (cc), λ e. absurd (omega (arith, h, e)))
 
-pub whole_level : (level : Level) (count size : ℕ) → 0 < size → IsShare level count size
+whole_level : (level : Level) (count size : ℕ) → 0 < size → IsShare level count size
     → (level ≡ Whole) ↔ (count ≡ size)
 whole_level Nothing count size some h = (λ e. absurd (cc), λ e. absurd (omega (arith, h, e)))
 whole_level BelowThird count size some h = (λ e. absurd (cc), λ e. absurd (omega (arith, h, e)))
@@ -209,7 +210,10 @@ pub nothing_shown : (InSet : Address → Type 0) (n : Network) (count : ℕ) (le
     → IsCountOf (IsInPart InSet n) count → IsShare level count (block_size n) → (level ≡ Nothing) ↔ HasNone InSet n
 nothing_shown InSet n count level h share =
     let by_level = nothing_level level count (block_size n) (pow_pos (host_bits n)) share in
-    let by_count = nothing_counted InSet n count h in (λ e. by_count.0 (by_level.0 e), λ none. by_level.1 (by_count.1 none))
+    let by_count = nothing_counted InSet n count h in (
+      λ e. by_count.0 (by_level.0 e),
+      λ none. by_level.1 (by_count.1 none),
+    )
 
 pub whole_shown : (s : IpSet) (n : Network) (count : ℕ) (level : Level)
     → IsCountOf (IsInPart (IsMember s) n) count → IsShare level count (block_size n)
@@ -219,7 +223,7 @@ whole_shown s n count level h share =
     let by_count = all_counted s n count h in (λ e. by_count.0 (by_level.0 e), λ all. by_level.1 (by_count.1 all))
 
 -- the part of a part in a smaller block
-pub part_of_part : (A B : Address → Type 0) (n k : Network) → ((x : Address) → B x ↔ IsInPart A n x) → IsSubnetOf k n
+part_of_part : (A B : Address → Type 0) (n k : Network) → ((x : Address) → B x ↔ IsInPart A n x) → IsSubnetOf k n
     → (x : Address) → IsInPart B k x ↔ IsInPart A k x
 part_of_part A B n k is_part within x = (
   λ i. record { in_block = i.in_block; in_set = ((is_part x).0 i.in_set).in_set },
@@ -229,7 +233,7 @@ part_of_part A B n k is_part within x = (
   },
 )
 
-pub level_of_part : (A B : Address → Type 0) (n k : Network) (level : Level)
+level_of_part : (A B : Address → Type 0) (n k : Network) (level : Level)
     → ((x : Address) → B x ↔ IsInPart A n x) → IsSubnetOf k n → IsLevelOf B k level → IsLevelOf A k level
 level_of_part A B n k level is_part within h = record {
   count = h.count;
@@ -249,7 +253,7 @@ levels_of_part A B n (k ∷ cells) (level ∷ levels) is_part within h = (
 )
 
 -- one more pair
-pub zip_push : {X Y : Type 0} (R : X → Y → Type 0) (xs : List X) (ys : List Y) (x : X) (y : Y) → AllZip R xs ys → R x y
+zip_push : {X Y : Type 0} (R : X → Y → Type 0) (xs : List X) (ys : List Y) (x : X) (y : Y) → AllZip R xs ys → R x y
     → AllZip R (xs ++ x ∷ []) (ys ++ y ∷ [])
 zip_push R [] [] x y h r = (r, tt)
 zip_push R [] (v ∷ vs) x y h r = absurd h

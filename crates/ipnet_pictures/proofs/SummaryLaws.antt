@@ -1,7 +1,8 @@
 -- The lines below a bar, and their counts, one more at a time.
-use Rattle.std.proofs.Common.{◌≡◌, ℕ, suc, zero, ◌+◌, ◌-◌, ◌^◌, ◌<◌, ◌≤◌, List, [], ◌∷◌, ◌++◌, length, get_or, take, map}
-use Rattle.std.proofs.Common.{Option, Some, None, Result, Ok, Err, OnOk, is_ok, if◌then◌else◌, cond, nat_eq, codes, decimal}
-use Rattle.std.proofs.Common.{All, IfNone, IfSome, option_map, refl, sym, ap, ◌∙◌, subst, arith, inl, inr, append_assoc, append-nil}
+use Rattle.std.proofs.Common.{◌≡◌, ℕ, suc, zero, ◌+◌, ◌-◌, ◌^◌, ◌<◌, ◌≤◌, List, [], ◌∷◌, ◌++◌, length, get_or, take}
+use Rattle.std.proofs.Common.{map, option_map, Bool, true, false, cond, nat_eq, Option, Some, None, IfNone, IfSome}
+use Rattle.std.proofs.Common.{Result, Ok, Err, OnOk, is_ok, if◌then◌else◌, codes, decimal, All}
+use Rattle.std.proofs.Common.{refl, sym, ap, ◌∙◌, subst, arith, inl, inr, append_assoc, append-nil}
 use Rattle.std.specs.Fmt.{digits}
 use Rattle.std.proofs.lemmas.Bool.{cases_lt}
 use Rattle.std.proofs.lemmas.List.{map_push, take_more}
@@ -21,14 +22,19 @@ pub written_as : {E : Type 0} (r : Result (Unit {0}) E) (old new spelled wanted 
 written_as (Ok x) old new spelled wanted same e = e ∙ ap (λ t. old ++ t) same
 written_as (Err y) old new spelled wanted same e = tt
 
+pub at_most_one : (b : Bool) (n : ℕ) → n ≡ cond b 1 0 → n ≤ 1
+at_most_one true n e = omega (arith, e)
+at_most_one false n e = omega (arith, e)
+
 -- one network more is counted
 count-push : (xs : List Network) (x : Network) (len : ℕ)
     → count_with_len (xs ++ x ∷ []) len ≡ count_with_len xs len + cond (nat_eq x.prefix_len len) 1 0
 count-push [] x len = omega arith
 count-push (y ∷ xs) x len = omega (arith, count-push xs x len)
 
-pub one_more_counted : {X : Type 0} (network_of : X → Network) (items : List X) (i : ℕ) (item : X) (len total add new : ℕ)
-    → i < length items → item ≡ get_or items i item → total ≡ count_with_len (map network_of (take i items)) len
+pub one_more_counted : {X : Type 0} (network_of : X → Network) (items : List X) (i : ℕ) (item : X)
+    (len total add new : ℕ) → i < length items → item ≡ get_or items i item
+    → total ≡ count_with_len (map network_of (take i items)) len
     → add ≡ cond (nat_eq (network_of item).prefix_len len) 1 0 → new ≡ total + add
     → new ≡ count_with_len (map network_of (take (i + 1) items)) len
 one_more_counted network_of items i item len total add new less is so_far added grown =
@@ -46,7 +52,8 @@ one_more_counted network_of items i item len total add new less is so_far added 
 
 -- one prefix length more
 lengths-push : (blocks : List Network) (len n : ℕ)
-    → lengths_text blocks len (suc n) ≡ lengths_text blocks len n ++ length_text (count_with_len blocks (len + n)) (len + n)
+    → lengths_text blocks len (suc n)
+    ≡ lengths_text blocks len n ++ length_text (count_with_len blocks (len + n)) (len + n)
 lengths-push blocks len zero =
     let same : len + zero ≡ len = omega arith in
     append-nil (length_text (count_with_len blocks len) len)

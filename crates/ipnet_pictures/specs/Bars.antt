@@ -43,14 +43,14 @@ first_line n len = canonical_text n ++ codes ", a mark is one /" ++ decimal len 
 
 -- The bar of a network: its first line; a row for each of its subnets with the length of a row, in order, with the
 -- marks of all rows in the same columns; and the lines below.
-pub record IsBar (InSet : Address → Type 0) (n : Network) (row_width : RowWidth) (marks : Marks) (text : List ℕ) : Type 0
-  where
-    pub rows : List Network
-    pub are_rows : AreSubnetsOfLength n (row_len n row_width) rows
-    pub column : ℕ
-    pub wide : All (λ k. length (canonical_text k) ≤ column) rows
-    pub lines : List ℕ
-    pub are_lines : AreRows InSet marks (mark_len n row_width) column rows lines
-    pub below : List ℕ
-    pub is_summary : IsSummary InSet n below
-    pub spelled : text ≡ first_line n (mark_len n row_width) ++ lines ++ below
+pub record IsBar (InSet : Address → Type 0) (n : Network) (row_width : RowWidth) (marks : Marks) (text : List ℕ)
+    : Type 0 where
+  pub rows : List Network
+  pub are_rows : AreSubnetsOfLength n (row_len n row_width) rows
+  pub column : ℕ
+  pub wide : All (λ k. length (canonical_text k) ≤ column) rows
+  pub lines : List ℕ
+  pub are_lines : AreRows InSet marks (mark_len n row_width) column rows lines
+  pub below : List ℕ
+  pub is_summary : IsSummary InSet n below
+  pub spelled : text ≡ first_line n (mark_len n row_width) ++ lines ++ below

@@ -2,5 +2,6 @@
 pub mod Shares
 pub mod MarkTexts
 pub mod Parts
+pub mod Frames
 pub mod Summaries
 pub mod Bars

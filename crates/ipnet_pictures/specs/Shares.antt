@@ -3,8 +3,8 @@ use Rattle.std.specs.Prelude.{◌≡◌, ℕ, zero, suc, ◌*◌, ◌/◌, ◌<�
 use Rattle.ipnet_pictures.specs.declared.share.Level.{Level}
 use Rattle.ipnet_pictures.specs.declared.share.Level.TheVariants.{Nothing, BelowThird, FromThird, FromTwoThirds, Whole}
 
--- `count` of `size` addresses are covered, and this is the level. So it is `Nothing` only for none, and `Whole` only for
--- all.
+-- `count` of `size` addresses are covered, and this is the level. So it is `Nothing` only for none, and `Whole` only
+-- for all.
 -- Example: of 4 addresses, 1 is `BelowThird`, 2 are `FromThird` and 3 are `FromTwoThirds`.
 abbrev pub IsShare : Level → ℕ → ℕ → Type 0
 IsShare Nothing count size = count ≡ 0

@@ -11,7 +11,7 @@ ghost use Rattle.ipnet_pictures.specs.Parts.{IsInPart, block_size, counted};
 ghost use Rattle.ipnet_pictures.specs.Shares.{tenths};
 
 use crate::marks::{
-    Marks, RowWidth, mark_len_of, push_blanks, push_marks, push_percent, row_len_of,
+    Marks, RowWidth, mark_len_of, push_blanks, push_marks, push_number, push_percent, row_len_of,
 };
 use crate::part::{count_in, host_bits_of, levels_in, subnets_of};
 use crate::share::tenths_of;
@@ -130,14 +130,15 @@ fn push_first_line(text: &mut String, network: &IpNet, mark_len: u8) -> Result<(
 {
     text.push_str(network.to_text().as_str())?;
     text.push_str(", a mark is one /")?;
-    write!(text, "{mark_len}")?;
-    text.push_str("\n")
+    push_number(text, usize::from(mark_len))?;
+    text.push_str("\n")?;
+    Ok(())
 }
 
 /// Returns the bar of the network: how much of it, and which parts, the set has. Fails only if memory runs out.
 ///
-/// There are at most 16 rows. Each is a network, each mark is a network of one prefix length, and the share of a row
-/// is behind it. Below are the number of used addresses, the number of free blocks of each prefix length, and the first
+/// There are at most 16 rows. Each is a network, each mark is a network of one prefix length, and the share of a row is
+/// at its end. Below are the number of used addresses, the number of free blocks of each prefix length, and the first
 /// of the largest free blocks. Addresses of the set outside the network do not count.
 ///
 /// ```text

@@ -1,5 +1,5 @@
 //! The marks of a bar: how large a block each shows, and their texts.
-ghost use Rattle.std.specs.Prelude.{◌≡◌, ◌+◌, ◌++◌, ◌≤◌, OnOk, string_bytes, replicate};
+ghost use Rattle.std.specs.Prelude.{◌≡◌, ◌+◌, ◌++◌, ◌≤◌, OnOk, string_bytes, replicate, decimal};
 ghost use Rattle.ipnet_base.specs.Address.{width};
 ghost use Rattle.ipnet.specs.NetworkOf.{ip_network};
 ghost use Rattle.ipnet_pictures.specs.MarkTexts.{mark_len, row_len, mark_text, marks_text, percent_text};
@@ -124,6 +124,13 @@ pub(crate) fn push_blanks(text: &mut String, count: usize) -> Result<(), AllocEr
         text.push_str(" ")?;
     }
     Ok(())
+}
+
+/// Appends the number in decimal.
+pub(crate) fn push_number(text: &mut String, number: usize) -> Result<(), AllocError>
+    ensures { OnOk result (string_bytes text.new ≡ string_bytes text.old ++ decimal number) }
+{
+    write!(text, "{number}")
 }
 
 /// Appends tenths of a per cent.

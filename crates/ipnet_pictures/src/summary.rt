@@ -10,7 +10,7 @@ ghost use Rattle.ipnet_pictures.specs.Summaries.{IsFree, used_line, count_with_l
 ghost use Rattle.ipnet_pictures.specs.Summaries.{free_line, IsLargest, IsLargerOf, largest_line, IsSummary};
 
 use crate::bar::share_of;
-use crate::marks::push_percent;
+use crate::marks::{push_number, push_percent};
 use crate::part::{count_in, last_place};
 use ipnet::IpNet;
 use ipnet_sets::IpSet;
@@ -98,9 +98,13 @@ fn larger(first: Option<IpNet>, second: IpNet) -> IpNet
     ensures none { IfNone first (result ≡ second) }
     ensures some { IfSome first (λ n. IsLargerOf (ip_network n) (ip_network second) (ip_network result)) }
 {
-    match first {
-        Some(network) if network.prefix_len() <= second.prefix_len() => network,
-        _ => second,
+    let Some(network) = first else {
+        return second;
+    };
+    if network.prefix_len() <= second.prefix_len() {
+        network
+    } else {
+        second
     }
 }
 
@@ -137,10 +141,11 @@ fn push_free(text: &mut String, free: &[IpNet], network: &IpNet) -> Result<(), A
     ensures { OnOk result (string_bytes text.new
         ≡ string_bytes text.old ++ free_line (ip_network network.now) (map ip_network free.now)) }
 {
-    let count = free.len();
-    write!(text, "free blocks: {count}")?;
+    text.push_str("free blocks: ")?;
+    push_number(text, free.len())?;
     push_lengths(text, free, network)?;
-    text.push_str("\n")
+    text.push_str("\n")?;
+    Ok(())
 }
 
 /// Appends the lines below the bar of the network.

@@ -23,9 +23,9 @@ returns c =
         spelled = refl;
       },
       row_joined (string_bytes c.args.text.now) (string_bytes c.push_head.new.text)
-          (string_bytes c.push_marks.new.text) (string_bytes c.push_tail.new.text) (canonical_text n)
-          (replicate (column - length (canonical_text n)) 32) (codes " |") (marks_text c.args.form.marks levels)
-          (codes "| " ++ percent_text share ++ 10 ∷ []) c.in_ok-push_head.ensures
+          (string_bytes c.push_marks.new.text) (string_bytes c.push_tail.new.text)
+          (canonical_text n ++ replicate (column - length (canonical_text n)) 32 ++ codes " |")
+          (marks_text c.args.form.marks levels) (codes "| ") (percent_text share) (10 ∷ []) c.in_ok-push_head.ensures
           (c.in_ok-push_marks.ensures
           ∙ ap (λ z. string_bytes c.push_head.new.text ++ marks_text c.args.form.marks z) c.as_slice.ensures.value)
           (c.in_ok-push_tail.ensures

@@ -1,4 +1,5 @@
-use Rattle.std.proofs.Common.{◌++◌, [], ◌∙◌, map, ap, refl, sym, subst, string_bytes, take_all, append_assoc, append-nil}
+use Rattle.std.proofs.Common.{◌++◌, [], ◌∙◌, map, ap, refl, sym, subst, string_bytes, take_all}
+use Rattle.std.proofs.Common.{append_assoc, append-nil}
 use Rattle.ipnet.specs.NetworkOf.{ip_network}
 use Rattle.ipnet_sets.specs.Members.{IsMember}
 use Rattle.ipnet_pictures.specs.Bars.{AreRows}
@@ -14,7 +15,8 @@ loop-row-preserved c =
     let (line, one, pushed) = c.in_ok-push_row.ensures in (
       lines ++ line,
       one_row_more ip_network (IsMember c.args.set.now) c.args.form.marks c.args.form.mark_len c.args.form.column
-          c.args.rows.now c.loop-row.row-index c.row-item.result lines line c.loop-row-test.true c.row-item.is so_far one,
+          c.args.rows.now c.loop-row.row-index c.row-item.result lines line c.loop-row-test.true c.row-item.is so_far
+          one,
       pushed ∙ ap (λ z. z ++ line) e ∙ append_assoc (string_bytes c.args.text.now) lines line,
     )
 

@@ -6,5 +6,6 @@ use Rattle.ipnet_pictures.proofs.bar.push_rows.Given as goal
 
 abbrev pub invariant-loop-row : goal.invariant-loop-row
 invariant-loop-row l = (lines : List ℕ)
-    × AreRows (IsMember l.set) l.form.marks l.form.mark_len l.form.column (map ip_network (take l.row-index l.rows)) lines
+    × AreRows (IsMember l.set) l.form.marks l.form.mark_len l.form.column
+    (map ip_network (take l.row-index l.rows)) lines
     × (string_bytes l.text ≡ string_bytes l.fn.text ++ lines)

@@ -40,17 +40,20 @@ returns-in-Some-clause-whole c =
 pub returns-in-None-clause-level : goal.returns-in-None-clause-level
 returns-in-None-clause-level c =
     let n = ip_network c.args.network.now in
-    let all = count_at (IsMember c.args.set.now) n c.in_ok-count.field-0 None c.in-None.is c.in_ok-count.ensures.count in
+    let all = count_at (IsMember c.args.set.now) n c.in_ok-count.field-0 None c.in-None.is
+    c.in_ok-count.ensures.count in
     record { count = 2 ^ 128; is_count = all; share = whole_size (IsMember c.args.set.now) n all }
 
 pub returns-in-None-clause-nothing : goal.returns-in-None-clause-nothing
 returns-in-None-clause-nothing c =
     let n = ip_network c.args.network.now in
-    let all = count_at (IsMember c.args.set.now) n c.in_ok-count.field-0 None c.in-None.is c.in_ok-count.ensures.count in
+    let all = count_at (IsMember c.args.set.now) n c.in_ok-count.field-0 None c.in-None.is
+    c.in_ok-count.ensures.count in
     nothing_shown (IsMember c.args.set.now) n (2 ^ 128) Whole all (whole_size (IsMember c.args.set.now) n all)
 
 pub returns-in-None-clause-whole : goal.returns-in-None-clause-whole
 returns-in-None-clause-whole c =
     let n = ip_network c.args.network.now in
-    let all = count_at (IsMember c.args.set.now) n c.in_ok-count.field-0 None c.in-None.is c.in_ok-count.ensures.count in
+    let all = count_at (IsMember c.args.set.now) n c.in_ok-count.field-0 None c.in-None.is
+    c.in_ok-count.ensures.count in
     whole_shown c.args.set.now n (2 ^ 128) Whole all (whole_size (IsMember c.args.set.now) n all)
