@@ -1,7 +1,8 @@
 -- The smallest network around two addresses, and around a set between them.
 use Rattle.std.proofs.Common.{◌≡◌, ℕ, ◌-◌, ◌^◌, ◌/◌, ◌<◌, ◌≤◌, ◌⊎◌, ◌↔◌, refl, sym, ap, ◌∙◌, subst, arith, inl, inr}
+use Rattle.std.proofs.Common.{Bool, IsTrue, false}
 use Rattle.std.proofs.Math.Nat.{div-eq_of_lt}
-use Rattle.std.proofs.lemmas.Bool.{cases_lt}
+use Rattle.std.proofs.lemmas.Bool.{cases_lt, true≢false}
 use Rattle.ipnet_base.specs.Address.{Address, IsAddress, width, family_index}
 use Rattle.ipnet_base.specs.Network.{Network, IsNetwork, InBlock, IsSubnetOf, IsTruncated, IsSupernetOf, host_bits}
 use Rattle.ipnet_base.proofs.BlockLaws.{between_from_block, block_from_between}
@@ -43,6 +44,10 @@ one_wider first last n s h out super = record {
         | inr ge ↦ absurd (out (nested k n first a h.has_first ge last b))
       ];
 }
+
+-- a test that failed
+pub not_in : (n : Network) (x : Address) (r : Bool) → IsTrue r ↔ InBlock n x → r ≡ false → InBlock n x → ⊥
+not_in n x r tested refused b = true≢false (sym (tested.1 b) ∙ refused)
 
 -- a network without a supernet contains all addresses of its family
 pub widest : (n : Network) (x : Address) → n.prefix_len ≡ 0 → IsNetwork n → IsAddress x → x.family ≡ n.family

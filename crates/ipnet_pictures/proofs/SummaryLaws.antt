@@ -4,6 +4,7 @@ use Rattle.std.proofs.Common.{map, option_map, Bool, true, false, cond, nat_eq, 
 use Rattle.std.proofs.Common.{Result, Ok, Err, OnOk, is_ok, if◌then◌else◌, codes, decimal, All}
 use Rattle.std.proofs.Common.{refl, sym, ap, ◌∙◌, subst, arith, inl, inr, append_assoc, append-nil}
 use Rattle.std.specs.Fmt.{digits}
+use Rattle.std.specs.Int.{from_bool}
 use Rattle.std.proofs.lemmas.Bool.{cases_lt}
 use Rattle.std.proofs.lemmas.List.{map_push, take_more}
 use Rattle.std.proofs.lemmas.List.Elements.{All-nil, All-cons, All-append, All-push, All-same, All-weaker}
@@ -21,6 +22,11 @@ pub written_as : {E : Type 0} (r : Result (Unit {0}) E) (old new spelled wanted 
     → new ≡ (if is_ok r then old ++ spelled else old) → OnOk r (new ≡ old ++ wanted)
 written_as (Ok x) old new spelled wanted same e = e ∙ ap (λ t. old ++ t) same
 written_as (Err y) old new spelled wanted same e = tt
+
+-- a test as a number
+pub test_counted : (b : Bool) → from_bool b ≡ cond b 1 0
+test_counted true = refl
+test_counted false = refl
 
 pub at_most_one : (b : Bool) (n : ℕ) → n ≡ cond b 1 0 → n ≤ 1
 at_most_one true n e = omega (arith, e)

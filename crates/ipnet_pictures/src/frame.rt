@@ -19,11 +19,11 @@ fn smallest_around(first: IpAddr, last: IpAddr) -> IpNet
     ensures { IsAround (ip_address first) (ip_address last) (ip_network result) }
 {
     let mut frame = IpNet::from(first);
-    while !frame.contains(&last) {
-        let Some(wider) = frame.supernet() else {
-            return frame;
-        };
-        frame = wider;
+    'widen: while !frame.contains(&last) {
+        match frame.supernet() {
+            Some(wider) => frame = wider,
+            None => return frame,
+        }
     }
     frame
 }

@@ -118,7 +118,8 @@ pub fn largest_of(networks: &[IpNet]) -> Option<IpNet>
 {
     let mut largest = None;
     for network in networks {
-        largest = Some(larger(largest, *network));
+        let next = larger(largest, *network);
+        largest = Some(next);
     }
     largest
 }

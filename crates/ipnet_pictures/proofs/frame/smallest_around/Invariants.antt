@@ -3,8 +3,8 @@ use Rattle.ipnet.specs.NetworkOf.{ip_network}
 use Rattle.ipnet_pictures.specs.Frames.{IsOnWay}
 use Rattle.ipnet_pictures.proofs.frame.smallest_around.Given as goal
 
-abbrev pub invariant-loop-last : goal.invariant-loop-last
-invariant-loop-last l = IsOnWay (ip_address l.first) (ip_address l.last) (ip_network l.frame)
+abbrev pub invariant-widen : goal.invariant-widen
+invariant-widen l = IsOnWay (ip_address l.first) (ip_address l.last) (ip_network l.frame)
 
-abbrev pub decreases-loop-last : goal.decreases-loop-last
-decreases-loop-last l = (ip_network l.frame).prefix_len
+abbrev pub decreases-widen : goal.decreases-widen
+decreases-widen l = (ip_network l.frame).prefix_len

@@ -1,13 +1,14 @@
 use Rattle.std.proofs.Common.{◌≡◌, ◌≤◌, ◌+◌, ◌∙◌, cond, nat_eq, ap, refl, arith}
 use Rattle.ipnet.specs.NetworkOf.{ip_network}
-use Rattle.ipnet_pictures.proofs.SummaryLaws.{one_more_counted, at_most_one}
+use Rattle.ipnet_pictures.proofs.SummaryLaws.{one_more_counted, at_most_one, test_counted}
 use Rattle.ipnet_pictures.proofs.summary.count_of.Goals as goal
 
 pub loop-network-preserved : goal.loop-network-preserved
 loop-network-preserved c =
     let item = c.network-item.result in
     let added : c.from-count.result ≡ cond (nat_eq (ip_network item).prefix_len c.args.len) 1 0
-    = c.from-count.ensures ∙ ap (λ z. cond (nat_eq z c.args.len) 1 0) c.prefix_len.ensures in
+    = c.from-count.ensures ∙ test_counted (nat_eq c.prefix_len.result c.args.len)
+    ∙ ap (λ z. cond (nat_eq z c.args.len) 1 0) c.prefix_len.ensures in
     let one : c.from-count.result ≤ 1
     = at_most_one (nat_eq (ip_network item).prefix_len c.args.len) c.from-count.result added in
     record {

@@ -7,8 +7,8 @@ use Rattle.ipnet_pictures.proofs.summary.largest_of.Goals as goal
 pub loop-network-preserved : goal.loop-network-preserved
 loop-network-preserved c =
     one_more_compared ip_network c.args.networks.now c.loop-network.network-index c.network-item.result
-    c.loop-network.largest c.larger.result c.loop-network-test.true c.network-item.is c.loop-network.invariant
-    c.larger.ensures.none c.larger.ensures.some
+    c.loop-network.largest c.larger-next.result c.loop-network-test.true c.network-item.is c.loop-network.invariant
+    c.larger-next.ensures.none c.larger-next.ensures.some
 
 pub returns : goal.returns
 returns c =

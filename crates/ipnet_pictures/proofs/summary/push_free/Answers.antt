@@ -14,6 +14,5 @@ returns c =
     (string_bytes c.push_lengths.new.text) (string_bytes c.push_str-2.new.self) (codes "free blocks: ")
     (decimal (length free)) (lengths_text free n.prefix_len (host_bits n + 1)) (10 ∷ []) c.in_ok-push_str.ensures.bytes
     (c.in_ok-push_number.ensures
-    ∙ ap (λ z. string_bytes c.push_str.new.self ++ decimal z)
-    (c.len.ensures ∙ sym (length-map c.args.free.now ip_network)))
+    ∙ ap (λ z. string_bytes c.push_str.new.self ++ decimal z) (sym (length-map c.args.free.now ip_network)))
     c.in_ok-push_lengths.ensures c.in_ok-push_str-2.ensures.bytes
