@@ -92,13 +92,21 @@ fn push_row(
     Ok(())
 }
 
+/// The greater of the two numbers.
+fn greater(one: usize, other: usize) -> usize
+    ensures left { one ≤ result }
+    ensures right { other ≤ result }
+{
+    if one < other { other } else { one }
+}
+
 /// The greatest length of the texts of the networks.
 fn longest(networks: &[IpNet]) -> usize
     ensures { All (λ n. length (canonical_text (ip_network n)) ≤ result) networks.now }
 {
     let mut longest = 0;
     for network in networks {
-        longest = longest.max(network.to_text().len());
+        longest = greater(longest, network.to_text().len());
     }
     longest
 }

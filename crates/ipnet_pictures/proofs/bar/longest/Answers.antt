@@ -9,11 +9,11 @@ loop-network-preserved c =
     let item = c.network-item.result in
     let len : length (canonical_text (ip_network item)) ≡ c.len.result
     = ap length (sym c.to_text.ensures) ∙ sym c.len.ensures.value in
-    let new = c.max-longest.result in
-    let fits : length (canonical_text (ip_network item)) ≤ new = omega (arith, len, c.max-longest.ensures) in
-    let grown : c.loop-network.longest ≤ new = omega (arith, c.max-longest.ensures) in
+    let new = c.greater-longest.result in
+    let fits : length (canonical_text (ip_network item)) ≤ new = omega (arith, len, c.greater-longest.ensures.right) in
     longest_more (λ n. length (canonical_text (ip_network n))) c.args.networks.now c.loop-network.network-index item
-    c.loop-network.longest new c.loop-network-test.true c.network-item.is c.loop-network.invariant grown fits
+    c.loop-network.longest new c.loop-network-test.true c.network-item.is c.loop-network.invariant
+    c.greater-longest.ensures.left fits
 
 pub returns : goal.returns
 returns c =
