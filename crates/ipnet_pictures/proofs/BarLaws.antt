@@ -11,7 +11,7 @@ use Rattle.ipnet.specs.NetworkParts.{AreSubnetsOfLength}
 use Rattle.ipnet_pictures.specs.declared.marks.Marks.{Marks}
 use Rattle.ipnet_pictures.specs.Bars.{IsRow, AreRows}
 
--- a text behind another, in several parts
+-- a text after another, in several parts
 pub three_joined : (old t1 t2 t3 a b c : List ℕ) → t1 ≡ old ++ a → t2 ≡ t1 ++ b → t3 ≡ t2 ++ c
     → t3 ≡ old ++ (a ++ b ++ c)
 three_joined old t1 t2 t3 a b c e f g = g ∙ ap (λ z. z ++ c) (f ∙ ap (λ z. z ++ b) e) ∙ simp append_assoc

@@ -13,7 +13,7 @@ use Rattle.ipnet_sets.specs.Members.{IsFirstOf, IsLastOf}
 use Rattle.ipnet_pictures.specs.Frames.{IsSmallestAround, IsOnWay, IsAround}
 use Rattle.ipnet_pictures.specs.Parts.{IsInPart}
 
--- the network of the first address alone
+-- the network with only the first address
 pub at_first : (first last : Address) → IsAddress first → IsOnWay first last (network_at first (width first.family))
 at_first first last fits =
     let n = network_at first (width first.family) in

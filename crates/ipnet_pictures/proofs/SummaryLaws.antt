@@ -17,7 +17,7 @@ pub all_ipv6_text : codes "340282366920938463463374607431768211456" ≡ decimal 
 unfolding digits
 all_ipv6_text = refl
 
--- a text that is written behind another, if there was room
+-- a text that is written after another, if there was room
 pub written_as : {E : Type 0} (r : Result (Unit {0}) E) (old new spelled wanted : List ℕ) → spelled ≡ wanted
     → new ≡ (if is_ok r then old ++ spelled else old) → OnOk r (new ≡ old ++ wanted)
 written_as (Ok x) old new spelled wanted same e = e ∙ ap (λ t. old ++ t) same

@@ -38,7 +38,7 @@ pub record IsLevelOf (InSet : Address → Type 0) (n : Network) (level : Level) 
   pub is_count : IsCountOf (IsInPart InSet n) count
   pub share : IsShare level count (block_size n)
 
--- The levels are those of the subnets with this prefix length, in order.
+-- The list has the level of each subnet with this prefix length, in order.
 -- Example: 10.0.0.0/28 and 29 have the levels `Whole` and `BelowThird` in 10.0.0.0 to 10.0.0.9.
 pub record AreLevelsOf (InSet : Address → Type 0) (n : Network) (prefix_len : ℕ) (levels : List Level) : Type 0 where
   pub cells : List Network

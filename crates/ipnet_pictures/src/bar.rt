@@ -29,7 +29,7 @@ pub struct BarForm {
     pub marks: Marks,
 }
 
-/// What the rows of a bar have in common.
+/// The form that all rows of a bar share.
 #[derive(Clone, Copy)]
 struct RowForm {
     mark_len: u8,
