@@ -12,7 +12,7 @@ mod version;
 use crate::arguments::{ArgumentFailure, Call, call_of, matches_of, words};
 use crate::changes::{CHANGES, changed};
 use crate::listing::run_if_listing;
-use crate::lists::read_lists;
+use crate::lists::{read_lists, report_unread};
 use crate::plan::{PLAN, planned};
 use crate::rules::run_if_rules;
 use clap::ArgMatches;
@@ -62,8 +62,8 @@ fn session_of(
     let Ok(mut session) = Session::new(rt.alloc(), work) else {
         return Err(refused(rt, ArgumentFailure::Memory));
     };
-    if let Err((name, failure)) = read_lists(rt, &mut session, names, tells_progress) {
-        let _ = writeln!(rt.stderr(), "netset: {name}: {failure}");
+    if let Err((name, unread)) = read_lists(rt, &mut session, names, tells_progress) {
+        report_unread(rt, name, &unread);
         return Err(2);
     }
     Ok(session)

@@ -1,12 +1,11 @@
 //! The commands that read a list of rules.
 use crate::arguments::{FIRST, command_of, first, operation_command};
-use crate::lists::read_rules;
+use crate::lists::{read_rules, report_unread};
 use clap::{Arg, ArgMatches, Command};
 use ipnet::Grammar;
 use ipnet_rules::Action;
 use netset_lib::{Form, RuleQuery, run_rules};
 use std::alloc::{AllocError, Global};
-use std::io::Write;
 
 /// The names of the two commands.
 const PERMITTED: &str = "permitted";
@@ -75,8 +74,8 @@ pub fn run_if_rules(rt: &HostRuntime, matches: &ArgMatches) -> Option<u8> {
     };
     let list = match read_rules(rt, file, grammar, matches.get_flag("progress")) {
         Ok(list) => list,
-        Err(failure) => {
-            let _ = writeln!(rt.stderr(), "netset: {file}: {failure}");
+        Err(unread) => {
+            report_unread(rt, file, &unread);
             return Some(2);
         }
     };

@@ -1,5 +1,6 @@
 -- Lemmas of this crate.
 pub mod AddressBytes
+pub mod BlankTexts
 pub mod EntryTexts
 pub mod RefusalLaws
 pub mod RangeCovers
@@ -17,6 +18,7 @@ pub mod OperationLaws
 pub mod SameResults
 pub mod AnswerTexts
 pub mod ListsReading
+pub mod ListTexts
 pub mod CountTexts
 pub mod FilterLaws
 pub mod TableLaws
