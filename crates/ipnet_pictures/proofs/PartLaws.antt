@@ -1,6 +1,6 @@
 -- How many addresses of a set are in a block, and when these are none or all.
-use Rattle.std.proofs.Common.{◌≡◌, ◌≢◌, ℕ, ◌+◌, ◌-◌, ◌*◌, ◌^◌, ◌<◌, ◌≤◌, ◌⊎◌, ◌↔◌, inl, inr}
-use Rattle.std.proofs.Common.{List, [], ◌∷◌, ◌++◌, length, map, Option, Some, None, IfSome, IsNone, Contains, AllPairs}
+use Rattle.std.proofs.Common.{◌≡◌, ◌≢◌, ℕ, ◌+◌, ◌^◌, ◌<◌, ◌≤◌, ◌⊎◌, ◌↔◌, inl, inr}
+use Rattle.std.proofs.Common.{List, [], ◌∷◌, ◌++◌, length, map, Option, Some, None, IfSome, IsNone, Contains}
 use Rattle.std.proofs.Common.{refl, sym, ap, ◌∙◌, subst, arith}
 use Rattle.std.proofs.Common.{get_or, take}
 use Rattle.std.proofs.lemmas.List.{map_push, take_more}
@@ -11,7 +11,7 @@ use Rattle.ipnet_base.specs.Address.{Family, IPv4, IPv6, Address, IsAddress, gre
 use Rattle.ipnet_base.specs.Network.{Network, InBlock, IsSubnetOf, host_bits, first_of, last_of}
 use Rattle.ipnet_base.specs.Ranges.{AddressRange, addresses_of}
 use Rattle.ipnet_base.proofs.BlockLaws.{between_from_block, block_from_between}
-use Rattle.ipnet_base.proofs.ListLaws.{partners_no_more, pairs_weaker, pairs_cons, contains_nil, contains_here}
+use Rattle.ipnet_base.proofs.ListLaws.{partners_no_more, pairs_weaker, pairs_cons, contains_here}
 use Rattle.ipnet_base.proofs.ListLaws.{contains_cases, contains_there}
 use Rattle.ipnet_base.proofs.RangeLaws.{length-addresses_of, between_from_contains, contains_from_between}
 use Rattle.ipnet_base.proofs.RangeLaws.{addresses_ascend}

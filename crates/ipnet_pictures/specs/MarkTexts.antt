@@ -1,5 +1,5 @@
 -- The marks of a bar: how large a block each shows, and their texts.
-use Rattle.std.specs.Prelude.{◌≡◌, ℕ, ◌+◌, ◌-◌, ◌/◌, ◌%◌, min, max, List, [], ◌∷◌, ◌++◌, codes, decimal}
+use Rattle.std.specs.Prelude.{ℕ, ◌+◌, ◌-◌, ◌/◌, ◌%◌, min, max, List, [], ◌∷◌, ◌++◌, codes, decimal}
 use Rattle.ipnet_base.specs.Address.{width}
 use Rattle.ipnet_base.specs.Network.{Network}
 use Rattle.ipnet_pictures.specs.declared.marks.Marks.{Marks}

@@ -1,5 +1,5 @@
 -- Parts: the addresses of a set in a block, how many they are, and the levels of the subnets of a network.
-use Rattle.std.specs.Prelude.{◌≡◌, ℕ, ◌^◌, ◌<◌, ◌≤◌, List, Option, Some, None}
+use Rattle.std.specs.Prelude.{ℕ, ◌^◌, List, Option, Some, None}
 use Rattle.std.specs.List.{AllZip}
 use Rattle.ipnet_base.specs.Address.{Address}
 use Rattle.ipnet_base.specs.Network.{Network, InBlock, host_bits}

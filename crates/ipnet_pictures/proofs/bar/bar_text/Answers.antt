@@ -1,11 +1,11 @@
-use Rattle.std.proofs.Common.{◌≤◌, ◌++◌, ◌∙◌, All, length, map, ap, refl, sym, subst, string_bytes}
+use Rattle.std.proofs.Common.{◌≤◌, ◌++◌, ◌∙◌, All, length, map, ap, sym, subst, string_bytes}
 use Rattle.ipnet.specs.CanonicalTexts.{canonical_text}
 use Rattle.ipnet.specs.NetworkOf.{ip_network}
 use Rattle.ipnet.specs.NetworkParts.{AreSubnetsOfLength}
 use Rattle.ipnet_base.specs.Address.{width}
 use Rattle.ipnet_sets.specs.Members.{IsMember}
 use Rattle.ipnet_pictures.specs.Bars.{AreRows, first_line}
-use Rattle.ipnet_pictures.specs.MarkTexts.{mark_len, row_len}
+use Rattle.ipnet_pictures.specs.MarkTexts.{mark_len}
 use Rattle.ipnet_pictures.proofs.BarLaws.{three_joined, rows_fit, all_mapped}
 use Rattle.ipnet_pictures.proofs.bar.bar_text.Goals as goal
 

@@ -1,5 +1,5 @@
 use Rattle.std.proofs.Common.{ap, subst, sym}
-use Rattle.ipnet_base.specs.Address.{IPv4, IPv6}
+use Rattle.ipnet_base.specs.Address.{IPv4}
 use Rattle.ipnet.specs.NetworkOf.{ip_network}
 use Rattle.ipnet_sets.specs.Members.{IsMember, IsMemberOf, IsCountOf}
 use Rattle.ipnet_pictures.specs.Parts.{counted}

@@ -1,10 +1,10 @@
-use Rattle.std.proofs.Common.{◌≡◌, ◌^◌, ◌≤◌, ℕ, Option, Some, None, subst, sym, arith}
+use Rattle.std.proofs.Common.{◌≡◌, ◌^◌, ℕ, Option, Some, None, subst, arith}
 use Rattle.ipnet_base.specs.Address.{Address}
 use Rattle.ipnet_base.specs.Network.{Network}
 use Rattle.ipnet.specs.NetworkOf.{ip_network}
 use Rattle.ipnet_sets.specs.Members.{IsMember, IsCountOf}
 use Rattle.ipnet_pictures.specs.declared.share.Level.TheVariants.{Whole}
-use Rattle.ipnet_pictures.specs.Parts.{IsInPart, block_size, counted}
+use Rattle.ipnet_pictures.specs.Parts.{IsInPart, counted}
 use Rattle.ipnet_pictures.specs.Shares.{IsShare}
 use Rattle.ipnet_pictures.proofs.PartLaws.{part_fits, whole_size, nothing_shown, whole_shown}
 use Rattle.ipnet_pictures.proofs.part.level_in.Goals as goal

@@ -1,4 +1,4 @@
-use Rattle.std.proofs.Common.{◌≡◌, map, subst, sym}
+use Rattle.std.proofs.Common.{map, subst}
 use Rattle.std.specs.List.{AllZip}
 use Rattle.std.proofs.lemmas.Result.{IfOk-weaker}
 use Rattle.ipnet.specs.NetworkOf.{ip_network}

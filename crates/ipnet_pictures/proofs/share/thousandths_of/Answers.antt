@@ -1,4 +1,4 @@
-use Rattle.std.proofs.Common.{◌≤◌, ◌*◌, ◌/◌, ◌^◌, subst, sym, arith}
+use Rattle.std.proofs.Common.{◌≤◌, ◌*◌, ◌/◌, ◌^◌, arith}
 use Rattle.std.proofs.lemmas.Nat.{pow_pos}
 use Rattle.ipnet_pictures.proofs.ShareLaws.{at_most_all, by_halves}
 use Rattle.ipnet_pictures.proofs.share.thousandths_of.Goals as goal
