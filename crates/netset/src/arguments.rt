@@ -14,6 +14,9 @@ pub const STANDARD_INPUT: &str = "-";
 /// The id of the list that is named first.
 pub const FIRST: &str = "first";
 
+/// The id and the name of the option for the output.
+const OUTPUT: &str = "output";
+
 /// The id of the lists after the first.
 const OTHERS: &str = "others";
 
@@ -64,6 +67,21 @@ pub fn flag<'a>(alloc: Global, name: &'a str, help: &'a str) -> Arg<'a> {
         .help(help)
 }
 
+/// The option for the file that the answer replaces.
+fn output_option<'a>(alloc: Global) -> Arg<'a> {
+    Arg::new(alloc, OUTPUT)
+        .short('o')
+        .long(OUTPUT)
+        .value_name("FILE")
+        .help("Replace FILE by the answer as a whole; at status 2, FILE stays as it is")
+}
+
+/// The name of the file that the answer replaces, if one was given.
+pub fn output_of<'a>(matches: &ArgMatches<'a>) -> Option<&'a str> {
+    let (_, matches) = matches.subcommand()?;
+    matches.get_str(OUTPUT)
+}
+
 /// The first list.
 pub fn first<'a>(alloc: Global, name: &'a str, help: &'a str) -> Arg<'a> {
     Arg::new(alloc, FIRST)
@@ -110,7 +128,8 @@ pub fn command_of<'a>(
     Command::new(alloc, name)
         .about(about)
         .arg(flag(alloc, "legacy", legacy))?
-        .arg(flag(alloc, "progress", progress))
+        .arg(flag(alloc, "progress", progress))?
+        .arg(output_option(alloc))
 }
 
 /// The command of an operation; its lists are still missing.

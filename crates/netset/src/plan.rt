@@ -1,5 +1,6 @@
 //! The command `plan`: its arguments, and its run.
 use crate::arguments::{ArgumentFailure, FIRST, command_of, first, flag, flags_of};
+use crate::output::Streams;
 use crate::{refused, session_of};
 use clap::{Arg, ArgAction, ArgMatches, Command};
 use netset_lib::{PlanRequest, families, read_length, run_plan};
@@ -52,7 +53,7 @@ fn lengths_of(rt: &HostRuntime, words: &[&str]) -> Result<Vec<u8>, u8> {
 }
 
 /// Reads the arguments and the list, prints the plan, and returns the exit status.
-pub fn planned(rt: &HostRuntime, matches: &ArgMatches) -> u8 {
+pub fn planned(rt: &HostRuntime, matches: &ArgMatches, streams: &mut Streams<'_>) -> u8 {
     let words = matches.get_strs(LENGTHS).unwrap_or(&[]);
     let lengths = match lengths_of(rt, words) {
         Ok(lengths) => lengths,
@@ -68,5 +69,5 @@ pub fn planned(rt: &HostRuntime, matches: &ArgMatches) -> u8 {
         families: families(matches.get_flag("ipv4"), matches.get_flag("ipv6")),
         lengths: lengths.as_slice(),
     };
-    run_plan(session, request, names, &mut rt.stdout(), &mut rt.stderr())
+    run_plan(session, request, names, &mut streams.answer, &mut streams.faults)
 }

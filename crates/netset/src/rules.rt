@@ -1,6 +1,7 @@
 //! The commands that read a list of rules.
 use crate::arguments::{FIRST, command_of, first, operation_command};
 use crate::lists::read_rules;
+use crate::output::Streams;
 use clap::{Arg, ArgMatches, Command};
 use ipnet::Grammar;
 use ipnet_rules::Action;
@@ -64,7 +65,11 @@ fn query_of(name: &str, matches: &ArgMatches) -> Option<RuleQuery> {
 }
 
 /// Runs the command if it reads a list of rules, and returns the status. `None` if it does not.
-pub fn run_if_rules(rt: &HostRuntime, matches: &ArgMatches) -> Option<u8> {
+pub fn run_if_rules(
+    rt: &HostRuntime,
+    matches: &ArgMatches,
+    streams: &mut Streams<'_>,
+) -> Option<u8> {
     let (name, matches) = matches.subcommand()?;
     let query = query_of(name, matches)?;
     let file = matches.get_str(FIRST)?;
@@ -80,5 +85,5 @@ pub fn run_if_rules(rt: &HostRuntime, matches: &ArgMatches) -> Option<u8> {
             return Some(2);
         }
     };
-    Some(run_rules(list, query, file, &mut rt.stdout(), &mut rt.stderr()))
+    Some(run_rules(list, query, file, &mut streams.answer, &mut streams.faults))
 }
