@@ -69,5 +69,11 @@ pub fn planned(rt: &HostRuntime, matches: &ArgMatches, streams: &mut Streams<'_>
         families: families(matches.get_flag("ipv4"), matches.get_flag("ipv6")),
         lengths: lengths.as_slice(),
     };
-    run_plan(session, request, names, &mut streams.answer, &mut streams.faults)
+    run_plan(
+        session,
+        request,
+        names,
+        &mut streams.answer,
+        &mut streams.faults,
+    )
 }

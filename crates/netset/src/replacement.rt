@@ -2,12 +2,11 @@
 use crate::leftovers::{is_at, remove_leftovers};
 use netset_lib::unfinished_name;
 use std::alloc::AllocError;
-use std::fs;
 use std::fs::{File, Metadata, OpenOptions, Permissions, TryLockError};
-use std::io;
 use std::io::{ErrorKind, Write};
 use std::os::unix::fs::{MetadataExt, OpenOptionsExt, PermissionsExt, fchown};
 use std::path::{Path, PathBuf};
+use std::{fs, io};
 
 /// The mode of a new file before the system takes the umask away.
 const NEW_MODE: u32 = 0o666;
@@ -63,10 +62,7 @@ pub struct Replacement {
 }
 
 /// Returns the path of the file with this name, with links followed, and the metadata of the file if there is one.
-fn find_target(
-    rt: &HostRuntime,
-    name: &str,
-) -> Result<(PathBuf, Option<Metadata>), OutputFailure> {
+fn find_target(rt: &HostRuntime, name: &str) -> Result<(PathBuf, Option<Metadata>), OutputFailure> {
     let is_link = match fs::symlink_metadata(rt, name) {
         Ok(found) => found.is_symlink(),
         Err(_) => false,
@@ -180,13 +176,10 @@ impl Replacement {
         self.file
             .set_permissions(Permissions::from_mode(self.mode))?;
         self.file.sync_all()?;
-        fs::rename(
-            &self.rt,
-            self.unfinished.as_path(),
-            self.target.as_path(),
-        )?;
+        fs::rename(&self.rt, self.unfinished.as_path(), self.target.as_path())?;
         if let Err(error) = self.folder.sync_all() {
-            let report = "netset: the output is written, but its folder cannot be flushed to the disk";
+            let report =
+                "netset: the output is written, but its folder cannot be flushed to the disk";
             let _ = writeln!(self.rt.stderr(), "{report}: {error}");
         }
         Ok(())
