@@ -51,7 +51,8 @@ class Runs:
     def made(self, asked):
         """What a run ended with: status, standard output and standard error."""
         _, words, folder, _ = asked
-        run = subprocess.run([self.program] + words, cwd=folder, stdin=subprocess.DEVNULL, stdout=subprocess.PIPE,
+        words = [self.program, words[0], "--allow-empty"] + words[1:]
+        run = subprocess.run(words, cwd=folder, stdin=subprocess.DEVNULL, stdout=subprocess.PIPE,
                              stderr=subprocess.PIPE, check=False)
         return run.returncode, run.stdout.decode("latin-1"), run.stderr.decode("latin-1")
 

@@ -1,4 +1,5 @@
 //! The command line: the lists to read, and what to do with them.
+use crate::lists::{Empties, Reports};
 use crate::plan::plan_command;
 use crate::rules::with_rules;
 use crate::version::VERSION;
@@ -17,6 +18,11 @@ pub const FIRST: &str = "first";
 /// The id and the name of the option for the output.
 const OUTPUT: &str = "output";
 
+/// The names of the flags for files without an entry.
+const ALLOW_EMPTY: &str = "allow-empty";
+
+const NO_EMPTY: &str = "no-empty";
+
 /// The id of the lists after the first.
 const OTHERS: &str = "others";
 
@@ -27,8 +33,6 @@ pub struct Call<'a> {
     pub work: Work,
     /// The names of the lists, in order. At most one of them is standard input.
     pub names: Vec<&'a str>,
-    /// Whether to print the bytes read from each list to standard error, even if it is not a terminal.
-    pub tells_progress: bool,
 }
 
 /// Why the arguments cannot be used, although each of them is one of the command's.
@@ -82,6 +86,22 @@ pub fn output_of<'a>(matches: &ArgMatches<'a>) -> Option<&'a str> {
     matches.get_str(OUTPUT)
 }
 
+/// What to report of the lists.
+pub fn reports_of(matches: &ArgMatches) -> Reports {
+    let (_, matches) = matches.subcommand().unwrap_or(("", matches));
+    let empties = if matches.get_flag(NO_EMPTY) {
+        Empties::Refuse
+    } else if matches.get_flag(ALLOW_EMPTY) {
+        Empties::Allow
+    } else {
+        Empties::Report
+    };
+    Reports {
+        progress: matches.get_flag("progress"),
+        empties,
+    }
+}
+
 /// The first list.
 pub fn first<'a>(alloc: Global, name: &'a str, help: &'a str) -> Arg<'a> {
     Arg::new(alloc, FIRST)
@@ -125,10 +145,15 @@ pub fn command_of<'a>(
 ) -> Result<Command<'a>, AllocError> {
     let legacy = "Accept leading zeros (numbers stay decimal), and a :: that replaces no group";
     let progress = "Print the number of bytes read from each list to standard error";
+    let allow_empty = "Do not report files without an entry";
+    let no_empty = "Fail if a file has no entry: status 2, and nothing is written";
+    let no_empty = flag(alloc, NO_EMPTY, no_empty).conflicts_with(ALLOW_EMPTY)?;
     Command::new(alloc, name)
         .about(about)
         .arg(flag(alloc, "legacy", legacy))?
         .arg(flag(alloc, "progress", progress))?
+        .arg(flag(alloc, ALLOW_EMPTY, allow_empty))?
+        .arg(no_empty)?
         .arg(output_option(alloc))
 }
 
@@ -264,7 +289,7 @@ fn names_of<'a>(
     Ok(names)
 }
 
-/// Reads the parsed words: the work, the names of the lists, and whether to print progress.
+/// Reads the parsed words: the work, and the names of the lists.
 pub fn call_of<'a>(alloc: Global, matches: &ArgMatches<'a>) -> Result<Call<'a>, ArgumentFailure> {
     let (name, matches) = matches.subcommand().unwrap_or(("", matches));
     let Some(command) = netset_lib::Command::from_name(name) else {
@@ -278,10 +303,5 @@ pub fn call_of<'a>(alloc: Global, matches: &ArgMatches<'a>) -> Result<Call<'a>, 
     if inputs.count() > 1 {
         return Err(ArgumentFailure::InputTwice);
     }
-    let tells_progress = matches.get_flag("progress");
-    Ok(Call {
-        work,
-        names,
-        tells_progress,
-    })
+    Ok(Call { work, names })
 }

@@ -45,6 +45,38 @@ fn read_list(rt: &HostRuntime, session: &mut Session, name: &str) -> Result<usiz
     }
 }
 
+/// What to do about a file without an entry.
+#[derive(Clone, Copy, PartialEq, Eq)]
+pub enum Empties {
+    /// Report its name.
+    Report,
+    /// Read it like any other.
+    Allow,
+    /// Report its name, and fail.
+    Refuse,
+}
+
+/// What to report of the lists on standard error.
+#[derive(Clone, Copy)]
+pub struct Reports {
+    /// Whether to print the bytes read from each list, even if it is not a terminal.
+    pub progress: bool,
+    /// What to do about a file without an entry.
+    pub empties: Empties,
+}
+
+impl Reports {
+    /// Returns whether a list with this name may have no entry, and reports its name if it should be. Standard input
+    /// may always be empty.
+    fn allow_empty(self, rt: &HostRuntime, name: &str, what: &str) -> bool {
+        if name == STANDARD_INPUT || self.empties == Empties::Allow {
+            return true;
+        }
+        let _ = writeln!(rt.stderr(), "netset: {name}: no {what}");
+        self.empties != Empties::Refuse
+    }
+}
+
 /// Reports the number of bytes of a list: always, or only to a terminal.
 fn tell_count(rt: &HostRuntime, name: &str, count: usize, always: bool) {
     if always || rt.stderr().is_terminal() {
@@ -53,25 +85,30 @@ fn tell_count(rt: &HostRuntime, name: &str, count: usize, always: bool) {
 }
 
 /// Reads the lists of these names one after another. A file is opened when its turn comes, and then closed. Fails with
-/// the name of the first that could not be read, and the reason.
+/// the name of the first that could not be read, and the reason. Returns whether the lists may be as they are: `false`
+/// if a file has no entry, and that is to be refused.
 ///
-/// If `tells_progress`, or if the bytes are many and standard error is a terminal, the number of bytes of each list is
-/// reported there. If that cannot be written, the lists are read all the same.
+/// If the progress is to be reported, or if the bytes are many and standard error is a terminal, the number of bytes of
+/// each list is reported there. If that cannot be written, the lists are read all the same.
 pub fn read_lists<'a>(
     rt: &HostRuntime,
     session: &mut Session,
     names: &[&'a str],
-    tells_progress: bool,
-) -> Result<(), (&'a str, ReadFailure)> {
+    reports: Reports,
+) -> Result<bool, (&'a str, ReadFailure)> {
     let mut total: usize = 0;
+    let mut allowed = true;
     for name in names {
         let count = read_list(rt, session, name).map_err(|failure| (*name, failure))?;
         total = total.saturating_add(count);
-        if tells_progress || total >= MUCH {
-            tell_count(rt, name, count, tells_progress);
+        if reports.progress || total >= MUCH {
+            tell_count(rt, name, count, reports.progress);
+        }
+        if !session.has_entry() && !reports.allow_empty(rt, name, "entries") {
+            allowed = false;
         }
     }
-    Ok(())
+    Ok(allowed)
 }
 
 /// Reads a list of rules, and returns it with the number of its bytes.
@@ -101,16 +138,20 @@ fn open_rules(
     }
 }
 
-/// Reads the list of rules of this name, and reports its bytes as `read_lists` does.
+/// Reads the list of rules of this name, and reports its bytes as `read_lists` does. `None` if a file has no rule, and
+/// that is to be refused.
 pub fn read_rules(
     rt: &HostRuntime,
     name: &str,
     grammar: Grammar,
-    tells_progress: bool,
-) -> Result<RuleList, ReadFailure> {
+    reports: Reports,
+) -> Result<Option<RuleList>, ReadFailure> {
     let (list, count) = open_rules(rt, name, grammar)?;
-    if tells_progress || count >= MUCH {
-        tell_count(rt, name, count, tells_progress);
+    if reports.progress || count >= MUCH {
+        tell_count(rt, name, count, reports.progress);
     }
-    Ok(list)
+    if list.rules.is_empty() && !reports.allow_empty(rt, name, "rules") {
+        return Ok(None);
+    }
+    Ok(Some(list))
 }

@@ -10,7 +10,7 @@ mod replacement;
 mod rules;
 mod version;
 
-use crate::arguments::{ArgumentFailure, Call, call_of, matches_of, output_of, words};
+use crate::arguments::{ArgumentFailure, Call, call_of, matches_of, output_of, reports_of, words};
 use crate::lists::read_lists;
 use crate::output::{CLOSED, Streams};
 use crate::plan::{PLAN, planned};
@@ -59,28 +59,32 @@ fn refused(rt: &HostRuntime, failure: ArgumentFailure) -> u8 {
     2
 }
 
-/// Reads the lists of these names. If that fails, it is reported, and the error is the exit status.
+/// Reads the lists of these names. If that fails, it is reported, and the error is the exit status. So it is if a file
+/// has no entry, and that is to be refused.
 fn session_of(
     rt: &HostRuntime,
     work: Work,
     names: &[&str],
-    tells_progress: bool,
+    streams: &Streams<'_>,
 ) -> Result<Session, u8> {
     let Ok(mut session) = Session::new(rt.alloc(), work) else {
         return Err(refused(rt, ArgumentFailure::Memory));
     };
-    if let Err((name, failure)) = read_lists(rt, &mut session, names, tells_progress) {
-        let _ = writeln!(rt.stderr(), "netset: {name}: {failure}");
-        return Err(2);
+    match read_lists(rt, &mut session, names, streams.reports) {
+        Ok(true) => Ok(session),
+        Ok(false) => Err(2),
+        Err((name, failure)) => {
+            let _ = writeln!(rt.stderr(), "netset: {name}: {failure}");
+            Err(2)
+        }
     }
-    Ok(session)
 }
 
 /// Opens the output, runs the command of the parsed words, and returns its exit status.
 fn called(rt: &HostRuntime, matches: &ArgMatches) -> u8 {
     let name = output_of(matches);
     let is_closed = Cell::new(false);
-    let mut streams = match Streams::open(rt, name, &is_closed) {
+    let mut streams = match Streams::open(rt, name, reports_of(matches), &is_closed) {
         Ok(streams) => streams,
         Err(failure) => {
             let name = name.unwrap_or_default();
@@ -105,16 +109,12 @@ fn ran(rt: &HostRuntime, matches: &ArgMatches, streams: &mut Streams<'_>) -> u8 
 
 /// Reads the lists, and runs the operation or the query.
 fn answered(rt: &HostRuntime, matches: &ArgMatches, streams: &mut Streams<'_>) -> u8 {
-    let Call {
-        work,
-        names,
-        tells_progress,
-    } = match call_of(rt.alloc(), matches) {
+    let Call { work, names } = match call_of(rt.alloc(), matches) {
         Ok(call) => call,
         Err(failure) => return refused(rt, failure),
     };
     let names = names.as_slice();
-    match session_of(rt, work, names, tells_progress) {
+    match session_of(rt, work, names, streams) {
         Ok(session) => run(session, names, &mut streams.answer, &mut streams.faults),
         Err(status) => status,
     }

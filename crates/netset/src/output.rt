@@ -1,6 +1,7 @@
 //! Where a command prints: standard output, or a file that only a whole answer replaces.
 ghost use Rattle.std.specs.Prelude.{IsTrue};
 
+use crate::lists::Reports;
 use crate::replacement::{OutputFailure, Replacement};
 use netset_lib::{Output, finish};
 use std::cell::Cell;
@@ -86,11 +87,12 @@ impl Write for Faults<'_> {
     }
 }
 
-/// What a command writes to.
+/// What a command writes to, and what it reports of its lists.
 #[derive(Drop)]
 pub struct Streams<'a> {
     pub answer: Answer<'a>,
     pub faults: Faults<'a>,
+    pub reports: Reports,
 }
 
 impl<'a> Streams<'a> {
@@ -99,6 +101,7 @@ impl<'a> Streams<'a> {
     pub fn open(
         rt: &HostRuntime,
         name: Option<&str>,
+        reports: Reports,
         is_closed: &'a Cell<bool>,
     ) -> Result<Streams<'a>, OutputFailure> {
         let place = match name {
@@ -114,6 +117,7 @@ impl<'a> Streams<'a> {
         Ok(Streams {
             answer,
             faults: Faults { err, is_closed },
+            reports,
         })
     }
 

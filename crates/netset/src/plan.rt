@@ -61,7 +61,7 @@ pub fn planned(rt: &HostRuntime, matches: &ArgMatches, streams: &mut Streams<'_>
     };
     let work = netset_lib::Command::Union.work(flags_of(matches));
     let names = matches.get_strs(FIRST).unwrap_or(&[]);
-    let session = match session_of(rt, work, names, matches.get_flag("progress")) {
+    let session = match session_of(rt, work, names, streams) {
         Ok(session) => session,
         Err(status) => return status,
     };

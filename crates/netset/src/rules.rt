@@ -78,8 +78,9 @@ pub fn run_if_rules(
     } else {
         Grammar::Strict
     };
-    let list = match read_rules(rt, file, grammar, matches.get_flag("progress")) {
-        Ok(list) => list,
+    let list = match read_rules(rt, file, grammar, streams.reports) {
+        Ok(Some(list)) => list,
+        Ok(None) => return Some(2),
         Err(failure) => {
             let _ = writeln!(rt.stderr(), "netset: {file}: {failure}");
             return Some(2);
