@@ -86,7 +86,7 @@ pub fn output_of<'a>(matches: &ArgMatches<'a>) -> Option<&'a str> {
     matches.get_str(OUTPUT)
 }
 
-/// What to report of the lists.
+/// Reads what to report of the lists.
 pub fn reports_of(matches: &ArgMatches) -> Reports {
     let (_, matches) = matches.subcommand().unwrap_or(("", matches));
     let empties = if matches.get_flag(NO_EMPTY) {

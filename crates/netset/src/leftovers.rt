@@ -32,8 +32,8 @@ fn remove_if_unlocked(rt: &HostRuntime, path: Path<'_>) {
     }
 }
 
-/// Removes the unfinished files beside the file with this name in this folder that no process has locked. What cannot
-/// be removed stays.
+/// Removes the unfinished files beside the file with this name in this folder that no process has locked. A file
+/// that cannot be removed stays.
 pub fn remove_leftovers(rt: &HostRuntime, folder: &str, name: &str) {
     let Ok(entries) = fs::read_dir(rt, folder) else {
         return;

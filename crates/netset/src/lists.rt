@@ -45,7 +45,7 @@ fn read_list(rt: &HostRuntime, session: &mut Session, name: &str) -> Result<usiz
     }
 }
 
-/// What to do about a file without an entry.
+/// A choice for files without an entry.
 #[derive(Clone, Copy, PartialEq, Eq)]
 pub enum Empties {
     /// Report its name.
@@ -56,12 +56,12 @@ pub enum Empties {
     Refuse,
 }
 
-/// What to report of the lists on standard error.
+/// The reports on standard error about the lists.
 #[derive(Clone, Copy)]
 pub struct Reports {
     /// Whether to print the bytes read from each list, even if it is not a terminal.
     pub progress: bool,
-    /// What to do about a file without an entry.
+    /// The choice for files without an entry.
     pub empties: Empties,
 }
 

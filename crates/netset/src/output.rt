@@ -1,4 +1,4 @@
-//! Where a command prints: standard output, or a file that only a whole answer replaces.
+//! The output of a command: standard output, or a file that only a whole answer replaces.
 ghost use Rattle.std.specs.Prelude.{IsTrue};
 
 use crate::lists::Reports;
@@ -15,7 +15,7 @@ const STANDARD_OUTPUT: &str = "-";
 /// SIGPIPE ended.
 pub const CLOSED: u8 = 141;
 
-/// Where the answer is written.
+/// The place to which the answer is written.
 #[derive(Drop)]
 enum Place {
     Standard(Stdout),
@@ -87,7 +87,7 @@ impl Write for Faults<'_> {
     }
 }
 
-/// What a command writes to, and what it reports of its lists.
+/// The writers of a command, and the reports that it makes about its lists.
 #[derive(Drop)]
 pub struct Streams<'a> {
     pub answer: Answer<'a>,

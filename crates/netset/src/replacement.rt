@@ -23,10 +23,10 @@ const MOST_UNFINISHED: u64 = 1000;
 /// Why a file cannot be replaced. Nothing was written to it.
 #[derive(Debug, Drop, thiserror::Error)]
 pub enum OutputFailure {
-    /// The name is that of a folder.
+    /// The name belongs to a folder.
     #[error("is a folder")]
     Folder,
-    /// The name is that of a device, a pipe or a socket.
+    /// The name belongs to a device, a pipe or a socket.
     #[error("is not a regular file")]
     NoFile,
     /// The system refuses it.

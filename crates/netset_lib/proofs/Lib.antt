@@ -12,6 +12,7 @@ pub mod PlanLaws
 pub mod ListReading
 pub mod WindowReading
 pub mod OperationLaws
+pub mod OutputNames
 pub mod SameResults
 pub mod AnswerTexts
 pub mod ListsReading

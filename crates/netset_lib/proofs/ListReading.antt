@@ -1,5 +1,6 @@
 -- A list that is read line by line.
-use Rattle.std.proofs.Common.{◌≡◌, ◌≢◌, ◌⊎◌, ℕ, ◌+◌, ◌<◌, ◌≤◌, ◌↔◌, Bool, true, false, List, [], ◌∷◌, ◌++◌, length, map, take}
+use Rattle.std.proofs.Common.{◌≡◌, ◌≢◌, ◌⊎◌, ℕ, ◌+◌, ◌<◌, ◌≤◌, ◌↔◌, Bool, true, false, List, [], ◌∷◌, ◌++◌}
+use Rattle.std.proofs.Common.{length, map, take}
 use Rattle.std.proofs.Common.{drop, refl, sym, ap, ◌∙◌, arith, inl, inr, subst, append_assoc, append-nil, Option}
 use Rattle.std.proofs.Common.{take-append-drop, Some, IfSome}
 use Rattle.std.specs.Io.KnownBytes.{Consumes, IsAtEnd}
@@ -94,7 +95,7 @@ some_of_both a b c (x ∷ xs) ys h k some = k.kept (h.noted (λ none. absurd cc)
 found_in_both : (a b : Bool) (xs ys : List ListEntry) → NotesEntries a b xs → (b ≡ true) ⊎ (ys ≢ [])
     → (a ≡ true) ⊎ (xs ++ ys ≢ [])
 found_in_both a b xs ys h (inr some) = inr (λ none. some (no_back xs ys none))
-found_in_both a b xs ys h (inl t) = elim h.found t [
+found_in_both a b xs ys h (inl t) = elim (h.found t) [
   | inl before ↦ inl before
   | inr some ↦ inr (λ none. some (no_front xs ys none))
 ]

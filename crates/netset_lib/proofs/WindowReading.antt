@@ -206,7 +206,7 @@ up_to_whole left left_now start old now next end IsMade IsMadeThen IsMadeNow gra
       next = place ∙ ap (λ n. n + 1) (lines.same_list ∙ list);
       made = lines.made;
       noted = (
-        λ t. elim lines.notes.found (sym same_entry ∙ t) [
+        λ t. elim (lines.notes.found (sym same_entry ∙ t)) [
           | inl before ↦ let clash : true ≡ false = sym before ∙ none in absurd cc
           | inr some ↦ some
         ],
