@@ -37,6 +37,7 @@ made_weaker left left_after old new IsMade Other h weaker = record {
   same_grammar = h.same_grammar;
   next = h.next;
   made = weaker h.entries h.made;
+  noted = h.noted;
 }
 
 -- what was made of no entry before the list is made of the list
