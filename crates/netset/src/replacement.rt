@@ -29,6 +29,9 @@ pub enum OutputFailure {
     /// The name belongs to a device, a pipe or a socket.
     #[error("is not a regular file")]
     NoFile,
+    /// The name is empty, or ends in a slash, and there is no folder with this name.
+    #[error("is not the name of a file")]
+    NoName,
     /// The system refuses it.
     #[error("cannot be written: {0}")]
     System(io::Error),
@@ -89,7 +92,7 @@ fn folder_and_name<'a>(path: Path<'a>) -> Result<(&'a str, &'a str), OutputFailu
     };
     match path.file_name() {
         Some(name) if path.as_str().ends_with(name) => Ok((folder, name)),
-        _ => Err(OutputFailure::System(ErrorKind::NotFound.into())),
+        _ => Err(OutputFailure::NoName),
     }
 }
 
