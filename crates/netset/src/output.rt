@@ -123,14 +123,19 @@ impl<'a> Streams<'a> {
 
     /// Ends a command with this status, and returns the exit status of the program. The file is replaced at status 0
     /// or 1; otherwise it stays as it is.
-    pub fn end(mut self, status: u8) -> u8 {
-        let status = finish(status, &mut self.answer, &mut self.faults);
-        if let Place::File(file) = &self.answer.place {
-            if !self.answer.is_published {
+    pub fn end(self, status: u8) -> u8 {
+        let Streams {
+            mut answer,
+            mut faults,
+            ..
+        } = self;
+        let status = finish(status, &mut answer, &mut faults);
+        if let Place::File(file) = &answer.place {
+            if !answer.is_published {
                 file.discard();
             }
         }
-        if self.answer.is_closed.get() {
+        if answer.is_closed.get() {
             return CLOSED;
         }
         status
