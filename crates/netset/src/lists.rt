@@ -86,7 +86,7 @@ fn tell_count(rt: &HostRuntime, name: &str, count: usize, always: bool) {
 
 /// Reads the lists of these names one after another. A file is opened when its turn comes, and then closed. Fails with
 /// the name of the first that could not be read, and the reason. Returns whether the lists may be as they are: `false`
-/// if a file has no entry, and that is to be refused.
+/// if a file has no entry and no refused line, and that is to be refused.
 ///
 /// If the progress is to be reported, or if the bytes are many and standard error is a terminal, the number of bytes of
 /// each list is reported there. If that cannot be written, the lists are read all the same.
@@ -99,12 +99,14 @@ pub fn read_lists<'a>(
     let mut total: usize = 0;
     let mut allowed = true;
     for name in names {
+        let refused = session.refused_count();
         let count = read_list(rt, session, name).map_err(|failure| (*name, failure))?;
         total = total.saturating_add(count);
         if reports.progress || total >= MUCH {
             tell_count(rt, name, count, reports.progress);
         }
-        if !session.has_entry() && !reports.allow_empty(rt, name, "entries") {
+        let is_empty = !session.has_entry() && session.refused_count() == refused;
+        if is_empty && !reports.allow_empty(rt, name, "entries") {
             allowed = false;
         }
     }
@@ -150,7 +152,8 @@ pub fn read_rules(
     if reports.progress || count >= MUCH {
         tell_count(rt, name, count, reports.progress);
     }
-    if list.rules.is_empty() && !reports.allow_empty(rt, name, "rules") {
+    let is_empty = list.rules.is_empty() && list.refused.is_empty();
+    if is_empty && !reports.allow_empty(rt, name, "rules") {
         return Ok(None);
     }
     Ok(Some(list))

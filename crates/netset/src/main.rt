@@ -2,7 +2,9 @@
 #![tactic(auto)]
 
 mod arguments;
+mod changes;
 mod leftovers;
+mod listing;
 mod lists;
 mod output;
 mod plan;
@@ -11,6 +13,8 @@ mod rules;
 mod version;
 
 use crate::arguments::{ArgumentFailure, Call, call_of, matches_of, output_of, reports_of, words};
+use crate::changes::{CHANGES, changed};
+use crate::listing::run_if_listing;
 use crate::lists::read_lists;
 use crate::output::{CLOSED, Streams};
 use crate::plan::{PLAN, planned};
@@ -101,8 +105,12 @@ fn ran(rt: &HostRuntime, matches: &ArgMatches, streams: &mut Streams<'_>) -> u8 
     if let Some(status) = run_if_rules(rt, matches, streams) {
         return status;
     }
+    if let Some(status) = run_if_listing(rt, matches, streams) {
+        return status;
+    }
     match matches.subcommand() {
         Some((name, matches)) if name == PLAN => planned(rt, matches, streams),
+        Some((name, matches)) if name == CHANGES => changed(rt, matches, streams),
         _ => answered(rt, matches, streams),
     }
 }

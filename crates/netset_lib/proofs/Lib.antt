@@ -9,6 +9,8 @@ pub mod PlainLines
 pub mod CauseTexts
 pub mod LengthTexts
 pub mod PlanLaws
+pub mod ChangeLaws
+pub mod ListingLaws
 pub mod ListReading
 pub mod WindowReading
 pub mod OperationLaws

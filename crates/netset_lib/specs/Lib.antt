@@ -19,6 +19,11 @@ pub mod ListSets
 pub mod Replies
 pub mod PlanAnswers
 pub mod Planning
+pub mod PairSets
+pub mod Changes
+pub mod ChangeSteps
+pub mod Listings
+pub mod ListingSteps
 pub mod Runs
 pub mod Commands
 pub mod Sessions

@@ -82,6 +82,10 @@ pub record WereRead (work : Work) (lists : List (List ℕ)) (s : Session) : Type
 abbrev pub has_entry : Session → Bool
 has_entry s = s.reading.lines.has_entry
 
+-- How many lines of the lists that the session has read were refused (`WereRead` has them in `kept`).
+abbrev pub refused_count : Session → ℕ
+refused_count s = s.reading.lines.refused.count
+
 -- The list has an entry if and only if the note is true. `list` is the index of the list.
 pub record IsNoted (grammar : Grammar) (list : ℕ) (bytes : List ℕ) (note : Bool) : Type 0 where
   pub entries : List ListEntry

@@ -3,6 +3,8 @@
 
 pub mod answer;
 pub mod cause;
+pub mod changes;
+pub mod changes_program;
 pub mod command;
 mod counts;
 pub mod entry;
@@ -10,6 +12,8 @@ pub mod filter;
 mod front;
 pub mod length;
 mod list;
+mod listing;
+pub mod listing_program;
 pub mod operation;
 pub mod output;
 pub mod plan;
@@ -28,10 +32,13 @@ pub mod session;
 
 pub use answer::{Failure, Form, Request};
 pub use cause::Cause;
+pub use changes::changes_text;
+pub use changes_program::run_changes;
 pub use command::{Command, Flags, Work, families};
 pub use entry::Entry;
 pub use filter::Side;
 pub use length::read_length;
+pub use listing_program::{run_hosts, run_split};
 pub use operation::{Families, Operation};
 pub use output::{Output, finish, is_unfinished_name, unfinished_name};
 pub use plan::{PlanFailure, PlanRequest, plan_text};

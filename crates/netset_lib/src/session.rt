@@ -13,6 +13,7 @@ ghost use Rattle.netset_lib.specs.Answers.{IsNamedComplement};
 ghost use Rattle.netset_lib.specs.Replies.{work_grammar, TakesCount, IsWorkAnswer, IsWorkFailure};
 ghost use Rattle.netset_lib.specs.Sessions.{IsTextFor};
 
+pub mod pair;
 pub mod result;
 
 use crate::answer::{Failure, Request, set_text};
@@ -152,7 +153,7 @@ fn text_of(alloc: Global, work: Work, sets: &[IpSet], text: String) -> Result<St
 
 impl Session {
     ghost use Rattle.netset_lib.specs.Sessions.{WereRead, ReadsNext, IsState, IsFilterState, IsRouteState};
-    ghost use Rattle.netset_lib.specs.Sessions.{IsNoted, has_entry};
+    ghost use Rattle.netset_lib.specs.Sessions.{IsNoted, has_entry, refused_count};
 
     /// Returns a session that has read no list. Fails if memory runs out.
     pub fn new(alloc: Global, work: Work) -> Result<Session, AllocError>
@@ -251,6 +252,17 @@ impl Session {
             × IsNoted (work_grammar work) (length lists) bytes (has_entry self.new))) }
     {
         self.read_next(input)
+    }
+
+    /// How many lines of the lists are not entries.
+    ///
+    /// ```text
+    /// after read("10.0.0.1\nx\n") and read("y\n"): 2
+    /// ```
+    pub fn refused_count(&self) -> usize
+        ensures { result ≡ refused_count self.now }
+    {
+        self.reading.lines.refused.count
     }
 
     /// Whether the list that was read last has an entry.

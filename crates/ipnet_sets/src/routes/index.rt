@@ -23,7 +23,7 @@ pub(crate) struct Bucket {
 
 /// For each bucket the index of the first route that is in it or a later one; then the number of routes; and then the
 /// number of each IPv4 network. Without an index the list is empty.
-#[derive(Drop)]
+#[derive(Clone, Drop)]
 pub(crate) struct RouteIndex {
     entries: Vec<u32>,
 }
