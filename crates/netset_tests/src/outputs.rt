@@ -52,7 +52,7 @@ impl Output for Counted {
 }
 
 #[test]
-fn ends(_rt: HostRuntime) -> Result<(), Fail> {
+fn ends(rt: HostRuntime) -> Result<(), Fail> {
     // the status of the command, whether publishing fails, the exit status, and how often it is published
     let rows = [
         (0, false, 0, 1),
@@ -66,23 +66,31 @@ fn ends(_rt: HostRuntime) -> Result<(), Fail> {
     for (status, fails, wanted, calls) in rows {
         let mut out = Counted::new(fails);
         let mut faults = ArrayWriter::whole();
-        assert_eq!(finish(status, &mut out, &mut faults), wanted)?;
-        assert_eq!((out.calls, out.is_published), (calls, calls == 1 && !fails))?;
-        let report = "netset: output cannot be written: ";
-        assert_eq!(
-            faults.held().starts_with(report.as_bytes()),
-            wanted != status
-        )?;
-        assert_eq!(faults.held().is_empty(), wanted == status)?;
+        let found = finish(status, &mut out, &mut faults);
+        assert!(&rt; found == wanted, "{status}: exit status");
+        assert!(&rt; out.calls == calls, "{status}: calls");
+        assert!(&rt;
+            out.is_published == (calls == 1 && !fails),
+            "{status}: published"
+        );
+        let report = "netset: output cannot be written: ".as_bytes();
+        let is_right = if wanted == status {
+            faults.held().is_empty()
+        } else {
+            faults.held().starts_with(report)
+        };
+        assert!(&rt; is_right, "{status}: standard error");
     }
     Ok(())
 }
 
 #[test]
-fn a_report_that_cannot_be_written(_rt: HostRuntime) -> Result<(), Fail> {
+fn a_report_that_cannot_be_written(rt: HostRuntime) -> Result<(), Fail> {
     let mut faults = ArrayWriter::new(1, 1);
-    assert_eq!(finish(0, &mut Counted::new(true), &mut faults), 2)?;
-    assert!(faults.held().is_empty())
+    let status = finish(0, &mut Counted::new(true), &mut faults);
+    assert!(&rt; status == 2);
+    assert!(&rt; faults.held().is_empty());
+    Ok(())
 }
 
 #[test]
@@ -97,8 +105,8 @@ fn names(rt: HostRuntime) -> Result<(), Fail> {
     ];
     for (name, number, wanted) in rows {
         let found = unfinished_name(alloc, name, number)?;
-        assert_eq!(found.as_str(), wanted)?;
-        assert!(is_unfinished_name(name, wanted))?;
+        assert!(&rt; found.as_str() == wanted, "{wanted}: name");
+        assert!(&rt; is_unfinished_name(name, wanted), "{wanted}");
     }
     Ok(())
 }
@@ -118,11 +126,13 @@ fn name_outcome(alloc: Global) -> Outcome {
 fn a_name_with_limited_memory(rt: HostRuntime) -> Result<(), Fail> {
     grow_stack(rt.alloc())?;
     let alloc = rt.alloc();
-    assert!(is_refused_and_answered(alloc, || name_outcome(alloc))?)
+    let is_right = is_refused_and_answered(alloc, || name_outcome(alloc))?;
+    assert!(&rt; is_right);
+    Ok(())
 }
 
 #[test]
-fn other_names(_rt: HostRuntime) -> Result<(), Fail> {
+fn other_names(rt: HostRuntime) -> Result<(), Fail> {
     // names beside "a" that are not of an unfinished file
     let rows = [
         "",
@@ -143,7 +153,7 @@ fn other_names(_rt: HostRuntime) -> Result<(), Fail> {
         ".A.netset-1",
     ];
     for name in rows {
-        assert!(!is_unfinished_name("a", name))?;
+        assert!(&rt; !is_unfinished_name("a", name), "{name}");
     }
     Ok(())
 }
