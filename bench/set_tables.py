@@ -131,7 +131,7 @@ def python_figure(bench, task, source, answers):
 
 
 def each(time, items):
-    """The time for each of so many items, in nanoseconds."""
+    """The time for each item, in nanoseconds."""
     return "-" if time is None else "%.0f" % (time / items)
 
 

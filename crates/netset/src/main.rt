@@ -15,7 +15,7 @@ mod version;
 use crate::arguments::{ArgumentFailure, Call, call_of, matches_of, output_of, reports_of, words};
 use crate::changes::{CHANGES, changed};
 use crate::listing::run_if_listing;
-use crate::lists::read_lists;
+use crate::lists::{read_lists, report_unread};
 use crate::output::{CLOSED, Streams};
 use crate::plan::{PLAN, planned};
 use crate::rules::run_if_rules;
@@ -77,8 +77,8 @@ fn session_of(
     match read_lists(rt, &mut session, names, streams.reports) {
         Ok(true) => Ok(session),
         Ok(false) => Err(2),
-        Err((name, failure)) => {
-            let _ = writeln!(rt.stderr(), "netset: {name}: {failure}");
+        Err((name, unread)) => {
+            report_unread(rt, name, &unread);
             Err(2)
         }
     }
@@ -91,7 +91,7 @@ fn called(rt: &HostRuntime, matches: &ArgMatches) -> u8 {
     let mut streams = match Streams::open(rt, name, reports_of(matches), &is_closed) {
         Ok(streams) => streams,
         Err(failure) => {
-            let name = name.unwrap_or_default();
+            let name = name.unwrap_or_default().as_bytes().escape_ascii();
             let _ = writeln!(rt.stderr(), "netset: {name}: {failure}");
             return 2;
         }

@@ -42,6 +42,7 @@ fn lengths_of(rt: &HostRuntime, words: &[&str]) -> Result<Vec<u8>, u8> {
     let mut lengths = Vec::new(rt.alloc());
     for word in words {
         let Some(length) = read_length(word) else {
+            let word = word.as_bytes().escape_ascii();
             let _ = writeln!(rt.stderr(), "netset: not a prefix length: {word}");
             return Err(2);
         };

@@ -1,13 +1,12 @@
 //! The commands that read a list of rules.
 use crate::arguments::{FIRST, command_of, first, operation_command};
-use crate::lists::read_rules;
+use crate::lists::{read_rules, report_unread};
 use crate::output::Streams;
 use clap::{Arg, ArgMatches, Command};
 use ipnet::Grammar;
 use ipnet_rules::Action;
 use netset_lib::{Form, RuleQuery, run_rules};
 use std::alloc::{AllocError, Global};
-use std::io::Write;
 
 /// The names of the two commands.
 const PERMITTED: &str = "permitted";
@@ -81,8 +80,8 @@ pub fn run_if_rules(
     let list = match read_rules(rt, file, grammar, streams.reports) {
         Ok(Some(list)) => list,
         Ok(None) => return Some(2),
-        Err(failure) => {
-            let _ = writeln!(rt.stderr(), "netset: {file}: {failure}");
+        Err(unread) => {
+            report_unread(rt, file, &unread);
             return Some(2);
         }
     };

@@ -1,5 +1,6 @@
 -- Lemmas of this crate.
 pub mod AddressBytes
+pub mod BlankTexts
 pub mod EntryTexts
 pub mod RefusalLaws
 pub mod RangeCovers
@@ -18,6 +19,7 @@ pub mod OutputNames
 pub mod SameResults
 pub mod AnswerTexts
 pub mod ListsReading
+pub mod ListTexts
 pub mod CountTexts
 pub mod FilterLaws
 pub mod TableLaws

@@ -1,8 +1,10 @@
 -- The definitions that the contracts of this crate use.
 pub mod Entries
 pub mod EntryOf
+pub mod Words
 pub mod Causes
 pub mod EntrySteps
+pub mod CauseSteps
 pub mod Lists
 pub mod RefusedLines
 pub mod FoundEntry
@@ -16,6 +18,7 @@ pub mod Filtering
 pub mod RouteAnswers
 pub mod Routing
 pub mod ListSets
+pub mod ListTexts
 pub mod Replies
 pub mod PlanAnswers
 pub mod Planning

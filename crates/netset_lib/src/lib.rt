@@ -3,6 +3,9 @@
 
 pub mod answer;
 pub mod cause;
+mod cause_bytes;
+mod cause_parts;
+mod cause_words;
 pub mod changes;
 pub mod changes_program;
 pub mod command;
@@ -12,6 +15,7 @@ pub mod filter;
 mod front;
 pub mod length;
 mod list;
+pub mod list_text;
 mod listing;
 pub mod listing_program;
 pub mod operation;
@@ -29,15 +33,18 @@ pub mod rule_line;
 pub mod rule_list;
 pub mod rule_program;
 pub mod session;
+mod word;
 
 pub use answer::{Failure, Form, Request};
 pub use cause::Cause;
+pub use cause_parts::is_entry_text;
 pub use changes::changes_text;
 pub use changes_program::run_changes;
 pub use command::{Command, Flags, Work, families};
 pub use entry::Entry;
 pub use filter::Side;
 pub use length::read_length;
+pub use list_text::{ListText, read_list_text};
 pub use listing_program::{run_hosts, run_split};
 pub use operation::{Families, Operation};
 pub use output::{Output, finish, is_unfinished_name, unfinished_name};

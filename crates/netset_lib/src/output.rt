@@ -4,7 +4,7 @@ ghost use Rattle.std.specs.Prelude.{string_bytes};
 ghost use Rattle.std.specs.Io.KnownBytes.{Keeps};
 ghost use Rattle.netset_lib.specs.Outputs.{unfinished_name, IsUnfinishedName};
 
-use crate::cause::are_digits;
+use crate::cause_parts::are_digits;
 use std::alloc::{AllocError, Global};
 use std::io;
 use std::io::Write;

@@ -1,4 +1,4 @@
--- The clone has the networks of the table in their order, so its links are those of the table.
+-- The clone has the networks of the table in their order, so its links are the links of the table.
 use Rattle.std.proofs.Common.{◌≡◌, length, sym, ap, ◌∙◌, subst, subst₂}
 use Rattle.std.specs.List.{each_same}
 use Rattle.std.proofs.lemmas.Slice.Zip.{AllZip-long}
