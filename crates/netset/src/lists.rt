@@ -86,6 +86,39 @@ fn read_list(rt: &HostRuntime, session: &mut Session, name: &str) -> Result<usiz
     }
 }
 
+/// A choice for files without an entry.
+#[derive(Clone, Copy, PartialEq, Eq)]
+pub enum Empties {
+    /// Report its name.
+    Report,
+    /// Read it like any other.
+    Allow,
+    /// Report its name, and fail.
+    Refuse,
+}
+
+/// The reports on standard error about the lists.
+#[derive(Clone, Copy)]
+pub struct Reports {
+    /// Whether to print the bytes read from each list, even if it is not a terminal.
+    pub progress: bool,
+    /// The choice for files without an entry.
+    pub empties: Empties,
+}
+
+impl Reports {
+    /// Returns whether a list with this name may have no entry, and reports its name if it should be. Standard input
+    /// may always be empty.
+    fn allow_empty(self, rt: &HostRuntime, name: &str, what: &str) -> bool {
+        if name == STANDARD_INPUT || self.empties == Empties::Allow {
+            return true;
+        }
+        let shown = name.as_bytes().escape_ascii();
+        let _ = writeln!(rt.stderr(), "netset: {shown}: no {what}");
+        self.empties != Empties::Refuse
+    }
+}
+
 /// Reports why the list of this name was not read. Bytes of the name that are not printable ASCII are escaped, so that
 /// it cannot move the terminal's cursor, or look like another report.
 pub fn report_unread(rt: &HostRuntime, name: &str, unread: &Unread) {
@@ -114,25 +147,32 @@ fn tell_count(rt: &HostRuntime, name: &str, count: usize, always: bool) {
 }
 
 /// Reads the lists of these names one after another. A file is opened when its turn comes, and then closed. Fails with
-/// the name of the first that could not be read, and the reason.
+/// the name of the first that could not be read, and the reason. Returns whether the lists may be as they are: `false`
+/// if a file has no entry and no refused line, and that is to be refused.
 ///
-/// If `tells_progress`, or if the bytes are many and standard error is a terminal, the number of bytes of each list is
-/// reported there. If that cannot be written, the lists are read all the same.
+/// If the progress is to be reported, or if the bytes are many and standard error is a terminal, the number of bytes of
+/// each list is reported there. If that cannot be written, the lists are read all the same.
 pub fn read_lists<'a>(
     rt: &HostRuntime,
     session: &mut Session,
     names: &[&'a str],
-    tells_progress: bool,
-) -> Result<(), (&'a str, Unread)> {
+    reports: Reports,
+) -> Result<bool, (&'a str, Unread)> {
     let mut total: usize = 0;
+    let mut allowed = true;
     for name in names {
+        let refused = session.refused_count();
         let count = read_list(rt, session, name).map_err(|unread| (*name, unread))?;
         total = total.saturating_add(count);
-        if tells_progress || total >= MUCH {
-            tell_count(rt, name, count, tells_progress);
+        if reports.progress || total >= MUCH {
+            tell_count(rt, name, count, reports.progress);
+        }
+        let is_empty = !session.has_entry() && session.refused_count() == refused;
+        if is_empty && !reports.allow_empty(rt, name, "entries") {
+            allowed = false;
         }
     }
-    Ok(())
+    Ok(allowed)
 }
 
 /// Reads a list of rules, and returns it with the number of its bytes.
@@ -162,16 +202,21 @@ fn open_rules(rt: &HostRuntime, name: &str, grammar: Grammar) -> Result<(RuleLis
     }
 }
 
-/// Reads the list of rules of this name, and reports its bytes as `read_lists` does.
+/// Reads the list of rules of this name, and reports its bytes as `read_lists` does. `None` if a file has no rule, and
+/// that is to be refused.
 pub fn read_rules(
     rt: &HostRuntime,
     name: &str,
     grammar: Grammar,
-    tells_progress: bool,
-) -> Result<RuleList, Unread> {
+    reports: Reports,
+) -> Result<Option<RuleList>, Unread> {
     let (list, count) = open_rules(rt, name, grammar)?;
-    if tells_progress || count >= MUCH {
-        tell_count(rt, name, count, tells_progress);
+    if reports.progress || count >= MUCH {
+        tell_count(rt, name, count, reports.progress);
     }
-    Ok(list)
+    let is_empty = list.rules.is_empty() && list.refused.is_empty();
+    if is_empty && !reports.allow_empty(rt, name, "rules") {
+        return Ok(None);
+    }
+    Ok(Some(list))
 }

@@ -1,6 +1,7 @@
 //! The commands that read a list of rules.
 use crate::arguments::{FIRST, command_of, first, operation_command};
 use crate::lists::{read_rules, report_unread};
+use crate::output::Streams;
 use clap::{Arg, ArgMatches, Command};
 use ipnet::Grammar;
 use ipnet_rules::Action;
@@ -63,7 +64,11 @@ fn query_of(name: &str, matches: &ArgMatches) -> Option<RuleQuery> {
 }
 
 /// Runs the command if it reads a list of rules, and returns the status. `None` if it does not.
-pub fn run_if_rules(rt: &HostRuntime, matches: &ArgMatches) -> Option<u8> {
+pub fn run_if_rules(
+    rt: &HostRuntime,
+    matches: &ArgMatches,
+    streams: &mut Streams<'_>,
+) -> Option<u8> {
     let (name, matches) = matches.subcommand()?;
     let query = query_of(name, matches)?;
     let file = matches.get_str(FIRST)?;
@@ -72,12 +77,13 @@ pub fn run_if_rules(rt: &HostRuntime, matches: &ArgMatches) -> Option<u8> {
     } else {
         Grammar::Strict
     };
-    let list = match read_rules(rt, file, grammar, matches.get_flag("progress")) {
-        Ok(list) => list,
+    let list = match read_rules(rt, file, grammar, streams.reports) {
+        Ok(Some(list)) => list,
+        Ok(None) => return Some(2),
         Err(unread) => {
             report_unread(rt, file, &unread);
             return Some(2);
         }
     };
-    Some(run_rules(list, query, file, &mut rt.stdout(), &mut rt.stderr()))
+    Some(run_rules(list, query, file, &mut streams.answer, &mut streams.faults))
 }

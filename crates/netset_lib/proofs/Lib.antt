@@ -15,6 +15,7 @@ pub mod ListingLaws
 pub mod ListReading
 pub mod WindowReading
 pub mod OperationLaws
+pub mod OutputNames
 pub mod SameResults
 pub mod AnswerTexts
 pub mod ListsReading

@@ -98,6 +98,11 @@ filter_second side old s set entries (first ∷ second ∷ before) one state is 
 
 -- ---- a route, one list after the other
 
+pub route_first : (s : Session) (entries : List ListEntry) (before : List (List ListEntry)) → length before ≡ 0
+    → AreTableNetworks (InTable s.table) entries → IsRouteState s (before ++ entries ∷ [])
+route_first s entries [] none networks = networks
+route_first s entries (first ∷ before) none networks = absurd (omega (arith, none))
+
 pub route_second : (old s : Session) (entries : List ListEntry) (before : List (List ListEntry))
     → length before ≡ 1 → IsRouteState old before
     → AreRouteLines (InTable old.table) HoldsEnds entries (string_bytes s.text)

@@ -10,6 +10,7 @@ pub mod RefusedLines
 pub mod FoundEntry
 pub mod Reading
 pub mod Operations
+pub mod Outputs
 pub mod Answers
 pub mod Counts
 pub mod Filters

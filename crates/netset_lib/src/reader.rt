@@ -174,6 +174,8 @@ pub(crate) struct LineReader {
     /// The number of lines that were read of the list.
     pub(crate) line: usize,
     pub(crate) refused: RefusedLines,
+    /// Whether an entry of the list was read.
+    pub(crate) has_entry: bool,
     room: String,
 }
 
@@ -194,6 +196,7 @@ impl LineReader {
             list: 0,
             line: 0,
             refused: RefusedLines::new(alloc),
+            has_entry: false,
             room: String::new(alloc),
         }
     }
@@ -218,7 +221,10 @@ impl LineReader {
             return Ok(());
         }
         match read_text(&mut self.room, text, self.grammar)? {
-            Some(found) => collector.push(made, found.text, found.entry),
+            Some(found) => {
+                self.has_entry = true;
+                collector.push(made, found.text, found.entry)
+            }
             None => {
                 let cause = cause_of(&mut self.room, text, self.grammar)?;
                 self.refused
@@ -243,6 +249,7 @@ impl LineReader {
             return Err(AllocError);
         };
         self.line = number;
+        self.has_entry = true;
         collector.push(made, found.text, found.entry)
     }
 

@@ -140,6 +140,7 @@ impl Reading {
         let left = self.window.held().len();
         self.window.take(left);
         self.lines.line = 0;
+        self.lines.has_entry = false;
         let mut more = self.skip_mark(input)?;
         for _ in 0..MOST_READS {
             self.take_lines(more, collector, made)?;
@@ -157,6 +158,7 @@ impl Reading {
         ensures next { OnOk result (self.new.lines.list ≡ self.old.lines.list + 1) }
         ensures same_grammar { self.new.lines.grammar ≡ self.old.lines.grammar }
         ensures same_refused { self.new.lines.refused ≡ self.old.lines.refused }
+        ensures same_entry { self.new.lines.has_entry ≡ self.old.lines.has_entry }
     {
         let Some(list) = self.lines.list.checked_add(1) else {
             return Err(ReadFailure::Memory);

@@ -1,5 +1,5 @@
 //! Tests of `netset_lib` that call the library: the kinds of entries, the numbers of lists, plans, changes,
-//! readers and writers that fail, lists of rules, and refused memory.
+//! outputs, readers and writers that fail, lists of rules, and refused memory.
 #![tactic(auto)]
 
 #[cfg(test)]
@@ -8,6 +8,8 @@ mod changes;
 mod entries;
 #[cfg(test)]
 mod memory;
+#[cfg(test)]
+mod outputs;
 #[cfg(test)]
 mod plans;
 #[cfg(test)]

@@ -17,4 +17,4 @@ returns g c =
     (λ made. reads_one old _ text text before after
     (plain_contents old.grammar text (plain_entry old.grammar text range c.requires.entry))
     (adds_entry old _ text refl refl c.in-Some.ensures.1 before after range c.requires.some
-    (word_is_entry old.grammar text range c.requires.entry) refl made))
+    (word_is_entry old.grammar text range c.requires.entry) refl refl made))
