@@ -13,6 +13,7 @@ ghost use Rattle.netset_lib.specs.Answers.{IsNamedComplement};
 ghost use Rattle.netset_lib.specs.Replies.{work_grammar, TakesCount, IsWorkAnswer, IsWorkFailure};
 ghost use Rattle.netset_lib.specs.Sessions.{IsTextFor};
 
+pub mod pair;
 pub mod result;
 
 use crate::answer::{Failure, Request, set_text};
