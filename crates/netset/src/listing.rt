@@ -55,6 +55,7 @@ fn network_of(rt: &HostRuntime, matches: &ArgMatches) -> Option<IpNet> {
     };
     let network = IpNet::parse_as(word, grammar).ok();
     if network.is_none() {
+        let word = word.as_bytes().escape_ascii();
         let _ = writeln!(rt.stderr(), "netset: not a network: {word}");
     }
     network
@@ -67,6 +68,7 @@ fn split(rt: &HostRuntime, matches: &ArgMatches, streams: &mut Streams<'_>) -> u
     };
     let word = matches.get_str(OTHERS).unwrap_or("");
     let Some(length) = read_length(word) else {
+        let word = word.as_bytes().escape_ascii();
         let _ = writeln!(rt.stderr(), "netset: not a prefix length: {word}");
         return 2;
     };
