@@ -37,6 +37,9 @@ pub enum ArgumentFailure {
     /// Two lists are standard input, which can be read once.
     #[error("standard input is named twice")]
     InputTwice,
+    /// The name of a list to be counted has a control character, such as a tab, which would break its line.
+    #[error("the name of a list has a control character")]
+    ControlCharacter,
     /// No command has this name.
     #[error("no such command")]
     NoCommand,
@@ -72,14 +75,18 @@ pub fn first<'a>(alloc: Global, name: &'a str, help: &'a str) -> Arg<'a> {
         .help(help)
 }
 
-/// One list or more.
-fn first_and_more<'a>(alloc: Global) -> Arg<'a> {
-    first(alloc, "FILE", "A list, - for standard input")
-        .num_args(1..)
-        .action(ArgAction::Append)
+/// The only list; standard input, if it is omitted.
+fn one_file<'a>(alloc: Global) -> Arg<'a> {
+    let help = "A list, - for standard input; standard input if it is omitted";
+    first(alloc, "FILE", help).required(false)
 }
 
-/// The only list, or the first of several.
+/// Any number of lists; standard input, if all are omitted.
+fn any_files<'a>(alloc: Global) -> Arg<'a> {
+    one_file(alloc).num_args(1..).action(ArgAction::Append)
+}
+
+/// The first of several lists.
 fn first_file<'a>(alloc: Global) -> Arg<'a> {
     first(alloc, "FILE", "A list, - for standard input")
 }
@@ -142,13 +149,13 @@ fn complement_command<'a>(alloc: Global) -> Result<Command<'a>, AllocError> {
     operation_command(alloc, "complement", about)?
         .arg(flag(alloc, "ipv4", ipv4))?
         .arg(flag(alloc, "ipv6", ipv6))?
-        .arg(first_file(alloc))
+        .arg(one_file(alloc))
 }
 
 /// Adds the commands whose result is a list of addresses.
 fn with_operations<'a>(alloc: Global, command: Command<'a>) -> Result<Command<'a>, AllocError> {
     let union = "The addresses of all lists";
-    let union = operation_command(alloc, "union", union)?.arg(first_and_more(alloc))?;
+    let union = operation_command(alloc, "union", union)?.arg(any_files(alloc))?;
     let intersection = "The addresses that are in every list";
     let difference = "The addresses of the first list that are in none of the others";
     let symmetric = "The addresses that are in exactly one of two lists";
@@ -165,7 +172,7 @@ fn with_operations<'a>(alloc: Global, command: Command<'a>) -> Result<Command<'a
 
 /// The command `filter`.
 fn filter_command<'a>(alloc: Global) -> Result<Command<'a>, AllocError> {
-    let about = "The entries of FILE that lie entirely inside SET, as written, in order";
+    let about = "The entries of FILE that lie entirely inside SET, as written; status 1 if there are none";
     let outside = "Print the entries that lie entirely outside SET instead";
     command_of(alloc, "filter", about)?
         .arg(flag(alloc, "outside", outside))?
@@ -175,14 +182,15 @@ fn filter_command<'a>(alloc: Global) -> Result<Command<'a>, AllocError> {
 
 /// Adds the commands whose result is not a list of addresses.
 fn with_queries<'a>(alloc: Global, command: Command<'a>) -> Result<Command<'a>, AllocError> {
-    let count = "The number of IPv4 addresses and of IPv6 addresses in the list";
+    let count =
+        "For each list its name, and how many IPv4 and IPv6 addresses it has, with tabs between; then the total";
     let compare =
         "The number of addresses that are in only one of two lists; status 1 if there are any";
     let route =
-        "For each entry of FILE, the longest network of TABLE that contains it, or - if none does";
+        "For each entry of FILE, the longest network of TABLE that contains it, or - and status 1";
     let asked = "The list of entries to look up; standard input if it is omitted";
     command
-        .subcommand(command_of(alloc, "count", count)?.arg(first_file(alloc))?)?
+        .subcommand(command_of(alloc, "count", count)?.arg(any_files(alloc))?)?
         .subcommand(
             command_of(alloc, "compare", compare)?
                 .arg(first_file(alloc))?
@@ -226,7 +234,8 @@ pub fn flags_of(matches: &ArgMatches) -> Flags {
     }
 }
 
-/// The names of the lists, in order. If `filter` or `route` has only one, standard input is the second.
+/// The names of the lists, in order. Standard input is the list that is not named: the only one, or the second of
+/// `filter` and `route`.
 fn names_of<'a>(
     alloc: Global,
     work: Work,
@@ -239,7 +248,7 @@ fn names_of<'a>(
         }
     }
     let takes_two = matches!(work, Work::Ask(Query::Filter(_) | Query::Route, _));
-    if takes_two && names.len() == 1 {
+    if names.is_empty() || (takes_two && names.len() == 1) {
         names.push(STANDARD_INPUT)?;
     }
     Ok(names)
@@ -258,6 +267,10 @@ pub fn call_of<'a>(alloc: Global, matches: &ArgMatches<'a>) -> Result<Call<'a>, 
     let inputs = names.iter().filter(|name| **name == STANDARD_INPUT);
     if inputs.count() > 1 {
         return Err(ArgumentFailure::InputTwice);
+    }
+    let counts = matches!(work, Work::Ask(Query::Count, _));
+    if counts && names.iter().any(|name| name.bytes().any(|byte| byte.is_ascii_control())) {
+        return Err(ArgumentFailure::ControlCharacter);
     }
     let tells_progress = matches.get_flag("progress");
     Ok(Call {

@@ -19,6 +19,8 @@ pub mod CountTexts
 pub mod FilterLaws
 pub mod TableLaws
 pub mod RouteLaws
+pub mod EntryAnswerLaws
+pub mod AnsweringLaws
 pub mod SessionLaws
 pub mod CommentLaws
 pub mod RuleLaws

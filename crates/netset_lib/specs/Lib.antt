@@ -10,10 +10,12 @@ pub mod Reading
 pub mod Operations
 pub mod Answers
 pub mod Counts
+pub mod EntryAnswers
 pub mod Filters
 pub mod Filtering
 pub mod RouteAnswers
 pub mod Routing
+pub mod Answering
 pub mod ListSets
 pub mod Replies
 pub mod PlanAnswers

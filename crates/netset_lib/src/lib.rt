@@ -2,6 +2,7 @@
 #![tactic(auto)]
 
 pub mod answer;
+mod answerer;
 pub mod cause;
 pub mod command;
 mod counts;
@@ -25,7 +26,7 @@ pub mod rule_list;
 pub mod rule_program;
 pub mod session;
 
-pub use answer::{Failure, Form, Request};
+pub use answer::{Answer, Failure, Form, Request};
 pub use cause::Cause;
 pub use command::{Command, Flags, Work, families};
 pub use entry::Entry;

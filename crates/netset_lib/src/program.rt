@@ -1,17 +1,13 @@
 //! The program, over any writers.
-ghost use Rattle.std.specs.Prelude.{◌≡◌, ◌≢◌, ◌≤◌, ◌⊎◌, ◌↔◌, List, [], ℕ, IsTrue};
+ghost use Rattle.std.specs.Prelude.{◌≡◌, ◌≤◌, ◌==◌, ◌⊎◌, List, ℕ, IsTrue};
 ghost use Rattle.std.specs.Io.{StartsWith};
 ghost use Rattle.std.specs.Io.KnownBytes.{Appends, Keeps};
-ghost use Rattle.ipnet.specs.declared.parser.Grammar.{Grammar};
-ghost use Rattle.netset_lib.specs.Replies.{AreSameLists, AreOtherLists};
+ghost use Rattle.netset_lib.specs.Replies.{IsOutcome};
 ghost use Rattle.netset_lib.specs.Runs.{IsAnswered, IsCutShort};
 ghost use Rattle.netset_lib.specs.Sessions.{WereRead};
-ghost use Rattle.netset_lib.specs.declared.command.Work.TheVariants.{Ask};
-ghost use Rattle.netset_lib.specs.declared.query.Query.TheVariants.{Compare};
+ghost use Rattle.netset_lib.specs.declared.command.Work.{Work};
 
-use crate::answer::Failure;
-use crate::command::Work;
-use crate::query::Query;
+use crate::answer::{Answer, Failure};
 use crate::refused::{RefusedLine, RefusedLines};
 use crate::session::Session;
 use ipnet_text::write_whole;
@@ -39,7 +35,7 @@ const NO_FAMILY: &str = "netset: the list has no entries: choose --ipv4 or --ipv
 /// | 2 | `netset: the list has no entries: choose --ipv4 or --ipv6, or both` | as `Failure::NoFamily` says |
 /// | 2 | `netset: out of memory` | memory runs out |
 /// | 2 | `netset: output cannot be written` | a write fails, or the flush after it; the answer may be out in part |
-/// | 1 | nothing | the lists were compared, and do not have the same addresses; `out` has what differs |
+/// | 1 | nothing | the answer did not succeed: two lists differ, a filter printed nothing, or an entry has no route |
 /// | 0 | nothing | otherwise |
 ///
 /// Of a text of more than 100 bytes the first 100 are reported, and `..` after them. The cause is left out if none can
@@ -50,24 +46,21 @@ const NO_FAMILY: &str = "netset: the list has no entries: choose --ipv4 or --ipv
 /// Union of "10.0.0.0/33\n", named a:               status 2, and faults gets
 ///     "a:1: not a network, an address or a range: 10.0.0.0/33 (the prefix length is above 32)\n"
 /// Compare of "10.0.0.0/31\n" and "10.0.0.0\n":     status 1, and out gets
-///     "first alone: IPv4 1, IPv6 0\nsecond alone: IPv4 0, IPv6 0\n"
+///     "only in the first: IPv4 1, IPv6 0\nonly in the second: IPv4 0, IPv6 0\n"
 /// ```
 pub fn run<W: Write, X: Write>(session: Session, names: &[&str], out: &mut W, faults: &mut X) -> u8
     ensures status { result ≤ 2 }
     ensures answered { result ≤ 1 → (work : Work) → (lists : List (List ℕ)) → WereRead work lists session
-        → IsAnswered work lists (W.contents out.old) (W.contents out.new) }
-    ensures different { result ≡ 1 → (work : Work) → (lists : List (List ℕ)) → WereRead work lists session
-        → ((grammar : Grammar) × (work ≡ Ask Compare grammar) × AreOtherLists grammar lists) }
-    ensures same { result ≡ 0 → (grammar : Grammar) → (lists : List (List ℕ))
-        → WereRead (Ask Compare grammar) lists session → AreSameLists grammar lists }
+        → IsAnswered work names.now lists (W.contents out.old) (W.contents out.new) }
+    ensures outcome { result ≤ 1 → (work : Work) → (lists : List (List ℕ)) → WereRead work lists session
+        → IsOutcome work lists (result == 0) }
     ensures cut_short { result ≡ 2 → (work : Work) → (lists : List (List ℕ)) → WereRead work lists session
         → Keeps (W.contents out.old) (W.contents out.new)
-        ⊎ IsCutShort work lists (W.contents out.old) (W.contents out.new) }
+        ⊎ IsCutShort work names.now lists (W.contents out.old) (W.contents out.new) }
     ensures faultless { result ≤ 1 → Keeps (X.contents faults.old) (X.contents faults.new) }
 {
-    let work = session.work();
-    let text = match session.answer() {
-        Ok(text) => text,
+    let Answer { text, succeeded } = match session.answer(names) {
+        Ok(answer) => answer,
         Err(failure) => {
             let _ = report(faults, names, &failure);
             return 2;
@@ -77,18 +70,7 @@ pub fn run<W: Write, X: Write>(session: Session, names: &[&str], out: &mut W, fa
         let _ = writeln!(faults, "netset: output cannot be written");
         return 2;
     }
-    status_of(work, text.as_str())
-}
-
-/// Returns the exit status for this answer: 1 for a comparison that is not empty, since it says what differs.
-fn status_of(work: Work, text: &str) -> u8
-    ensures status { result ≤ 1 }
-    ensures different { (result ≡ 1) ↔ (((grammar : Grammar) × (work ≡ Ask Compare grammar)) × (text.now ≢ [])) }
-{
-    match work {
-        Work::Ask(Query::Compare, _) if !text.is_empty() => 1,
-        _ => 0,
-    }
+    if succeeded { 0 } else { 1 }
 }
 
 /// Writes the bytes and flushes the writer, and returns whether both succeeded.
