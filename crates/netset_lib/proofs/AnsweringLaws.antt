@@ -1,5 +1,5 @@
 -- The answers to entries that were made one by one, and the answers to the query.
-use Rattle.std.proofs.Common.{◌≡◌, ◌⊎◌, ◌↔◌, true, false, ℕ, List, [], ◌∷◌, ◌++◌, All, Option, Some, None, refl, sym, ap}
+use Rattle.std.proofs.Common.{◌≡◌, ◌⊎◌, ◌↔◌, Bool, true, false, ℕ, List, [], ◌∷◌, ◌++◌, All, Option, Some, None, refl, sym, ap}
 use Rattle.std.proofs.Common.{◌∙◌, subst, inl, inr, append-nil, string_bytes}
 use Rattle.std.proofs.lemmas.List.Elements.{All-nil, All-cons}
 use Rattle.ipnet_base.specs.Address.{Address, IsAddress}
@@ -74,36 +74,35 @@ all_fit InSet (e ∷ entries) text (line, rest, cut, is, h) =
     All-cons (λ z. HasAddresses z.range) e entries is.0 (all_fit InSet entries rest h)
 
 -- the answers, by the entries of the first list
-pub replies_right : (query : Query) (answerer : Answerer) (first second : List ListEntry) (answers : Answers)
-    → IsAnswererFor query answerer first → All HasSome second → AreAnswersBy answerer answers second
-    → AreReplies query first second (string_bytes answers.text)
-replies_right (Filter side) (Answerers.Filter set) first second answers same some h =
-    kept_of_lines (IsOnSide side (IsInEntries first)) second (string_bytes answers.text)
+pub replies_right : (query : Query) (answerer : Answerer) (first second : List ListEntry) (text : List ℕ)
+    → IsAnswererFor query answerer first → All HasSome second → AreAnswers (IsAnswerBy answerer) second text
+    → AreReplies query first second text
+replies_right (Filter side) (Answerers.Filter set) first second text same some h =
+    kept_of_lines (IsOnSide side (IsInEntries first)) second text
     (answers_same (IsAnswerBy (Answerers.Filter set)) (IsFilterLine (IsOnSide side (IsInEntries first)))
     (λ e. HasAddresses e.range)
     (λ e line fits is. filter_line_same (IsMember set) (IsOnSide side (IsInEntries first)) e line same fits is.1) second
-    (string_bytes answers.text) (all_fit (IsMember set) second (string_bytes answers.text) h.text) h.text)
-replies_right (Filter side) (Answerers.Route table) first second answers same some h = absurd same
-replies_right Route (Answerers.Filter set) first second answers same some h = absurd same
-replies_right Route (Answerers.Route table) first second answers same some h =
+    text (all_fit (IsMember set) second text h) h)
+replies_right (Filter side) (Answerers.Route table) first second text same some h = absurd same
+replies_right Route (Answerers.Filter set) first second text same some h = absurd same
+replies_right Route (Answerers.Route table) first second text same some h =
     answers_same (IsRouteLine (InTable table) HoldsEnds) (IsRouteLine (IsTableNetwork first) Holds) HasSome
-    (λ e line has. line_same (InTable table) (IsTableNetwork first) e line same has) second
-    (string_bytes answers.text) some h.text
-replies_right Count answerer first second answers same some h = absurd same
-replies_right Compare answerer first second answers same some h = absurd same
+    (λ e line has. line_same (InTable table) (IsTableNetwork first) e line same has) second text some h
+replies_right Count answerer first second text same some h = absurd same
+replies_right Compare answerer first second text same some h = absurd same
 
 -- whether an entry was found, by the entries of the first list
-pub found_right : (query : Query) (answerer : Answerer) (first second : List ListEntry) (answers : Answers)
-    → IsAnswererFor query answerer first → All HasSome second → AreAnswersBy answerer answers second
-    → IsFoundIn (IsFoundFor query first) answers.found second
-found_right (Filter side) (Answerers.Filter set) first second answers same some h =
+pub found_right : (query : Query) (answerer : Answerer) (first second : List ListEntry) (text : List ℕ) (found : Bool)
+    → IsAnswererFor query answerer first → All HasSome second → AreAnswers (IsAnswerBy answerer) second text
+    → IsFoundIn (IsFoundBy answerer) found second → IsFoundIn (IsFoundFor query first) found second
+found_right (Filter side) (Answerers.Filter set) first second text found same some h is =
     found_same (LiesIn (IsMember set)) (IsKept side first) (λ e. HasAddresses e.range)
-    (λ e fits. lies_same (IsMember set) (IsOnSide side (IsInEntries first)) e same fits) answers.found second
-    (all_fit (IsMember set) second (string_bytes answers.text) h.text) h.found
-found_right (Filter side) (Answerers.Route table) first second answers same some h = absurd same
-found_right Route (Answerers.Filter set) first second answers same some h = absurd same
-found_right Route (Answerers.Route table) first second answers same some h =
+    (λ e fits. lies_same (IsMember set) (IsOnSide side (IsInEntries first)) e same fits) found second
+    (all_fit (IsMember set) second text h) is
+found_right (Filter side) (Answerers.Route table) first second text found same some h is = absurd same
+found_right Route (Answerers.Filter set) first second text found same some h is = absurd same
+found_right Route (Answerers.Route table) first second text found same some h is =
     found_same (λ e. HaveNone (InTable table) (HoldsEnds e)) (HasNoRoute first) HasSome
-    (λ e has. none_same (InTable table) (IsTableNetwork first) e same has) answers.found second some h.found
-found_right Count answerer first second answers same some h = absurd same
-found_right Compare answerer first second answers same some h = absurd same
+    (λ e has. none_same (InTable table) (IsTableNetwork first) e same has) found second some is
+found_right Count answerer first second text found same some h is = absurd same
+found_right Compare answerer first second text found same some h is = absurd same

@@ -212,8 +212,8 @@ module _ (names : Names) (lists : List (List ℕ)) (s : Session) (answer : Answe
   asked_right query grammar a b read (answerer, for, made) text =
       let some = second_some grammar lists a b read in (
         subst (AreReplies query a b) (ap string_bytes (sym text))
-            (replies_right query answerer a b s.answers for some made),
-        found_right query answerer a b s.answers for some made,
+            (replies_right query answerer a b (string_bytes s.answers.text) for some made.text),
+        found_right query answerer a b (string_bytes s.answers.text) s.answers.found for some made.text made.found,
       )
 
   right_by_entries : (work : Work) (entries : List (List ListEntry)) → TakesCount work (length lists)
