@@ -26,6 +26,8 @@ pub struct Call<'a> {
     pub names: Vec<&'a str>,
     /// Whether to print the bytes read from each list to standard error, even if it is not a terminal.
     pub tells_progress: bool,
+    /// Whether the answers are written while the second list is read.
+    pub streams: bool,
 }
 
 /// Why the arguments cannot be used, although each of them is one of the command's.
@@ -170,12 +172,21 @@ fn with_operations<'a>(alloc: Global, command: Command<'a>) -> Result<Command<'a
         .subcommand(complement_command(alloc)?)
 }
 
+/// The flag by which the answers are written while the list is read.
+fn stream_flag<'a>(alloc: Global) -> Arg<'a> {
+    let help =
+        "Print each line as soon as it is known; a bad line is reported and left out, with status 2";
+    flag(alloc, "stream", help)
+}
+
 /// The command `filter`.
 fn filter_command<'a>(alloc: Global) -> Result<Command<'a>, AllocError> {
-    let about = "The entries of FILE that lie entirely inside SET, as written; status 1 if there are none";
+    let about =
+        "The entries of FILE that lie entirely inside SET, as written; status 1 if there are none";
     let outside = "Print the entries that lie entirely outside SET instead";
     command_of(alloc, "filter", about)?
         .arg(flag(alloc, "outside", outside))?
+        .arg(stream_flag(alloc))?
         .arg(first(alloc, "SET", "The list of the addresses to filter by"))?
         .arg(other(alloc, "The list to filter; standard input if it is omitted").required(false))
 }
@@ -199,6 +210,7 @@ fn with_queries<'a>(alloc: Global, command: Command<'a>) -> Result<Command<'a>, 
         .subcommand(filter_command(alloc)?)?
         .subcommand(
             command_of(alloc, "route", route)?
+                .arg(stream_flag(alloc))?
                 .arg(first(alloc, "TABLE", "The list of networks to choose from"))?
                 .arg(other(alloc, asked).required(false))?,
         )?
@@ -269,7 +281,11 @@ pub fn call_of<'a>(alloc: Global, matches: &ArgMatches<'a>) -> Result<Call<'a>, 
         return Err(ArgumentFailure::InputTwice);
     }
     let counts = matches!(work, Work::Ask(Query::Count, _));
-    if counts && names.iter().any(|name| name.bytes().any(|byte| byte.is_ascii_control())) {
+    if counts
+        && names
+            .iter()
+            .any(|name| name.bytes().any(|byte| byte.is_ascii_control()))
+    {
         return Err(ArgumentFailure::ControlCharacter);
     }
     let tells_progress = matches.get_flag("progress");
@@ -277,5 +293,6 @@ pub fn call_of<'a>(alloc: Global, matches: &ArgMatches<'a>) -> Result<Call<'a>, 
         work,
         names,
         tells_progress,
+        streams: matches.get_flag("stream"),
     })
 }

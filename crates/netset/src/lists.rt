@@ -1,7 +1,7 @@
 //! The lists, read from files and from standard input.
 use crate::arguments::STANDARD_INPUT;
 use ipnet::Grammar;
-use netset_lib::{ReadFailure, RuleList, Session};
+use netset_lib::{ReadFailure, RuleList, Session, run_stream};
 use std::fs::File;
 use std::io;
 use std::io::{ErrorKind, IsTerminal, Read, Write};
@@ -72,6 +72,27 @@ pub fn read_lists<'a>(
         }
     }
     Ok(())
+}
+
+/// Streams the list of this name, which is the second one of the session, and returns the exit status.
+pub fn stream_list(rt: &HostRuntime, session: Session, names: &[&str], name: &str) -> u8 {
+    let (mut out, mut faults) = (rt.stdout(), rt.stderr());
+    if name == STANDARD_INPUT {
+        return run_stream(session, names, &mut rt.stdin(), &mut out, &mut faults);
+    }
+    match File::open(rt, name) {
+        Ok(mut file) => run_stream(session, names, &mut file, &mut out, &mut faults),
+        Err(error) => {
+            let is_memory = error.kind() == ErrorKind::OutOfMemory;
+            let failure = if is_memory {
+                ReadFailure::Memory
+            } else {
+                ReadFailure::Unreadable
+            };
+            let _ = writeln!(faults, "netset: {name}: {failure}");
+            2
+        }
+    }
 }
 
 /// Reads a list of rules, and returns it with the number of its bytes.

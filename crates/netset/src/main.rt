@@ -8,7 +8,7 @@ mod rules;
 mod version;
 
 use crate::arguments::{ArgumentFailure, Call, call_of, matches_of, words};
-use crate::lists::read_lists;
+use crate::lists::{read_lists, stream_list};
 use crate::plan::{PLAN, planned};
 use crate::rules::run_if_rules;
 use clap::ArgMatches;
@@ -82,13 +82,20 @@ fn answered(rt: &HostRuntime, matches: &ArgMatches) -> u8 {
         work,
         names,
         tells_progress,
+        streams,
     } = match call_of(rt.alloc(), matches) {
         Ok(call) => call,
         Err(failure) => return refused(rt, failure),
     };
     let names = names.as_slice();
-    match session_of(rt, work, names, tells_progress) {
-        Ok(session) => run(session, names, &mut rt.stdout(), &mut rt.stderr()),
-        Err(status) => status,
+    match names {
+        [_, streamed] if streams => match session_of(rt, work, &names[..1], tells_progress) {
+            Ok(session) => stream_list(rt, session, names, streamed),
+            Err(status) => status,
+        },
+        _ => match session_of(rt, work, names, tells_progress) {
+            Ok(session) => run(session, names, &mut rt.stdout(), &mut rt.stderr()),
+            Err(status) => status,
+        },
     }
 }

@@ -47,7 +47,7 @@ count_same A B n same h = record {
 }
 
 -- sets with the same addresses have the same counts
-pub counts_same : (A B : Address → Type 0) (line : List ℕ) → ((x : Address) → A x ↔ B x) → IsCountsLine A line
+counts_same : (A B : Address → Type 0) (line : List ℕ) → ((x : Address) → A x ↔ B x) → IsCountsLine A line
     → IsCountsLine B line
 counts_same A B line same h = record {
   ipv4 = h.ipv4;
@@ -118,7 +118,7 @@ lines_some First Second text h none =
 -- ---- a line for each list
 
 -- sets with the same addresses have the same line of counts
-pub count_line_same : (name : List ℕ) (A B : Address → Type 0) (line : List ℕ) → ((x : Address) → A x ↔ B x)
+count_line_same : (name : List ℕ) (A B : Address → Type 0) (line : List ℕ) → ((x : Address) → A x ↔ B x)
     → IsCountLine name A line → IsCountLine name B line
 count_line_same name A B line same h = record {
   ipv4 = h.ipv4;

@@ -22,6 +22,7 @@ pub mod RouteLaws
 pub mod EntryAnswerLaws
 pub mod AnsweringLaws
 pub mod SessionLaws
+pub mod StreamLaws
 pub mod CommentLaws
 pub mod RuleLaws
 pub mod RuleAnswerLaws

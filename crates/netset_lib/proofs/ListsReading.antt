@@ -44,7 +44,7 @@ made_of left left_after old new IsMade IsMadeNow h start =
 
 -- ---- one list more
 
-lists_push : (grammar : Grammar) (list : ℕ) (lists : List (List ℕ)) (entries : List (List ListEntry))
+pub lists_push : (grammar : Grammar) (list : ℕ) (lists : List (List ℕ)) (entries : List (List ListEntry))
     (refusals : List Refusal) (bytes : List ℕ) (more : List ListEntry) (later : List Refusal)
     → AreListsRead grammar list lists entries refusals → IsListRead grammar (list + length lists) bytes more later
     → AreListsRead grammar list (lists ++ bytes ∷ []) (entries ++ more ∷ []) (refusals ++ later)

@@ -79,13 +79,6 @@ asked_second query old s answerer entries (first ∷ []) one (kept, has, for) is
     (answerer, subst (λ z. IsAnswererFor query z first) same for, answers)
 asked_second query old s answerer entries (first ∷ second ∷ before) one state is answers = absurd (omega (arith, one))
 
-pub asked_later : (query : Query) (s : Session) (entries : List ListEntry) (before : List (List ListEntry)) (n : ℕ)
-    → length before ≡ n → n ≢ 0 → n ≢ 1 → IsAskState query s (before ++ entries ∷ [])
-asked_later query s entries [] n is none one = absurd (none (omega (arith, is)))
-asked_later query s entries (first ∷ []) n is none one = absurd (one (omega (arith, is)))
-asked_later query s entries (first ∷ second ∷ []) n is none one = tt
-asked_later query s entries (first ∷ second ∷ third ∷ before) n is none one = tt
-
 -- ---- the answer
 
 -- the count of lists is that which the session has

@@ -1,4 +1,4 @@
--- What answers the entries of a list, after the first list of a filter or a route was read.
+-- The answerer of a filter or a route: its first list, and how it answers an entry of the second.
 -- Only private contracts use these.
 use Rattle.std.specs.Prelude.{◌≡◌, ◌↔◌, ◌⊎◌, true, List, ℕ, ◌++◌, string_bytes}
 use Rattle.ipnet_base.specs.Address.{Address, IsAddress}
@@ -15,7 +15,7 @@ use Rattle.netset_lib.specs.Lists.{ListEntry, IsInEntries}
 use Rattle.netset_lib.specs.RouteAnswers.{IsRouteLine, HaveNone}
 use Rattle.netset_lib.specs.Routing.{AreTableNetworks, InTable, HoldsEnds}
 
--- What answers entries was made of a first list with these entries.
+-- The answerer was made of a first list with these entries.
 abbrev pub IsAnswererFor : Query → Answerer → List ListEntry → Type 0
 IsAnswererFor (Filter side) (Answerers.Filter set) first =
     (x : Address) → IsAddress x → IsMember set x ↔ IsOnSide side (IsInEntries first) x

@@ -23,6 +23,7 @@ pub mod Planning
 pub mod Runs
 pub mod Commands
 pub mod Sessions
+pub mod Streams
 pub mod RuleLines
 pub mod RuleContentsOf
 pub mod RuleSteps

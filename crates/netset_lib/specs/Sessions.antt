@@ -19,7 +19,7 @@ use Rattle.netset_lib.specs.Reading.{WasMadeOf}
 use Rattle.netset_lib.specs.RefusedLines.{AreRefused}
 use Rattle.netset_lib.specs.Replies.{work_grammar}
 
--- A filter or a route has what answers entries after the first list, and the answers after the second.
+-- A filter or a route has its answerer after the first list, and the lines of the answer after the second.
 abbrev pub IsAskState : Query → Session → List (List ListEntry) → Type 0
 IsAskState query s [] = Unit {0}
 IsAskState query s (first ∷ []) =

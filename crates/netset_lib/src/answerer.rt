@@ -1,4 +1,4 @@
-//! What answers the entries of a list one after another, after the first list of a filter or a route was read.
+//! Filters and routes: how each entry of the second list is answered, once the first list was read.
 ghost use Rattle.std.specs.Prelude.{◌≡◌, ◌++◌, [], None, OnOk, IfOk, string_bytes, true};
 ghost use Rattle.netset_lib.specs.Answering.{IsAnswererFor, AreAnswersBy, AddsAnswer};
 ghost use Rattle.netset_lib.specs.FoundEntry.{entry_of};
@@ -17,7 +17,7 @@ use ipnet_sets::{IpSet, RouteTable};
 use std::alloc::{AllocError, Global};
 use std::io::Read;
 
-/// What answers entries: a filter keeps those that lie in its set, and a route looks for them in its table.
+/// The first list of a filter or a route: the set in which kept entries lie, or the table of networks.
 #[derive(Drop)]
 pub(crate) enum Answerer {
     Filter(IpSet),
@@ -60,7 +60,8 @@ fn push_kept(answers: &mut Answers, set: &IpSet, text: &str, entry: Entry) -> Re
 
 /// Adds the line of an entry without a route.
 fn push_missing(answers: &mut Answers, text: &str) -> Result<(), AllocError>
-    ensures text { OnOk result (string_bytes answers.new.text ≡ string_bytes answers.old.text ++ route_line text.now None) }
+    ensures text { OnOk result
+        (string_bytes answers.new.text ≡ string_bytes answers.old.text ++ route_line text.now None) }
     ensures found { answers.new.found ≡ true }
 {
     answers.found = true;
@@ -94,8 +95,7 @@ impl Collector<Answers> for Answerer {
     }
 }
 
-/// Reads the first list of a filter or a route into what answers the entries of the second. Other queries have nothing
-/// of that kind, which is an error.
+/// Reads the first list of a filter or a route. Other queries have no answerer, which is an error.
 pub(crate) fn read_answerer<R: Read>(
     query: Query,
     reading: &mut Reading,
@@ -115,7 +115,7 @@ pub(crate) fn read_answerer<R: Read>(
     }
 }
 
-/// Reads one list, and answers its entries.
+/// Reads one list, and makes the answer to each of its entries.
 pub(crate) fn read_answers<R: Read>(
     answerer: &Answerer,
     reading: &mut Reading,

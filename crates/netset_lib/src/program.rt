@@ -5,14 +5,16 @@ ghost use Rattle.std.specs.Io.KnownBytes.{Appends, Keeps};
 ghost use Rattle.netset_lib.specs.Replies.{IsOutcome};
 ghost use Rattle.netset_lib.specs.Runs.{IsAnswered, IsCutShort};
 ghost use Rattle.netset_lib.specs.Sessions.{WereRead};
+ghost use Rattle.netset_lib.specs.Streams.{IsWorkStreamed};
 ghost use Rattle.netset_lib.specs.declared.command.Work.{Work};
 
 use crate::answer::{Answer, Failure};
 use crate::refused::{RefusedLine, RefusedLines};
 use crate::session::Session;
+use crate::session::stream::{StreamFailure, Streamed};
 use ipnet_text::write_whole;
 use std::io;
-use std::io::Write;
+use std::io::{Read, Write};
 
 /// At most this many bytes of a refused line are reported.
 const MOST_SHOWN: usize = 100;
@@ -73,6 +75,75 @@ pub fn run<W: Write, X: Write>(session: Session, names: &[&str], out: &mut W, fa
     if succeeded { 0 } else { 1 }
 }
 
+/// Writes the answers of a filter or a route to `out` while the second list is read from `input`, and returns the exit
+/// status. The session has read the first list. `names` are the names of the two lists, for the reports on `faults`.
+///
+/// | Status | On `faults` | When |
+/// |---|---|---|
+/// | 2 | as `run` reports it | the first list has lines that are not entries, or the work cannot be streamed |
+/// | 2 | `NAME:LINE: not a network, an address or a range: TEXT (CAUSE)` | such lines of the second list are left out |
+/// | 2 | `netset: NAME: cannot be read`, or `out of memory` | the second list is answered in part |
+/// | 2 | `netset: output cannot be written` | a write fails, or a flush |
+/// | 1 | nothing | a filter printed nothing, or an entry has no route |
+/// | 0 | nothing | otherwise |
+///
+/// ```text
+/// Filter by "10.0.0.0/8\n", of "10.0.0.1\nx\n10.0.0.2\n": status 2, and out gets "10.0.0.1\n10.0.0.2\n"
+/// ```
+pub fn run_stream<R: Read, W: Write, X: Write>(
+    session: Session,
+    names: &[&str],
+    input: &mut R,
+    out: &mut W,
+    faults: &mut X,
+) -> u8
+    ensures status { result ≤ 2 }
+    ensures streamed { result ≤ 1 → (work : Work) → (lists : List (List ℕ)) → WereRead work lists session
+        → ((s : Streamed) × (s.refused ≡ 0) × (s.succeeded ≡ (result == 0))
+        × IsWorkStreamed work lists (R.remaining input.old) (R.remaining input.new)
+        (W.contents out.old) (W.contents out.new) s) }
+{
+    match session.stream(names, input, out, faults) {
+        Ok(streamed) => stream_status(streamed),
+        Err(failure) => {
+            let _ = report_stream(faults, names, &failure);
+            2
+        }
+    }
+}
+
+/// The exit status of a stream.
+fn stream_status(streamed: Streamed) -> u8
+    ensures status { result ≤ 2 }
+    ensures whole { result ≤ 1 → streamed.refused ≡ 0 }
+    ensures succeeded { result ≤ 1 → streamed.succeeded ≡ (result == 0) }
+{
+    match streamed {
+        Streamed { refused, .. } if refused != 0 => 2,
+        Streamed {
+            succeeded: true,
+            ..
+        } => 0,
+        _ => 1,
+    }
+}
+
+/// Reports why a stream ended.
+fn report_stream<X: Write>(
+    faults: &mut X,
+    names: &[&str],
+    failure: &StreamFailure,
+) -> io::Result<()> {
+    match failure {
+        StreamFailure::Start(failure) => report(faults, names, failure),
+        StreamFailure::Read(failure) => {
+            let name = names.get(1).copied().unwrap_or("list");
+            writeln!(faults, "netset: {name}: {failure}")
+        }
+        StreamFailure::Unwritable => writeln!(faults, "netset: output cannot be written"),
+    }
+}
+
 /// Writes the bytes and flushes the writer, and returns whether both succeeded.
 pub(crate) fn written<W: Write>(out: &mut W, bytes: &[u8]) -> bool
     ensures whole { IsTrue result → Appends (W.contents out.old) (W.contents out.new) bytes.now }
@@ -98,10 +169,23 @@ pub(crate) fn report<X: Write>(
 
 /// Reports the first refused lines, and the number of the others.
 fn report_lines<X: Write>(faults: &mut X, names: &[&str], lines: &RefusedLines) -> io::Result<()> {
-    for line in &lines.shown {
+    report_since(faults, names, lines, (0, 0))
+}
+
+/// Reports the refused lines as `report_lines` does. `before` is how many of them are reported already, first of those
+/// that are kept, and then of all.
+pub(crate) fn report_since<X: Write>(
+    faults: &mut X,
+    names: &[&str],
+    lines: &RefusedLines,
+    before: (usize, usize),
+) -> io::Result<()> {
+    let (shown, count) = before;
+    for line in lines.shown.iter().skip(shown) {
         report_line(faults, names, line)?;
     }
-    let more = lines.count.saturating_sub(lines.shown.len());
+    let new = lines.count.saturating_sub(count);
+    let more = new.saturating_sub(lines.shown.len().saturating_sub(shown));
     if more != 0 {
         writeln!(faults, "netset: and {more} more")?;
     }

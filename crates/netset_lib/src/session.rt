@@ -3,7 +3,7 @@ ghost use Rattle.std.specs.Prelude.{◌≡◌, ◌++◌, ◌∷◌, ◌↔◌, �
 ghost use Rattle.std.specs.Prelude.{string_bytes, Err, false};
 ghost use Rattle.ipnet_text.specs.Inputs.{GaveWhole};
 ghost use Rattle.netset_lib.specs.Answers.{IsSetText};
-ghost use Rattle.netset_lib.specs.Counts.{IsComparison};
+ghost use Rattle.netset_lib.specs.Counts.{IsCountText, IsComparison};
 ghost use Rattle.netset_lib.specs.Lists.{ListEntry, IsInEntries};
 ghost use Rattle.netset_lib.specs.ListSets.{HaveMembers};
 ghost use Rattle.ipnet_sets.specs.Members.{HasNoAddress};
@@ -14,6 +14,7 @@ ghost use Rattle.netset_lib.specs.Replies.{work_grammar, TakesCount, IsWorkAnswe
 ghost use Rattle.netset_lib.specs.Sessions.{IsReplyOf};
 
 pub mod result;
+pub mod stream;
 
 use crate::answer::{Answer, Failure, Request, set_text};
 use crate::answerer::{Answerer, Answers, read_answerer, read_answers};
@@ -114,6 +115,14 @@ fn combined_text(alloc: Global, request: Request, sets: &[IpSet]) -> Result<Stri
     set_text(alloc, request.form, &set)
 }
 
+/// The counts of the sets, which have these names.
+fn count_text(alloc: Global, names: &[&str], sets: &[IpSet]) -> Result<String, AllocError>
+    ensures { IfOk result (λ text. (entries : List (List ListEntry)) → HaveMembers sets.now entries
+        → IsCountText IsInEntries names.now entries (string_bytes text)) }
+{
+    counts_text(alloc, names, sets)
+}
+
 /// What differs between the two sets.
 fn compare_text(alloc: Global, sets: &[IpSet]) -> Result<String, AllocError>
     ensures { IfOk result (λ text. (first second : List ListEntry) → HaveMembers sets.now (first ∷ second ∷ [])
@@ -125,7 +134,7 @@ fn compare_text(alloc: Global, sets: &[IpSet]) -> Result<String, AllocError>
     comparison_text(alloc, first, second)
 }
 
-/// The answer. Of a filter and a route its text is the one that reading made.
+/// The answer. The text of a filter and a route was made by reading.
 fn answer_of(
     alloc: Global,
     work: Work,
@@ -138,7 +147,7 @@ fn answer_of(
     let found = answers.found;
     let (text, succeeded) = match work {
         Work::Combine(request) => (combined_text(alloc, request, sets)?, true),
-        Work::Ask(Query::Count, _) => (counts_text(alloc, names, sets)?, true),
+        Work::Ask(Query::Count, _) => (count_text(alloc, names, sets)?, true),
         Work::Ask(Query::Compare, _) => {
             let text = compare_text(alloc, sets)?;
             let same = text.is_empty();
@@ -175,7 +184,7 @@ impl Session {
         Ok(keep(&mut self.sets, set)?)
     }
 
-    /// Reads the next list of a filter or a route: the first into what answers entries, and the second into the answers.
+    /// Reads the next list of a filter or a route: the first into the answerer, and the second into the answers.
     fn read_asked<R: Read>(&mut self, query: Query, input: &mut R) -> Result<(), ReadFailure>
         ensures { OnOk result (ReadsNext (IsAskState query)
             (R.remaining input.old) (R.remaining input.new) self.old self.new) }

@@ -141,18 +141,13 @@ fn runs(rt: HostRuntime) -> Result<(), Fail> {
 fn queries(rt: HostRuntime) -> Result<(), Fail> {
     grow_stack(rt.alloc())?;
     let alloc = rt.alloc();
-    let differences: &[u8] = b"only in the first: IPv4 1, IPv6 0\nonly in the second: IPv4 0, IPv6 0\n";
+    let differences: &[u8] =
+        b"only in the first: IPv4 1, IPv6 0\nonly in the second: IPv4 0, IPv6 0\n";
     let routes: &[u8] = b"::1 -\n10.0.0.1 10.0.0.0/8\n";
     let set = "10.0.0.0/8\n+::1\n10.0.0.1\n";
     // label, the query, its lists, status, standard output
     let rows: [(&str, Query, &str, u8, &[u8]); 6] = [
-        (
-            "count",
-            Query::Count,
-            "10.0.0.0/31\n::1\n",
-            0,
-            b"a\t2\t1\n",
-        ),
+        ("count", Query::Count, "10.0.0.0/31\n::1\n", 0, b"a\t2\t1\n"),
         (
             "count of two lists",
             Query::Count,

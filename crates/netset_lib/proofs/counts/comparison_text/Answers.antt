@@ -29,7 +29,8 @@ returns c =
     one.1 two.1
     (four_joined (string_bytes c.new-text.result) (string_bytes c.push_str.new.self)
     (string_bytes c.push_counts.new.text) (string_bytes c.push_str-2.new.self) (string_bytes c.push_counts-2.new.text)
-    (codes "only in the first: ") one.0 (codes "only in the second: ") two.0 c.new-text.ensures.bytes c.in_ok-push_str.ensures.bytes
+    (codes "only in the first: ") one.0 (codes "only in the second: ") two.0 c.new-text.ensures.bytes
+    c.in_ok-push_str.ensures.bytes
     one.2 c.in_ok-push_str-2.ensures.bytes two.2) in
     record {
       same = λ h. absurd (clash (λ x. (h x).0) (λ x. (h x).1));
