@@ -60,7 +60,7 @@ fn name_of<'a>(names: &'a [&'a str], index: usize) -> &'a str
     ensures { result.now ≡ name_at names.now index }
 {
     match names.get(index) {
-        Some(name) => name,
+        Some(name) => *name,
         None => NO_NAME,
     }
 }

@@ -118,13 +118,12 @@ fn stream_status(streamed: Streamed) -> u8
     ensures whole { result ≤ 1 → streamed.refused ≡ 0 }
     ensures succeeded { result ≤ 1 → streamed.succeeded ≡ (result == 0) }
 {
-    match streamed {
-        Streamed { refused, .. } if refused != 0 => 2,
-        Streamed {
-            succeeded: true,
-            ..
-        } => 0,
-        _ => 1,
+    if streamed.refused != 0 {
+        2
+    } else if streamed.succeeded {
+        0
+    } else {
+        1
     }
 }
 
@@ -181,8 +180,8 @@ pub(crate) fn report_since<X: Write>(
     before: (usize, usize),
 ) -> io::Result<()> {
     let (shown, count) = before;
-    for line in lines.shown.iter().skip(shown) {
-        report_line(faults, names, line)?;
+    for index in shown..lines.shown.len() {
+        report_line(faults, names, &lines.shown[index])?;
     }
     let new = lines.count.saturating_sub(count);
     let more = new.saturating_sub(lines.shown.len().saturating_sub(shown));
