@@ -105,12 +105,12 @@ def compiled(name):
     return program
 
 
-def netaddr_sets():
-    """The command of netaddr_sets.py, by the first Python with netaddr. Debian's has it, but is not always this one."""
+def in_python(module, script):
+    """The command of a script, by the first Python with the module. Debian's has it, but is not always this one."""
     for python in filter(os.path.exists, (sys.executable, "/usr/bin/python3")):
-        if subprocess.run([python, "-c", "import netaddr"], capture_output=True).returncode == 0:
-            return [python, os.path.join(BENCH, "netaddr_sets.py")]
-    note("there is no netaddr (apt-get install python3-netaddr): its columns stay empty")
+        if subprocess.run([python, "-c", "import " + module], capture_output=True).returncode == 0:
+            return [python, os.path.join(BENCH, script)]
+    note("there is no %s (apt-get install python3-%s): its columns stay empty" % (module, module))
     return None
 
 
@@ -169,7 +169,12 @@ class Programs:
     @functools.cached_property
     def netaddr(self):
         """The command of netaddr_sets.py."""
-        return netaddr_sets()
+        return in_python("netaddr", "netaddr_sets.py")
+
+    @functools.cached_property
+    def radix(self):
+        """The command of radix_routes.py."""
+        return in_python("radix", "radix_routes.py")
 
 
 def run(command, source=os.devnull, sink=subprocess.PIPE, status=0):

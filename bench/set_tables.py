@@ -19,6 +19,7 @@ def sets(bench):
         set_row(bench, name, task)
     asked(bench)
     beside_sets(bench)
+    routes(bench)
     access_lists(bench)
 
 
@@ -64,6 +65,74 @@ def beside_sets(bench):
         part = (peak - peak_before) / before["check"]
         row("%s, %s" % (task, name), mebibytes(before["check"]), mebibytes(peak - peak_before), "%.2f" % part,
             bench.judged("memory, %s, %s" % (task, name), part, 2))
+
+
+# The numbers of lines of the lists whose halves are asked about each line's last address: with many routes, and with
+# so few that the original can search through all of them.
+ROUTE_COUNTS = [1_000_000, 10_000]
+
+
+def routes(bench):
+    """Routes: questions of a table and of a map, and changes of a map, beside py-radix and the original."""
+    wanted = [(name, count) for count in ROUTE_COUNTS for name in SET_LISTS
+              if bench.wants(name, "longest_match", "map_longest_match")]
+    if wanted:
+        head("The longest match, of half of the list's networks", "list", "lines", "`RouteTable` ns", "`RouteMap` ns",
+             "of the table's", "bound", "py-radix ns", "the original's map ns", "its search ns", "answers")
+    for name, count in wanted:
+        match_row(bench, name, count)
+    wanted = [name for name in SET_LISTS if bench.wants(name, "fill_map", "update_map")]
+    if wanted:
+        head("Changes of a `RouteMap` of 10^6 routes", "list", "insert ns", "bound", "an update ns", "bound",
+             "py-radix: insert ns", "an update ns", "MiB", "the table's MiB", "of the table's", "bound", "answers")
+    for name in wanted:
+        change_row(bench, name, path_of(name))
+
+
+def match_row(bench, name, count):
+    """A question of a table and of a map."""
+    label, source = "longest match, %s, %d" % (name, count), path_of(name, count)
+    table, original, answers = in_turns(bench, ["longest_match"], ["longest_match"], source)
+    search = ["linear_match"] if count == min(ROUTE_COUNTS) else ["longest_match"]
+    changed, searched, more = in_turns(bench, ["map_longest_match"], search, source)
+    python = python_figure(bench, "longest_match", source, answers)
+    part = ratio(changed, table)
+    row(name, format(count, ","), *("%.0f" % (time / count) for time in (table, changed)), shown(part),
+        bench.judged(label, part, 1), each(python, count), each(original, count),
+        each(searched, count) if search == ["linear_match"] else "-", bench.compared(label, answers + more))
+
+
+def change_row(bench, name, source):
+    """Inserts and updates; an update is half of a removal and the insert after it."""
+    ours = {task: [figure(bench.programs.our_calls, [task], source) for _ in range(bench.rounds)]
+            for task in ("fill_map", "update_map")}
+    insert, update = (least([line["min_ns"] for line, _ in ours[task]]) for task in ours)
+    items, answers = ours["fill_map"][0][0]["items"], [(line["items"], line["check"]) for line, _ in ours["fill_map"]]
+    changes = [(line["items"], line["check"]) for line, _ in ours["update_map"]]
+    inserted = python_figure(bench, "fill_map", source, answers)
+    updated = python_figure(bench, "update_map", source, changes)
+    held = figure(bench.programs.our_calls, ["hold"], source)[1]
+    table = figure(bench.programs.our_calls, ["routes"], source)[1] - held
+    memory = max(peak for _, peak in ours["fill_map"]) - held
+    row(name, each(insert, items), bench.judged("insert, " + name, insert / items, 2000), each(update, 2 * items),
+        bench.judged("update, " + name, update / items / 2, 1000), each(inserted, items), each(updated, 2 * items),
+        mebibytes(memory), mebibytes(table), shown(memory / table),
+        bench.judged("memory of a map, " + name, memory / table, 2),
+        "same" if bench.compared(name, answers) == bench.compared(name, changes) == "same" else "**DIFFER**")
+
+
+def python_figure(bench, task, source, answers):
+    """The time of a task of py-radix; its answer joins the others. None without py-radix."""
+    if not bench.programs.radix:
+        return None
+    line, _ = figure(bench.programs.radix, [task], source)
+    answers.append((line["items"], line["check"]))
+    return line["min_ns"]
+
+
+def each(time, items):
+    """The time for each item, in nanoseconds."""
+    return "-" if time is None else "%.0f" % (time / items)
 
 
 # The lists of the access lists' rules, and the number of rules. Both calls have to take at most 50 ms.

@@ -9,7 +9,7 @@
  * - A pointer is NULL only if its length is 0. Pointers without a length (`count`, `same`, `covered`, `line`) are never
  *   NULL.
  * - A length is at most the number of bytes that may be read, or written, at its pointer.
- * - The memory that a call writes (`buffer`, `count`, `same`, `covered`, `line`, `answers`) does not overlap any other
+ * - The memory that a call writes (`buffer`, `count`, `same`, `covered`, `line`, `answers`, `counts`) does not overlap any other
  *   argument.
  * - malloc, realloc and free belong to the same allocator. It aligns a block to each power of two up to 16 that divides
  *   the size of the block. The allocators of Linux do so.
@@ -50,7 +50,7 @@ uint32_t ipnet_version(void);
 /* The statuses that a call returns. A later minor version may add some. */
 typedef enum ipnet_status {
     IPNET_OK = 0,                 /* success: the result was written */
-    IPNET_BAD_LINE = 1,           /* a line is neither empty nor a network */
+    IPNET_BAD_LINE = 1,           /* a line is neither empty nor what the call reads */
     IPNET_NOT_UTF8 = 2,           /* the text is not UTF-8 */
     IPNET_OUT_OF_MEMORY = 3,      /* malloc or realloc failed */
     IPNET_BUFFER_TOO_SHORT = 4,   /* the result does not fit into the buffer */
@@ -234,6 +234,23 @@ ipnet_status ipnet_print(const uint8_t *network, size_t network_len, char *buffe
  */
 ipnet_status ipnet_set_from_text(const char *text, size_t text_len, void *buffer, size_t buffer_len, size_t *count);
 
+/* Writes the image of the addresses of a list as people keep it, read as the program netset reads its files. A line is a
+ * network (10.0.0.0/8), an address (10.0.0.7), a range of addresses (10.0.0.3-10.0.0.9), or empty. It may have blanks
+ * around it, end with "\r\n", and have a comment after "#" or ";". A byte order mark at the start is skipped. Numbers
+ * are in the strict grammar. The text need not be UTF-8.
+ *
+ * OK                `buffer` starts with the image, and `*count` is its length
+ * BUFFER_TOO_SHORT  `*count` is the length of the image
+ * BAD_LINE          `*count` is the number of the first line that is none of these
+ * OUT_OF_MEMORY
+ *
+ * `buffer` is modified only on OK, and only up to the end of the image. `*count` is not modified on OUT_OF_MEMORY.
+ *
+ *     "# ours\n10.0.0.0-10.0.0.3\r\n"   OK, 40
+ *     "10.0.0.1\n10.0.0.1 10.0.0.2\n"    BAD_LINE, 2
+ */
+ipnet_status ipnet_set_from_list(const char *text, size_t text_len, void *buffer, size_t buffer_len, size_t *count);
+
 /* Writes the fewest networks of a set, given by its image, as text in the form of the result of ipnet_aggregate_text.
  *
  * OK                `buffer` starts with the text, and `*count` is its length
@@ -275,6 +292,21 @@ uint32_t ipnet_set_covers(const void *set, size_t set_len, const uint8_t *networ
  */
 ipnet_status ipnet_set_contains_all(const void *set, size_t set_len, const void *addresses, size_t addresses_len,
                                     size_t width, uint8_t *answers, size_t answers_len);
+
+/* Writes the numbers of addresses of a set, given by its image, into `counts`, which has four numbers. counts[0] is the
+ * number of IPv4 addresses. The number of IPv6 addresses is counts[1] + 2^64 * counts[2] + 2^128 * counts[3]; counts[3]
+ * is 1 if the set has all of them, and else 0.
+ *
+ * OK
+ * WRONG_LENGTH      if and only if `counts_len` is not 4
+ * NOT_A_SET         if and only if `counts_len` is 4 and the bytes are not the image of a set
+ * OUT_OF_MEMORY
+ *
+ * `counts` is modified only on OK.
+ *
+ *     the image of 10.0.0.0/30 and fd00::/63   OK, 4, 0, 2, 0
+ */
+ipnet_status ipnet_set_counts(const void *set, size_t set_len, uint64_t *counts, size_t counts_len);
 
 /* Returns 1 if the second set contains every address of the first, and 0 if it does not. Otherwise returns
  *
@@ -318,9 +350,9 @@ ipnet_status ipnet_set_complement(const void *set, size_t set_len, void *buffer,
  *
  * A table has networks with a number each, its value, and finds the longest network that contains an address. It is kept
  * by the caller, as a set is: as its image. An image has 32 bytes, 32 for each route, and from 4,096 routes on an index
- * of 524,292 bytes and 4 for each IPv4 route. The calls on an image allocate nothing and test only its header. If the image comes from outside,
- * test all of it once with ipnet_table_check. Whatever the bytes are, no call reads outside of them, and every call
- * ends. */
+ * of 524,292 bytes and 4 for each IPv4 route. The calls on an image allocate nothing and test only its header. If the
+ * image comes from outside, test all of it once with ipnet_table_check. Whatever the bytes are, no call reads outside of
+ * them, and every call ends. */
 
 /* Writes the image of a table of routes. The text is a list of networks, in the strict grammar, and `values` has one
  * number for each network, in the same order. Networks are equal if they are equal without their host bits; if one is

@@ -1,9 +1,9 @@
 """Which edits are tried in one check: the batches of a crate.
 
 The edits of one batch change different functions. Edits of contracts, ghost members, derives and definitions can change
-the verdict on other functions: they come last, and only with edits of types that do not use each other. Controls, which
-have to be proved, and edits of the self-test share no batch with wrong bodies. This module is not run:
-`tests/wrong_bodies` imports it.
+the verdict on other functions: they come after edits of bodies, and only with edits of types that do not use each
+other. Controls, which have to be proved, come last, and only with wrong bodies of functions that theirs does not call.
+Edits of the self-test share no batch with others. This module is not run: `tests/wrong_bodies` imports it.
 """
 import os
 import re
@@ -30,6 +30,7 @@ class Source:
                 self.files[path] = (read_text(os.path.join(folder, path)).split("\n"),
                                     items(read_text(os.path.join(folder, path))))
         self.users = self.users_of_types()
+        self.calls = self.calls_of_functions()
 
     def users_of_types(self):
         """For each type and constant of the crate, the types whose definition names it."""
@@ -39,6 +40,24 @@ class Source:
                 if re.match(r"\s*(pub(\(\w+\))? )?(struct|enum|trait|const) ", lines[item.start]):
                     named.setdefault(item.name, set()).update(words(lines[item.start:item.end]))
         return {name: {user for user, used in named.items() if name in used} for name in named}
+
+    def calls_of_functions(self):
+        """For each name of a function of the crate, the names that the functions of this name call."""
+        found = {}
+        for lines, its in self.files.values():
+            for item in its:
+                if item.is_function:
+                    found.setdefault(last_name(item.name), set()).update(calls(lines[item.start + 1:item.end]))
+        return found
+
+    def called_by(self, function):
+        """The names of the functions that this one may call, and that those may call, without their types."""
+        found, rest = set(), [last_name(function)]
+        while rest:
+            new = {name for name in self.calls.get(rest.pop(), ()) if name in self.calls} - found
+            found |= new
+            rest += new
+        return found
 
     def item_at(self, path, line):
         return next((it for it in self.files.get(path, ([], []))[1] if it.start <= line < it.end), None)
@@ -55,11 +74,16 @@ class Source:
 
     def words_of_function(self, function):
         """The words of the function or law of this name, as a check prints it."""
-        tail = function.split("::")[-1]
+        tail = last_name(function)
         return {word for lines, found in self.files.values() for item in found
-                if item.is_function and item.name.split("::")[-1] == tail
+                if item.is_function and last_name(item.name) == tail
                 and (item.name in function or "::" not in item.name)
                 for word in words(lines[item.start:item.end])}
+
+
+def last_name(name):
+    """The name of a function or method without its type and module."""
+    return name.split("::")[-1]
 
 
 def words(lines):
@@ -67,11 +91,18 @@ def words(lines):
     return {word for line in lines for word in re.findall(r"\w+", line.partition("//")[0])}
 
 
+def calls(lines):
+    """The names that these lines call."""
+    return {name for line in lines for name in re.findall(r"(\w+)(?:::<[^>()]*>)?\(", line.partition("//")[0])}
+
+
 class Reach:
     """What an edit changes, and what its verdict depends on.
 
     - `places`: the functions, impls and types that it changes, and the function that has to refuse it;
-    - `kind`: whether it is a control, which has to be proved, and whether it is an edit of the self-test;
+    - `is_control`: whether it is a control, which has to be proved, and `is_test` whether it is of the self-test;
+    - `calls`: for a control, the names of the functions whose proofs its verdict may wait for;
+    - `names`: the names of the functions that it changes;
     - `is_local`: whether it changes bodies of functions only, so that no other verdict can change;
     - `is_global`: whether it changes definitions, which any verdict can depend on;
     - `changed` and `read`: for the rest, the types that it can change, and those that its verdict depends on;
@@ -83,12 +114,16 @@ class Reach:
     def __init__(self, edit, source):
         self.places = {edit.notes["at"]} if "at" in edit.notes else set()
         self.is_local = True
-        self.kind = edit.is_control, "expected" in edit.notes
+        self.is_control = edit.is_control
+        self.is_test = "expected" in edit.notes
+        self.calls = source.called_by(edit.notes.get("at", "")) if edit.is_control else set()
+        self.names = set()
         self.is_global = any(not path.startswith("src/") for path in edit.texts)
         self.traits, types = set(), set()
         for path, start, end, new in edit.hunks():
             item = source.item_at(path, start)
             self.places.add((path, item.start if item else start))
+            self.names |= {last_name(item.name)} if item and item.is_function else set()
             if path not in source.files:
                 self.is_local = False
                 self.traits.add(ANY)
@@ -102,11 +137,14 @@ class Reach:
         self.read = types | source.words_of_function(edit.notes.get("at", "")) if types else set()
 
     def keeps_apart(self, other):
-        """Whether the two edits have to be tried in different checks. Right bodies cannot change other verdicts."""
-        if self.kind != other.kind or self.places & other.places:
+        """Whether the two edits have to be tried in different checks. Right bodies cannot change other verdicts, but they
+        are not proved if a function that theirs calls is not."""
+        if self.is_test != other.is_test or self.places & other.places:
             return True
-        if self.kind[0]:
+        if self.is_control and other.is_control:
             return False
+        if self.calls & other.names or other.calls & self.names:
+            return True
         return (self.is_local != other.is_local or self.is_global or other.is_global
                 or bool(self.traits & other.traits or ANY in self.traits | other.traits)
                 and bool(self.changed & other.read or other.changed & self.read))
@@ -147,7 +185,7 @@ def first_fit(edits, keeps_apart):
 
 
 def batches_of(edits, source):
-    """The batches of these edits: edits of bodies first."""
+    """The batches of these edits: edits of bodies first, and controls last."""
     reach = {edit: Reach(edit, source) for edit in edits}
-    return first_fit(sorted(edits, key=lambda edit: not reach[edit].is_local),
+    return first_fit(sorted(edits, key=lambda edit: (edit.is_control, not reach[edit].is_local)),
                      lambda edit, other: reach[edit].keeps_apart(reach[other]))

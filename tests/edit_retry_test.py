@@ -1,5 +1,5 @@
-"""Whether `tests/wrong_bodies` tries an edit again before it fails, and which functions each check asks for: checks
-with outputs that are written here.
+"""Whether `tests/wrong_bodies` tries an edit again before it fails, whether the first batch of a crate without proofs
+proves what the others need, and which functions each check asks for: checks with outputs that are written here.
 
 This module is not run: `tests/wrong_bodies --self-test` imports it.
 """
@@ -54,15 +54,20 @@ class Named:
 
 
 class Written:
-    """Rooms whose checks print what is written in a case."""
+    """Rooms whose checks print what is written in a case. `first` are the functions that the first check asks for, if
+    there are no proofs before it."""
 
-    def __init__(self, outputs):
+    def __init__(self, outputs, first=None):
         self.outputs = outputs
+        self.first = first
         self.checks = 0
         self.is_asked = True
 
-    def check(self, _crate, batch, title, functions):
-        wanted = None if title.endswith("again") else {edit.notes["at"] for edit in batch}
+    def has_proofs(self, _crate):
+        return not self.first or self.checks > 0
+
+    def check(self, _crate, batch, _title, functions):
+        wanted = {edit.notes["at"] for edit in batch} if self.has_proofs("c") else self.first
         self.checks += 1
         self.is_asked &= functions == wanted
         return Check(Report(self.outputs[" ".join(edit.name for edit in batch)]), False, 0, 0)
@@ -72,21 +77,35 @@ def run(trial_class, tally_class):
     """The tally of all cases."""
     tally = tally_class()
     for label, outputs, wanted, checks in CASES:
-        trial = trial_class.__new__(trial_class)
-        trial.rooms, trial.crate, trial.functions, trial.tally = Written(outputs), "c", None, Kept()
-        left = [([Named(name) for name in next(iter(outputs)).split()], "c, batch 1 of 1")]
-        with contextlib.redirect_stdout(io.StringIO()):
-            while left:
-                left += trial.try_batch(*left.pop(0))
-        count = len(next(iter(outputs)).split())
+        batch = [Named(name) for name in next(iter(outputs)).split()]
+        trial = tried(trial_class, Written(outputs), [batch])
         if not trial.rooms.is_asked:
             tally.fail(label, "a check asks for other functions than it should")
-        elif (trial.tally.failing, trial.tally.passed, trial.rooms.checks) == (wanted, count - len(wanted), checks):
+        elif (trial.tally.failing, trial.tally.passed, trial.rooms.checks) == (wanted, len(batch) - len(wanted), checks):
             tally.passed += 1
         else:
             tally.fail(label, "%s fail, %d pass, in %d checks"
                        % (trial.tally.failing, trial.tally.passed, trial.rooms.checks))
+    trial = tried(trial_class, Written({"f": GOAL % "f", "g": GOAL % "g", "h": GOAL % "h"}, {"c::f", "c::g", "c::h"}),
+                  [[Named("f")], [Named("g")], [Named("h")]])
+    if trial.rooms.is_asked and (trial.tally.passed, trial.rooms.checks) == (3, 3):
+        tally.passed += 1
+    else:
+        tally.fail("the first batch of a crate without proofs asks for what all edits name", "it does not")
     return tally
+
+
+def tried(trial_class, rooms, batches):
+    """A trial of these batches in these rooms, after all its checks."""
+    trial = trial_class.__new__(trial_class)
+    trial.rooms, trial.crate, trial.batches, trial.tally = rooms, "c", batches, Kept()
+    trial.has_begun, trial.functions = False, None
+    trial.named = {edit.notes["at"] for batch in batches for edit in batch}
+    left = trial.titled(batches if rooms.has_proofs("c") else batches[:1])
+    with contextlib.redirect_stdout(io.StringIO()):
+        while left:
+            left += trial.try_batch(*left.pop(0))
+    return trial
 
 
 class Kept:

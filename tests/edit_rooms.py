@@ -4,7 +4,9 @@ Each crate has a tree: the crate, which is proved there first, and the libraries
 them.
 A batch of edits has a room: the tree again, by hard links, which is removed after the check. So each check begins with
 the proofs of the right bodies, and no verdict depends on the checks before it. A check writes new files in the place of
-old ones, so it changes nothing in the tree. This module is not run: `tests/wrong_bodies` imports it.
+old ones, so it changes nothing in the tree. If `rt ci` has proved and built a crate, its tree has no proofs at first:
+then the first batch proves the other functions too, and leaves the tree what it proved. This module is not run:
+`tests/wrong_bodies` imports it.
 """
 import os
 import re
@@ -71,8 +73,16 @@ class Rooms:
         words = ["check", *only(functions)] if functions or not is_library(crate) else ["lib"]
         return self.run(tree, crate, [*words, "--jobs", str(jobs)], crate + " without edits")
 
+    def has_proofs(self, crate):
+        """Whether the crate's tree has proofs, with which the check of a batch can begin."""
+        return os.path.isdir(self.proofs(self.tree(crate), crate))
+
+    def proofs(self, root, crate):
+        return os.path.join(root, "crates", crate, "out", "incremental")
+
     def check(self, crate, edits, title, functions=None):
-        """Puts the edits, which change different lines, into a room, and checks the crate there."""
+        """Puts the edits, which change different lines, into a room, and checks the crate there. If the tree has no
+        proofs, it gets what this check proves."""
         room = os.path.join(self.folder, "rooms", file_name(title))
         shutil.rmtree(room, ignore_errors=True)
         write_lists(room, [*self.libraries_below(crate), crate])
@@ -89,6 +99,8 @@ class Rooms:
         try:
             return self.run(room, crate, ["check", *only(functions), "--jobs", "1"], title)
         finally:
+            if not self.has_proofs(crate) and os.path.isdir(self.proofs(room, crate)):
+                os.rename(self.proofs(room, crate), self.proofs(self.tree(crate), crate))
             shutil.rmtree(room, ignore_errors=True)
 
     def run(self, root, crate, words, title):
@@ -110,18 +122,6 @@ class Rooms:
                 break
         self.used += used
         return Check(report, status == 0, time.time() - began, used)
-
-    def tell_proved(self):
-        """Leaves a file `proved` in the folder: the tree of each crate has its proofs."""
-        write_anew(os.path.join(self.folder, "proved"), "")
-
-    def give_back(self):
-        """Leaves what the trees keep in the out/ of those crates of the repository that have none."""
-        for crate in os.listdir(os.path.join(self.folder, "trees")):
-            here, there = os.path.join(TOP, "crates", crate), os.path.join(self.tree(crate), "crates", crate)
-            for part in set(kept_in(there)) - set(kept_in(here)):
-                shutil.rmtree(os.path.join(here, "out", part), ignore_errors=True)
-                link_folders(os.path.join(there, "out"), os.path.join(here, "out"), (part,))
 
 
 def kept_in(crate_folder):

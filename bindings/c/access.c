@@ -1,4 +1,5 @@
-/* An access control: prints for each address or network on standard input whether a list of networks allows it.
+/* An access control: prints for each address or network on standard input whether a list allows it. The list has
+ * networks, addresses, ranges and comments.
  *
  *     cc -Iinclude bindings/c/access.c bindings/out/libipnet.a -o access && ./access allowed.txt < questions.txt
  *
@@ -31,7 +32,7 @@ int main(int words, char **word)
         fputs("access: the list cannot be read\n", stderr);
         return 3;
     }
-    ipnet_status status = ipnet_set_from_text(list, list_len, set, sizeof set, &set_len);
+    ipnet_status status = ipnet_set_from_list(list, list_len, set, sizeof set, &set_len);
     if (status != IPNET_OK) {
         fprintf(stderr, "access: %s (%zu)\n", ipnet_status_text(status), set_len);
         return 3;

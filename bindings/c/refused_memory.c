@@ -122,6 +122,25 @@ static ipnet_status set_from_text(struct lent *lent)
     return status;
 }
 
+static ipnet_status set_from_list(struct lent *lent)
+{
+    static const char people[] = "# ours\n10.0.1.0-10.0.1.255 # a range\n10.0.0.0/24\r\nfd00::/32 ; the last\n";
+    uint8_t image[128];
+    ipnet_status status = ipnet_set_from_list(people, strlen(people), image, sizeof image, &lent->number);
+    lent->yes = status == IPNET_OK ? lent->number == list_set.len && memcmp(image, list_set.bytes, list_set.len) == 0
+                                   : lent->yes;
+    return status;
+}
+
+static ipnet_status set_counts(struct lent *lent)
+{
+    uint64_t counts[4];
+    ipnet_status status = ipnet_set_counts(list_set.bytes, list_set.len, counts, 4);
+    lent->yes = status == IPNET_OK ? counts[0] == 512 && counts[1] == 0 && counts[2] == (uint64_t)1 << 32 && counts[3] == 0
+                                   : lent->yes;
+    return status;
+}
+
 static ipnet_status set_to_text(struct lent *lent)
 {
     return ipnet_set_to_text(list_set.bytes, list_set.len, lent->buffer, sizeof lent->buffer, &lent->number);
@@ -164,6 +183,7 @@ static const struct {
     {"is_covered", is_covered, NULL},       {"set_from_text", set_from_text, NULL},
     {"set_to_text", set_to_text, whole},    {"set_union", set_union, NULL},
     {"set_complement", set_complement, NULL}, {"set_is_subset", set_is_subset, NULL},
+    {"set_from_list", set_from_list, NULL}, {"set_counts", set_counts, NULL},
 };
 
 static int is_answered(const struct lent *lent, const char *answer)

@@ -205,6 +205,77 @@ static void try_statuses(void)
     free(set.at);
 }
 
+/* Lists as people keep them: the same set as a strict list, or the number of the first bad line. */
+static const struct {
+    const char *list, *strict;
+    size_t line;
+} lists[] = {
+    {"", "", 0},
+    {"\n \t\r\n# nothing\n; nothing either", "", 0},
+    {"10.0.0.1", "10.0.0.1/32", 0},
+    {"\xef\xbb\xbf 10.0.0.0/31 # ours\r\n10.0.0.2-10.0.0.5\n", "10.0.0.0/30\n10.0.0.4/31", 0},
+    {"fd00::-fd00::1 ; two\n10.0.0.7/24", "fd00::/127\n10.0.0.0/24", 0},
+    {"10.0.0.1 # \xff is in a comment", "10.0.0.1/32", 0},
+    {"10.0.0.1\n\nx\ny", NULL, 3},
+    {"10.0.0.1\n10.0.0.9-10.0.0.2", NULL, 2},
+    {"10.0.0.1-::1", NULL, 1},
+    {"10.0.0.1 10.0.0.2", NULL, 1},
+    {"10.0.0.1; 10.0.0.2", NULL, 1},
+    {"10.0.0.01", NULL, 1},
+    {"\n10.0.0.0/33", NULL, 2},
+    {"10.0.0.1\n\xff", NULL, 2},
+};
+
+static void try_lists(void)
+{
+    for (size_t i = 0; i < sizeof lists / sizeof *lists; i++) {
+        struct bytes given = copied(lists[i].list, strlen(lists[i].list));
+        uint8_t buffer[256];
+        size_t count = 0;
+        memset(buffer, UNTOUCHED, sizeof buffer);
+        ipnet_status status = ipnet_set_from_list((const char *)given.at, given.len, buffer, sizeof buffer, &count);
+        if (lists[i].strict == NULL) {
+            expect(status == IPNET_BAD_LINE && count == lists[i].line && buffer[0] == UNTOUCHED, lists[i].list);
+        } else {
+            struct bytes set = image_of(lists[i].strict);
+            expect(status == IPNET_OK && count == set.len && memcmp(buffer, set.at, count) == 0, lists[i].list);
+            expect(ipnet_set_from_list((const char *)given.at, given.len, NULL, 0, &count) == IPNET_BUFFER_TOO_SHORT
+                   && count == set.len, lists[i].list);
+            free(set.at);
+        }
+        free(given.at);
+    }
+}
+
+/* A list, and the numbers of its addresses. */
+static const struct {
+    const char *list;
+    uint64_t counts[4];
+} numbers[] = {
+    {"", {0, 0, 0, 0}},
+    {"10.0.0.0/30\nfd00::/63", {4, 0, 2, 0}},
+    {"0.0.0.0/0\n::/1\n8000::/128", {(uint64_t)1 << 32, 1, (uint64_t)1 << 63, 0}},
+    {"::/0", {0, 0, 0, 1}},
+    {"255.255.255.255/32\n::/127\nffff::/127", {1, 4, 0, 0}},
+};
+
+static void try_counts(void)
+{
+    const uint64_t untouched[5] = {7, 7, 7, 7, 7};
+    uint64_t counts[5];
+    for (size_t i = 0; i < sizeof numbers / sizeof *numbers; i++) {
+        struct bytes set = image_of(numbers[i].list);
+        memcpy(counts, untouched, sizeof counts);
+        expect(ipnet_set_counts(set.at, set.len, counts, 3) == IPNET_WRONG_LENGTH, "three counts");
+        expect(ipnet_set_counts(set.at, set.len, counts, 5) == IPNET_WRONG_LENGTH, "five counts");
+        expect(ipnet_set_counts(set.at, set.len - 1, counts, 4) == IPNET_NOT_A_SET, "a byte less");
+        expect(memcmp(counts, untouched, sizeof counts) == 0, "refused calls change nothing");
+        expect(ipnet_set_counts(set.at, set.len, counts, 4) == IPNET_OK
+               && memcmp(counts, numbers[i].counts, sizeof numbers[i].counts) == 0, numbers[i].list);
+        free(set.at);
+    }
+}
+
 /* Bytes that were changed at random: each call ends, and reads only these. */
 static void try_hostile(void)
 {
@@ -236,6 +307,8 @@ int main(void)
     try_questions();
     try_many();
     try_statuses();
+    try_lists();
+    try_counts();
     try_hostile();
     printf("%u answers, %u faults\n", calls, faults);
     return faults > 0;

@@ -1,4 +1,5 @@
-"""An access control: prints for each address or network on standard input whether a list of networks allows it.
+"""An access control: prints for each address or network on standard input whether a list allows it. The list has
+networks, addresses, ranges and comments.
 
     python3 access.py allowed.txt < questions.txt
 
@@ -21,7 +22,7 @@ def answer(allowed: ipnet_proved.IpSet, line: str) -> str:
 def main() -> None:
     try:
         with open(sys.argv[1], "rb") as file:
-            allowed = ipnet_proved.IpSet(file.read())
+            allowed = ipnet_proved.IpSet.from_list(file.read())
     except (IndexError, OSError, ValueError) as error:
         print(f"access: {error}", file=sys.stderr)
         sys.exit(3)

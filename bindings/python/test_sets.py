@@ -83,6 +83,29 @@ class Sets(unittest.TestCase):
         self.assertEqual((caught.exception.line, caught.exception.text), (2, "10.0.0.0/33"))
         self.assertEqual(repr(made), "IpSet(['8.8.8.8/32', '10.0.0.0/24', 'fd00::/32'])")
 
+    def test_lists(self):
+        people = b"\xef\xbb\xbf# ours\n10.0.0.0-10.0.0.5\t# six\r\n\n fd00::/32 ; more\n10.0.0.6"
+        for text in (people, people.decode(), bytearray(people), memoryview(people)):
+            self.assertEqual(IpSet.from_list(text), IpSet(["10.0.0.0/30", "10.0.0.4/31", "10.0.0.6", "fd00::/32"]))
+        self.assertEqual(IpSet.from_list(""), IpSet())
+        for text, line, part in (("10.0.0.1\nx # y", 2, "x # y"), ("\n10.0.0.9-10.0.0.1\n", 2, "10.0.0.9-10.0.0.1"),
+                                 ("10.0.0.1;10.0.0.2", 1, "10.0.0.1;10.0.0.2"), (b"10.0.0.1\n\xff", 2, "\\xff")):
+            with self.assertRaises(ipnet_proved.BadLine) as caught:
+                IpSet.from_list(text)
+            self.assertEqual((caught.exception.line, caught.exception.text), (line, part))
+
+    def test_counts(self):
+        draw = random.Random(6)
+        for _ in range(100):
+            networks = [ipaddress.IPv6Network((draw.getrandbits(length) << 128 - length, length))
+                        for length in (draw.randrange(1, 129) for _ in range(4))]
+            networks += [ipaddress.IPv4Network((draw.getrandbits(length) << 32 - length, length))
+                         for length in (draw.randrange(1, 33) for _ in range(4))]
+            families = [ipaddress.collapse_addresses([n for n in networks if n.version == f]) for f in (4, 6)]
+            made = IpSet(networks)
+            self.assertEqual([made.ipv4_count, made.ipv6_count],
+                             [sum(n.num_addresses for n in family) for family in families])
+
     def test_copies(self):
         made = IpSet(["10.0.0.0/24", "fd00::/32"])
         for other in (pickle.loads(pickle.dumps(made)), copy.copy(made), copy.deepcopy(made)):

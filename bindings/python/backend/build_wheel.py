@@ -1,13 +1,18 @@
 """Builds the wheel of this package, with the shared library inside. pip calls build_wheel (PEP 517).
 
 The library comes from the folder IPNET_LIB, else from ../build, which builds it if it is not built. Equal files give
-equal wheels: the dates are SOURCE_DATE_EPOCH, or 1980.
+equal wheels: the dates are SOURCE_DATE_EPOCH, or 1980. From Python 3.10 on, and if a C compiler and Python.h are there,
+the module _quick is built too; without it the package gives the same answers, more slowly.
 """
 import base64
 import hashlib
 import os
 import re
+import shutil
 import subprocess
+import sys
+import sysconfig
+import tempfile
 import time
 import zipfile
 
@@ -26,15 +31,32 @@ def field(file, name):
     return re.search(r'(?m)^%s = "(.*)"$' % name, read(*file).decode()).group(1)
 
 
-def library():
-    """The shared library."""
+def library_folder():
+    """The folder of the shared library."""
     folder = os.environ.get("IPNET_LIB")
     if not folder:
         built = subprocess.run([os.path.join(TOP, "..", "build")], stdout=subprocess.PIPE, check=False)
         if built.returncode != 0:
             raise SystemExit("bindings/build failed; IPNET_LIB may name a folder that has libipnet.so")
         folder = re.search(r"(?m)^bindings/build: (.*)/libipnet\.a, ", os.fsdecode(built.stdout)).group(1)
-    return read(folder, "libipnet.so")
+    return folder
+
+
+def quick(folder):
+    """The module _quick, or None if it cannot be built here."""
+    header = os.path.join(sysconfig.get_path("include"), "Python.h")
+    compiler = os.environ.get("CC", "cc")
+    if sys.version_info < (3, 10) or not os.path.exists(header) or shutil.which(compiler) is None:
+        return None
+    with tempfile.TemporaryDirectory() as room:
+        # fixed names, so that equal sources give equal bytes
+        for path in ("_quick.c", "../../include/ipnet.h", os.path.join(folder, "libipnet.so")):
+            shutil.copy(os.path.join(TOP, path), room)
+        command = [compiler, "-O2", "-fPIC", "-shared", "-s", "-Wl,--build-id=none", "-I.",
+                   "-I" + os.path.dirname(header), "_quick.c", "-L.", "-lipnet", "-o", "_quick.so"]
+        if subprocess.run(command, cwd=room, check=False).returncode != 0:
+            return None
+        return read(room, "_quick.so")
 
 
 def metadata(version):
@@ -48,10 +70,14 @@ def build_wheel(wheel_directory, config_settings=None, metadata_directory=None):
     """Writes the wheel into the folder, and returns its name."""
     version = field([NAME, "__init__.py"], "__version__")
     info = "%s-%s.dist-info" % (NAME, version)
-    tag = "py3-none-linux_x86_64"
+    folder = library_folder()
+    module = quick(folder)
+    tag = "py3-none-linux_x86_64" if module is None else "cp310-abi3-linux_x86_64"
     files = {"%s/%s" % (NAME, name): read(NAME, name) for name in os.listdir(os.path.join(TOP, NAME))
-             if name.endswith((".py", ".typed"))}
-    files[NAME + "/libipnet.so"] = library()
+             if name.endswith((".py", ".pyi", ".typed"))}
+    files[NAME + "/libipnet.so"] = read(folder, "libipnet.so")
+    if module is not None:
+        files[NAME + "/_quick.abi3.so"] = module
     files.update(("%s/%s" % (info, name), read("..", "..", name)) for name in LICENCES)
     files[info + "/METADATA"] = metadata(version)
     files[info + "/WHEEL"] = ("Wheel-Version: 1.0\nGenerator: %s\nRoot-Is-Purelib: false\nTag: %s\n"

@@ -2,10 +2,18 @@
 import ctypes
 import struct
 from ipaddress import IPv4Address, IPv6Address, ip_network
-from typing import Any, Iterator, List, Sequence, Tuple, Union
+from typing import Any, Iterator, List, Optional, Sequence, Tuple, Union
 
 from . import _library as library
-from ._networks import Address, Network, Networks, OneNetwork, answered, bytes_of, text_of
+from ._networks import (Address, BadLine, Network, Networks, OneNetwork, Text, answered, as_bytes, bytes_of,
+                        cause_of_entry, shown, text_of)
+
+try:
+    from ._quick import contains
+except ImportError:
+    def contains(image: bytes, network: object) -> Optional[bool]:
+        """No answer: ctypes asks the library."""
+        return None
 
 HEADER = struct.Struct("<8sQQQ")
 WIDTHS = (4, 16)
@@ -13,6 +21,7 @@ WIDTHS = (4, 16)
 _contains = library.question("ipnet_set_contains")
 _covers = library.question("ipnet_set_covers")
 _contains_all = library.question("ipnet_set_contains_all")
+_counts = library.question("ipnet_set_counts")
 _is_subset = library.question("ipnet_set_is_subset")
 _check = library.question("ipnet_set_check")
 
@@ -54,6 +63,28 @@ class IpSet:
         self._image = answered(library.writer("ipnet_set_from_text", room), [data])
 
     @classmethod
+    def from_list(cls, text: Text) -> "IpSet":
+        """The set of a list as people keep it, read as the program netset reads its files. A line is a network, an
+        address, a range FIRST-LAST of addresses, or empty; it may have blanks around it, end with a carriage return,
+        and have a comment after # or ;. Raises BadLine at the first line that is none of these.
+
+        >>> IpSet.from_list("# ours\\n10.0.0.0-10.0.0.3   # four\\r\\n") == IpSet("10.0.0.0/30")
+        True
+        >>> IpSet.from_list("10.0.0.1\\n10.0.0.9-10.0.0.2")
+        Traceback (most recent call last):
+            ...
+        ipnet_proved.BadLine: line 2: '10.0.0.9-10.0.0.2': not a range of addresses, FIRST-LAST
+        """
+        data = as_bytes(text)
+        status, number, image = library.writer("ipnet_set_from_list", len(data) + HEADER.size)(data)
+        if status == library.BAD_LINE:
+            line = data.split(b"\n")[number - 1].strip()
+            raise BadLine(number, shown(line), cause_of_entry(line))
+        if status == library.OUT_OF_MEMORY:
+            raise MemoryError("libipnet: out of memory")
+        return cls._of(image)
+
+    @classmethod
     def _of(cls, image: bytes) -> "IpSet":
         """The set of an image that the library has written."""
         made = object.__new__(cls)
@@ -87,6 +118,9 @@ class IpSet:
     def __contains__(self, network: OneNetwork) -> bool:
         """Whether the set contains the address, or every address of the network. Raises NotANetwork if a text is
         neither."""
+        answer = contains(self._image, network)
+        if answer is not None:
+            return answer
         if isinstance(network, (IPv4Address, IPv6Address)) and getattr(network, "scope_id", None) is None:
             octets = network.packed
             return _contains(self._image, len(self._image), octets, len(octets)) == 1
@@ -219,12 +253,20 @@ class IpSet:
         >>> IpSet(["10.0.0.0/24", "::/0"]).ipv4_count, IpSet("::/0").ipv6_count == 2 ** 128
         (256, True)
         """
-        return sum(end - start + 1 for start, end in self._ranges_of(4))
+        return self._counts()[0]
 
     @property
     def ipv6_count(self) -> int:
         """The number of IPv6 addresses."""
-        return sum(end - start + 1 for start, end in self._ranges_of(16))
+        _, low, middle, high = self._counts()
+        return low + (middle << 64) + (high << 128)
+
+    def _counts(self) -> List[int]:
+        """The number of IPv4 addresses, and three digits of the number of IPv6 addresses, the lowest first."""
+        counts = (ctypes.c_uint64 * 4)()
+        if _counts(self._image, len(self._image), counts, 4) == library.OUT_OF_MEMORY:
+            raise MemoryError("libipnet: out of memory")
+        return list(counts)
 
     def to_text(self) -> str:
         """The fewest networks of the set as text, one per line, IPv4 first, ascending.

@@ -1,10 +1,17 @@
 """Tables of routes, kept as images: bytes that can be stored and sent."""
 import array
 import ctypes
-from typing import Iterable, List, Mapping, Optional, Tuple, Union
+from typing import Any, Iterable, Mapping, Optional, Tuple, Union
 
 from . import _library as library
 from ._networks import OneNetwork, bytes_of, refuse, text_of, with_lengths
+
+try:
+    from ._quick import longest_match
+except ImportError:
+    def longest_match(image: bytes, address: object) -> Any:
+        """No answer: ctypes asks the library."""
+        return NotImplemented
 
 LARGEST = 2 ** 32 - 1
 WIDTHS = (4, 16)
@@ -91,6 +98,9 @@ class RouteTable:
     def get(self, address: OneNetwork, default: Optional[int] = None) -> Optional[int]:
         """The number of the longest network that contains the address, or `default` if none does. Raises NotANetwork if
         a text is not an address."""
+        answer = longest_match(self._image, address)
+        if answer is not NotImplemented:
+            return default if answer is None else answer
         data = bytes_of(address)
         octets = data[1:-1]
         if data[-1] != 8 * len(octets):

@@ -1,4 +1,5 @@
-//! An access control: prints for each address or network on standard input whether a list of networks allows it.
+//! An access control: prints for each address or network on standard input whether a list allows it. The list has
+//! networks, addresses, ranges and comments.
 //!
 //! ```sh
 //! cargo run --example access allowed.txt < questions.txt
@@ -17,7 +18,7 @@ fn parsed(line: &str) -> Result<Network, Error> {
 }
 
 fn answer_all(path: &str) -> Result<(), Box<dyn std::error::Error>> {
-    let allowed: IpSet = std::fs::read_to_string(path)?.parse()?;
+    let allowed = IpSet::from_list(std::fs::read(path)?)?;
     let mut out = io::stdout().lock();
     for line in io::stdin().lock().lines() {
         let line = line?;

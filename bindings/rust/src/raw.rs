@@ -109,6 +109,13 @@ extern "C" {
         buffer_len: usize,
         count: *mut usize,
     ) -> u32;
+    pub fn ipnet_set_from_list(
+        text: *const u8,
+        text_len: usize,
+        buffer: *mut u8,
+        buffer_len: usize,
+        count: *mut usize,
+    ) -> u32;
     pub fn ipnet_set_to_text(
         set: *const u8,
         set_len: usize,
@@ -171,6 +178,7 @@ extern "C" {
         answers: *mut u8,
         answers_len: usize,
     ) -> u32;
+    fn ipnet_set_counts(set: *const u8, set_len: usize, counts: *mut u64, counts_len: usize) -> u32;
     fn ipnet_set_is_subset(set: *const u8, set_len: usize, other: *const u8, other_len: usize) -> u32;
     fn ipnet_table_from_text(
         text: *const u8,
@@ -405,6 +413,16 @@ pub fn set_contains_all(set: &[u8], addresses: &[u8], width: usize, answers: &mu
             answers.as_mut_ptr(),
             answers.len(),
         );
+    }
+}
+
+/// The number of IPv4 addresses of the set of an image, and three digits of the number of IPv6 addresses.
+pub fn set_counts(set: &[u8]) -> Result<[u64; 4], Error> {
+    let mut counts = [0; 4];
+    // SAFETY: as in `call`.
+    match unsafe { ipnet_set_counts(set.as_ptr(), set.len(), counts.as_mut_ptr(), counts.len()) } {
+        OK => Ok(counts),
+        status => Err(error_of(status, 0)),
     }
 }
 

@@ -1,7 +1,11 @@
 //! Sets of addresses.
-use crate::{raw, Error, Network};
+use crate::{lines, parsed, raw, Error, Network};
+use std::fmt;
 use std::net::{IpAddr, Ipv4Addr, Ipv6Addr};
 use std::str::FromStr;
+
+/// The length of the image of the empty set.
+const EMPTY: usize = 32;
 
 /// A set of IPv4 and IPv6 addresses. It is kept as its image: bytes that can be stored, mapped and sent. Sets are equal
 /// if and only if they have the same addresses.
@@ -29,6 +33,37 @@ impl IpSet {
     pub fn from_text(text: &str) -> Result<IpSet, Error> {
         let image = raw::bytes_from(text.as_bytes(), text.len().saturating_add(32), raw::ipnet_set_from_text)?;
         Ok(IpSet { image })
+    }
+
+    /// The set of the addresses of a list as people keep it, read as the program `netset` reads its files. A line is a
+    /// network, an address, a range `FIRST-LAST`, or empty; it may have blanks around it, end with `\r\n`, and have a
+    /// comment after `#` or `;`. Fails with [`Error::BadLine`] if a line is none of these.
+    ///
+    /// ```
+    /// use ipnet_proved::{Error, IpSet};
+    ///
+    /// let set = IpSet::from_list("# ours\n10.0.0.0-10.0.0.3\r\n")?;
+    /// assert_eq!(set, IpSet::from_text("10.0.0.0/30")?);
+    /// assert_eq!(IpSet::from_list("10.0.0.1\n10.0.0.9-10.0.0.2"), Err(Error::BadLine(2)));
+    /// # Ok::<(), Error>(())
+    /// ```
+    pub fn from_list(text: impl AsRef<[u8]>) -> Result<IpSet, Error> {
+        let text = text.as_ref();
+        Ok(IpSet { image: raw::bytes_from(text, text.len().saturating_add(32), raw::ipnet_set_from_list)? })
+    }
+
+    /// The set of the addresses of the networks.
+    ///
+    /// ```
+    /// use ipnet_proved::{Error, IpSet};
+    /// use std::net::Ipv4Addr;
+    ///
+    /// let set = IpSet::from_networks(&["10.0.0.0/31".parse()?, Ipv4Addr::new(10, 0, 0, 2).into()])?;
+    /// assert_eq!(set.to_string(), "10.0.0.0/31\n10.0.0.2/32\n");
+    /// # Ok::<(), Error>(())
+    /// ```
+    pub fn from_networks(networks: &[Network]) -> Result<IpSet, Error> {
+        IpSet::from_text(&lines(networks))
     }
 
     /// The set of which the bytes are the image, as [`IpSet::as_bytes`] returns it. All bytes are tested. Fails with
@@ -156,6 +191,78 @@ impl IpSet {
     /// ```
     pub fn to_text(&self) -> Result<String, Error> {
         raw::text_from(&self.image, raw::ipnet_set_to_text)
+    }
+
+    /// The fewest networks of the set, IPv4 first, ascending.
+    ///
+    /// ```
+    /// use ipnet_proved::{Error, IpSet, Network};
+    ///
+    /// let set: IpSet = "10.0.0.128/25\n10.0.0.0/25".parse()?;
+    /// assert_eq!(set.networks()?, ["10.0.0.0/24".parse::<Network>()?]);
+    /// # Ok::<(), Error>(())
+    /// ```
+    pub fn networks(&self) -> Result<Vec<Network>, Error> {
+        parsed(&self.to_text()?)
+    }
+
+    /// The number of IPv4 addresses.
+    ///
+    /// ```
+    /// use ipnet_proved::{Error, IpSet};
+    ///
+    /// let set: IpSet = "10.0.0.0/24\nfd00::/63".parse()?;
+    /// assert_eq!((set.ipv4_count()?, set.ipv6_count()?), (256, Some(1 << 65)));
+    /// assert_eq!(IpSet::from_text("::/0")?.ipv6_count()?, None);
+    /// # Ok::<(), Error>(())
+    /// ```
+    pub fn ipv4_count(&self) -> Result<u64, Error> {
+        let [ipv4, ..] = raw::set_counts(&self.image)?;
+        Ok(ipv4)
+    }
+
+    /// The number of IPv6 addresses, or `None` if the set has all 2^128 of them.
+    pub fn ipv6_count(&self) -> Result<Option<u128>, Error> {
+        match raw::set_counts(&self.image)? {
+            [_, low, high, 0] => Ok(Some(u128::from(high) << 64 | u128::from(low))),
+            _ => Ok(None),
+        }
+    }
+
+    /// Whether the set has no address.
+    ///
+    /// ```
+    /// use ipnet_proved::{Error, IpSet};
+    ///
+    /// assert!(IpSet::from_text("\n")?.is_empty());
+    /// assert!(!IpSet::from_text("::/0")?.is_empty());
+    /// # Ok::<(), Error>(())
+    /// ```
+    pub fn is_empty(&self) -> bool {
+        self.image.len() == EMPTY
+    }
+}
+
+/// Like [`IpSet::to_text`]. Fails if memory runs out.
+impl fmt::Display for IpSet {
+    fn fmt(&self, f: &mut fmt::Formatter<'_>) -> fmt::Result {
+        f.write_str(&self.to_text().map_err(|_| fmt::Error)?)
+    }
+}
+
+/// Like [`IpSet::from_networks`].
+impl TryFrom<&[Network]> for IpSet {
+    type Error = Error;
+
+    fn try_from(networks: &[Network]) -> Result<IpSet, Error> {
+        IpSet::from_networks(networks)
+    }
+}
+
+/// The image of the set.
+impl AsRef<[u8]> for IpSet {
+    fn as_ref(&self) -> &[u8] {
+        self.as_bytes()
     }
 }
 

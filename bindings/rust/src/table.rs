@@ -3,7 +3,8 @@ use crate::{raw, Error, Network};
 use std::net::{IpAddr, Ipv4Addr, Ipv6Addr};
 
 /// Networks with a number each, which finds the longest network that contains an address. It is kept as its image: bytes
-/// that can be stored, mapped and sent.
+/// that can be stored, mapped and sent. Tables are equal if and only if they have the same networks with the same
+/// numbers.
 ///
 /// ```
 /// use ipnet_proved::{Error, Network, RouteTable};
@@ -15,7 +16,7 @@ use std::net::{IpAddr, Ipv4Addr, Ipv6Addr};
 /// assert_eq!(table.longest_match(Ipv4Addr::new(11, 0, 0, 1)), None);
 /// # Ok::<(), Error>(())
 /// ```
-#[derive(Clone, Debug)]
+#[derive(Clone, Debug, PartialEq, Eq, Hash)]
 pub struct RouteTable {
     image: Vec<u8>,
 }
@@ -24,11 +25,7 @@ impl RouteTable {
     /// The table of the routes, in any order. Host bits do not count; if a network is given twice, the last number
     /// counts. Fails only if memory runs out.
     pub fn from_routes(routes: &[(Network, u32)]) -> Result<RouteTable, Error> {
-        let mut text = String::new();
-        for (network, _) in routes {
-            text.push_str(&network.to_string());
-            text.push('\n');
-        }
+        let text: String = routes.iter().map(|(network, _)| format!("{network}\n")).collect();
         let values: Vec<u32> = routes.iter().map(|route| route.1).collect();
         Ok(RouteTable { image: raw::table_from(&text, &values)? })
     }

@@ -36,16 +36,6 @@ good_at_once grammar text networks written number h = none_bad grammar (lines_of
 abbrev pub IsBlank : List ℕ → Type 0
 IsBlank text = All (λ line. line ≡ []) (lines_of text)
 
--- empty lines write no network
-pub none_of_none : (lines : List (List ℕ)) (list : List IpNet) → AreNetworksOf Strict lines (map ip_network list)
-    → All (λ line. line ≡ []) lines → list ≡ []
-none_of_none [] [] written h = refl
-none_of_none [] (n ∷ list) written h = absurd cc
-none_of_none ([] ∷ lines) list written h = none_of_none lines list written (All-tail (λ line. line ≡ []) [] lines h)
-none_of_none ((b ∷ line) ∷ lines) list written h =
-    let none : b ∷ line ≡ [] = All-head (λ line. line ≡ []) (b ∷ line) lines h in
-    absurd cc
-
 -- a text with only empty lines is ASCII, and so UTF-8
 not_blank : (b : ℕ) (lines : List (List ℕ)) → ¬ (All (λ line. line ≡ []) (onto_first_line b lines))
 not_blank b [] h =

@@ -14,6 +14,7 @@ use Rattle.ipnet_sets.specs.Images.{HasHeader, IsImage, IsImageOf}
 use Rattle.ipnet_sets.specs.Members.{IsMember, IsSubset}
 use Rattle.ipnet_c.specs.Replies.{AreBytesOf, IsYesExactlyAt}
 use Rattle.ipnet_c.specs.SetReplies.{IsCoversReply, IsContainsAllReply, IsSubsetReply, AreOctetsOf}
+use Rattle.ipnet_c.specs.SetReplies.{AreCountsOf, IsCountsReply}
 use Rattle.ipnet_c.proofs.ListReplies.{TellsFaults}
 use Rattle.ipnet_c.proofs.StatusLaws.{differ, yes_exactly}
 
@@ -121,4 +122,15 @@ answered_all set addresses width index old answers header as_told h all = record
   wrong_length = (λ e. absurd (differ 0 6 refl e), λ wrong. absurd (wrong as_told));
   not_a_set = (λ e. absurd (differ 0 11 refl e), λ both. absurd (both.1 header));
   kept = λ e. absurd (e refl);
+}
+
+-- the numbers of addresses
+pub counted : (set old new : List ℕ) (s : IpSet) → length old ≡ 4 → IsImage set → IsImageOf set s → AreCountsOf s new
+    → IsCountsReply set old new 0
+counted set old new s four is image counts = record {
+  known = inl refl;
+  ok = λ e. (s, image, counts);
+  wrong_length = (λ e. absurd (differ 0 6 refl e), λ wrong. absurd (wrong four));
+  not_a_set = (λ e. absurd (differ 0 11 refl e), λ both. absurd (both.1 is));
+  kept = λ not_ok. absurd (not_ok refl);
 }

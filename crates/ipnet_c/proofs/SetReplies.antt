@@ -8,9 +8,10 @@ use Rattle.ipnet.specs.declared.parser.Grammar.TheVariants.{Strict}
 use Rattle.ipnet.proofs.LineLaws.{all_good}
 use Rattle.ipnet_base.proofs.UniqueLaws.{AreMaximalBlocks-same_set, AreMaximalBlocks-nil}
 use Rattle.ipnet_sets.specs.declared.set.IpSet.{IpSet}
-use Rattle.ipnet_sets.specs.Members.{IsMember}
+use Rattle.ipnet_sets.specs.Members.{IsMember, HasNoAddress, IsResultOf}
 use Rattle.ipnet_c.specs.Buffers.{IsWritten, IsTooLong}
-use Rattle.ipnet_c.specs.Replies.{AreBlocksOfBoth, IsSetText, IsSetReply}
+use Rattle.ipnet_c.specs.Replies.{AreBlocksOfBoth, IsSetText, IsSetReply, IsTextOfSet}
+use Rattle.ipnet_c.specs.SetReplies.{HasAddressesOfText}
 use Rattle.ipnet_sets.specs.Members.{IsCombined}
 use Rattle.ipnet_sets.specs.declared.operation.Operation.{Operation}
 use Rattle.ipnet_sets.specs.declared.operation.Operation.TheVariants.{Union, Intersection, Difference}
@@ -29,7 +30,7 @@ IsCombined-same SymmetricDifference A B C D first second (inl a) = inl (first.0 
 IsCombined-same SymmetricDifference A B C D first second (inr b) = inr (second.0 b.0, λ c. b.1 (first.1 c))
 
 -- the maximal blocks of the set that the operation makes of the sets of two lists
-pub blocks_of_both : (operation : Operation) (networks others blocks : List Network) (set first second : IpSet)
+blocks_of_both : (operation : Operation) (networks others blocks : List Network) (set first second : IpSet)
     → ((x : Address) → IsMember first x ↔ IsCoveredBy networks x)
     → ((x : Address) → IsMember second x ↔ IsCoveredBy others x)
     → ((x : Address) → IsMember set x ↔ IsCombined operation (IsMember first x) (IsMember second x))
@@ -44,29 +45,45 @@ blocks_of_both operation networks others blocks set first second of_networks of_
           (IsMember second x) ((of_networks x).1, (of_networks x).0) ((of_others x).1, (of_others x).0) m),
     ))
 
--- every operation on two empty lists has an empty result
-nothing_of_nothing : (operation : Operation) (x : Address) → ¬ (IsCoveredBy [] x)
-    → ¬ (IsCombined operation (IsCoveredBy [] x) (IsCoveredBy [] x))
-nothing_of_nothing Union x none (inl a) = none a
-nothing_of_nothing Union x none (inr b) = none b
-nothing_of_nothing Intersection x none (a, b) = none a
-nothing_of_nothing Difference x none (a, b) = none a
-nothing_of_nothing SymmetricDifference x none (inl a) = none a.0
-nothing_of_nothing SymmetricDifference x none (inr b) = none b.0
+-- every operation on two empty sets has an empty result
+nothing_of_nothing : (operation : Operation) (A B : Type 0) → ¬ A → ¬ B → ¬ (IsCombined operation A B)
+nothing_of_nothing Union A B none none_other (inl a) = none a
+nothing_of_nothing Union A B none none_other (inr b) = none_other b
+nothing_of_nothing Intersection A B none none_other (a, b) = none a
+nothing_of_nothing Difference A B none none_other (a, b) = none a
+nothing_of_nothing SymmetricDifference A B none none_other (inl a) = none a.0
+nothing_of_nothing SymmetricDifference A B none none_other (inr b) = none_other b.0
 
--- so of two texts that write none the answer is empty
-pub empty_of_empty : (operation : Operation) (text other : List ℕ) → AreNetworksOf Strict (lines_of text) []
-    → AreNetworksOf Strict (lines_of other) [] → IsSetText operation text other []
-empty_of_empty operation text other written written_other = record {
-  networks = [];
-  others = [];
-  written = written;
-  written_other = written_other;
+-- so of two texts without an address the answer is empty
+pub empty_of_empty : (operation : Operation) (text other : List ℕ) (first second : IpSet)
+    → HasAddressesOfText text first → HasAddressesOfText other second → HasNoAddress first → HasNoAddress second
+    → IsSetText operation text other []
+empty_of_empty operation text other first second h k none none_other = record {
+  networks = h.networks;
+  others = k.networks;
+  written = h.written;
+  written_other = k.written;
   blocks = [];
   combined =
-      AreMaximalBlocks-nil (λ x. IsCombined operation (IsCoveredBy [] x) (IsCoveredBy [] x)) 0
-      (λ x. nothing_of_nothing operation x (λ h. omega (arith, h.2)));
+      AreMaximalBlocks-nil (λ x. IsCombined operation (IsCoveredBy h.networks x) (IsCoveredBy k.networks x)) 0
+      (λ x. nothing_of_nothing operation (IsCoveredBy h.networks x) (IsCoveredBy k.networks x)
+      (λ c. none x ((h.addresses x).1 c)) (λ c. none_other x ((k.addresses x).1 c)));
   spelled = refl;
+}
+
+-- and of other texts it is that of the set that the operation makes
+pub text_of_both : (operation : Operation) (text other answer : List ℕ) (first second set : IpSet)
+    → HasAddressesOfText text first → HasAddressesOfText other second → IsResultOf operation set first second
+    → IsTextOfSet set answer → IsSetText operation text other answer
+text_of_both operation text other answer first second set h k made t = record {
+  networks = h.networks;
+  others = k.networks;
+  written = h.written;
+  written_other = k.written;
+  blocks = t.blocks;
+  combined = blocks_of_both operation h.networks k.networks t.blocks set first second h.addresses k.addresses made
+      t.are_blocks;
+  spelled = t.spelled;
 }
 
 -- ---- the replies of a call

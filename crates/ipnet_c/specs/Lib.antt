@@ -3,5 +3,7 @@ pub mod Statuses
 pub mod Buffers
 pub mod Replies
 pub mod SetReplies
+pub mod ListReplies
+pub mod Taken
 pub mod Version
 pub mod TableReplies

@@ -1,8 +1,8 @@
 -- The result of each C function on images of sets: its status, and what it leaves in the caller's memory. `old` and
 -- `new` are a buffer before and after the call; `count_old` and `count` are a number that the call may write.
-use Rattle.std.specs.Prelude.{◌≡◌, ◌≢◌, ℕ, ◌*◌, ◌<◌, ◌↔◌, ◌⊎◌, List, length, take, drop, slice_index}
+use Rattle.std.specs.Prelude.{◌≡◌, ◌≢◌, ℕ, ◌+◌, ◌*◌, ◌^◌, ◌<◌, ◌↔◌, ◌⊎◌, List, length, take, drop, slice_index}
 use Rattle.std.specs.Prelude.{IsUtf8}
-use Rattle.ipnet.specs.Address.{Address, IsAddress}
+use Rattle.ipnet.specs.Address.{IPv4, IPv6, Address, IsAddress}
 use Rattle.ipnet.specs.Network.{Network, InBlock}
 use Rattle.ipnet.specs.Blocks.{AreMaximalBlocks}
 use Rattle.ipnet.specs.Bytes.{HasWrongTaggedLen, HasUnknownVariant, HasLongTaggedPrefix}
@@ -11,11 +11,12 @@ use Rattle.ipnet.specs.declared.parser.Grammar.TheVariants.{Strict}
 use Rattle.ipnet.specs.Lines.{lines_of, AreNetworksOf, IsFirstBadLine}
 use Rattle.ipnet_sets.specs.declared.set.IpSet.{IpSet}
 use Rattle.ipnet_sets.specs.Images.{HasHeader, IsImage, IsImageOf}
-use Rattle.ipnet_sets.specs.Members.{IsMember, IsSubset, HasAddressesOf, IsComplement, IsResultOf}
+use Rattle.ipnet_sets.specs.Members.{IsMember, IsMemberOf, IsSubset, HasAddressesOf, IsComplement, IsResultOf}
+use Rattle.ipnet_sets.specs.Members.{IsCountOf}
 use Rattle.ipnet_text.specs.LineTexts.{text_of_lines}
 use Rattle.ipnet_c.specs.Statuses as statuses
 use Rattle.ipnet_c.specs.Buffers.{IsWritten, IsTooLong}
-use Rattle.ipnet_c.specs.Replies.{IsYesExactlyAt, AreBytesOf}
+use Rattle.ipnet_c.specs.Replies.{IsYesExactlyAt, AreBytesOf, IsTextOfSet}
 use Rattle.ipnet_sets.specs.declared.operation.Operation.{Operation}
 
 -- ---- images into the buffer
@@ -79,9 +80,7 @@ pub record IsComplementOfImage (set : List ℕ) (s : IpSet) : Type 0 where
 pub record IsTextOfImage (set answer : List ℕ) : Type 0 where
   pub first : IpSet
   pub first_image : IsImageOf set first
-  pub blocks : List Network
-  pub are_blocks : AreMaximalBlocks (IsMember first) 0 blocks
-  pub spelled : answer ≡ text_of_lines blocks
+  pub text : IsTextOfSet first answer
 
 -- A call that makes an answer of one image, into the buffer: `count` is the length of the answer.
 -- Example: the complement of the image of no addresses is the image of all addresses, of 52 bytes.
@@ -156,3 +155,24 @@ pub record IsSubsetReply (set other : List ℕ) (status : ℕ) : Type 0 where
 pub record IsCheckReply (set : List ℕ) (status : ℕ) : Type 0 where
   pub known : (status ≡ statuses.ok) ⊎ (status ≡ statuses.not_a_set)
   pub ok : (status ≡ statuses.ok) ↔ IsImage set
+
+-- The numbers of addresses of the set: the first is that of IPv4, and the others are digits to base 2^64 of the number
+-- of IPv6 addresses, the lowest first. The last digit is 1 if and only if the set has all of them.
+-- Example: 4, 0, 2, 0 for 10.0.0.0/30 and fd00::/63; 0, 0, 0, 1 for ::/0.
+pub record AreCountsOf (s : IpSet) (counts : List ℕ) : Type 0 where
+  pub four : length counts ≡ 4
+  pub ipv4 : IsCountOf (IsMemberOf IPv4 s) (slice_index counts 0)
+  pub some : slice_index counts 3 ≡ 0
+      → IsCountOf (IsMemberOf IPv6 s) (slice_index counts 1 + 2 ^ 64 * slice_index counts 2)
+  pub all : (slice_index counts 3 ≡ 1) ↔ ((x : Address) → IsAddress x → x.family ≡ IPv6 → IsMember s x)
+  pub digit : (slice_index counts 3 ≡ 0) ⊎ ((slice_index counts 3 ≡ 1) × (slice_index counts 1 ≡ 0)
+      × (slice_index counts 2 ≡ 0))
+
+-- How many addresses the set has.
+pub record IsCountsReply (set old new : List ℕ) (status : ℕ) : Type 0 where
+  pub known : (status ≡ statuses.ok) ⊎ ((status ≡ statuses.wrong_length) ⊎ ((status ≡ statuses.not_a_set)
+      ⊎ (status ≡ statuses.out_of_memory)))
+  pub ok : status ≡ statuses.ok → (s : IpSet) × IsImageOf set s × AreCountsOf s new
+  pub wrong_length : (status ≡ statuses.wrong_length) ↔ (length old ≢ 4)
+  pub not_a_set : (status ≡ statuses.not_a_set) ↔ ((length old ≡ 4) × ¬ (IsImage set))
+  pub kept : status ≢ statuses.ok → new ≡ old

@@ -1,24 +1,13 @@
 //! Lists of networks as text, one network a line, aggregated.
 ghost use Rattle.ipnet.specs.declared.parser.Grammar.TheVariants.{Strict, Legacy};
-ghost use Rattle.ipnet_tool.specs.Answers.{IsTextAnswer};
 ghost use Rattle.ipnet_c.specs.Replies.{IsAggregateReply};
 
 use crate::buffers::write_answer;
 use crate::statuses::{BAD_LINE, NOT_UTF8, OUT_OF_MEMORY};
 use ipnet::Grammar;
-use ipnet_tool::{ToolError, aggregate_text, aggregate_text_legacy};
+use ipnet_tool::{ToolError, aggregate_text_as};
 use std::alloc::Global;
 use std::str;
-
-/// Returns the result of the text tool for a text in this grammar.
-fn tool_answer(alloc: Global, text: &str, grammar: Grammar) -> Result<String, ToolError>
-    ensures { IsTextAnswer grammar text.now result }
-{
-    match grammar {
-        Grammar::Strict => aggregate_text(alloc, text),
-        Grammar::Legacy => aggregate_text_legacy(alloc, text),
-    }
-}
 
 /// Writes the aggregate of a text in this grammar into the buffer.
 fn aggregate(
@@ -33,7 +22,7 @@ fn aggregate(
     let Ok(text) = str::from_utf8(text) else {
         return NOT_UTF8;
     };
-    match tool_answer(alloc, text, grammar) {
+    match aggregate_text_as(alloc, text, grammar) {
         Ok(answer) => write_answer(answer.as_bytes(), buffer, count),
         Err(ToolError::Line(number)) => {
             *count = number;

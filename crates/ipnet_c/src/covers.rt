@@ -1,10 +1,7 @@
 //! The addresses that lists of networks cover.
-ghost use Rattle.std.specs.Prelude.{◌↔◌, map, Any, IsTrue};
-ghost use Rattle.ipnet.specs.Network.{IsSubnetOf};
-ghost use Rattle.ipnet.specs.NetworkOf.{ip_network};
 ghost use Rattle.ipnet_c.specs.Replies.{IsSameAddressesReply, IsCoveredReply};
 
-use crate::blocks::read_blocks;
+use crate::lists::read_set;
 use crate::statuses::{
     BAD_LINE, BAD_LINE_IN_OTHER, NOT_UTF8, OK, OTHER_NOT_UTF8, OUT_OF_MEMORY, status_of,
 };
@@ -44,15 +41,15 @@ pub extern "C" fn ipnet_same_addresses(
     let Ok(other) = str::from_utf8(other) else {
         return OTHER_NOT_UTF8;
     };
-    let blocks = match read_blocks(alloc, text) {
-        Ok(blocks) => blocks,
+    let set = match read_set(alloc, text) {
+        Ok(set) => set,
         Err(ToolError::Line(number)) => {
             *line = number;
             return BAD_LINE;
         }
         Err(ToolError::Memory) => return OUT_OF_MEMORY,
     };
-    let others = match read_blocks(alloc, other) {
+    let others = match read_set(alloc, other) {
         Ok(others) => others,
         Err(ToolError::Line(number)) => {
             *line = number;
@@ -60,20 +57,8 @@ pub extern "C" fn ipnet_same_addresses(
         }
         Err(ToolError::Memory) => return OUT_OF_MEMORY,
     };
-    *same = u8::from(blocks == others);
+    *same = u8::from(set == others);
     OK
-}
-
-/// Returns whether one of the blocks contains the network.
-fn lies_in_one(network: &IpNet, blocks: &[IpNet]) -> bool
-    ensures { IsTrue result ↔ Any (λ block. IsSubnetOf (ip_network network.now) block) (map ip_network blocks.now) }
-{
-    for block in blocks {
-        if block.contains(network) {
-            return true;
-        }
-    }
-    false
 }
 
 /// Writes 1 into `covered` if the list covers every address of the network, and 0 if it does not. Several networks of
@@ -109,14 +94,14 @@ pub extern "C" fn ipnet_is_covered(
     let Ok(text) = str::from_utf8(text) else {
         return NOT_UTF8;
     };
-    let blocks = match read_blocks(alloc, text) {
-        Ok(blocks) => blocks,
+    let set = match read_set(alloc, text) {
+        Ok(set) => set,
         Err(ToolError::Line(number)) => {
             *line = number;
             return BAD_LINE;
         }
         Err(ToolError::Memory) => return OUT_OF_MEMORY,
     };
-    *covered = u8::from(lies_in_one(&network, &blocks));
+    *covered = u8::from(set.covers(&network));
     OK
 }

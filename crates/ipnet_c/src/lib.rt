@@ -3,12 +3,12 @@
 #![tactic(auto)]
 
 pub mod aggregates;
-mod blocks;
 mod buffers;
 pub mod covers;
 mod lists;
 pub mod networks;
 pub mod set_images;
+pub mod set_lists;
 pub mod set_questions;
 pub mod sets;
 mod statuses;

@@ -5,10 +5,10 @@ ghost use Rattle.ipnet_c.specs.SetReplies.{IsComplementOfImage, IsTextOfImage, I
 ghost use Rattle.ipnet_sets.specs.declared.operation.Operation.TheVariants as Of;
 
 use crate::buffers::write_answer;
-use crate::lists::read_networks;
-use crate::sets::printed;
+use crate::lists::read_set;
+use crate::sets::text_of_set;
 use crate::statuses::{BAD_LINE, NOT_A_SET, NOT_UTF8, OTHER_NOT_A_SET, OUT_OF_MEMORY};
-use ipnet_sets::{IpSet, IpSetRef, Operation};
+use ipnet_sets::{IpSetRef, Operation};
 use ipnet_tool::ToolError;
 use std::alloc::{AllocError, Global};
 use std::str;
@@ -39,18 +39,14 @@ pub extern "C" fn ipnet_set_from_text(
     let Ok(text) = str::from_utf8(text) else {
         return NOT_UTF8;
     };
-    let networks = match read_networks(alloc, text) {
-        Ok(networks) => networks,
+    let set = match read_set(alloc, text) {
+        Ok(set) => set,
         Err(ToolError::Line(number)) => {
             *count = number;
             return BAD_LINE;
         }
         Err(ToolError::Memory) => return OUT_OF_MEMORY,
     };
-    let Ok(set) = IpSet::from_networks(alloc, networks.as_slice()) else {
-        return OUT_OF_MEMORY;
-    };
-    drop(networks);
     let Ok(image) = set.to_bytes(alloc) else {
         return OUT_OF_MEMORY;
     };
@@ -220,8 +216,7 @@ fn image_text(alloc: Global, set: IpSetRef<'_>) -> Result<String, AllocError>
     ensures { IfOk result (λ text. IsTextOfImage set.entry.image.bytes.now (string_bytes text)) }
 {
     let first = set.to_set(alloc)?;
-    let networks = first.networks(alloc)?;
-    printed(alloc, networks.as_slice())
+    text_of_set(alloc, &first)
 }
 
 /// Writes the fewest networks of the set, given by its image, as text into the buffer, and its length into `count`.

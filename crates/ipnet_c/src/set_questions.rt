@@ -5,13 +5,16 @@ ghost use Rattle.ipnet_sets.specs.Images.{IsImageOf};
 ghost use Rattle.ipnet_sets.specs.Members.{IsMember, IsSubset};
 ghost use Rattle.ipnet_sets.specs.declared.set.IpSet.{IpSet as SetValue};
 ghost use Rattle.ipnet_c.specs.SetReplies.{IsContainsReply, IsCoversReply, IsContainsAllReply, IsSubsetReply};
-ghost use Rattle.ipnet_c.specs.SetReplies.{IsCheckReply, AreOctetsOf, HasAddressLen};
+ghost use Rattle.ipnet_c.specs.SetReplies.{IsCheckReply, AreOctetsOf, HasAddressLen, AreCountsOf, IsCountsReply};
 ghost use Rattle.ipnet_c.specs.Replies.{IsYesExactlyAt};
 
 use crate::statuses::{NOT_A_SET, OK, OTHER_NOT_A_SET, OUT_OF_MEMORY, WRONG_LENGTH, status_of};
 use ipnet::{IpAddr, IpNet, Ipv4Addr, Ipv6Addr};
 use ipnet_sets::{IpSetImage, IpSetRef};
 use std::alloc::{AllocError, Global};
+
+/// The base of the digits of a number of addresses.
+const DIGIT: u128 = 0x1_0000_0000_0000_0000;
 
 /// Returns the address of these octets.
 pub(crate) fn read_address(octets: &[u8]) -> Option<IpAddr>
@@ -182,4 +185,46 @@ pub extern "C" fn ipnet_set_is_subset(alloc: Global, set: &[u8], other: &[u8]) -
         Ok(answer) => u32::from(answer),
         Err(_) => OUT_OF_MEMORY,
     }
+}
+
+/// Returns the number of IPv4 addresses of the set, and three digits to base 2^64 of the number of IPv6 addresses, the
+/// lowest first.
+fn count_addresses(alloc: Global, set: IpSetRef<'_>) -> Result<[u64; 4], AllocError>
+    ensures { IfOk result (λ counts. (s : SetValue) × IsImageOf set.entry.image.bytes.now s × AreCountsOf s counts) }
+{
+    let set = set.to_set(alloc)?;
+    let ipv4 = set.ipv4_count();
+    match set.ipv6_count() {
+        Some(ipv6) => Ok([ipv4, (ipv6 % DIGIT) as u64, (ipv6 / DIGIT) as u64, 0]),
+        None => Ok([ipv4, 0, 0, 1]),
+    }
+}
+
+/// Writes the numbers of addresses of the set, given by its image, into `counts`.
+///
+/// `counts` has four numbers. The first is the number of IPv4 addresses. The number of IPv6 addresses is the second,
+/// plus 2^64 times the third, plus 2^128 times the fourth.
+///
+/// Returns 0; 6 if `counts` does not have four numbers; else 11 if the bytes are not the image of a set; 3 if memory
+/// runs out. `counts` changes only at 0.
+///
+/// ```text
+/// the image of 10.0.0.0/30 and fd00::/63    0, and 4, 0, 2, 0
+/// the image of ::/0                         0, and 0, 0, 0, 1
+/// ```
+#[unsafe(no_mangle)]
+pub extern "C" fn ipnet_set_counts(alloc: Global, set: &[u8], counts: &mut [u64]) -> u32
+    ensures { IsCountsReply set.now counts.old counts.new result }
+{
+    if counts.len() != 4 {
+        return WRONG_LENGTH;
+    }
+    let Ok(set) = IpSetRef::from_bytes(set) else {
+        return NOT_A_SET;
+    };
+    let Ok(numbers) = count_addresses(alloc, set) else {
+        return OUT_OF_MEMORY;
+    };
+    counts.copy_from_slice(&numbers);
+    OK
 }

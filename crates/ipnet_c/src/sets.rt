@@ -1,13 +1,14 @@
 //! The union, intersection and difference of two lists of networks, from text to text.
-ghost use Rattle.std.specs.Prelude.{◌≡◌, ◌↔◌, [], ◌∷◌, ◌++◌, map, IsTrue, IfOk, OnOk, string_bytes};
-ghost use Rattle.ipnet.specs.CanonicalTexts.{canonical_text};
+ghost use Rattle.std.specs.Prelude.{◌≡◌, ◌↔◌, map, IsTrue, IfOk, string_bytes};
 ghost use Rattle.ipnet.specs.NetworkOf.{ip_network};
 ghost use Rattle.ipnet_sets.specs.declared.operation.Operation.TheVariants.{Union, Intersection, Difference};
-ghost use Rattle.ipnet_c.specs.Replies.{AreBlocksOfBoth, IsSetReply};
+ghost use Rattle.ipnet_sets.specs.declared.set.IpSet.{IpSet as SetValue};
+ghost use Rattle.ipnet_sets.specs.Members.{HasNoAddress, IsResultOf};
+ghost use Rattle.ipnet_c.specs.Replies.{IsSetReply, IsTextOfSet};
 ghost use Rattle.ipnet_text.specs.LineTexts.{text_of_lines};
 
 use crate::buffers::write_answer;
-use crate::lists::read_networks;
+use crate::lists::read_set;
 use crate::statuses::{BAD_LINE, BAD_LINE_IN_OTHER, NOT_UTF8, OTHER_NOT_UTF8, OUT_OF_MEMORY};
 use ipnet::IpNet;
 use ipnet_sets::{IpSet, Operation};
@@ -16,26 +17,30 @@ use ipnet_tool::ToolError;
 use std::alloc::{AllocError, Global};
 use std::str;
 
-/// Returns the fewest networks of the result of the operation on the addresses of the two lists. Drops each list as
-/// soon as its set is made.
-fn combined_networks(
+/// Returns the fewest networks of the set as text, one per line.
+pub(crate) fn text_of_set(alloc: Global, set: &IpSet) -> Result<String, AllocError>
+    ensures { IfOk result (λ text. IsTextOfSet set.now (string_bytes text)) }
+{
+    let networks = set.networks(alloc)?;
+    printed(alloc, networks.as_slice())
+}
+
+/// Returns the text of the result of the operation on the two sets.
+fn combined_text(
     alloc: Global,
     operation: Operation,
-    networks: Vec<IpNet>,
-    others: Vec<IpNet>,
-) -> Result<Vec<IpNet>, AllocError>
-    ensures { IfOk result (λ blocks. AreBlocksOfBoth operation (map ip_network networks.items)
-        (map ip_network others.items) (map ip_network blocks.items)) }
+    set: &IpSet,
+    other: &IpSet,
+) -> Result<String, AllocError>
+    ensures { IfOk result (λ text. (s : SetValue) × IsResultOf operation s set.now other.now
+        × IsTextOfSet s (string_bytes text)) }
 {
-    let first = IpSet::from_networks(alloc, networks.as_slice())?;
-    drop(networks);
-    let second = IpSet::from_networks(alloc, others.as_slice())?;
-    drop(others);
-    first.combine(alloc, operation, &second)?.networks(alloc)
+    let combined = set.combine(alloc, operation, other)?;
+    text_of_set(alloc, &combined)
 }
 
 /// Returns the canonical texts of the networks, one per line.
-pub(crate) fn printed(alloc: Global, networks: &[IpNet]) -> Result<String, AllocError>
+fn printed(alloc: Global, networks: &[IpNet]) -> Result<String, AllocError>
     ensures { IfOk result (λ text. string_bytes text ≡ text_of_lines (map ip_network networks.now)) }
 {
     let mut text = String::new(alloc);
@@ -45,11 +50,11 @@ pub(crate) fn printed(alloc: Global, networks: &[IpNet]) -> Result<String, Alloc
     Ok(text)
 }
 
-/// Returns whether neither list has a network.
-fn are_empty(networks: &[IpNet], others: &[IpNet]) -> bool
-    ensures { IsTrue result ↔ ((networks.now ≡ []) × (others.now ≡ [])) }
+/// Returns whether neither set has an address.
+fn are_empty(set: &IpSet, others: &IpSet) -> bool
+    ensures { IsTrue result ↔ (HasNoAddress set.now × HasNoAddress others.now) }
 {
-    networks.is_empty() && others.is_empty()
+    set.is_empty() && others.is_empty()
 }
 
 /// Writes the networks of the result of the operation into the buffer, as text.
@@ -69,15 +74,15 @@ fn combine(
     let Ok(other) = str::from_utf8(other) else {
         return OTHER_NOT_UTF8;
     };
-    let networks = match read_networks(alloc, text) {
-        Ok(networks) => networks,
+    let set = match read_set(alloc, text) {
+        Ok(set) => set,
         Err(ToolError::Line(number)) => {
             *count = number;
             return BAD_LINE;
         }
         Err(ToolError::Memory) => return OUT_OF_MEMORY,
     };
-    let others = match read_networks(alloc, other) {
+    let others = match read_set(alloc, other) {
         Ok(others) => others,
         Err(ToolError::Line(number)) => {
             *count = number;
@@ -86,13 +91,10 @@ fn combine(
         Err(ToolError::Memory) => return OUT_OF_MEMORY,
     };
     // Nothing is made of nothing, and needs no memory.
-    if are_empty(&networks, &others) {
+    if are_empty(&set, &others) {
         return write_answer(&[], buffer, count);
     }
-    let Ok(blocks) = combined_networks(alloc, operation, networks, others) else {
-        return OUT_OF_MEMORY;
-    };
-    let Ok(answer) = printed(alloc, &blocks) else {
+    let Ok(answer) = combined_text(alloc, operation, &set, &others) else {
         return OUT_OF_MEMORY;
     };
     write_answer(answer.as_bytes(), buffer, count)

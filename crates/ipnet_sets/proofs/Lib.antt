@@ -22,6 +22,7 @@ pub mod RouteOrderLaws
 pub mod RouteMatchLaws
 pub mod RouteWithinLaws
 pub mod RouteChangeLaws
+pub mod RouteValueLaws
 pub mod RouteLackingLaws
 pub mod ChunkLaws
 pub mod RouteMapLaws

@@ -8,6 +8,7 @@ pub mod ManySets
 pub mod BoundaryRanges
 pub mod RangesLeft
 pub mod Routes
+pub mod RouteValues
 pub mod RouteSteps
 pub mod RoutesOf
 pub mod MatchesLeft

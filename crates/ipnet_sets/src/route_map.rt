@@ -25,8 +25,10 @@ mod changes;
 mod chunks;
 mod common;
 mod index;
+pub mod laws;
 pub mod matches;
 pub mod routes;
+mod values;
 
 /// The route of the longest network in the chunks that contains the network's whole block.
 fn covering_in<'a, V>(

@@ -26,6 +26,7 @@ pub mod image;
 pub(crate) mod index;
 pub mod laws;
 pub mod matches;
+mod values;
 
 /// A table of routes: networks of both families, each once, with a value each.
 ///

@@ -29,6 +29,9 @@ pub struct IpSetRanges<'a> {
 impl Iterator for IpSetRanges<'_> {
     type Item = IpAddrRange;
 
+    ghost use Rattle.std.specs.Prelude.{IfSome, length};
+    ghost use Rattle.std.specs.Iterator.{UpTo};
+    ghost use Rattle.std.specs.Iterator.SizeHint.{IsWithinCount, IsExactHint};
     ghost use Rattle.ipnet_sets.specs.RangesLeft.{ranges_left};
 
     ghost next_gives = { YieldsFirstBy ip_range ranges_left };
@@ -47,7 +50,11 @@ impl Iterator for IpSetRanges<'_> {
     }
 
     /// Returns the number of the ranges that are left, as both bounds.
-    fn size_hint(&self) -> (usize, Option<usize>) {
+    fn size_hint(&self) -> (usize, Option<usize>)
+        ensures exact { IsExactHint result (length (ranges_left self.now)) }
+        ensures lower { IsWithinCount result.0 (item_count ranges_left self.now) }
+        ensures upper { IfSome result.1 (UpTo (item_count ranges_left self.now)) }
+    {
         let len = self.len();
         (len, Some(len))
     }

@@ -160,6 +160,16 @@ fn fill_map(alloc: Global, inputs: &Inputs) -> Outcome {
     outcome(routes.next().is_none())
 }
 
+/// Whether the clone of a map of routes to the networks is equal to the map.
+fn is_cloned_map_equal(alloc: Global, inputs: &Inputs) -> Result<bool, AllocError> {
+    let mut map = RouteMap::new(alloc);
+    for network in &inputs.list {
+        map.insert(network, 0usize)?;
+    }
+    let clone = map.clone()?;
+    Ok(clone == map)
+}
+
 /// How the row's call ended.
 fn run_call(alloc: Global, inputs: &Inputs) -> Outcome {
     match inputs.call {
@@ -172,6 +182,14 @@ fn run_call(alloc: Global, inputs: &Inputs) -> Outcome {
             Err(_) => Outcome::Refused,
         },
         "insert" => fill_map(alloc, inputs),
+        "clone_table" => match inputs.wanted_table.clone() {
+            Ok(table) => outcome(table == inputs.wanted_table),
+            Err(_) => Outcome::Refused,
+        },
+        "clone_map" => match is_cloned_map_equal(alloc, inputs) {
+            Ok(is_equal) => outcome(is_equal),
+            Err(_) => Outcome::Refused,
+        },
         _ => match make(alloc, inputs) {
             Ok(set) => outcome(set == inputs.wanted_set),
             Err(_) => Outcome::Refused,
@@ -192,7 +210,7 @@ const ONE: &str = "10.0.0.0/24 10.0.2.0/24 10.0.4.0/24 fd00::/32";
 const OTHER: &str = "10.0.1.0/24 10.0.4.0/25 fd00::/33 fd00:2::/32";
 
 /// Calls that allocate.
-const ALLOCATING: [Row; 18] = [
+const ALLOCATING: [Row; 20] = [
     (
         "union",
         ONE,
@@ -246,10 +264,14 @@ const ALLOCATING: [Row; 18] = [
         "",
         "10.0.0.0/8 10.1.0.0/16 10.1.2.0/24 fd00::/8",
     ),
+    ("clone_table", "10.0.0.0/8 fd00::/8", "", ""),
+    ("clone_map", "10.0.0.0/8 fd00::/8", "", ""),
 ];
 
 /// Calls that need no memory.
-const FREE: [Row; 10] = [
+const FREE: [Row; 12] = [
+    ("clone_table", "", "", ""),
+    ("clone_map", "", "", ""),
     ("insert", "", "", ""),
     ("union", "", "", ""),
     ("networks", "", "", ""),

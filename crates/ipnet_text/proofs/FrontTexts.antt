@@ -250,7 +250,7 @@ front_at bytes i j k l m a b c d n long few₁ few₂ few₃ few₄ few₅ is_a 
 
 -- ---- an IPv4 address at the front
 
--- what stands before a byte, that byte, and the front of what comes after it
+-- what comes before a byte, that byte, and the front of what comes after it
 pub take_cut : (bytes : List ℕ) (i n end : ℕ) → i < length bytes → get_or bytes i 0 ≡ end
     → take (i + 1 + n) bytes ≡ take i bytes ++ end ∷ take n (rest_from (i + 1) bytes)
 take_cut bytes i n end within is =

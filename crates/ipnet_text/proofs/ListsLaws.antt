@@ -10,7 +10,7 @@ use Rattle.ipnet.specs.declared.net.ipv4_net.Ipv4Net.{Ipv4Net}
 use Rattle.ipnet.specs.declared.net.ipv6_net.Ipv6Net.{Ipv6Net}
 use Rattle.ipnet.proofs.SeparationLaws.{aggregate_of_families}
 use Rattle.ipnet.proofs.CoverLaws.{cover_append_left, cover_append_right, cover_append_cases, HaveSameCover-append}
-use Rattle.ipnet.proofs.CoverLaws.{HaveSameCover-trans}
+use Rattle.ipnet.proofs.CoverLaws.{HaveSameCover-trans, HaveSameCover-sym}
 
 -- the aggregates of the two families are together the aggregate of all
 pub both_families : (ipv4 blocks4 : List Ipv4Net) (ipv6 blocks6 : List Ipv6Net)
@@ -55,6 +55,14 @@ pub second_covers_more : (a b new : List Network) (n : Network) → HaveSameCove
 second_covers_more a b new n h =
     subst (HaveSameCover (a ++ new)) (sym (append_assoc a b (n ∷ [])))
     (HaveSameCover-append a new a (b ++ n ∷ []) (λ x. (λ c. c, λ c. c)) h)
+
+-- networks with the same cover, after one more
+pub taken_covers_more : (networks old new : List Network) (n : Network) → HaveSameCover new (old ++ n ∷ [])
+    → HaveSameCover networks old → HaveSameCover (networks ++ n ∷ []) new
+taken_covers_more networks old new n pushed same =
+    HaveSameCover-trans (networks ++ n ∷ []) (old ++ n ∷ []) new
+    (HaveSameCover-append networks (n ∷ []) old (n ∷ []) same (λ x. (λ c. c, λ c. c)))
+    (HaveSameCover-sym new (old ++ n ∷ []) pushed)
 
 pub OnOk_then : {T E P Q : Type 0} (r : Result T E) → OnOk r P → (P → Q) → OnOk r Q
 OnOk_then (Ok x) h then = then h

@@ -25,7 +25,7 @@ grown xs ys start end k n ordered within fits =
     ∙ ap (λ j. take j (held ++ after)) sum ∙ take-add (end - start) n (held ++ after)
     ∙ (rw (take_at held after _ len, drop_at held after _ len, take-append-le n ys (post_of end k xs) fits, same) refl)
 
--- a write behind them leaves them as they were
+-- a write after them leaves them as they were
 pub kept : (xs ys : List ℕ) (start end k : ℕ) → start ≤ end → end ≤ length xs
     → slice_range (put_mid end k xs ys) start end ≡ slice_range xs start end
 kept xs ys start end k ordered within =

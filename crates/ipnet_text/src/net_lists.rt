@@ -1,10 +1,38 @@
 //! Lists of networks by family, whose networks are joined as they are added.
-ghost use Rattle.std.specs.Prelude.{◌≡◌, [], ◌∷◌, ◌++◌, map, OnOk, IfSome};
+ghost use Rattle.std.specs.Prelude.{◌≡◌, List, [], ◌∷◌, ◌++◌, map, OnOk, IfSome};
 ghost use Rattle.ipnet.specs.Blocks.{HaveSameCover, IsAggregateOf};
+ghost use Rattle.ipnet.specs.Network.{Network};
 ghost use Rattle.ipnet.specs.NetworkOf.{ip_network};
+ghost use Rattle.ipnet_text.specs.NetLists.{networks_of};
 
 use ipnet::{IpNet, Ipv4Net, Ipv6Net, Net};
 use std::alloc::{AllocError, Global};
+
+/// A collection that takes the networks of a list, one after another.
+pub trait NetworkSink {
+    /// Whether it is made of these networks, in this order.
+    ghost is_made: { Self → List Network → Type 0 };
+
+    /// Takes the next network. Fails if memory runs out.
+    ///
+    /// ```text
+    /// a vector of 10.0.0.0/25 takes 10.0.0.128/25: then it has 10.0.0.0/25 and 10.0.0.128/25
+    /// ```
+    fn push(&mut self, network: IpNet) -> Result<(), AllocError>
+        ensures { OnOk result ((networks : List Network)
+            → is_made self.old networks → is_made self.new (networks ++ ip_network network ∷ [])) };
+}
+
+/// Every network of the list is kept.
+impl NetworkSink for Vec<IpNet> {
+    ghost is_made = { λ list networks. map ip_network list.items ≡ networks };
+
+    #[inline(always)]
+    fn push(&mut self, network: IpNet) -> Result<(), AllocError> {
+        self.push(network)?;
+        Ok(())
+    }
+}
 
 /// Networks of both families in two lists, so that each is sorted without the room and the tests that the other needs.
 /// The lists keep what addresses the networks cover, and not each network.
@@ -21,31 +49,13 @@ pub struct NetLists {
 }
 
 impl NetLists {
-    ghost use Rattle.ipnet_text.specs.NetLists.{networks_of};
-
-    /// No networks. Takes no memory.
+    /// No networks. Allocates nothing.
     pub fn new(alloc: Global) -> NetLists
         ensures { networks_of result ≡ [] }
     {
         NetLists {
             ipv4: Vec::new(alloc),
             ipv6: Vec::new(alloc),
-        }
-    }
-
-    /// Adds the network to the list of its family, and joins it with the last ones there as far as possible. Fails if
-    /// memory runs out.
-    ///
-    /// ```text
-    /// the lists have 10.0.0.0/25, and 10.0.0.128/25 is added: then they have 10.0.0.0/24
-    /// ```
-    #[inline(always)]
-    pub fn push(&mut self, network: IpNet) -> Result<(), AllocError>
-        ensures { OnOk result (HaveSameCover (networks_of self.new) (networks_of self.old ++ ip_network network ∷ [])) }
-    {
-        match network {
-            IpNet::V4(network) => push_joined(&mut self.ipv4, network),
-            IpNet::V6(network) => push_joined(&mut self.ipv6, network),
         }
     }
 
@@ -61,6 +71,20 @@ impl NetLists {
     {
         Ipv4Net::aggregate_in_place(&mut self.ipv4);
         Ipv6Net::aggregate_in_place(&mut self.ipv6);
+    }
+}
+
+/// A network is added to the list of its family, and joined with the last ones there as far as possible: the lists have
+/// the addresses of the networks, and not each network.
+impl NetworkSink for NetLists {
+    ghost is_made = { λ lists networks. HaveSameCover networks (networks_of lists) };
+
+    #[inline(always)]
+    fn push(&mut self, network: IpNet) -> Result<(), AllocError> {
+        match network {
+            IpNet::V4(network) => push_joined(&mut self.ipv4, network),
+            IpNet::V6(network) => push_joined(&mut self.ipv6, network),
+        }
     }
 }
 

@@ -1,5 +1,5 @@
 //! Lines of networks, written piece by piece.
-ghost use Rattle.std.specs.Prelude.{◌≡◌, ℕ, ◌+◌, ◌≤◌, List, ◌++◌, ◌∷◌, [], OnOk, OnErr};
+ghost use Rattle.std.specs.Prelude.{◌≡◌, ℕ, ◌+◌, ◌<◌, ◌≤◌, List, ◌++◌, ◌∷◌, [], OnOk, OnErr, length};
 ghost use Rattle.std.specs.Io.{StartsWith};
 ghost use Rattle.std.specs.Io.KnownBytes.{Appends};
 ghost use Rattle.arrayvec.specs.ArrayString.{array_string_len};
@@ -33,9 +33,25 @@ pub fn put_line<W: Write>(
     ensures front { OnErr result ((front : List ℕ) × StartsWith piece.old.bytes front
         × Appends (W.contents out.old) (W.contents out.new) front) }
 {
-    let text = network.to_text();
+    put_text(out, piece, network.to_text().as_str())
+}
+
+/// Appends the text and a newline to the piece. If they do not fit, the piece is written first.
+///
+/// Fails if that write fails; then the writer received a front of the piece.
+///
+/// ```text
+/// the piece "::1\n" and the text "::2": nothing is written, the piece is "::1\n::2\n"
+/// ```
+pub fn put_text<W: Write>(out: &mut W, piece: &mut ArrayString<PIECE>, text: &str) -> io::Result<()>
+    requires { length text.now < 8192 }
+    ensures ok { OnOk result (IsInPieces (W.contents out.old) (W.contents out.new) piece.new.bytes
+        ((piece.old.bytes ++ text.now) ++ 10 ∷ [])) }
+    ensures front { OnErr result ((front : List ℕ) × StartsWith piece.old.bytes front
+        × Appends (W.contents out.old) (W.contents out.new) front) }
+{
     make_room(out, piece, text.len() + 1)?;
-    piece.push_str(text.as_str());
+    piece.push_str(text);
     piece.push_str("\n");
     Ok(())
 }

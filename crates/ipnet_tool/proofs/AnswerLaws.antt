@@ -1,10 +1,7 @@
 -- The networks of a text by family, their aggregates, and the text of these.
-use Rattle.std.proofs.Common.{◌≡◌, ℕ, ◌↔◌, subst, List, [], ◌∷◌, ◌++◌}
-use Rattle.std.proofs.Common.{Ok, Err, String, Global, string_bytes, sym, ap, append_assoc}
-use Rattle.std.proofs.Common.{All}
+use Rattle.std.proofs.Common.{◌≡◌, ℕ, List, [], Ok, Err, String, Global, string_bytes, ap, All}
 use Rattle.ipnet.specs.Network.{Network}
-use Rattle.ipnet.specs.Blocks.{IsCoveredBy, HaveSameCover, IsAggregateOf}
-use Rattle.ipnet.proofs.CoverLaws.{HaveSameCover-append}
+use Rattle.ipnet.specs.Blocks.{HaveSameCover, IsAggregateOf}
 use Rattle.ipnet.proofs.CoverLaws.{HaveSameCover-sym}
 use Rattle.ipnet.proofs.AggregateLaws.{aggregate_of_same_cover}
 use Rattle.ipnet.specs.declared.parser.Grammar.{Grammar}
@@ -13,17 +10,6 @@ use Rattle.ipnet_tool.specs.Answers.{IsAnswerTo, IsTextAnswer, StartsWithBadLine
 use Rattle.ipnet_text.specs.LineTexts.{text_of_lines}
 use Rattle.ipnet_tool.specs.declared.tool.ToolError.{ToolError}
 use Rattle.ipnet_tool.specs.declared.tool.ToolError.TheVariants as ToolErrors
-
--- the networks so far and the networks to come have the same cover after one network moves from these to those
-pub cover_moves_on : (whole old new more : List Network) (n : Network) → HaveSameCover new (old ++ n ∷ [])
-    → HaveSameCover whole (old ++ n ∷ more) → HaveSameCover whole (new ++ more)
-cover_moves_on whole old new more n pushed same x =
-    let there : IsCoveredBy (new ++ more) x ↔ IsCoveredBy ((old ++ n ∷ []) ++ more) x =
-    HaveSameCover-append new more (old ++ n ∷ []) more pushed (λ y. (λ a. a, λ a. a)) x in
-    let spelled : (old ++ n ∷ []) ++ more ≡ old ++ n ∷ more = append_assoc old (n ∷ []) more in (
-      λ a. there.1 (subst (λ z. IsCoveredBy z x) (sym spelled) ((same x).0 a)),
-      λ a. (same x).1 (subst (λ z. IsCoveredBy z x) spelled (there.0 a)),
-    )
 
 -- the text of the aggregate of networks that cover what the lines' networks cover is the answer
 pub answer_from : (grammar : Grammar) (text answer : List ℕ) (networks families blocks : List Network)

@@ -1,12 +1,44 @@
--- Empty lines, and the first line that is not empty, if it is bad.
+-- Lines that are read one after another: the networks that were taken, empty lines, and the first line that is not
+-- empty, if it is bad.
 use Rattle.std.proofs.Common.{◌≡◌, ℕ, ◌+◌, ◌<◌, List, [], ◌∷◌, ◌++◌, length, All, refl, sym, ap, subst, inl, arith}
+use Rattle.std.proofs.Common.{append_assoc, append-nil}
 use Rattle.std.proofs.lemmas.List.Elements.{All-head, All-tail}
 use Rattle.ipnet.specs.Network.{Network}
 use Rattle.ipnet.specs.declared.parser.Grammar.{Grammar}
-use Rattle.ipnet.specs.Lines.{lines_of, IsBadLine}
+use Rattle.ipnet.specs.Lines.{lines_of, AreNetworksOf, IsBadLine}
 use Rattle.ipnet.specs.NetworkTexts.{IsNetworkText}
 use Rattle.ipnet_tool.specs.Answers.{StartsWithBadLine}
 use Rattle.ipnet_text.proofs.LineCuts.{empty_text}
+
+-- the networks of the lines before `rest` were taken
+abbrev pub IsTakenTo : Grammar → (lines rest : List (List ℕ)) → (IsMade IsMadeNow : List Network → Type 0) → Type 0
+IsTakenTo grammar lines rest IsMade IsMadeNow = (front : List Network)
+    × ((more : List Network) → AreNetworksOf grammar rest more → AreNetworksOf grammar lines (front ++ more))
+    × ((before : List Network) → IsMade before → IsMadeNow (before ++ front))
+
+pub none_taken : (grammar : Grammar) (lines : List (List ℕ)) (IsMade : List Network → Type 0)
+    → IsTakenTo grammar lines lines IsMade IsMade
+none_taken grammar lines IsMade = ([], λ more h. h, λ before h. subst IsMade (sym (append-nil before)) h)
+
+pub one_taken_more : (grammar : Grammar) (lines rest after : List (List ℕ))
+    (IsMade IsMadeThen IsMadeNow : List Network → Type 0) (n : Network)
+    → IsTakenTo grammar lines rest IsMade IsMadeThen
+    → ((more : List Network) → AreNetworksOf grammar after more → AreNetworksOf grammar rest (n ∷ more))
+    → ((networks : List Network) → IsMadeThen networks → IsMadeNow (networks ++ n ∷ []))
+    → IsTakenTo grammar lines after IsMade IsMadeNow
+one_taken_more grammar lines rest after IsMade IsMadeThen IsMadeNow n (front, are, made) reads pushed = (
+  front ++ n ∷ [],
+  λ more h. subst (AreNetworksOf grammar lines) (sym (append_assoc front (n ∷ []) more))
+      (are (n ∷ more) (reads more h)),
+  λ before h. subst IsMadeNow (append_assoc before front (n ∷ [])) (pushed (before ++ front) (made before h)),
+)
+
+pub none_taken_more : (grammar : Grammar) (lines rest after : List (List ℕ))
+    (IsMade IsMadeNow : List Network → Type 0) → IsTakenTo grammar lines rest IsMade IsMadeNow
+    → ((more : List Network) → AreNetworksOf grammar after more → AreNetworksOf grammar rest more)
+    → IsTakenTo grammar lines after IsMade IsMadeNow
+none_taken_more grammar lines rest after IsMade IsMadeNow (front, are, made) reads =
+    (front, λ more h. are more (reads more h), made)
 
 -- lines are not all empty if the first is not
 pub not_all_empty : (lines : List (List ℕ)) (line : List ℕ) (after : List (List ℕ)) → lines ≡ line ∷ after

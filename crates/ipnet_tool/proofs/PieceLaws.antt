@@ -9,7 +9,6 @@ use Rattle.ipnet.specs.Blocks.{HaveSameCover}
 use Rattle.ipnet.specs.declared.parser.Grammar.{Grammar}
 use Rattle.ipnet.specs.Lines.{lines_of, onto_first_line, AreNetworksOf, IsFirstBadLine, IsGoodLine}
 use Rattle.ipnet.proofs.LineLaws.{all_good, bad_line}
-use Rattle.ipnet.proofs.CoverLaws.{HaveSameCover-append, HaveSameCover-trans}
 use Rattle.ipnet_text.proofs.ClosedLines.{IsClosed, closed_append}
 use Rattle.ipnet_tool.specs.Reading.{IsTaken}
 use Rattle.ipnet_tool.proofs.TextLengths.{network_text_short}
@@ -64,20 +63,21 @@ taken_none grammar networks none = record {
 
 pub networks_more : (grammar : Grammar) (front piece : List ℕ) (old new : List Network) (number : ℕ)
     → IsTaken grammar front old number
-    → (networks : List Network) × AreNetworksOf grammar (lines_of piece) networks × HaveSameCover (old ++ networks) new
+    → (networks : List Network) × AreNetworksOf grammar (lines_of piece) networks
+    × ((before : List Network) → HaveSameCover before old → HaveSameCover (before ++ networks) new)
     → (networks : List Network) × AreNetworksOf grammar (lines_of (front ++ piece)) networks
     × HaveSameCover networks new
 networks_more grammar front piece old new number taken (networks, are, same) = (
   taken.written ++ networks,
   subst (λ z. AreNetworksOf grammar z (taken.written ++ networks)) (sym (taken.closed piece))
       (networks_append grammar (lines_of front) (lines_of piece) taken.written networks taken.are are),
-  HaveSameCover-trans (taken.written ++ networks) (old ++ networks) new
-      (HaveSameCover-append taken.written networks old networks taken.same (λ x. (λ c. c, λ c. c))) same,
+  same taken.written taken.same,
 )
 
 pub taken_more : (grammar : Grammar) (front piece : List ℕ) (old new : List Network) (number count : ℕ)
     → IsTaken grammar front old number → IsUtf8 piece → IsClosed piece
-    → (networks : List Network) × AreNetworksOf grammar (lines_of piece) networks × HaveSameCover (old ++ networks) new
+    → (networks : List Network) × AreNetworksOf grammar (lines_of piece) networks
+    × ((before : List Network) → HaveSameCover before old → HaveSameCover (before ++ networks) new)
     → count ≡ number + length (lines_of piece) → IsTaken grammar (front ++ piece) new count
 taken_more grammar front piece old new number count taken is_text closed more is =
     let (networks, are, same) = networks_more grammar front piece old new number taken more in

@@ -83,7 +83,7 @@ read_more grammar a b c held given now networks number h is more = record {
 -- what a call that takes the lines of a piece makes of the networks so far
 abbrev pub AddsNetworksOf : Grammar → List ℕ → List Network → List Network → Type 0
 AddsNetworksOf grammar piece old new = (networks : List Network) × AreNetworksOf grammar (lines_of piece) networks
-    × HaveSameCover (old ++ networks) new
+    × ((before : List Network) → HaveSameCover before old → HaveSameCover (before ++ networks) new)
 
 -- whole lines are taken
 pub piece_taken : (grammar : Grammar) (a b : Option (List ℕ)) (held after : List ℕ) (old new : List Network)
@@ -166,7 +166,7 @@ long_then_text grammar a b c held networks number h long none left = record {
       (long_is_bad grammar held left.more long none);
 }
 
--- no line ends behind the last one that does
+-- no line ends after the last one that does
 pub none_after : (held after : List ℕ) (count : ℕ) → after ≡ drop count held
     → ((k : ℕ) → count ≤ k → k < length held → get_or held k 0 ≢ 10)
     → (k : ℕ) → k < length after → get_or after k 0 ≢ 10

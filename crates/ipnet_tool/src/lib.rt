@@ -11,4 +11,4 @@ pub mod tool;
 
 pub use failure::Failure;
 pub use program::run;
-pub use tool::{ToolError, aggregate_text, aggregate_text_legacy, push_lines};
+pub use tool::{ToolError, aggregate_text, aggregate_text_as, aggregate_text_legacy, push_lines};

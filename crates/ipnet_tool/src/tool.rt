@@ -15,7 +15,7 @@ ghost use Rattle.ipnet_text.specs.NetLists.{networks_of};
 
 use crate::front_reader::FrontReader;
 use ipnet::{AddrParseError, Grammar, IpNet};
-use ipnet_text::{NetLists, first_line, push_line};
+use ipnet_text::{NetLists, NetworkSink, first_line, push_line};
 use std::alloc::{AllocError, Global};
 use thiserror::Error;
 
@@ -55,7 +55,7 @@ pub enum ToolError {
 pub fn aggregate_text(alloc: Global, text: &str) -> Result<String, ToolError>
     ensures { IsTextAnswer Strict text.now result }
 {
-    answer_to(alloc, text, Grammar::Strict)
+    aggregate_text_as(alloc, text, Grammar::Strict)
 }
 
 /// The same for lines that are read by the legacy grammar, [`IpNet::parse_legacy`].
@@ -66,11 +66,15 @@ pub fn aggregate_text(alloc: Global, text: &str) -> Result<String, ToolError>
 pub fn aggregate_text_legacy(alloc: Global, text: &str) -> Result<String, ToolError>
     ensures { IsTextAnswer Legacy text.now result }
 {
-    answer_to(alloc, text, Grammar::Legacy)
+    aggregate_text_as(alloc, text, Grammar::Legacy)
 }
 
-/// The answer, in the grammar that is asked for.
-fn answer_to(alloc: Global, text: &str, grammar: Grammar) -> Result<String, ToolError>
+/// The same for lines that are read by this grammar.
+///
+/// ```text
+/// aggregate_text_as(alloc, "10.0.0.0/24\n10.0.01.0/24\n", Strict)  is  Err(ToolError::Line(2))
+/// ```
+pub fn aggregate_text_as(alloc: Global, text: &str, grammar: Grammar) -> Result<String, ToolError>
     ensures { IsTextAnswer grammar text.now result }
 {
     let mut families = NetLists::new(alloc);
@@ -82,18 +86,18 @@ fn answer_to(alloc: Global, text: &str, grammar: Grammar) -> Result<String, Tool
     Ok(answer)
 }
 
-/// Adds the networks of the lines, in the grammar that is asked for, to the lists of their families. `before` lines
-/// come earlier; returns the total number of lines. Empty lines are skipped, and need no memory.
+/// Hands the networks of the lines, in the grammar that is asked for, to the sink. `before` lines come earlier; returns
+/// the total number of lines. Empty lines are skipped, and need no memory.
 ///
-/// Fails with `Line` and the number of the first bad line, or with `Memory`. The networks of the lines before it may
-/// then be in the lists.
+/// Fails with `Line` and the number of the first bad line, or with `Memory`. The sink may then have the networks of the
+/// lines before it.
 ///
 /// ```text
-/// push_lines(&mut lists, 0, "10.0.1.0/24\n\n10.0.0.0/24", Strict)  is  Ok(3), and the lists have both networks
-/// push_lines(&mut lists, 7, "x", Strict)                            is  Err(ToolError::Line(8))
+/// push_lines(&mut list, 0, "10.0.1.0/24\n\n10.0.0.0/24", Strict)  is  Ok(3), and the list has both networks
+/// push_lines(&mut list, 7, "x", Strict)                            is  Err(ToolError::Line(8))
 /// ```
-pub fn push_lines(
-    families: &mut NetLists,
+pub fn push_lines<S: NetworkSink>(
+    sink: &mut S,
     before: usize,
     text: &str,
     grammar: Grammar,
@@ -101,10 +105,10 @@ pub fn push_lines(
     requires { before + length text.now ≤ MAX }
     ensures networks { OnOk result ((networks : List Network)
         × AreNetworksOf grammar (lines_of text.now) networks
-        × HaveSameCover (networks_of families.old ++ networks) (networks_of families.new)) }
+        × ((before : List Network) → S.is_made sink.old before → S.is_made sink.new (before ++ networks))) }
     ensures count { IfOk result (λ lines. lines ≡ before + length (lines_of text.now)) }
     ensures empty { All (λ line. line ≡ []) (lines_of text.now)
-        → IsOk result × (networks_of families.new ≡ networks_of families.old) }
+        → IsOk result × (sink.new ≡ sink.old) }
     ensures bad_line { (number : ℕ) → result ≡ Err (ToolError.Line number)
         → (later : ℕ) × (number ≡ before + later) × IsFirstBadLine grammar (lines_of text.now) later }
     ensures bad_at_once { (later : ℕ) → StartsWithBadLine grammar (lines_of text.now) later
@@ -117,7 +121,7 @@ pub fn push_lines(
         number += 1;
         if let Some(front) = reader.read(rest.as_bytes()) {
             rest = &rest[front.len + 1..];
-            let Ok(()) = families.push(front.network) else {
+            let Ok(()) = sink.push(front.network) else {
                 return Err(ToolError::Memory);
             };
             continue 'lines;
@@ -128,7 +132,7 @@ pub fn push_lines(
             let Ok(network) = parse_as(line, grammar) else {
                 return Err(ToolError::Line(number));
             };
-            let Ok(()) = families.push(network) else {
+            let Ok(()) = sink.push(network) else {
                 return Err(ToolError::Memory);
             };
         }

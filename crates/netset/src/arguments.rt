@@ -1,4 +1,6 @@
 //! The command line: the lists to read, and what to do with them.
+use crate::changes::changes_command;
+use crate::listing::with_listings;
 use crate::plan::plan_command;
 use crate::rules::with_rules;
 use crate::version::VERSION;
@@ -15,7 +17,7 @@ pub const STANDARD_INPUT: &str = "-";
 pub const FIRST: &str = "first";
 
 /// The id of the lists after the first.
-const OTHERS: &str = "others";
+pub const OTHERS: &str = "others";
 
 /// The parsed command line.
 #[derive(Drop)]
@@ -94,7 +96,7 @@ fn first_file<'a>(alloc: Global) -> Arg<'a> {
 }
 
 /// The list after the first.
-fn other<'a>(alloc: Global, help: &'a str) -> Arg<'a> {
+pub fn other<'a>(alloc: Global, help: &'a str) -> Arg<'a> {
     Arg::new(alloc, OTHERS)
         .value_name("FILE")
         .required(true)
@@ -207,6 +209,7 @@ fn with_queries<'a>(alloc: Global, command: Command<'a>) -> Result<Command<'a>, 
                 .arg(first_file(alloc))?
                 .arg(other(alloc, "The other list"))?,
         )?
+        .subcommand(changes_command(alloc)?)?
         .subcommand(filter_command(alloc)?)?
         .subcommand(
             command_of(alloc, "route", route)?
@@ -224,10 +227,8 @@ fn command<'a>(alloc: Global) -> Result<Command<'a>, AllocError> {
         .about("Combines and compares lists of networks, addresses and ranges")
         .subcommand_required(true)
         .arg_required_else_help(true);
-    with_rules(
-        alloc,
-        with_queries(alloc, with_operations(alloc, command)?)?,
-    )
+    let command = with_queries(alloc, with_operations(alloc, command)?)?;
+    with_rules(alloc, with_listings(alloc, command)?)
 }
 
 /// Parses the command line. The error is the text to print: help, the version, or what is wrong.
@@ -266,6 +267,12 @@ fn names_of<'a>(
     Ok(names)
 }
 
+/// Whether more than one of the lists is standard input.
+pub fn reads_input_twice(names: &[&str]) -> bool {
+    let inputs = names.iter().filter(|name| **name == STANDARD_INPUT);
+    inputs.count() > 1
+}
+
 /// Reads the parsed words: the work, the names of the lists, and whether to print progress.
 pub fn call_of<'a>(alloc: Global, matches: &ArgMatches<'a>) -> Result<Call<'a>, ArgumentFailure> {
     let (name, matches) = matches.subcommand().unwrap_or(("", matches));
@@ -276,8 +283,7 @@ pub fn call_of<'a>(alloc: Global, matches: &ArgMatches<'a>) -> Result<Call<'a>, 
     let Ok(names) = names_of(alloc, work, matches) else {
         return Err(ArgumentFailure::Memory);
     };
-    let inputs = names.iter().filter(|name| **name == STANDARD_INPUT);
-    if inputs.count() > 1 {
+    if reads_input_twice(names.as_slice()) {
         return Err(ArgumentFailure::InputTwice);
     }
     let counts = matches!(work, Work::Ask(Query::Count, _));

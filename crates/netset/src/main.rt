@@ -2,12 +2,16 @@
 #![tactic(auto)]
 
 mod arguments;
+mod changes;
+mod listing;
 mod lists;
 mod plan;
 mod rules;
 mod version;
 
 use crate::arguments::{ArgumentFailure, Call, call_of, matches_of, words};
+use crate::changes::{CHANGES, changed};
+use crate::listing::run_if_listing;
 use crate::lists::{read_lists, stream_list};
 use crate::plan::{PLAN, planned};
 use crate::rules::run_if_rules;
@@ -70,8 +74,12 @@ fn called(rt: &HostRuntime, matches: &ArgMatches) -> u8 {
     if let Some(status) = run_if_rules(rt, matches) {
         return status;
     }
+    if let Some(status) = run_if_listing(rt, matches) {
+        return status;
+    }
     match matches.subcommand() {
         Some((name, matches)) if name == PLAN => planned(rt, matches),
+        Some((name, matches)) if name == CHANGES => changed(rt, matches),
         _ => answered(rt, matches),
     }
 }

@@ -9,12 +9,15 @@ pub mod PlainLines
 pub mod CauseTexts
 pub mod LengthTexts
 pub mod PlanLaws
+pub mod ChangeLaws
+pub mod ListingLaws
 pub mod ListReading
 pub mod WindowReading
 pub mod OperationLaws
 pub mod SameResults
 pub mod AnswerTexts
 pub mod ListsReading
+pub mod ListTexts
 pub mod CountTexts
 pub mod FilterLaws
 pub mod TableLaws

@@ -25,6 +25,7 @@ use Rattle.netset_lib.specs.Filters.{IsFilterAnswer}
 use Rattle.netset_lib.specs.Lists.{ListEntry, Refusal, AreRead, IsInEntries, HaveAddresses}
 use Rattle.netset_lib.specs.ListSets.{HaveMembers}
 use Rattle.netset_lib.specs.Operations.{IsInResult, IsCountFor}
+use Rattle.netset_lib.specs.PairSets.{ArePairSets}
 use Rattle.netset_lib.specs.PlanAnswers.{IsResultSet}
 use Rattle.netset_lib.specs.declared.operation.Families.TheVariants.{Named}
 use Rattle.netset_lib.specs.declared.operation.Operation.TheVariants.{Complement}
@@ -192,6 +193,38 @@ result_right q request lists s set h is none same count some =
       );
       named = λ is_named. family_some s.sets.items h.entries h.state (some is_named);
     }
+
+-- ---- the two sets of a comparison
+
+-- the last set is that of the second list, and the one before it that of the first
+two_sets : (sets front : List IpSet) (one other : IpSet) (first second : List ListEntry)
+    → HaveMembers sets (first ∷ second ∷ []) → sets ≡ (front ++ one ∷ []) ++ other ∷ []
+    → HaveAddresses (IsMember one) first × HaveAddresses (IsMember other) second
+two_sets sets [] one other first second members is =
+    let both = subst (λ z. HaveMembers z (first ∷ second ∷ [])) is members in (both.0, both.1.0)
+two_sets sets (x ∷ []) one other first second members is =
+    absurd (subst (λ z. HaveMembers z (first ∷ second ∷ [])) is members).1.1
+two_sets sets (x ∷ y ∷ []) one other first second members is =
+    absurd (subst (λ z. HaveMembers z (first ∷ second ∷ [])) is members).1.1
+two_sets sets (x ∷ y ∷ z ∷ front) one other first second members is =
+    absurd (subst (λ z. HaveMembers z (first ∷ second ∷ [])) is members).1.1
+
+pub pair_right : (grammar : Grammar) (lists : List (List ℕ)) (s : Session) (front : List IpSet) (one other : IpSet)
+    → WereRead (Ask Compare grammar) lists s → s.reading.lines.refused.count ≡ 0 → length lists ≡ 2
+    → s.sets.items ≡ (front ++ one ∷ []) ++ other ∷ [] → ArePairSets grammar lists one other
+pair_right grammar lists s front one other h none two is =
+    go h.entries (lists_count grammar 0 lists h.entries h.refusals h.read ∙ two)
+    (subst (AreListsRead grammar 0 lists h.entries) (none_of_length h.refusals (sym h.kept.count ∙ none)) h.read)
+    h.state
+  where
+    go : (entries : List (List ListEntry)) → length entries ≡ 2 → AreListsRead grammar 0 lists entries []
+        → HaveMembers s.sets.items entries → ArePairSets grammar lists one other
+    go [] count read state = absurd (omega (arith, count))
+    go (a ∷ []) count read state = absurd (omega (arith, count))
+    go (a ∷ b ∷ []) count read state =
+        let both = two_sets s.sets.items front one other a b state is in
+        record { first = a; second = b; read = read; of_first = both.0; of_second = both.1 }
+    go (a ∷ b ∷ c ∷ entries) count read state = absurd (omega (arith, count))
 
 not_not : (b : Bool) → not (not b) ≡ b
 not_not true = refl

@@ -17,9 +17,15 @@ pub mod RouteAnswers
 pub mod Routing
 pub mod Answering
 pub mod ListSets
+pub mod ListTexts
 pub mod Replies
 pub mod PlanAnswers
 pub mod Planning
+pub mod PairSets
+pub mod Changes
+pub mod ChangeSteps
+pub mod Listings
+pub mod ListingSteps
 pub mod Runs
 pub mod Commands
 pub mod Sessions

@@ -15,7 +15,7 @@ use std::io::Read;
 
 /// Collects the addresses of entries.
 #[derive(Drop)]
-struct Addresses;
+pub(crate) struct Addresses;
 
 impl Collector<IpSetBuilder> for Addresses {
     ghost is_made = { λ _ builder entries. HaveAddresses (IsPushed builder) entries };

@@ -205,6 +205,7 @@ impl LineReader {
     pub(crate) fn new(alloc: Global, grammar: Grammar) -> LineReader
         ensures grammar { result.grammar ≡ grammar }
         ensures first { result.list ≡ 0 }
+        ensures line { result.line ≡ 0 }
         ensures none { AreRefused result.refused [] }
     {
         LineReader {

@@ -64,7 +64,7 @@ pub(crate) struct RuleReader {
 }
 
 /// Returns the bytes without a byte order mark at their start.
-fn skip_mark(bytes: &[u8]) -> &[u8]
+pub(crate) fn skip_mark(bytes: &[u8]) -> &[u8]
     ensures { result.now ≡ after_mark bytes.now }
 {
     if bytes.starts_with(&BYTE_ORDER_MARK) {

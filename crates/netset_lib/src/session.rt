@@ -13,6 +13,7 @@ ghost use Rattle.netset_lib.specs.Answers.{IsNamedComplement};
 ghost use Rattle.netset_lib.specs.Replies.{work_grammar, TakesCount, IsWorkAnswer, IsOutcome, IsWorkFailure};
 ghost use Rattle.netset_lib.specs.Sessions.{IsReplyOf};
 
+pub mod pair;
 pub mod result;
 pub mod stream;
 

@@ -306,6 +306,12 @@ fn longest_match(places: &HashMap<IpNet, u64>, address: IpAddr) -> u64 {
         .unwrap_or(0)
 }
 
+/// The position as `longest_match` has it, by a search through all networks.
+fn linear_match(networks: &[IpNet], address: &IpAddr) -> u64 {
+    let holds = networks.iter().zip(1..).filter(|(network, _)| network.contains(address));
+    holds.max_by_key(|(network, place)| (network.prefix_len(), *place)).map_or(0, |(_, place)| place)
+}
+
 /// The routes to the networks in order, each with its position as value. If networks are equal, only the last is kept.
 fn routes(networks: &[IpNet]) -> u64 {
     let places = networks.iter().zip(0..).map(|(network, place)| (network.trunc(), place));
@@ -338,6 +344,9 @@ fn over_halves(task: &str, networks: &[IpNet]) -> Outcome {
                 addresses.iter().fold(0, |check, address| mixed(check, longest_match(&places, *address)))
             })
         }
+        "linear_match" => report(task, networks.len(), || {
+            addresses.iter().fold(0, |check, address| mixed(check, linear_match(&first, address)))
+        }),
         _ => Err("no such task".into()),
     }
 }

@@ -16,7 +16,7 @@ const CHANGES: u32 = 1_024;
 
 /// For each bucket the index of the first chunk that begins in it or a later one, and then the number of chunks.
 /// Without an index the list is empty.
-#[derive(Drop)]
+#[derive(Clone, Drop)]
 pub(crate) struct ChunkIndex {
     starts: Vec<u32>,
     changes: u32,

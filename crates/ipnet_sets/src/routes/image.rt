@@ -38,7 +38,7 @@ pub enum TableImageError {
     Version,
     /// The number of bytes is not the number that the header states.
     Length,
-    /// The routes are not those of a table in order, each with its link.
+    /// The routes are not the routes of a table in order, each with its link.
     Routes,
 }
 

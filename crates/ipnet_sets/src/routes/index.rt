@@ -23,7 +23,7 @@ pub(crate) struct Bucket {
 
 /// For each bucket the index of the first route that is in it or a later one; then the number of routes; and then the
 /// number of each IPv4 network. Without an index the list is empty.
-#[derive(Drop)]
+#[derive(Clone, Drop)]
 pub(crate) struct RouteIndex {
     entries: Vec<u32>,
 }
@@ -88,14 +88,14 @@ pub(crate) fn probe(low: usize, high: usize, bucket: Bucket) -> usize
 }
 
 impl RouteIndex {
-    /// Returns an index without buckets. Takes no memory.
+    /// Returns an index without buckets. Allocates nothing.
     pub(crate) fn new(alloc: Global) -> RouteIndex {
         RouteIndex {
             entries: Vec::new(alloc),
         }
     }
 
-    /// Returns the index of the routes, which are in order; with fewer than 4,096 routes it takes no memory.
+    /// Returns the index of the routes, which are in order; with fewer than 4,096 routes it allocates nothing.
     pub(crate) fn from_routes<V>(
         alloc: Global,
         routes: &[(IpNet, V)],

@@ -1,9 +1,10 @@
 //! The laws of all tables of routes: functions with nothing to run, whose contracts are the laws.
-ghost use Rattle.std.specs.Prelude.{◌≡◌, ◌∷◌, List, All, Contains};
+ghost use Rattle.std.specs.Prelude.{◌≡◌, ◌↔◌, ◌∷◌, List, All, Contains, IsTrue};
 ghost use Rattle.ipnet_base.specs.Address.{Address};
 ghost use Rattle.ipnet_base.specs.Blocks.{IsAscending};
 ghost use Rattle.ipnet_base.specs.Network.{IsNetwork, IsTruncated};
 ghost use Rattle.ipnet_sets.specs.Routes.{Route, networks_of, IsLongestMatch, AreMatches};
+ghost use Rattle.ipnet_sets.specs.RouteValues.{AreClones, AreEqual};
 ghost use Rattle.ipnet_sets.specs.RoutesOf.{routes_of};
 ghost use Rattle.ipnet_sets.specs.declared.routes.RouteTable.{RouteTable};
 
@@ -28,4 +29,13 @@ pub fn table_is_in_order<V>(table: &RouteTable<V>)
 pub fn the_first_match_is_the_longest<V>()
     ensures { (routes : List (Route V)) (x : Address) (first : Route V) (others : List (Route V))
         → AreMatches routes x (first ∷ others) → IsLongestMatch routes x first }
+{}
+
+/// Tables are equal if and only if they have the same networks, each with equal values. A table is a clone of another
+/// if and only if it has the same networks, each with a clone of its value.
+pub fn tables_follow_routes<V: PartialEq + Clone>()
+    ensures equality { (t u : RouteTable V) → IsTrue (⟦<RouteTable<V> as PartialEq>⟧.eq t u)
+        ↔ AreEqual V.eq (routes_of t) (routes_of u) }
+    ensures clone { (t u : RouteTable V) → ⟦<RouteTable<V> as Clone>⟧.is_clone t u
+        ↔ AreClones V.is_clone (routes_of t) (routes_of u) }
 {}

@@ -5,15 +5,16 @@ use Rattle.ipnet_c.specs.Replies.{IsAggregateReply}
 use Rattle.ipnet_c.proofs.ListReplies.{aggregated, not_aggregated}
 use Rattle.ipnet_c.proofs.aggregates.aggregate.Goals as goal
 
-pub returns-in-Ok-tool_answer : goal.returns-in-Ok-tool_answer
-returns-in-Ok-tool_answer c =
+pub returns-in-Ok-aggregate_text_as : goal.returns-in-Ok-aggregate_text_as
+returns-in-Ok-aggregate_text_as c =
     let (same, utf8) = c.in-Ok.ensures.cases in
     let made = c.write_answer in
     subst (λ t. IsAggregateReply c.args.grammar t c.args.buffer.now made.new.buffer c.args.count.now made.new.count
     made.result) same
     (aggregated c.args.grammar c.in-Ok.text.now c.as_bytes.result.now c.args.buffer.now made.new.buffer c.args.count.now
-    made.new.count made.result c.in-Ok-tool_answer.answer (subst IsUtf8 (sym same) utf8) c.in-Ok-tool_answer.ensures
-    c.as_bytes.ensures.value made.ensures.known made.ensures.ok made.ensures.too_short)
+    made.new.count made.result c.in-Ok-aggregate_text_as.answer (subst IsUtf8 (sym same) utf8)
+    c.in-Ok-aggregate_text_as.ensures c.as_bytes.ensures.value made.ensures.known made.ensures.ok
+    made.ensures.too_short)
 
 pub returns-in-Err-Memory : goal.returns-in-Err-Memory
 returns-in-Err-Memory c =

@@ -1,12 +1,13 @@
 -- Each way out gives a reply of `ListReplies`: the answer, or the error that the called functions return. Memory does
 -- not run out if all lines of both texts are empty, nor if the first line that is not empty is bad.
-use Rattle.std.proofs.Common.{sym, ap, subst, Err}
+use Rattle.std.proofs.Common.{◌↔◌, IsTrue, sym, ap, subst, Err}
 use Rattle.std.proofs.lemmas.Bool.{false≢true}
-use Rattle.ipnet.specs.Lines.{lines_of, AreNetworksOf}
 use Rattle.ipnet.specs.declared.parser.Grammar.TheVariants.{Strict}
 use Rattle.ipnet_c.specs.Replies.{IsSameAddressesReply}
 use Rattle.ipnet_c.proofs.ListReplies.{compared, other_refused, not_compared, IsGoodAtOnce, good_at_once}
-use Rattle.ipnet_c.proofs.BlockLists.{equal_blocks}
+use Rattle.ipnet_sets.specs.Members.{HaveSameAddresses}
+use Rattle.ipnet_sets.proofs.SetEqualLaws.{equal_by_addresses}
+use Rattle.ipnet_c.specs.SetReplies.{HasAddressesOfText}
 use Rattle.ipnet_c.proofs.ListReplies.{IsBlank, first_not_utf8, other_not_utf8}
 use Rattle.ipnet_c.proofs.covers.ipnet_same_addresses.Goals as goal
 
@@ -31,43 +32,56 @@ returns-in-Err-Memory c =
     (subst (IsGoodAtOnce Strict) same good)
     (λ none. absurd (false≢true (c.in-Err-Memory.ensures.empty (subst IsBlank (sym same) none))))
 
-pub returns-in-Err-Line-read_blocks : goal.returns-in-Err-Line-read_blocks
-returns-in-Err-Line-read_blocks c =
+pub returns-in-Err-Line-read_set : goal.returns-in-Err-Line-read_set
+returns-in-Err-Line-read_set c =
     let (same, utf8) = c.in-Ok.ensures.cases in
     let (same_other, utf8_other) = c.in-Ok-from_utf8.ensures.cases in
-    let (networks, written, aggregate) = c.in-Ok-read_blocks.ensures.blocks in
-    let told = c.in-Err-Line-read_blocks in
+    let h : HasAddressesOfText c.args.text.now c.in-Ok-read_set.set =
+    subst (λ t. HasAddressesOfText t c.in-Ok-read_set.set) same c.in-Ok-read_set.ensures.addresses in
+    let told = c.in-Err-Line-read_set in
     subst (λ number. IsSameAddressesReply c.args.text.now c.args.other.now c.args.same.now c.args.same.now
     c.args.line.now number 9) (sym told.number-is)
     (other_refused c.args.text.now c.args.other.now c.args.same.now c.args.line.now told.number
-    networks utf8 utf8_other (subst (λ t. AreNetworksOf Strict (lines_of t) networks) same written)
+    h.networks utf8 utf8_other h.written
     (rw same_other at (told.ensures.bad_line told.number (ap Err told.field-0-is)))
     (λ none. false≢true (told.ensures.empty (subst IsBlank (sym same_other) none))))
 
-pub returns-in-Err-Memory-read_blocks : goal.returns-in-Err-Memory-read_blocks
-returns-in-Err-Memory-read_blocks c =
+pub returns-in-Err-Memory-read_set : goal.returns-in-Err-Memory-read_set
+returns-in-Err-Memory-read_set c =
     let (same, utf8) = c.in-Ok.ensures.cases in
     let (same_other, utf8_other) = c.in-Ok-from_utf8.ensures.cases in
-    let (networks, written, aggregate) = c.in-Ok-read_blocks.ensures.blocks in
+    let h : HasAddressesOfText c.args.text.now c.in-Ok-read_set.set =
+    subst (λ t. HasAddressesOfText t c.in-Ok-read_set.set) same c.in-Ok-read_set.ensures.addresses in
     let good : IsGoodAtOnce Strict c.in-Ok-from_utf8.other.now =
-    λ number h. let clash = c.in-Err-Memory-read_blocks.ensures.bad_at_once number h in absurd cc in
+    λ number at. let clash = c.in-Err-Memory-read_set.ensures.bad_at_once number at in absurd cc in
     not_compared c.args.text.now c.args.other.now c.args.same.now c.args.line.now utf8 utf8_other
     (λ none none_other.
-    false≢true (c.in-Err-Memory-read_blocks.ensures.empty (subst IsBlank (sym same_other) none_other)))
-    (good_at_once Strict c.args.text.now networks
-    (subst (λ t. AreNetworksOf Strict (lines_of t) networks) same written))
+    false≢true (c.in-Err-Memory-read_set.ensures.empty (subst IsBlank (sym same_other) none_other)))
+    (good_at_once Strict c.args.text.now h.networks h.written)
     (λ none. subst (IsGoodAtOnce Strict) same_other good)
 
 pub returns : goal.returns
 returns c =
     let (same, utf8) = c.in-Ok.ensures.cases in
     let (same_other, utf8_other) = c.in-Ok-from_utf8.ensures.cases in
-    let (networks, written, aggregate) = c.in-Ok-read_blocks.ensures.blocks in
-    let (others, written_other, aggregate_other) = c.in-Ok-read_blocks-2.ensures.blocks in
-    let blocks = c.in-Ok-read_blocks.blocks.items in
-    let other_blocks = c.in-Ok-read_blocks-2.others.items in
-    compared c.args.text.now c.args.other.now c.args.same.now c.from.result c.args.line.now networks others
-    c.eq.result utf8 utf8_other (subst (λ t. AreNetworksOf Strict (lines_of t) networks) same written)
-    (subst (λ t. AreNetworksOf Strict (lines_of t) others) same_other written_other)
-    (equal_blocks (lines_of c.in-Ok.text.now) (lines_of c.in-Ok-from_utf8.other.now) networks others blocks
-    other_blocks c.eq.result written written_other aggregate aggregate_other c.eq.ensures) c.from.ensures
+    let h : HasAddressesOfText c.args.text.now c.in-Ok-read_set.set =
+    subst (λ t. HasAddressesOfText t c.in-Ok-read_set.set) same c.in-Ok-read_set.ensures.addresses in
+    let k : HasAddressesOfText c.args.other.now c.in-Ok-read_set-2.others =
+    subst (λ t. HasAddressesOfText t c.in-Ok-read_set-2.others) same_other c.in-Ok-read_set-2.ensures.addresses in
+    let set = c.in-Ok-read_set.set in
+    let others = c.in-Ok-read_set-2.others in
+    let equal : IsTrue c.eq.result ↔ HaveSameAddresses set others =
+    subst (λ r. IsTrue r ↔ HaveSameAddresses set others) (sym c.eq.ensures) (equal_by_addresses set others) in
+    compared c.args.text.now c.args.other.now c.args.same.now c.from.result c.args.line.now h.networks k.networks
+    c.eq.result utf8 utf8_other h.written k.written (
+      λ t x.
+          let is = equal.0 t x in (
+            λ a. (k.addresses x).0 (is.0 ((h.addresses x).1 a)),
+            λ b. (h.addresses x).0 (is.1 ((k.addresses x).1 b)),
+          ),
+      λ cover. equal.1 (λ x. (
+        λ m. (k.addresses x).1 ((cover x).0 ((h.addresses x).0 m)),
+        λ m. (h.addresses x).1 ((cover x).1 ((k.addresses x).0 m)),
+      )),
+    )
+    c.from.ensures

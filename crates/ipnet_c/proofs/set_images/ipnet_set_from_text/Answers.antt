@@ -1,8 +1,7 @@
 -- The image is of the set of the networks that the lines write.
-use Rattle.std.proofs.Common.{map, sym, subst}
-use Rattle.ipnet.specs.NetworkOf.{ip_network}
+use Rattle.std.proofs.Common.{sym, subst}
 use Rattle.ipnet_sets.specs.Images.{IsImageOf}
-use Rattle.ipnet_sets.specs.Members.{HasAddressesOf}
+use Rattle.ipnet_c.specs.SetReplies.{HasAddressesOfText}
 use Rattle.ipnet_c.proofs.SetImageReplies.{compiled}
 use Rattle.ipnet_c.proofs.set_images.ipnet_set_from_text.Goals as goal
 
@@ -10,17 +9,12 @@ pub returns : goal.returns
 returns c =
     let (same, utf8) = c.in-Ok.ensures.cases in
     let made = c.write_answer in
-    let set = c.in-Ok-from_networks.set in
-    compiled c.args.text.now c.as_slice-2.result.now c.args.buffer.now made.new.buffer c.args.count.now made.new.count
+    let set = c.in-Ok-read_set.set in
+    compiled c.args.text.now c.as_slice.result.now c.args.buffer.now made.new.buffer c.args.count.now made.new.count
     made.result utf8
     (record {
       set = set;
-      image_of = subst (λ z. IsImageOf z set) (sym c.as_slice-2.ensures.value) c.in-Ok-to_bytes.ensures;
-      holds = record {
-        networks = map ip_network c.in-Ok-read_networks.networks.items;
-        written = rw same at c.in-Ok-read_networks.ensures.networks;
-        addresses = subst (λ z. HasAddressesOf set (map ip_network z)) c.as_slice.ensures.value
-            c.in-Ok-from_networks.ensures.members;
-      };
+      image_of = subst (λ z. IsImageOf z set) (sym c.as_slice.ensures.value) c.in-Ok-to_bytes.ensures;
+      holds = subst (λ t. HasAddressesOfText t set) same c.in-Ok-read_set.ensures.addresses;
     })
     made.ensures.known made.ensures.ok made.ensures.too_short

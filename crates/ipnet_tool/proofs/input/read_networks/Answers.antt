@@ -101,7 +101,7 @@ returns-then-not-more-clause-networks g c =
     ∙ take_all (length c.held-held.result.now) c.held-held.result.now (omega arith) ∙ value in
     let piece : c.in-Ok.text.now ≡ now = cases.0 ∙ cut in
     let is_text : IsUtf8 now = subst IsUtf8 cut cases.1 in
-    let new = networks_of c.push_lines-result.new.families in
+    let new = networks_of c.push_lines-result.new.sink in
     let adds : AddsNetworksOf grammar now old new =
     subst (λ z. AddsNetworksOf grammar z old new) piece c.in-Ok-result.ensures.networks in
     last_taken grammar start here now old new number0 so_far adds (c.in_ok-more.ensures.end c.if-not-more.true)
@@ -127,7 +127,7 @@ returns-then-held-eq-SIZE-clause-bad_line g c = λ number e.
     let is_text : IsUtf8 (take count now) = subst IsUtf8 cut cases.1 in
     let closed : IsClosed (take count now) =
     subst IsClosed (ap (take count) value) (c.lines_len-count.ensures.closed c.if-not-more.false) in
-    let new = networks_of c.push_lines-result.new.families in
+    let new = networks_of c.push_lines-result.new.sink in
     let adds : AddsNetworksOf grammar (take count now) old new =
     subst (λ z. AddsNetworksOf grammar z old new) piece c.in-Ok-result.ensures.networks in
     let lines = c.in-Ok-result.lines in
@@ -167,7 +167,7 @@ loop-preserved g c =
     let is_text : IsUtf8 (take count now) = subst IsUtf8 cut cases.1 in
     let closed : IsClosed (take count now) =
     subst IsClosed (ap (take count) value) (c.lines_len-count.ensures.closed c.if-not-more.false) in
-    let new = networks_of c.push_lines-result.new.families in
+    let new = networks_of c.push_lines-result.new.sink in
     let adds : AddsNetworksOf grammar (take count now) old new =
     subst (λ z. AddsNetworksOf grammar z old new) piece c.in-Ok-result.ensures.networks in
     let lines = c.in-Ok-result.lines in

@@ -1,20 +1,30 @@
 -- The lines read and the lines still to be read make the whole text: each line, empty or a network, moves from the rest
--- to the lines that were read (`LineLaws`, `cover_moves_on`). A bad line is the first bad one (`EarlyLines`).
+-- to the lines that were read (`LineLaws`, `one_taken_more`). A bad line is the first bad one (`EarlyLines`).
 use Rattle.std.proofs.Common.{◌≡◌, ◌+◌, ◌<◌, ◌∷◌, ◌++◌, [], length, refl, subst, arith, rules, append-nil}
 use Rattle.std.proofs.Common.{inl, inr, ap, sym, ◌∙◌, take, drop}
 use Rattle.ipnet.specs.Lines.{lines_of, IsFirstBadLine}
 use Rattle.ipnet.specs.NetworkOf.{ip_network}
 use Rattle.ipnet.proofs.LineLaws.{empty_line, network_line, bad_line, good_line, no_lines}
 use Rattle.ipnet_tool.specs.Answers.{StartsWithBadLine}
-use Rattle.ipnet_text.specs.NetLists.{networks_of}
-use Rattle.ipnet_tool.proofs.AnswerLaws.{cover_moves_on}
+use Rattle.ipnet_tool.proofs.EarlyLines.{none_taken, one_taken_more, none_taken_more}
 use Rattle.ipnet_tool.proofs.EarlyLines.{after_empty, bad_here, not_good, none_bad, not_all_empty, rest_empty}
 use Rattle.ipnet_tool.proofs.FrontLines.{front_line, cut_after}
 use Rattle.ipnet_text.proofs.LineCuts.{some_bytes, no_bytes, empty_text}
 use Rattle.ipnet_tool.proofs.tool.push_lines.Goals as goal
 
+pub lines-init : goal.lines-init
+lines-init g c = record {
+  is_text = search rules;
+  room = omega arith;
+  count = refl;
+  taken = none_taken c.args.grammar (lines_of c.args.text.now) (g.S.NetworkSink.is_made c.args.sink.now);
+  empty = λ h. (h, refl);
+  bad_line = λ later h. (later, refl, h);
+  at_once = λ number h. (number, refl, h);
+}
+
 pub returns-in_default-parse_as-clause-bad_line : goal.returns-in_default-parse_as-clause-bad_line
-returns-in_default-parse_as-clause-bad_line c = λ number e.
+returns-in_default-parse_as-clause-bad_line g c = λ number e.
     let cut = c.first_line.ensures.lines in
     let first : IsFirstBadLine c.args.grammar (lines_of c.lines.rest.now) 1 =
     rw cut (bad_line c.args.grammar c.first_line.result.0.now (lines_of c.first_line.result.1.now)
@@ -25,7 +35,7 @@ returns-in_default-parse_as-clause-bad_line c = λ number e.
     (whole, sym same ∙ is, bad)
 
 pub lines-preserved-in-Ok-push-2 : goal.lines-preserved-in-Ok-push-2
-lines-preserved-in-Ok-push-2 c =
+lines-preserved-in-Ok-push-2 g c =
     let grammar = c.args.grammar in
     let cut = c.first_line.ensures.lines in
     let line = c.first_line.result.0.now in
@@ -36,15 +46,12 @@ lines-preserved-in-Ok-push-2 c =
       is_text = search rules;
       room = omega (arith, c.first_line.ensures.shorter);
       count = omega (arith, c.lines.invariant.count, ap length cut);
-      networks = λ more h.
-          let (whole, is, same) = c.lines.invariant.networks (n ∷ more)
-          (rw cut (network_line grammar line after n more some
-          ((c.in-Ok-parse_as.ensures.ok c.in-Ok-parse_as.network).0 refl) h)) in (
-            whole,
-            is,
-            cover_moves_on (networks_of c.args.families.now ++ whole) (networks_of c.lines.families)
-                (networks_of c.push-then-not-is_empty.new.self) more n c.in-Ok-push.ensures same,
-          );
+      taken = one_taken_more grammar (lines_of c.args.text.now) (lines_of c.lines.rest.now) after
+          (g.S.NetworkSink.is_made c.args.sink.now) (g.S.NetworkSink.is_made c.lines.sink)
+          (g.S.NetworkSink.is_made c.push-then-not-is_empty.new.self) n c.lines.invariant.taken
+          (λ more h. rw cut (network_line grammar line after n more some
+          ((c.in-Ok-parse_as.ensures.ok c.in-Ok-parse_as.network).0 refl) h))
+          c.in-Ok-push.ensures;
       empty = λ h. absurd (not_all_empty (lines_of c.lines.rest.now) line after cut some (c.lines.invariant.empty h).0);
       bad_line = λ later h.
           let (whole, is, bad) = c.lines.invariant.bad_line (1 + later)
@@ -59,7 +66,7 @@ lines-preserved-in-Ok-push-2 c =
     }
 
 pub returns-in_default-push-2-clause-bad_at_once : goal.returns-in_default-push-2-clause-bad_at_once
-returns-in_default-push-2-clause-bad_at_once c = λ number h.
+returns-in_default-push-2-clause-bad_at_once g c = λ number h.
     let grammar = c.args.grammar in
     let line = c.first_line.result.0.now in
     let (later, is, at) = c.lines.invariant.at_once number h in
@@ -68,7 +75,7 @@ returns-in_default-push-2-clause-bad_at_once c = λ number h.
     (subst (λ z. StartsWithBadLine grammar z later) c.first_line.ensures.lines at))
 
 pub lines-preserved : goal.lines-preserved
-lines-preserved c =
+lines-preserved g c =
     let grammar = c.args.grammar in
     let cut = c.first_line.ensures.lines in
     let line = c.first_line.result.0.now in
@@ -78,7 +85,9 @@ lines-preserved c =
       is_text = search rules;
       room = omega (arith, c.first_line.ensures.shorter);
       count = omega (arith, c.lines.invariant.count, ap length cut);
-      networks = λ more h. c.lines.invariant.networks more (rw cut (empty_line grammar line after more none h));
+      taken = none_taken_more grammar (lines_of c.args.text.now) (lines_of c.lines.rest.now) after
+          (g.S.NetworkSink.is_made c.args.sink.now) (g.S.NetworkSink.is_made c.lines.sink) c.lines.invariant.taken
+          (λ more h. rw cut (empty_line grammar line after more none h));
       empty = λ h.
           let (rest, none_yet) = c.lines.invariant.empty h in
           (rest_empty (lines_of c.lines.rest.now) line after cut rest, none_yet);
@@ -94,18 +103,19 @@ lines-preserved c =
     }
 
 pub returns-clause-networks : goal.returns-clause-networks
-returns-clause-networks c =
+returns-clause-networks g c =
     let none : length c.lines.rest.now ≡ 0 = no_bytes (length c.lines.rest.now) c.lines-test.ensures in
-    rw append-nil at (c.lines.invariant.networks [] (no_lines c.args.grammar c.lines.rest.now none))
+    let (front, are, made) = c.lines.invariant.taken in
+    (front, rw append-nil at (are [] (no_lines c.args.grammar c.lines.rest.now none)), made)
 
 pub returns-clause-bad_at_once : goal.returns-clause-bad_at_once
-returns-clause-bad_at_once c = λ number h.
+returns-clause-bad_at_once g c = λ number h.
     let none : length c.lines.rest.now ≡ 0 = no_bytes (length c.lines.rest.now) c.lines-test.ensures in
     let (later, is, at) = c.lines.invariant.at_once number h in
     absurd (none_bad c.args.grammar c.lines.rest.now later none at)
 
 pub returns-in_default-parse_as-clause-bad_at_once : goal.returns-in_default-parse_as-clause-bad_at_once
-returns-in_default-parse_as-clause-bad_at_once c = λ number h.
+returns-in_default-parse_as-clause-bad_at_once g c = λ number h.
     let grammar = c.args.grammar in
     let line = c.first_line.result.0.now in
     let after = lines_of c.first_line.result.1.now in
@@ -116,7 +126,7 @@ returns-in_default-parse_as-clause-bad_at_once c = λ number h.
     cc
 
 pub lines-preserved-in-Some : goal.lines-preserved-in-Some
-lines-preserved-in-Some c =
+lines-preserved-in-Some g c =
     let grammar = c.args.grammar in
     let text = c.lines.rest.now in
     let line = take c.in-Some.front.len text in
@@ -128,14 +138,10 @@ lines-preserved-in-Some c =
       is_text = search rules;
       room = omega (arith, c.lines.invariant.room, c.range_from-rest.ensures.len);
       count = omega (arith, c.lines.invariant.count, ap length f.cut);
-      networks = λ more h.
-          let (whole, is, same) = c.lines.invariant.networks (n ∷ more)
-          (rw f.cut (network_line grammar line after n more f.some f.is h)) in (
-            whole,
-            is,
-            cover_moves_on (networks_of c.args.families.now ++ whole) (networks_of c.lines.families)
-                (networks_of c.push.new.self) more n c.in-Ok.ensures same,
-          );
+      taken = one_taken_more grammar (lines_of c.args.text.now) (lines_of text) after
+          (g.S.NetworkSink.is_made c.args.sink.now) (g.S.NetworkSink.is_made c.lines.sink)
+          (g.S.NetworkSink.is_made c.push.new.self) n c.lines.invariant.taken
+          (λ more h. rw f.cut (network_line grammar line after n more f.some f.is h)) c.in-Ok.ensures;
       empty = λ h. absurd (not_all_empty (lines_of text) line after f.cut f.some (c.lines.invariant.empty h).0);
       bad_line = λ later h.
           let (whole, is, bad) = c.lines.invariant.bad_line (1 + later)
@@ -148,7 +154,7 @@ lines-preserved-in-Some c =
     }
 
 pub returns-in_default-push-clause-empty : goal.returns-in_default-push-clause-empty
-returns-in_default-push-clause-empty c = λ h.
+returns-in_default-push-clause-empty g c = λ h.
     let text = c.lines.rest.now in
     let rest = drop (c.in-Some.front.len + 1) text in
     let f = front_line c.args.grammar text c.as_bytes.result.now rest c.in-Some.front.len
@@ -158,7 +164,7 @@ returns-in_default-push-clause-empty c = λ h.
     (c.lines.invariant.empty h).0)
 
 pub returns-in_default-push-clause-bad_at_once : goal.returns-in_default-push-clause-bad_at_once
-returns-in_default-push-clause-bad_at_once c = λ number h.
+returns-in_default-push-clause-bad_at_once g c = λ number h.
     let text = c.lines.rest.now in
     let rest = drop (c.in-Some.front.len + 1) text in
     let n = ip_network c.in-Some.front.network in
@@ -169,6 +175,6 @@ returns-in_default-push-clause-bad_at_once c = λ number h.
     (subst (λ z. StartsWithBadLine c.args.grammar z later) f.cut at))
 
 pub range_from-rest-requires : goal.range_from-rest-requires
-range_from-rest-requires c _ =
+range_from-rest-requires g c _ =
     cut_after c.lines.rest.now c.as_bytes.result.now c.in-Some.front.len c.as_bytes.ensures.value
     c.in-Some.ensures.within c.in-Some.ensures.newline c.lines.invariant.is_text

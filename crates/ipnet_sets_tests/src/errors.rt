@@ -1,0 +1,43 @@
+//! The texts of the errors of images.
+use ipnet_sets::ImageError;
+use ipnet_sets::routes::image::TableImageError;
+use std::test::Fail;
+
+#[test]
+fn texts(rt: HostRuntime) -> Result<(), Fail> {
+    let alloc = rt.alloc();
+    for (error, wanted) in [
+        (ImageError::TooShort, "fewer than 32 bytes"),
+        (ImageError::Magic, "not the image of a set"),
+        (ImageError::Version, "unknown version of the image of a set"),
+        (ImageError::Length, "wrong length of the image of a set"),
+        (
+            ImageError::NotAscending,
+            "numbers in the image of a set do not ascend",
+        ),
+        (ImageError::Memory, "out of memory"),
+    ] {
+        let text = error.to_string(alloc)?;
+        assert!(rt; text.as_str() == wanted, "an error of a set's image");
+    }
+    for (error, wanted) in [
+        (TableImageError::TooShort, "fewer than 32 bytes"),
+        (TableImageError::Magic, "not the image of a table"),
+        (
+            TableImageError::Version,
+            "unknown version of the image of a table",
+        ),
+        (
+            TableImageError::Length,
+            "wrong length of the image of a table",
+        ),
+        (
+            TableImageError::Routes,
+            "wrong routes in the image of a table",
+        ),
+    ] {
+        let text = error.to_string(alloc)?;
+        assert!(rt; text.as_str() == wanted, "an error of a table's image");
+    }
+    Ok(())
+}

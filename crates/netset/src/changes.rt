@@ -1,0 +1,36 @@
+//! The command `changes`: its arguments, and its run.
+use crate::arguments::{
+    ArgumentFailure, FIRST, OTHERS, command_of, first, flags_of, other, reads_input_twice,
+};
+use crate::{refused, session_of};
+use clap::{ArgMatches, Command};
+use netset_lib::run_changes;
+use std::alloc::{AllocError, Global};
+
+/// The name of the command.
+pub const CHANGES: &str = "changes";
+
+/// The command `changes`.
+pub fn changes_command<'a>(alloc: Global) -> Result<Command<'a>, AllocError> {
+    let about =
+        "The networks to add (+) and to remove (-) that turn OLD into NEW; status 1 if there are any";
+    let old = first(alloc, "OLD", "The list before, - for standard input");
+    let new = other(alloc, "The list after").value_name("NEW");
+    command_of(alloc, CHANGES, about)?.arg(old)?.arg(new)
+}
+
+/// Reads the arguments and the lists, prints the changes, and returns the exit status.
+pub fn changed(rt: &HostRuntime, matches: &ArgMatches) -> u8 {
+    let (Some(old), Some(new)) = (matches.get_str(FIRST), matches.get_str(OTHERS)) else {
+        return refused(rt, ArgumentFailure::NoCommand);
+    };
+    let names = [old, new];
+    if reads_input_twice(&names) {
+        return refused(rt, ArgumentFailure::InputTwice);
+    }
+    let work = netset_lib::Command::Compare.work(flags_of(matches));
+    match session_of(rt, work, &names, matches.get_flag("progress")) {
+        Ok(session) => run_changes(session, &names, &mut rt.stdout(), &mut rt.stderr()),
+        Err(status) => status,
+    }
+}

@@ -1,0 +1,83 @@
+//! The commands `split` and `hosts`: their arguments, and their runs.
+use crate::arguments::{FIRST, OTHERS, first, flag};
+use clap::{Arg, ArgMatches, Command};
+use ipnet::{Grammar, IpNet};
+use netset_lib::{read_length, run_hosts, run_split};
+use std::alloc::{AllocError, Global};
+use std::io::Write;
+
+/// The names of the two commands.
+const SPLIT: &str = "split";
+
+const HOSTS: &str = "hosts";
+
+/// The network that is listed.
+fn network<'a>(alloc: Global) -> Arg<'a> {
+    first(
+        alloc,
+        "NETWORK",
+        "A network, such as 10.0.0.0/24; host bits do not matter",
+    )
+}
+
+/// Adds the commands that list what a network contains.
+pub fn with_listings<'a>(alloc: Global, command: Command<'a>) -> Result<Command<'a>, AllocError> {
+    let legacy = "Accept leading zeros (numbers stay decimal), and a :: that replaces no group";
+    let split = "The subnets of a network that have this prefix length";
+    let hosts =
+        "The hosts of a network: its addresses, without both ends if it is IPv4 and larger than /31";
+    let length = Arg::new(alloc, OTHERS)
+        .value_name("LEN")
+        .required(true)
+        .help("The prefix length of the subnets, such as 26 or /26");
+    let split = Command::new(alloc, SPLIT)
+        .about(split)
+        .arg(flag(alloc, "legacy", legacy))?
+        .arg(network(alloc))?
+        .arg(length)?;
+    let hosts = Command::new(alloc, HOSTS)
+        .about(hosts)
+        .arg(flag(alloc, "legacy", legacy))?
+        .arg(network(alloc))?;
+    command.subcommand(split)?.subcommand(hosts)
+}
+
+/// Reads the network. If the word is not one, it is reported, and the result is `None`.
+fn network_of(rt: &HostRuntime, matches: &ArgMatches) -> Option<IpNet> {
+    let word = matches.get_str(FIRST).unwrap_or("");
+    let grammar = if matches.get_flag("legacy") {
+        Grammar::Legacy
+    } else {
+        Grammar::Strict
+    };
+    let network = IpNet::parse_as(word, grammar).ok();
+    if network.is_none() {
+        let _ = writeln!(rt.stderr(), "netset: not a network: {word}");
+    }
+    network
+}
+
+/// Reads the arguments of `split`, and prints the subnets.
+fn split(rt: &HostRuntime, matches: &ArgMatches) -> u8 {
+    let Some(network) = network_of(rt, matches) else {
+        return 2;
+    };
+    let word = matches.get_str(OTHERS).unwrap_or("");
+    let Some(length) = read_length(word) else {
+        let _ = writeln!(rt.stderr(), "netset: not a prefix length: {word}");
+        return 2;
+    };
+    run_split(&network, length, &mut rt.stdout(), &mut rt.stderr())
+}
+
+/// Runs the command if it lists what a network contains, and returns the status. `None` if it does not.
+pub fn run_if_listing(rt: &HostRuntime, matches: &ArgMatches) -> Option<u8> {
+    match matches.subcommand() {
+        Some((name, matches)) if name == SPLIT => Some(split(rt, matches)),
+        Some((name, matches)) if name == HOSTS => match network_of(rt, matches) {
+            Some(network) => Some(run_hosts(&network, &mut rt.stdout(), &mut rt.stderr())),
+            None => Some(2),
+        },
+        _ => None,
+    }
+}

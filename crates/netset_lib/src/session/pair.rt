@@ -1,0 +1,50 @@
+//! The addresses of each of the two lists of a session.
+ghost use Rattle.std.specs.Prelude.{List, ℕ, IfOk, IfErr};
+ghost use Rattle.ipnet.specs.declared.parser.Grammar.{Grammar};
+ghost use Rattle.netset_lib.specs.PairSets.{ArePairSets};
+ghost use Rattle.netset_lib.specs.Replies.{IsWorkFailure};
+ghost use Rattle.netset_lib.specs.declared.command.Work.TheVariants.{Ask};
+ghost use Rattle.netset_lib.specs.declared.query.Query.TheVariants.{Compare};
+
+use super::{Session, takes};
+use crate::answer::Failure;
+use crate::command::Work;
+use crate::query::Query;
+use ipnet_sets::IpSet;
+
+impl Session {
+    ghost use Rattle.netset_lib.specs.Sessions.{WereRead};
+
+    /// Returns the addresses of each of the two lists that a comparison has read.
+    ///
+    /// The errors are the errors of `answer`. Other work has no two sets: its error is `Count`.
+    ///
+    /// ```text
+    /// Compare of "10.0.0.0/30\n" and "10.0.0.3\n":  the sets 10.0.0.0 to 10.0.0.3, and 10.0.0.3
+    /// ```
+    pub fn into_pair(self) -> Result<(IpSet, IpSet), Failure>
+        ensures pair { IfOk result (λ pair. (grammar : Grammar) → (lists : List (List ℕ))
+            → WereRead (Ask Compare grammar) lists self → ArePairSets grammar lists pair.0 pair.1) }
+        ensures failure { IfErr result (λ failure. (grammar : Grammar) → (lists : List (List ℕ))
+            → WereRead (Ask Compare grammar) lists self → IsWorkFailure (Ask Compare grammar) lists failure) }
+    {
+        let Session {
+            work,
+            reading,
+            mut sets,
+            ..
+        } = self;
+        let lines = reading.lines;
+        if !matches!(work, Work::Ask(Query::Compare, _)) || !takes(work, lines.list) {
+            return Err(Failure::Count);
+        }
+        let refused = lines.refused;
+        if refused.count != 0 {
+            return Err(Failure::Refused(refused));
+        }
+        match (sets.pop(), sets.pop()) {
+            (Some(second), Some(first)) => Ok((first, second)),
+            _ => Err(Failure::Memory),
+        }
+    }
+}
