@@ -26,4 +26,5 @@ returns-in-Route g c = λ work lists h.
     (λ grammar entries state. subst (λ q. IsAskState q c.args.self entries) (sym c.in-Route.is)
     (subst (λ q. IsState (Ask q grammar) c.args.self entries) c.in-Route.is state))
     c.if-reading-ne1.false c.in-Some.is c.if-reading-ne0.false k refl
-    (subst (λ q. found_by_stream q (not c.in_ok-reading.field-1) ≡ c.in_ok-reading.field-1) (sym c.in-Route.is) (not_not c.in_ok-reading.field-1))
+    (subst (λ q. found_by_stream q (not c.in_ok-reading.field-1) ≡ c.in_ok-reading.field-1) (sym c.in-Route.is)
+    (not_not c.in_ok-reading.field-1))
