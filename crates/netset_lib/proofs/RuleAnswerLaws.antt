@@ -144,5 +144,5 @@ unreached_all lines found i old text past h =
 
 -- a text for which the status is not 1 is empty
 pub none_or_some : (text : List ℕ) (status : ℕ) → status ≡ 0 → ((text ≡ [] → ⊥) → status ≡ 1) → text ≡ []
-none_or_some [] status zero some = refl
-none_or_some (b ∷ text) status zero some = absurd (omega (arith, zero, some (λ e. absurd (omega (arith, ap length e)))))
+none_or_some [] status none some = refl
+none_or_some (b ∷ text) status none some = absurd (omega (arith, none, some (λ e. absurd (omega (arith, ap length e)))))

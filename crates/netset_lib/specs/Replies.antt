@@ -54,6 +54,20 @@ IsWorkFailure work lists Failures.NoFamily =
     IsNamedComplement work × AreListsRead (work_grammar work) 0 lists ([] ∷ []) []
 IsWorkFailure work lists Failures.Memory = Unit {0}
 
+-- No line of the two lists is refused, and they have the same addresses.
+pub record AreSameLists (grammar : Grammar) (lists : List (List ℕ)) : Type 0 where
+  pub first : List ListEntry
+  pub second : List ListEntry
+  pub read : AreListsRead grammar 0 lists (first ∷ second ∷ []) []
+  pub same : HaveSame (IsInEntries first) (IsInEntries second)
+
+-- No line of the two lists is refused, and they do not have the same addresses.
+pub record AreOtherLists (grammar : Grammar) (lists : List (List ℕ)) : Type 0 where
+  pub first : List ListEntry
+  pub second : List ListEntry
+  pub read : AreListsRead grammar 0 lists (first ∷ second ∷ []) []
+  pub differ : ¬ (HaveSame (IsInEntries first) (IsInEntries second))
+
 -- No line of the two lists is refused. `same` says whether they have the same addresses.
 pub record AreCompared (grammar : Grammar) (lists : List (List ℕ)) (same : Bool) : Type 0 where
   pub first : List ListEntry

@@ -1,5 +1,5 @@
 //! Filters and routes: how each entry of the second list is answered, once the first list was read.
-ghost use Rattle.std.specs.Prelude.{◌≡◌, ◌++◌, [], None, OnOk, IfOk, string_bytes, true};
+ghost use Rattle.std.specs.Prelude.{◌≡◌, ◌++◌, [], None, OnOk, IfOk, string_bytes, true, false};
 ghost use Rattle.netset_lib.specs.Answering.{IsAnswererFor, AreAnswersBy, AddsAnswer};
 ghost use Rattle.netset_lib.specs.FoundEntry.{entry_of};
 ghost use Rattle.netset_lib.specs.Reading.{WasMadeOf};
@@ -36,7 +36,8 @@ pub(crate) struct Answers {
 impl Answers {
     /// The answers to no entry.
     pub(crate) fn new(alloc: Global) -> Answers
-        ensures { (answerer : Answerer) → AreAnswersBy answerer result [] }
+        ensures text { string_bytes result.text ≡ [] }
+        ensures found { result.found ≡ false }
     {
         Answers {
             text: String::new(alloc),

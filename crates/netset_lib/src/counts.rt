@@ -56,7 +56,7 @@ fn push_count_line(text: &mut String, name: &str, set: &IpSet) -> Result<(), All
 }
 
 /// The name of the list with this index.
-fn name_of<'a>(names: &'a [&'a str], index: usize) -> &'a str
+fn name_of<'a>(names: &[&'a str], index: usize) -> &'a str
     ensures { result.now ≡ name_at names.now index }
 {
     match names.get(index) {

@@ -85,7 +85,7 @@ fn is_any(before: bool, now: bool) -> bool
 
 /// Reads one list up to its end. The answers to the entries that were read are written before each read of more bytes,
 /// and the lines that are not entries are reported. Returns what has read the list, and whether an entry was found.
-fn streamed<R: Read, W: Write, X: Write>(
+fn stream_entries<R: Read, W: Write, X: Write>(
     stream: Stream,
     names: &[&str],
     input: &mut R,
@@ -159,10 +159,12 @@ impl Session {
             return Err(StreamFailure::Start(Failure::Count));
         }
         if reading.lines.refused.count != 0 {
-            return Err(StreamFailure::Start(Failure::Refused(reading.lines.refused)));
+            let lines = reading.lines;
+            let refused = lines.refused;
+            return Err(StreamFailure::Start(Failure::Refused(refused)));
         }
         let stream = Stream { reading, answerer };
-        let (reading, found) = streamed(stream, names, input, out, faults)?;
+        let (reading, found) = stream_entries(stream, names, input, out, faults)?;
         let refused = reading.lines.refused.count;
         match query {
             Query::Filter(_) => Ok(Streamed {

@@ -1,6 +1,7 @@
 use Rattle.std.proofs.Common.{◌≡◌, ◌+◌, ◌++◌, ◌∷◌, [], ℕ, refl, sym, ap, ◌∙◌}
-use Rattle.std.proofs.Common.{subst, take, take_all, take_more, append_assoc}
+use Rattle.std.proofs.Common.{subst, take, take_all, append_assoc}
 use Rattle.std.proofs.Common.{append-nil, string_bytes}
+use Rattle.std.proofs.lemmas.List.{take_more}
 use Rattle.ipnet_sets.specs.Members.{IsMember}
 use Rattle.netset_lib.specs.Counts.{IsCountLine, AreCountLines}
 use Rattle.netset_lib.proofs.CountTexts.{AreFirstLines, first_lines_push, first_lines_whole}
@@ -11,7 +12,7 @@ loop-set-init c = (refl, ([], sym (append-nil (string_bytes c.args.text.now)), r
 
 pub loop-set-preserved : goal.loop-set-preserved
 loop-set-preserved c =
-    let (at, lines, is, first) = c.loop-set.invariant in
+    let (at, (lines, is, first)) = c.loop-set.invariant in
     let sets = c.args.sets.now in
     let set = c.set-item.result in
     let (line, line_is, pushed) = c.in_ok-push_count_line.ensures in
@@ -30,7 +31,7 @@ loop-set-preserved c =
 
 pub returns : goal.returns
 returns c =
-    let (at, lines, is, first) = c.loop-set.invariant in (
+    let (at, (lines, is, first)) = c.loop-set.invariant in (
       lines,
       subst (λ z. AreCountLines IsMember c.args.names.now 0 z lines)
           (take_all c.loop-set.set-index c.args.sets.now c.loop-set-test.false)

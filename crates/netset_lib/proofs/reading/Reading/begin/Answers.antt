@@ -3,8 +3,8 @@ use Rattle.netset_lib.specs.Reading.{at_first_line}
 use Rattle.std.proofs.Common.{refl}
 use Rattle.netset_lib.proofs.reading.Reading.begin.Goals as goal
 
-pub returns-in_ok-more : goal.returns-in_ok-more
-returns-in_ok-more g c =
+pub returns : goal.returns
+returns g c =
     let start : Reading = record {
       window = c.take.new.self;
       carry = c.clear.new.self;

@@ -2,8 +2,8 @@ use Rattle.std.proofs.Common.{◌++◌, sym, ap, ◌∙◌, append_assoc}
 use Rattle.ipnet_text.specs.Window.{held}
 use Rattle.netset_lib.proofs.reading.Reading.go_on.Goals as goal
 
-pub returns-in_ok-more : goal.returns-in_ok-more
-returns-in_ok-more g c =
+pub returns : goal.returns
+returns g c =
     let (given, is, read) = c.in_ok-more.ensures.read in
     let next = c.make_room.new.self in
     record {

@@ -2,7 +2,7 @@ use Rattle.std.proofs.Common.{◌≡◌, false, [], string_bytes}
 use Rattle.netset_lib.specs.Reading.{at_first_line}
 use Rattle.netset_lib.specs.Streams.{IsWritten}
 use Rattle.netset_lib.proofs.WindowReading.{IsListUpTo}
-use Rattle.netset_lib.proofs.session.stream.streamed.Given as goal
+use Rattle.netset_lib.proofs.session.stream.stream_entries.Given as goal
 
 -- the list was read up to what is pending, and the answers to its entries were written
 abbrev pub invariant-loop : goal.invariant-loop
