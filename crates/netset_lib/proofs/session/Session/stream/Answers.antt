@@ -9,7 +9,8 @@ use Rattle.netset_lib.proofs.session.Session.stream.Goals as goal
 pub returns-in-Filter : goal.returns-in-Filter
 returns-in-Filter g c = λ work lists h.
     let k = c.in_ok-reading.ensures in
-    work_streamed work c.in-Ask.query c.in-Ask.field-1 lists c.args.self c.in_ok-reading.reading c.in-Some.answerer
+    work_streamed work c.in-Ask.query c.in-Ask.field-1 lists c.args.self
+    c.in_ok-reading.reading c.in-Some.answerer
     (g.R.Read.remaining c.args.input.now) (g.R.Read.remaining c.stream_entries.new.input)
     (g.W.Write.contents c.args.out.now) (g.W.Write.contents c.stream_entries.new.out) c.in_ok-reading.found _ h c.in-Ask.is
     (λ grammar entries state. subst (λ q. IsAskState q c.args.self entries) (sym c.in-Filter.is)
@@ -20,7 +21,8 @@ returns-in-Filter g c = λ work lists h.
 pub returns-in-Route : goal.returns-in-Route
 returns-in-Route g c = λ work lists h.
     let k = c.in_ok-reading.ensures in
-    work_streamed work c.in-Ask.query c.in-Ask.field-1 lists c.args.self c.in_ok-reading.reading c.in-Some.answerer
+    work_streamed work c.in-Ask.query c.in-Ask.field-1 lists c.args.self
+    c.in_ok-reading.reading c.in-Some.answerer
     (g.R.Read.remaining c.args.input.now) (g.R.Read.remaining c.stream_entries.new.input)
     (g.W.Write.contents c.args.out.now) (g.W.Write.contents c.stream_entries.new.out) c.in_ok-reading.found _ h c.in-Ask.is
     (λ grammar entries state. subst (λ q. IsAskState q c.args.self entries) (sym c.in-Route.is)
