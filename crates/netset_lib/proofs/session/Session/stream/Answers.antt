@@ -12,7 +12,8 @@ returns-in-Filter g c = λ work lists h.
     work_streamed work c.in-Ask.query c.in-Ask.field-1 lists c.args.self
     c.in_ok-reading.reading c.in-Some.answerer
     (g.R.Read.remaining c.args.input.now) (g.R.Read.remaining c.stream_entries.new.input)
-    (g.W.Write.contents c.args.out.now) (g.W.Write.contents c.stream_entries.new.out) c.in_ok-reading.found _ h c.in-Ask.is
+    (g.W.Write.contents c.args.out.now) (g.W.Write.contents c.stream_entries.new.out)
+    c.in_ok-reading.found _ h c.in-Ask.is
     (λ grammar entries state. subst (λ q. IsAskState q c.args.self entries) (sym c.in-Filter.is)
     (subst (λ q. IsState (Ask q grammar) c.args.self entries) c.in-Filter.is state))
     c.if-reading-ne1.false c.in-Some.is c.if-reading-ne0.false k refl
@@ -24,7 +25,8 @@ returns-in-Route g c = λ work lists h.
     work_streamed work c.in-Ask.query c.in-Ask.field-1 lists c.args.self
     c.in_ok-reading.reading c.in-Some.answerer
     (g.R.Read.remaining c.args.input.now) (g.R.Read.remaining c.stream_entries.new.input)
-    (g.W.Write.contents c.args.out.now) (g.W.Write.contents c.stream_entries.new.out) c.in_ok-reading.found _ h c.in-Ask.is
+    (g.W.Write.contents c.args.out.now) (g.W.Write.contents c.stream_entries.new.out)
+    c.in_ok-reading.found _ h c.in-Ask.is
     (λ grammar entries state. subst (λ q. IsAskState q c.args.self entries) (sym c.in-Route.is)
     (subst (λ q. IsState (Ask q grammar) c.args.self entries) c.in-Route.is state))
     c.if-reading-ne1.false c.in-Some.is c.if-reading-ne0.false k refl
