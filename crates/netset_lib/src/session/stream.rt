@@ -95,17 +95,15 @@ fn stream_entries<R: Read, W: Write, X: Write>(
     ensures { IfOk result (λ r. WasMadeOf (R.remaining input.old) (R.remaining input.new) stream.reading r.0
         (IsWritten stream.answerer (W.contents out.old) (W.contents out.new) r.1)) }
 {
-    let Stream {
-        mut reading,
-        answerer,
-    } = stream;
+    let mut reading = stream.reading;
+    let answerer = &stream.answerer;
     let mut answers = Answers::new(reading.lines.alloc);
     let mut found = false;
     let mut more = reading.begin(input)?;
     for _ in 0..MOST_READS {
         let refused = &reading.lines.refused;
         let before = (refused.shown.len(), refused.count);
-        reading.take_lines(more, &answerer, &mut answers)?;
+        reading.take_lines(more, answerer, &mut answers)?;
         found = is_any(found, answers.found);
         put(&mut answers, out)?;
         let _ = report_since(faults, names, &reading.lines.refused, before);
