@@ -235,9 +235,9 @@ ipnet_status ipnet_print(const uint8_t *network, size_t network_len, char *buffe
 ipnet_status ipnet_set_from_text(const char *text, size_t text_len, void *buffer, size_t buffer_len, size_t *count);
 
 /* Writes the image of the addresses of a list as people keep it, read as the program netset reads its files. A line is a
- * network (10.0.0.0/8), an address (10.0.0.7), a range of addresses (10.0.0.3-10.0.0.9), or empty. It may have blanks
- * around it, end with "\r\n", and have a comment after "#" or ";". A byte order mark at the start is skipped. Numbers
- * are in the strict grammar. The text need not be UTF-8.
+ * network (10.0.0.0/8 or 10.0.0.0/255.0.0.0), an address (10.0.0.7), a range of addresses (10.0.0.3-10.0.0.9), or empty.
+ * It may have blanks around it, end with "\r\n", and have a comment after "#" or ";". A byte order mark at the start is
+ * skipped. Numbers are in the strict grammar. The text need not be UTF-8.
  *
  * OK                `buffer` starts with the image, and `*count` is its length
  * BUFFER_TOO_SHORT  `*count` is the length of the image

@@ -10,6 +10,9 @@ RUNS_AT_ONCE = 4
 # The names of the lists of a run, in order.
 NAMES = "abcd"
 
+# The commands that read no list. The others get the flag that leaves out the report of a list without an entry.
+NO_LISTS = ("split", "hosts")
+
 # A line that changes no answer. Lines that are not near the end of a list are read by another reader.
 AFTER = b"\n# a comment that is longer than the longest range of two IPv4 addresses\n"
 
@@ -51,6 +54,8 @@ class Runs:
     def made(self, asked):
         """What a run ended with: status, standard output and standard error."""
         _, words, folder, _ = asked
+        if words[0] not in NO_LISTS:
+            words = [words[0], "--allow-empty"] + words[1:]
         run = subprocess.run([self.program] + words, cwd=folder, stdin=subprocess.DEVNULL, stdout=subprocess.PIPE,
                              stderr=subprocess.PIPE, check=False)
         return run.returncode, run.stdout.decode("latin-1"), run.stderr.decode("latin-1")

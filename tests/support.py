@@ -92,7 +92,7 @@ class Checks:
         for question, one, other in zip(questions, found, wanted):
             self.check("{}: {}".format(label, question), one, other)
 
-    def finish(self):
+    def finish(self, skipped=0):
         """Prints the counts, and ends the script: with status 0 if no check failed."""
-        print("{} passed, {} failed".format(self.passed, self.failed))
+        print("{} passed, {} failed".format(self.passed, self.failed) + (", %d skipped" % skipped if skipped else ""))
         sys.exit(0 if self.failed == 0 and self.passed > 0 else 1)

@@ -18,7 +18,8 @@ import zipfile
 
 TOP = os.path.dirname(os.path.dirname(os.path.abspath(__file__)))
 NAME = "ipnet_proved"
-LICENCES = ("LICENSE-MIT", "LICENSE-APACHE")
+# The licences of the package, and of the parts of the kit that the library contains.
+LICENCES = ("LICENSE-MIT", "LICENSE-APACHE", "docs/LICENCES.md", "licences/dewikonu.spdx")
 
 
 def read(*path):
@@ -78,7 +79,7 @@ def build_wheel(wheel_directory, config_settings=None, metadata_directory=None):
     files[NAME + "/libipnet.so"] = read(folder, "libipnet.so")
     if module is not None:
         files[NAME + "/_quick.abi3.so"] = module
-    files.update(("%s/%s" % (info, name), read("..", "..", name)) for name in LICENCES)
+    files.update(("%s/%s" % (info, os.path.basename(name)), read("..", "..", name)) for name in LICENCES)
     files[info + "/METADATA"] = metadata(version)
     files[info + "/WHEEL"] = ("Wheel-Version: 1.0\nGenerator: %s\nRoot-Is-Purelib: false\nTag: %s\n"
                               % (NAME, tag)).encode()

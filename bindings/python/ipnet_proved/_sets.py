@@ -64,9 +64,9 @@ class IpSet:
 
     @classmethod
     def from_list(cls, text: Text) -> "IpSet":
-        """The set of a list as people keep it, read as the program netset reads its files. A line is a network, an
-        address, a range FIRST-LAST of addresses, or empty; it may have blanks around it, end with a carriage return,
-        and have a comment after # or ;. Raises BadLine at the first line that is none of these.
+        """The set of a list as people keep it, read as the program netset reads its files. A line is a network, also
+        with a netmask, an address, a range FIRST-LAST of addresses, or empty; it may have blanks around it, end with a
+        carriage return, and have a comment after # or ;. Raises BadLine at the first line that is none of these.
 
         >>> IpSet.from_list("# ours\\n10.0.0.0-10.0.0.3   # four\\r\\n") == IpSet("10.0.0.0/30")
         True

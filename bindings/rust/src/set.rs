@@ -36,8 +36,8 @@ impl IpSet {
     }
 
     /// The set of the addresses of a list as people keep it, read as the program `netset` reads its files. A line is a
-    /// network, an address, a range `FIRST-LAST`, or empty; it may have blanks around it, end with `\r\n`, and have a
-    /// comment after `#` or `;`. Fails with [`Error::BadLine`] if a line is none of these.
+    /// network, also with a netmask, an address, a range `FIRST-LAST`, or empty; it may have blanks around it, end with
+    /// `\r\n`, and have a comment after `#` or `;`. Fails with [`Error::BadLine`] if a line is none of these.
     ///
     /// ```
     /// use ipnet_proved::{Error, IpSet};

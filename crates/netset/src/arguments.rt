@@ -1,6 +1,7 @@
 //! The command line: the lists to read, and what to do with them.
 use crate::changes::changes_command;
 use crate::listing::with_listings;
+use crate::lists::{Empties, Reports};
 use crate::plan::plan_command;
 use crate::rules::with_rules;
 use crate::version::VERSION;
@@ -16,6 +17,14 @@ pub const STANDARD_INPUT: &str = "-";
 /// The id of the list that is named first.
 pub const FIRST: &str = "first";
 
+/// The id and the name of the option for the output.
+const OUTPUT: &str = "output";
+
+/// The names of the flags for files without an entry.
+const ALLOW_EMPTY: &str = "allow-empty";
+
+const NO_EMPTY: &str = "no-empty";
+
 /// The id of the lists after the first.
 pub const OTHERS: &str = "others";
 
@@ -26,10 +35,8 @@ pub struct Call<'a> {
     pub work: Work,
     /// The names of the lists, in order. At most one of them is standard input.
     pub names: Vec<&'a str>,
-    /// Whether to print the bytes read from each list to standard error, even if it is not a terminal.
-    pub tells_progress: bool,
     /// Whether the answers are written while the second list is read.
-    pub streams: bool,
+    pub is_streamed: bool,
 }
 
 /// Why the arguments cannot be used, although each of them is one of the command's.
@@ -69,6 +76,37 @@ pub fn flag<'a>(alloc: Global, name: &'a str, help: &'a str) -> Arg<'a> {
         .long(name)
         .action(ArgAction::SetTrue)
         .help(help)
+}
+
+/// The option for the file that the answer replaces.
+pub fn output_option<'a>(alloc: Global) -> Arg<'a> {
+    Arg::new(alloc, OUTPUT)
+        .short('o')
+        .long(OUTPUT)
+        .value_name("FILE")
+        .help("Replace FILE by the answer as a whole; at status 2, FILE stays as it is")
+}
+
+/// The name of the file that the answer replaces, if one was given.
+pub fn output_of<'a>(matches: &ArgMatches<'a>) -> Option<&'a str> {
+    let (_, matches) = matches.subcommand()?;
+    matches.get_str(OUTPUT)
+}
+
+/// Reads what to report of the lists.
+pub fn reports_of(matches: &ArgMatches) -> Reports {
+    let (_, matches) = matches.subcommand().unwrap_or(("", matches));
+    let empties = if matches.get_flag(NO_EMPTY) {
+        Empties::Refuse
+    } else if matches.get_flag(ALLOW_EMPTY) {
+        Empties::Allow
+    } else {
+        Empties::Report
+    };
+    Reports {
+        progress: matches.get_flag("progress"),
+        empties,
+    }
 }
 
 /// The first list.
@@ -118,10 +156,16 @@ pub fn command_of<'a>(
 ) -> Result<Command<'a>, AllocError> {
     let legacy = "Accept leading zeros (numbers stay decimal), and a :: that replaces no group";
     let progress = "Print the number of bytes read from each list to standard error";
+    let allow_empty = "Do not report files without an entry";
+    let no_empty = "Fail if a file has no entry: status 2, and nothing is written";
+    let no_empty = flag(alloc, NO_EMPTY, no_empty).conflicts_with(ALLOW_EMPTY)?;
     Command::new(alloc, name)
         .about(about)
         .arg(flag(alloc, "legacy", legacy))?
-        .arg(flag(alloc, "progress", progress))
+        .arg(flag(alloc, "progress", progress))?
+        .arg(flag(alloc, ALLOW_EMPTY, allow_empty))?
+        .arg(no_empty)?
+        .arg(output_option(alloc))
 }
 
 /// The command of an operation; its lists are still missing.
@@ -273,7 +317,7 @@ pub fn reads_input_twice(names: &[&str]) -> bool {
     inputs.count() > 1
 }
 
-/// Reads the parsed words: the work, the names of the lists, and whether to print progress.
+/// Reads the parsed words: the work, and the names of the lists.
 pub fn call_of<'a>(alloc: Global, matches: &ArgMatches<'a>) -> Result<Call<'a>, ArgumentFailure> {
     let (name, matches) = matches.subcommand().unwrap_or(("", matches));
     let Some(command) = netset_lib::Command::from_name(name) else {
@@ -294,11 +338,9 @@ pub fn call_of<'a>(alloc: Global, matches: &ArgMatches<'a>) -> Result<Call<'a>, 
     {
         return Err(ArgumentFailure::ControlCharacter);
     }
-    let tells_progress = matches.get_flag("progress");
     Ok(Call {
         work,
         names,
-        tells_progress,
-        streams: matches.get_flag("stream"),
+        is_streamed: matches.get_flag("stream"),
     })
 }

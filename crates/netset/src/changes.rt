@@ -2,6 +2,7 @@
 use crate::arguments::{
     ArgumentFailure, FIRST, OTHERS, command_of, first, flags_of, other, reads_input_twice,
 };
+use crate::output::Streams;
 use crate::{refused, session_of};
 use clap::{ArgMatches, Command};
 use netset_lib::run_changes;
@@ -20,7 +21,7 @@ pub fn changes_command<'a>(alloc: Global) -> Result<Command<'a>, AllocError> {
 }
 
 /// Reads the arguments and the lists, prints the changes, and returns the exit status.
-pub fn changed(rt: &HostRuntime, matches: &ArgMatches) -> u8 {
+pub fn changed(rt: &HostRuntime, matches: &ArgMatches, streams: &mut Streams<'_>) -> u8 {
     let (Some(old), Some(new)) = (matches.get_str(FIRST), matches.get_str(OTHERS)) else {
         return refused(rt, ArgumentFailure::NoCommand);
     };
@@ -29,8 +30,8 @@ pub fn changed(rt: &HostRuntime, matches: &ArgMatches) -> u8 {
         return refused(rt, ArgumentFailure::InputTwice);
     }
     let work = netset_lib::Command::Compare.work(flags_of(matches));
-    match session_of(rt, work, &names, matches.get_flag("progress")) {
-        Ok(session) => run_changes(session, &names, &mut rt.stdout(), &mut rt.stderr()),
+    match session_of(rt, work, &names, streams) {
+        Ok(session) => run_changes(session, &names, &mut streams.answer, &mut streams.faults),
         Err(status) => status,
     }
 }

@@ -1,5 +1,6 @@
 //! The commands `split` and `hosts`: their arguments, and their runs.
-use crate::arguments::{FIRST, OTHERS, first, flag};
+use crate::arguments::{FIRST, OTHERS, first, flag, output_option};
+use crate::output::Streams;
 use clap::{Arg, ArgMatches, Command};
 use ipnet::{Grammar, IpNet};
 use netset_lib::{read_length, run_hosts, run_split};
@@ -33,11 +34,13 @@ pub fn with_listings<'a>(alloc: Global, command: Command<'a>) -> Result<Command<
     let split = Command::new(alloc, SPLIT)
         .about(split)
         .arg(flag(alloc, "legacy", legacy))?
+        .arg(output_option(alloc))?
         .arg(network(alloc))?
         .arg(length)?;
     let hosts = Command::new(alloc, HOSTS)
         .about(hosts)
         .arg(flag(alloc, "legacy", legacy))?
+        .arg(output_option(alloc))?
         .arg(network(alloc))?;
     command.subcommand(split)?.subcommand(hosts)
 }
@@ -58,7 +61,7 @@ fn network_of(rt: &HostRuntime, matches: &ArgMatches) -> Option<IpNet> {
 }
 
 /// Reads the arguments of `split`, and prints the subnets.
-fn split(rt: &HostRuntime, matches: &ArgMatches) -> u8 {
+fn split(rt: &HostRuntime, matches: &ArgMatches, streams: &mut Streams<'_>) -> u8 {
     let Some(network) = network_of(rt, matches) else {
         return 2;
     };
@@ -67,15 +70,19 @@ fn split(rt: &HostRuntime, matches: &ArgMatches) -> u8 {
         let _ = writeln!(rt.stderr(), "netset: not a prefix length: {word}");
         return 2;
     };
-    run_split(&network, length, &mut rt.stdout(), &mut rt.stderr())
+    run_split(&network, length, &mut streams.answer, &mut streams.faults)
 }
 
 /// Runs the command if it lists what a network contains, and returns the status. `None` if it does not.
-pub fn run_if_listing(rt: &HostRuntime, matches: &ArgMatches) -> Option<u8> {
+pub fn run_if_listing(
+    rt: &HostRuntime,
+    matches: &ArgMatches,
+    streams: &mut Streams<'_>,
+) -> Option<u8> {
     match matches.subcommand() {
-        Some((name, matches)) if name == SPLIT => Some(split(rt, matches)),
+        Some((name, matches)) if name == SPLIT => Some(split(rt, matches, streams)),
         Some((name, matches)) if name == HOSTS => match network_of(rt, matches) {
-            Some(network) => Some(run_hosts(&network, &mut rt.stdout(), &mut rt.stderr())),
+            Some(network) => Some(run_hosts(&network, &mut streams.answer, &mut streams.faults)),
             None => Some(2),
         },
         _ => None,

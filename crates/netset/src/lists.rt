@@ -1,7 +1,7 @@
 //! The lists, read from files and from standard input.
 use crate::arguments::STANDARD_INPUT;
 use ipnet::Grammar;
-use netset_lib::{ReadFailure, RuleList, Session, run_stream};
+use netset_lib::{ReadFailure, RuleList, Session, is_entry_text};
 use std::fs::File;
 use std::io;
 use std::io::{ErrorKind, IsTerminal, Read, Write};
@@ -9,90 +9,170 @@ use std::io::{ErrorKind, IsTerminal, Read, Write};
 /// From this number of bytes on, a terminal gets a report of the reading.
 const MUCH: usize = 16_777_216;
 
-/// A reader that counts the bytes that it returns.
+/// Why a list was not read, with the system's number of the error if there is one.
+#[derive(Clone, Copy, Debug, Drop)]
+pub struct Unread {
+    failure: ReadFailure,
+    code: Option<i32>,
+}
+
+/// A reader that counts the bytes that it returns, and keeps the number of the last error.
 #[derive(Drop)]
 struct Counted<R: Drop> {
     input: R,
     count: usize,
+    code: Option<i32>,
+}
+
+/// A reader that has counted nothing yet.
+fn start_count<R: Drop>(input: R) -> Counted<R> {
+    Counted {
+        input,
+        count: 0,
+        code: None,
+    }
 }
 
 impl<R: Read + Drop> Read for Counted<R> {
     ghost remaining = { λ r. R.remaining r.input };
 
     fn read(&mut self, buf: &mut [u8]) -> io::Result<usize> {
-        let count = self.input.read(buf)?;
-        self.count = self.count.saturating_add(count);
-        Ok(count)
+        match self.input.read(buf) {
+            Ok(count) => {
+                self.count = self.count.saturating_add(count);
+                Ok(count)
+            }
+            Err(error) => {
+                self.code = error.raw_os_error();
+                Err(error)
+            }
+        }
     }
 }
 
 /// Reads a list, and returns the number of its bytes.
-fn read_from<R: Read + Drop>(session: &mut Session, input: R) -> Result<usize, ReadFailure> {
-    let mut counted = Counted { input, count: 0 };
-    session.read(&mut counted)?;
-    Ok(counted.count)
+fn read_from<R: Read + Drop>(session: &mut Session, input: R) -> Result<usize, Unread> {
+    let mut counted = start_count(input);
+    match session.read(&mut counted) {
+        Ok(()) => Ok(counted.count),
+        Err(failure) => Err(Unread {
+            failure,
+            code: counted.code,
+        }),
+    }
+}
+
+/// Why the file was not opened.
+pub fn unopened(error: &io::Error) -> Unread {
+    let failure = if error.kind() == ErrorKind::OutOfMemory {
+        ReadFailure::Memory
+    } else {
+        ReadFailure::Unreadable
+    };
+    Unread {
+        failure,
+        code: error.raw_os_error(),
+    }
 }
 
 /// Reads the list of this name: from standard input if it is "-", and otherwise from a file.
-fn read_list(rt: &HostRuntime, session: &mut Session, name: &str) -> Result<usize, ReadFailure> {
+fn read_list(rt: &HostRuntime, session: &mut Session, name: &str) -> Result<usize, Unread> {
     if name == STANDARD_INPUT {
         return read_from(session, rt.stdin());
     }
     match File::open(rt, name) {
         Ok(file) => read_from(session, file),
-        Err(error) if error.kind() == ErrorKind::OutOfMemory => Err(ReadFailure::Memory),
-        Err(_) => Err(ReadFailure::Unreadable),
+        Err(error) => Err(unopened(&error)),
     }
+}
+
+/// A choice for files without an entry.
+#[derive(Clone, Copy, PartialEq, Eq)]
+pub enum Empties {
+    /// Report its name.
+    Report,
+    /// Read it like any other.
+    Allow,
+    /// Report its name, and fail.
+    Refuse,
+}
+
+/// The reports on standard error about the lists.
+#[derive(Clone, Copy)]
+pub struct Reports {
+    /// Whether to print the bytes read from each list, even if it is not a terminal.
+    pub progress: bool,
+    /// The choice for files without an entry.
+    pub empties: Empties,
+}
+
+impl Reports {
+    /// Returns whether a list with this name may have no entry, and reports its name if it should be. Standard input
+    /// may always be empty.
+    fn allow_empty(self, rt: &HostRuntime, name: &str, what: &str) -> bool {
+        if name == STANDARD_INPUT || self.empties == Empties::Allow {
+            return true;
+        }
+        let shown = name.as_bytes().escape_ascii();
+        let _ = writeln!(rt.stderr(), "netset: {shown}: no {what}");
+        self.empties != Empties::Refuse
+    }
+}
+
+/// Reports why the list of this name was not read. Bytes of the name that are not printable ASCII are escaped, so that
+/// it cannot move the terminal's cursor, or look like another report.
+pub fn report_unread(rt: &HostRuntime, name: &str, unread: &Unread) {
+    let shown = name.as_bytes().escape_ascii();
+    let failure = unread.failure;
+    let _ = match unread.code {
+        _ if failure == ReadFailure::Memory => writeln!(rt.stderr(), "netset: {shown}: {failure}"),
+        Some(_) if is_entry_text(rt.alloc(), name).unwrap_or(false) => writeln!(
+            rt.stderr(),
+            "netset: {shown} is an entry: write it to a file, or pipe it into -"
+        ),
+        Some(code) => {
+            let error = io::Error::from_raw_os_error(code);
+            writeln!(rt.stderr(), "netset: {shown}: {failure}: {error}")
+        }
+        None => writeln!(rt.stderr(), "netset: {shown}: {failure}"),
+    };
 }
 
 /// Reports the number of bytes of a list: always, or only to a terminal.
 fn tell_count(rt: &HostRuntime, name: &str, count: usize, always: bool) {
     if always || rt.stderr().is_terminal() {
+        let name = name.as_bytes().escape_ascii();
         let _ = writeln!(rt.stderr(), "netset: {name}: {count} bytes read");
     }
 }
 
 /// Reads the lists of these names one after another. A file is opened when its turn comes, and then closed. Fails with
-/// the name of the first that could not be read, and the reason.
+/// the name of the first that could not be read, and the reason. Returns whether the lists may be as they are: `false`
+/// if a file has no entry and no refused line, and that is to be refused.
 ///
-/// If `tells_progress`, or if the bytes are many and standard error is a terminal, the number of bytes of each list is
-/// reported there. If that cannot be written, the lists are read all the same.
+/// If the progress is to be reported, or if the bytes are many and standard error is a terminal, the number of bytes of
+/// each list is reported there. If that cannot be written, the lists are read all the same.
 pub fn read_lists<'a>(
     rt: &HostRuntime,
     session: &mut Session,
     names: &[&'a str],
-    tells_progress: bool,
-) -> Result<(), (&'a str, ReadFailure)> {
+    reports: Reports,
+) -> Result<bool, (&'a str, Unread)> {
     let mut total: usize = 0;
+    let mut allowed = true;
     for name in names {
-        let count = read_list(rt, session, name).map_err(|failure| (*name, failure))?;
+        let refused = session.refused_count();
+        let count = read_list(rt, session, name).map_err(|unread| (*name, unread))?;
         total = total.saturating_add(count);
-        if tells_progress || total >= MUCH {
-            tell_count(rt, name, count, tells_progress);
+        if reports.progress || total >= MUCH {
+            tell_count(rt, name, count, reports.progress);
+        }
+        let is_empty = !session.has_entry() && session.refused_count() == refused;
+        if is_empty && !reports.allow_empty(rt, name, "entries") {
+            allowed = false;
         }
     }
-    Ok(())
-}
-
-/// Streams the list of this name, which is the second one of the session, and returns the exit status.
-pub fn stream_list(rt: &HostRuntime, session: Session, names: &[&str], name: &str) -> u8 {
-    let (mut out, mut faults) = (rt.stdout(), rt.stderr());
-    if name == STANDARD_INPUT {
-        return run_stream(session, names, &mut rt.stdin(), &mut out, &mut faults);
-    }
-    match File::open(rt, name) {
-        Ok(mut file) => run_stream(session, names, &mut file, &mut out, &mut faults),
-        Err(error) => {
-            let is_memory = error.kind() == ErrorKind::OutOfMemory;
-            let failure = if is_memory {
-                ReadFailure::Memory
-            } else {
-                ReadFailure::Unreadable
-            };
-            let _ = writeln!(faults, "netset: {name}: {failure}");
-            2
-        }
-    }
+    Ok(allowed)
 }
 
 /// Reads a list of rules, and returns it with the number of its bytes.
@@ -100,38 +180,43 @@ fn rules_from<R: Read + Drop>(
     rt: &HostRuntime,
     input: R,
     grammar: Grammar,
-) -> Result<(RuleList, usize), ReadFailure> {
-    let mut counted = Counted { input, count: 0 };
-    let list = RuleList::read(rt.alloc(), &mut counted, grammar)?;
-    Ok((list, counted.count))
+) -> Result<(RuleList, usize), Unread> {
+    let mut counted = start_count(input);
+    match RuleList::read(rt.alloc(), &mut counted, grammar) {
+        Ok(list) => Ok((list, counted.count)),
+        Err(failure) => Err(Unread {
+            failure,
+            code: counted.code,
+        }),
+    }
 }
 
 /// Reads the list of rules of this name: from standard input if it is "-", and otherwise from a file.
-fn open_rules(
-    rt: &HostRuntime,
-    name: &str,
-    grammar: Grammar,
-) -> Result<(RuleList, usize), ReadFailure> {
+fn open_rules(rt: &HostRuntime, name: &str, grammar: Grammar) -> Result<(RuleList, usize), Unread> {
     if name == STANDARD_INPUT {
         return rules_from(rt, rt.stdin(), grammar);
     }
     match File::open(rt, name) {
         Ok(file) => rules_from(rt, file, grammar),
-        Err(error) if error.kind() == ErrorKind::OutOfMemory => Err(ReadFailure::Memory),
-        Err(_) => Err(ReadFailure::Unreadable),
+        Err(error) => Err(unopened(&error)),
     }
 }
 
-/// Reads the list of rules of this name, and reports its bytes as `read_lists` does.
+/// Reads the list of rules of this name, and reports its bytes as `read_lists` does. `None` if a file has no rule, and
+/// that is to be refused.
 pub fn read_rules(
     rt: &HostRuntime,
     name: &str,
     grammar: Grammar,
-    tells_progress: bool,
-) -> Result<RuleList, ReadFailure> {
+    reports: Reports,
+) -> Result<Option<RuleList>, Unread> {
     let (list, count) = open_rules(rt, name, grammar)?;
-    if tells_progress || count >= MUCH {
-        tell_count(rt, name, count, tells_progress);
+    if reports.progress || count >= MUCH {
+        tell_count(rt, name, count, reports.progress);
     }
-    Ok(list)
+    let is_empty = list.rules.is_empty() && list.refused.is_empty();
+    if is_empty && !reports.allow_empty(rt, name, "rules") {
+        return Ok(None);
+    }
+    Ok(Some(list))
 }

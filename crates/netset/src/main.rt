@@ -3,21 +3,28 @@
 
 mod arguments;
 mod changes;
+mod leftovers;
 mod listing;
 mod lists;
+mod output;
 mod plan;
+mod replacement;
 mod rules;
+mod stream;
 mod version;
 
-use crate::arguments::{ArgumentFailure, Call, call_of, matches_of, words};
+use crate::arguments::{ArgumentFailure, Call, call_of, matches_of, output_of, reports_of, words};
 use crate::changes::{CHANGES, changed};
 use crate::listing::run_if_listing;
-use crate::lists::{read_lists, stream_list};
+use crate::lists::{read_lists, report_unread};
+use crate::output::{CLOSED, Streams};
 use crate::plan::{PLAN, planned};
 use crate::rules::run_if_rules;
+use crate::stream::stream_list;
 use clap::ArgMatches;
 use netset_lib::{Session, Work, run};
-use std::io::Write;
+use std::cell::Cell;
+use std::io::{ErrorKind, Write};
 use std::process::ExitCode;
 
 fn main(rt: HostRuntime) -> ExitCode {
@@ -38,12 +45,18 @@ fn status(rt: &HostRuntime) -> u8 {
 
 /// Prints help, the version or what is wrong with the arguments, and returns the status.
 fn shown(rt: &HostRuntime, error: &clap::Error) -> u8 {
-    let is_wrong = error.use_stderr();
-    if error.print(rt).is_err() && !is_wrong {
-        let _ = writeln!(rt.stderr(), "netset: output cannot be written");
+    let result = error.print(rt);
+    if error.use_stderr() {
         return 2;
     }
-    if is_wrong { 2 } else { 0 }
+    match result {
+        Ok(()) => 0,
+        Err(fault) if fault.kind() == ErrorKind::BrokenPipe => CLOSED,
+        Err(_) => {
+            let _ = writeln!(rt.stderr(), "netset: output cannot be written");
+            2
+        }
+    }
 }
 
 /// Prints why the arguments cannot be used, and returns the status, even if it cannot be printed.
@@ -52,57 +65,76 @@ fn refused(rt: &HostRuntime, failure: ArgumentFailure) -> u8 {
     2
 }
 
-/// Reads the lists of these names. If that fails, it is reported, and the error is the exit status.
+/// Reads the lists of these names. If that fails, it is reported, and the error is the exit status. So it is if a file
+/// has no entry, and that is to be refused.
 fn session_of(
     rt: &HostRuntime,
     work: Work,
     names: &[&str],
-    tells_progress: bool,
+    streams: &Streams<'_>,
 ) -> Result<Session, u8> {
     let Ok(mut session) = Session::new(rt.alloc(), work) else {
         return Err(refused(rt, ArgumentFailure::Memory));
     };
-    if let Err((name, failure)) = read_lists(rt, &mut session, names, tells_progress) {
-        let _ = writeln!(rt.stderr(), "netset: {name}: {failure}");
-        return Err(2);
+    match read_lists(rt, &mut session, names, streams.reports) {
+        Ok(true) => Ok(session),
+        Ok(false) => Err(2),
+        Err((name, unread)) => {
+            report_unread(rt, name, &unread);
+            Err(2)
+        }
     }
-    Ok(session)
 }
 
-/// Runs the command of the parsed words, and returns its exit status.
+/// Opens the output, runs the command of the parsed words, and returns its exit status.
 fn called(rt: &HostRuntime, matches: &ArgMatches) -> u8 {
-    if let Some(status) = run_if_rules(rt, matches) {
+    let name = output_of(matches);
+    let is_closed = Cell::new(false);
+    let mut streams = match Streams::open(rt, name, reports_of(matches), &is_closed) {
+        Ok(streams) => streams,
+        Err(failure) => {
+            let name = name.unwrap_or_default().as_bytes().escape_ascii();
+            let _ = writeln!(rt.stderr(), "netset: {name}: {failure}");
+            return 2;
+        }
+    };
+    let status = ran(rt, matches, &mut streams);
+    streams.end(status)
+}
+
+/// Runs the command of the parsed words, and returns its status.
+fn ran(rt: &HostRuntime, matches: &ArgMatches, streams: &mut Streams<'_>) -> u8 {
+    if let Some(status) = run_if_rules(rt, matches, streams) {
         return status;
     }
-    if let Some(status) = run_if_listing(rt, matches) {
+    if let Some(status) = run_if_listing(rt, matches, streams) {
         return status;
     }
     match matches.subcommand() {
-        Some((name, matches)) if name == PLAN => planned(rt, matches),
-        Some((name, matches)) if name == CHANGES => changed(rt, matches),
-        _ => answered(rt, matches),
+        Some((name, matches)) if name == PLAN => planned(rt, matches, streams),
+        Some((name, matches)) if name == CHANGES => changed(rt, matches, streams),
+        _ => answered(rt, matches, streams),
     }
 }
 
 /// Reads the lists, and runs the operation or the query.
-fn answered(rt: &HostRuntime, matches: &ArgMatches) -> u8 {
+fn answered(rt: &HostRuntime, matches: &ArgMatches, streams: &mut Streams<'_>) -> u8 {
     let Call {
         work,
         names,
-        tells_progress,
-        streams,
+        is_streamed,
     } = match call_of(rt.alloc(), matches) {
         Ok(call) => call,
         Err(failure) => return refused(rt, failure),
     };
     let names = names.as_slice();
     match names {
-        [_, streamed] if streams => match session_of(rt, work, &names[..1], tells_progress) {
-            Ok(session) => stream_list(rt, session, names, streamed),
+        [_, name] if is_streamed => match session_of(rt, work, &names[..1], streams) {
+            Ok(session) => stream_list(rt, session, names, name, streams),
             Err(status) => status,
         },
-        _ => match session_of(rt, work, names, tells_progress) {
-            Ok(session) => run(session, names, &mut rt.stdout(), &mut rt.stderr()),
+        _ => match session_of(rt, work, names, streams) {
+            Ok(session) => run(session, names, &mut streams.answer, &mut streams.faults),
             Err(status) => status,
         },
     }

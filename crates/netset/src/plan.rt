@@ -1,5 +1,6 @@
 //! The command `plan`: its arguments, and its run.
 use crate::arguments::{ArgumentFailure, FIRST, command_of, first, flag, flags_of};
+use crate::output::Streams;
 use crate::{refused, session_of};
 use clap::{Arg, ArgAction, ArgMatches, Command};
 use netset_lib::{PlanRequest, families, read_length, run_plan};
@@ -41,6 +42,7 @@ fn lengths_of(rt: &HostRuntime, words: &[&str]) -> Result<Vec<u8>, u8> {
     let mut lengths = Vec::new(rt.alloc());
     for word in words {
         let Some(length) = read_length(word) else {
+            let word = word.as_bytes().escape_ascii();
             let _ = writeln!(rt.stderr(), "netset: not a prefix length: {word}");
             return Err(2);
         };
@@ -52,7 +54,7 @@ fn lengths_of(rt: &HostRuntime, words: &[&str]) -> Result<Vec<u8>, u8> {
 }
 
 /// Reads the arguments and the list, prints the plan, and returns the exit status.
-pub fn planned(rt: &HostRuntime, matches: &ArgMatches) -> u8 {
+pub fn planned(rt: &HostRuntime, matches: &ArgMatches, streams: &mut Streams<'_>) -> u8 {
     let words = matches.get_strs(LENGTHS).unwrap_or(&[]);
     let lengths = match lengths_of(rt, words) {
         Ok(lengths) => lengths,
@@ -60,7 +62,7 @@ pub fn planned(rt: &HostRuntime, matches: &ArgMatches) -> u8 {
     };
     let work = netset_lib::Command::Union.work(flags_of(matches));
     let names = matches.get_strs(FIRST).unwrap_or(&[]);
-    let session = match session_of(rt, work, names, matches.get_flag("progress")) {
+    let session = match session_of(rt, work, names, streams) {
         Ok(session) => session,
         Err(status) => return status,
     };
@@ -68,5 +70,11 @@ pub fn planned(rt: &HostRuntime, matches: &ArgMatches) -> u8 {
         families: families(matches.get_flag("ipv4"), matches.get_flag("ipv6")),
         lengths: lengths.as_slice(),
     };
-    run_plan(session, request, names, &mut rt.stdout(), &mut rt.stderr())
+    run_plan(
+        session,
+        request,
+        names,
+        &mut streams.answer,
+        &mut streams.faults,
+    )
 }

@@ -1,12 +1,12 @@
 //! The commands that read a list of rules.
 use crate::arguments::{FIRST, STANDARD_INPUT, command_of, first, operation_command};
-use crate::lists::read_rules;
+use crate::lists::{read_rules, report_unread};
+use crate::output::Streams;
 use clap::{Arg, ArgMatches, Command};
 use ipnet::Grammar;
 use ipnet_rules::Action;
 use netset_lib::{Form, RuleQuery, run_rules};
 use std::alloc::{AllocError, Global};
-use std::io::Write;
 
 /// The names of the two commands.
 const PERMITTED: &str = "permitted";
@@ -65,7 +65,11 @@ fn query_of(name: &str, matches: &ArgMatches) -> Option<RuleQuery> {
 }
 
 /// Runs the command if it reads a list of rules, and returns the status. `None` if it does not.
-pub fn run_if_rules(rt: &HostRuntime, matches: &ArgMatches) -> Option<u8> {
+pub fn run_if_rules(
+    rt: &HostRuntime,
+    matches: &ArgMatches,
+    streams: &mut Streams<'_>,
+) -> Option<u8> {
     let (name, matches) = matches.subcommand()?;
     let query = query_of(name, matches)?;
     let file = matches.get_str(FIRST).unwrap_or(STANDARD_INPUT);
@@ -74,12 +78,13 @@ pub fn run_if_rules(rt: &HostRuntime, matches: &ArgMatches) -> Option<u8> {
     } else {
         Grammar::Strict
     };
-    let list = match read_rules(rt, file, grammar, matches.get_flag("progress")) {
-        Ok(list) => list,
-        Err(failure) => {
-            let _ = writeln!(rt.stderr(), "netset: {file}: {failure}");
+    let list = match read_rules(rt, file, grammar, streams.reports) {
+        Ok(Some(list)) => list,
+        Ok(None) => return Some(2),
+        Err(unread) => {
+            report_unread(rt, file, &unread);
             return Some(2);
         }
     };
-    Some(run_rules(list, query, file, &mut rt.stdout(), &mut rt.stderr()))
+    Some(run_rules(list, query, file, &mut streams.answer, &mut streams.faults))
 }

@@ -17,10 +17,11 @@ use Rattle.netset_lib.specs.declared.entry.Entry.{Entry}
 use Rattle.netset_lib.specs.declared.entry.Entry.TheVariants as Entries
 use Rattle.netset_lib.specs.EntryOf.{IsWrittenAs}
 use Rattle.netset_lib.specs.EntrySteps.{HasEnds}
-use Rattle.netset_lib.specs.Entries.{IsAddressText, IsPlainEntry, IsRangeFrom, WriteRange}
-use Rattle.netset_lib.specs.Entries.{IsEntryText, ReadsAs}
+use Rattle.netset_lib.specs.Entries.{IsAddressText, IsMaskedBy, IsNetworkOrMasked, IsPlainEntry, IsRangeFrom}
+use Rattle.netset_lib.specs.Entries.{IsEntryText, ReadsAs, WriteMasked, WriteRange, after_blanks, before_blanks}
 use Rattle.netset_lib.proofs.AddressBytes.{IsAddressByte, ipv4_bytes, ipv6_bytes, decimal_bytes, one_front, one_back}
 use Rattle.netset_lib.proofs.AddressBytes.{middle}
+use Rattle.netset_lib.proofs.BlankTexts.{undashed_front}
 
 -- ---- what was read
 
@@ -152,15 +153,23 @@ pub record IsCutAtSlash (text : List ℕ) : Type 0 where
   pub in_front : All IsAddressByte front
   pub in_back : All IsAddressByte back
 
-pub network_cut : (grammar : Grammar) (text : List ℕ) (n : Network) → IsNetworkText grammar text n → IsCutAtSlash text
-network_cut grammar text n (inl h) = record {
+pub network_cut : (grammar : Grammar) (text : List ℕ) (n : Network) → IsNetworkOrMasked grammar text n
+    → IsCutAtSlash text
+network_cut grammar text n (inr h) = record {
+  front = h.address_text;
+  back = h.mask_text;
+  spelled = h.spelled ∙ append_assoc h.address_text (47 ∷ []) h.mask_text;
+  in_front = address_bytes grammar h.address_text h.parts.address h.parts.writes_address;
+  in_back = address_bytes grammar h.mask_text h.parts.mask h.parts.writes_mask;
+}
+network_cut grammar text n (inl (inl h)) = record {
   front = h.address_text;
   back = h.length_text;
   spelled = h.spelled ∙ append_assoc h.address_text (47 ∷ []) h.length_text;
   in_front = ipv4_bytes grammar h.address_text h.octets h.writes_address;
   in_back = decimal_bytes h.length_text h.writes_length.digits.1;
 }
-network_cut grammar text n (inr h) = record {
+network_cut grammar text n (inl (inr h)) = record {
   front = h.address_text;
   back = h.length_text;
   spelled = h.spelled ∙ append_assoc h.address_text (47 ∷ []) h.length_text;
@@ -171,10 +180,10 @@ network_cut grammar text n (inr h) = record {
 -- ---- what a text with "-" or "/", or with none, is not
 
 -- each byte is none of "-"
-pub no_dashes : (text : List ℕ) → All IsAddressByte text → All (λ b. b ≢ 45) text
+no_dashes : (text : List ℕ) → All IsAddressByte text → All (λ b. b ≢ 45) text
 no_dashes text h = All-weaker IsAddressByte (λ b. b ≢ 45) (λ b is. is.no_dash) text h
 
-pub plain_no_dash : (grammar : Grammar) (text : List ℕ) (range : AddressRange) → IsPlainEntry grammar text range
+plain_no_dash : (grammar : Grammar) (text : List ℕ) (range : AddressRange) → IsPlainEntry grammar text range
     → All (λ b. b ≢ 45) text
 plain_no_dash grammar text range (inl h) =
     let cut = network_cut grammar text h.network h.writes in
@@ -186,7 +195,7 @@ plain_no_dash grammar text range (inr h) = no_dashes text (address_bytes grammar
 module _ {V : Type 0} (range_of_value : V → AddressRange) (grammar : Grammar) (text : List ℕ) where
   -- a text that is cut at its first "-" is read as its two parts are
   pub reads_cut : (first last : List ℕ) → text ≡ first ++ 45 ∷ last → All (λ b. b ≢ 45) first → (o : Option V)
-      → ReadsAs range_of_value (WriteRange grammar first) last o
+      → ReadsAs range_of_value (WriteRange grammar (before_blanks first)) (after_blanks last) o
       → ReadsAs range_of_value (IsEntryText grammar) text o
   reads_cut first last e lacks (Some v) h =
       reads_some range_of_value (IsEntryText grammar) text v
@@ -204,7 +213,8 @@ module _ {V : Type 0} (range_of_value : V → AddressRange) (grammar : Grammar) 
         | inr k ↦
             let (fronts, backs) = one_front (λ b. b ≢ 45) 45 (λ not. not refl) first last k.first_text k.last_text
             (sym e ∙ k.spelled ∙ append_assoc k.first_text (45 ∷ []) k.last_text) lacks
-            (no_dashes k.first_text (address_bytes grammar k.first_text k.ends.first k.ends.writes_first)) in
+            (undashed_front k.first_text
+            (address_bytes grammar (before_blanks k.first_text) k.ends.first k.ends.writes_first)) in
             h.none.0 refl range (rw (fronts, backs) k.ends)
       ])
 
@@ -220,6 +230,28 @@ module _ {V : Type 0} (range_of_value : V → AddressRange) (grammar : Grammar) 
             (subst (All (λ b. b ≢ 45)) (k.spelled ∙ append_assoc k.first_text (45 ∷ []) k.last_text) lacks) refl
       ])
 
+-- a text that is cut at its first "/" has a netmask behind it, or none has
+pub masked_cut : (grammar : Grammar) (text address mask : List ℕ) (n : Network) → text ≡ address ++ 47 ∷ mask
+    → All (λ b. b ≢ 47) address → WriteMasked grammar address mask n → IsNetworkOrMasked grammar text n
+masked_cut grammar text address mask n e lacks h =
+    inr record {
+      address_text = address;
+      mask_text = mask;
+      spelled = e ∙ sym (append_assoc address (47 ∷ []) mask);
+      parts = h;
+    }
+
+pub unmasked_cut : (grammar : Grammar) (text address mask : List ℕ) (n : Network) → text ≡ address ++ 47 ∷ mask
+    → All (λ b. b ≢ 47) address → ¬ (IsNetworkText grammar text n) → ¬ (WriteMasked grammar address mask n)
+    → IsNetworkOrMasked grammar text n → ⊥
+unmasked_cut grammar text address mask n e lacks plain none (inl h) = plain h
+unmasked_cut grammar text address mask n e lacks plain none (inr h) =
+    let bytes = address_bytes grammar h.address_text h.parts.address h.parts.writes_address in
+    let (fronts, backs) = one_front (λ b. b ≢ 47) 47 (λ not. not refl) address mask h.address_text h.mask_text
+    (sym e ∙ h.spelled ∙ append_assoc h.address_text (47 ∷ []) h.mask_text) lacks
+    (All-weaker IsAddressByte (λ b. b ≢ 47) (λ b is. is.no_slash) h.address_text bytes) in
+    none (rw (fronts, backs) h.parts)
+
 -- a text with "/" writes no address
 pub cut_no_address : (grammar : Grammar) (text front back : List ℕ) (x : Address) → text ≡ front ++ 47 ∷ back
     → IsAddressText grammar text x → ⊥
@@ -228,7 +260,7 @@ cut_no_address grammar text front back x e h =
 
 -- and one without it no network
 pub uncut_no_network : (grammar : Grammar) (text : List ℕ) (n : Network) → All (λ b. b ≢ 47) text
-    → IsNetworkText grammar text n → ⊥
+    → IsNetworkOrMasked grammar text n → ⊥
 uncut_no_network grammar text n lacks h =
     let cut = network_cut grammar text n h in
     middle (λ b. b ≢ 47) cut.front 47 cut.back (subst (All (λ b. b ≢ 47)) cut.spelled lacks) refl
@@ -259,11 +291,26 @@ reads_ends range_of_value grammar first_text last_text first last f l None some 
     let two = one_address grammar last_text last k.last l k.writes_last in
     none.0 refl range (rw (one, two) k.addresses))
 
+-- the network of an address and a netmask that were read
+pub reads_masked : {V : Type 0} (network_of : V → Network) (grammar : Grammar) (address_text mask_text : List ℕ)
+    (address mask : Address) → IsAddressText grammar address_text address → IsAddressText grammar mask_text mask
+    → (o : Option V) → IfSome o (λ v. IsMaskedBy address mask (network_of v))
+    → (IsNone o ↔ ((n : Network) → ¬ (IsMaskedBy address mask n)))
+    → ReadsAs network_of (WriteMasked grammar address_text) mask_text o
+reads_masked network_of grammar address_text mask_text address mask a m (Some v) some none =
+    reads_some network_of (WriteMasked grammar address_text) mask_text v
+    record { address = address; mask = mask; writes_address = a; writes_mask = m; addresses = some }
+reads_masked network_of grammar address_text mask_text address mask a m None some none =
+    reads_none network_of (WriteMasked grammar address_text) mask_text (λ n k.
+    let one = one_address grammar address_text address k.address a k.writes_address in
+    let two = one_address grammar mask_text mask k.mask m k.writes_mask in
+    none.0 refl n (rw (one, two) k.addresses))
+
 -- ---- the kind of an entry
 
 -- the texts of the ends of a range, joined by "-"
 pub written_range : (grammar : Grammar) (text first last : List ℕ) → text ≡ first ++ 45 ∷ last → (o : Option Entry)
-    → IfSome o (HasEnds (IsAddressText grammar first) (IsAddressText grammar last))
+    → IfSome o (HasEnds (IsAddressText grammar (before_blanks first)) (IsAddressText grammar (after_blanks last)))
     → IfSome o (IsWrittenAs grammar text)
 written_range grammar text first last e None h = tt
 written_range grammar text first last e (Some (Entries.Network n)) h = absurd h

@@ -14,7 +14,7 @@ use Rattle.ipnet.specs.declared.net.ipv4_net.Ipv4Net.{Ipv4Net}
 use Rattle.ipnet.specs.declared.parser.Grammar.TheVariants.{Strict}
 use Rattle.ipnet_text.proofs.FrontTexts.{prefix_len_short}
 use Rattle.netset_lib.specs.declared.entry.Entry.TheVariants as Entries
-use Rattle.netset_lib.specs.Entries.{IsAddressText, IsEntryText}
+use Rattle.netset_lib.specs.Entries.{IsAddressText, IsEntryWord}
 use Rattle.netset_lib.specs.EntryOf.{entry_range}
 
 address_text : (text : List ℕ) (a : Ipv4Addr) → IsIpv4AddressText Strict text (ipv4_octets a)
@@ -23,14 +23,14 @@ unfolding ipv4_bits
 address_text text a h = inl record { octets = ipv4_octets a; writes = h; family = refl; number = refl }
 
 pub address_entry : (text : List ℕ) (a : Ipv4Addr) → IsIpv4AddressText Strict text (ipv4_octets a)
-    → IsEntryText Strict text (entry_range (Entries.Address (Ip.V4 a)))
+    → IsEntryWord Strict text (entry_range (Entries.Address (Ip.V4 a)))
 address_entry text a h =
     inl (inr record { address = ipv4_address a; writes = address_text text a h; is = refl })
 
 pub network_entry : (text digits : List ℕ) (a : Ipv4Addr) (p : ℕ) (n : Ipv4Net)
     → IsIpv4AddressText Strict text (ipv4_octets a) → IsOctet Strict digits p → p ≤ 32
     → ipv4_network n ≡ network_at (ipv4_address a) p
-    → IsEntryText Strict (text ++ 47 ∷ digits) (entry_range (Entries.Network (Nets.V4 n)))
+    → IsEntryWord Strict (text ++ 47 ∷ digits) (entry_range (Entries.Network (Nets.V4 n)))
 unfolding ipv4_bits
 network_entry text digits a p n h octet small is =
     let writes : IsIpv4NetworkText Strict (text ++ 47 ∷ digits) (network_at (ipv4_address a) p) = record {
@@ -45,13 +45,13 @@ network_entry text digits a p n h octet small is =
     } in
     inl (inl record {
       network = ipv4_network n;
-      writes = inl (subst (IsIpv4NetworkText Strict (text ++ 47 ∷ digits)) (sym is) writes);
+      writes = inl (inl (subst (IsIpv4NetworkText Strict (text ++ 47 ∷ digits)) (sym is) writes));
       is = refl;
     })
 
 pub range_entry : (text last : List ℕ) (a b : Ipv4Addr) → IsIpv4AddressText Strict text (ipv4_octets a)
     → IsIpv4AddressText Strict last (ipv4_octets b) → ipv4_bits a ≤ ipv4_bits b
-    → IsEntryText Strict (text ++ 45 ∷ last) (entry_range (Entries.Ipv4Range a b))
+    → IsEntryWord Strict (text ++ 45 ∷ last) (entry_range (Entries.Ipv4Range a b))
 range_entry text last a b h k ordered =
     inr record {
       first_text = text;

@@ -1,5 +1,6 @@
 -- Lemmas of this crate.
 pub mod AddressBytes
+pub mod BlankTexts
 pub mod EntryTexts
 pub mod RefusalLaws
 pub mod RangeCovers
@@ -14,6 +15,7 @@ pub mod ListingLaws
 pub mod ListReading
 pub mod WindowReading
 pub mod OperationLaws
+pub mod OutputNames
 pub mod SameResults
 pub mod AnswerTexts
 pub mod ListsReading

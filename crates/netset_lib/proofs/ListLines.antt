@@ -11,13 +11,15 @@ use Rattle.std.proofs.lemmas.List.Elements.{All-append, All-cons, All-weaker}
 use Rattle.std.proofs.lemmas.Str.{IsUtf8-from_ascii}
 use Rattle.std.proofs.lemmas.Str.Ascii.{IsAscii-from_all, trim_ascii_is}
 use Rattle.memchr.specs.Find.{NoneBefore, Nowhere, Passes, is_byte, is_byte2}
+use Rattle.ipnet_base.specs.Address.{Address}
 use Rattle.ipnet_base.specs.Ranges.{AddressRange}
 use Rattle.ipnet.specs.declared.parser.Grammar.{Grammar}
 use Rattle.ipnet.specs.Lines.{lines_of}
 use Rattle.ipnet.proofs.LineLaws.{lines_at, last_line}
-use Rattle.netset_lib.specs.Entries.{IsEntryText}
+use Rattle.netset_lib.specs.Entries.{IsAddressText, IsEntryText, after_blanks, before_blanks}
 use Rattle.netset_lib.specs.Lists.{without_blanks}
 use Rattle.netset_lib.proofs.AddressBytes.{IsAddressByte}
+use Rattle.netset_lib.proofs.BlankTexts.{ascii_front, ascii_back}
 use Rattle.netset_lib.proofs.EntryTexts.{address_bytes, network_cut}
 
 -- ---- the first line
@@ -48,7 +50,7 @@ ascii_bytes : (text : List ℕ) → All IsAddressByte text → All (λ b. b < 12
 ascii_bytes text h = All-weaker IsAddressByte (λ b. b < 128) (λ b is. is.ascii) text h
 
 -- two parts with a byte between them
-pub ascii_cut : (front : List ℕ) (b : ℕ) (back : List ℕ) → b < 128 → All IsAddressByte front → All IsAddressByte back
+ascii_cut : (front : List ℕ) (b : ℕ) (back : List ℕ) → b < 128 → All IsAddressByte front → All IsAddressByte back
     → All (λ b. b < 128) (front ++ b ∷ back)
 ascii_cut front b back low h k =
     All-append (λ b. b < 128) front (b ∷ back) (ascii_bytes front h)
@@ -63,10 +65,16 @@ ascii_entry grammar text range (inl (inl h)) =
 ascii_entry grammar text range (inl (inr h)) = ascii_bytes text (address_bytes grammar text h.address h.writes)
 ascii_entry grammar text range (inr h) =
     subst (All (λ b. b < 128)) (sym (h.spelled ∙ append_assoc h.first_text (45 ∷ []) h.last_text))
-    (ascii_cut h.first_text 45 h.last_text (omega arith)
-    (address_bytes grammar h.first_text h.ends.first h.ends.writes_first)
-    (address_bytes grammar h.last_text h.ends.last h.ends.writes_last))
+    (All-append (λ b. b < 128) h.first_text (45 ∷ h.last_text)
+    (ascii_front h.first_text
+    (address_bytes grammar (before_blanks h.first_text) h.ends.first h.ends.writes_first))
+    (All-cons (λ b. b < 128) 45 h.last_text (omega arith)
+    (ascii_back h.last_text (address_bytes grammar (after_blanks h.last_text) h.ends.last h.ends.writes_last))))
 
 pub entry_utf8 : (grammar : Grammar) (text : List ℕ) (range : AddressRange) → IsEntryText grammar text range
     → IsUtf8 text
 entry_utf8 grammar text range h = IsUtf8-from_ascii text (IsAscii-from_all text (ascii_entry grammar text range h))
+
+pub address_utf8 : (grammar : Grammar) (text : List ℕ) (x : Address) → IsAddressText grammar text x → IsUtf8 text
+address_utf8 grammar text x h =
+    IsUtf8-from_ascii text (IsAscii-from_all text (ascii_bytes text (address_bytes grammar text x h)))

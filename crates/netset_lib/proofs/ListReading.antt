@@ -1,5 +1,6 @@
 -- A list that is read line by line.
-use Rattle.std.proofs.Common.{◌≡◌, ℕ, ◌+◌, ◌<◌, ◌≤◌, ◌↔◌, Bool, true, false, List, [], ◌∷◌, ◌++◌, length, map, take}
+use Rattle.std.proofs.Common.{◌≡◌, ◌≢◌, ◌⊎◌, ℕ, ◌+◌, ◌<◌, ◌≤◌, ◌↔◌, Bool, true, false, List, [], ◌∷◌, ◌++◌}
+use Rattle.std.proofs.Common.{length, map, take}
 use Rattle.std.proofs.Common.{drop, refl, sym, ap, ◌∙◌, arith, inl, inr, subst, append_assoc, append-nil, Option}
 use Rattle.std.proofs.Common.{take-append-drop, Some, IfSome}
 use Rattle.std.specs.Io.KnownBytes.{Consumes, IsAtEnd}
@@ -16,7 +17,7 @@ use Rattle.netset_lib.specs.declared.refused.RefusedLines.{RefusedLines}
 use Rattle.netset_lib.specs.Causes.{IsCauseTold}
 use Rattle.netset_lib.specs.Entries.{IsEntryText, IsNoEntry}
 use Rattle.netset_lib.specs.Lists.{ListEntry, Refusal, AreRead, AreContents, IsContents}
-use Rattle.netset_lib.specs.Reading.{HasMore, Adds, AreTexts, AddsLines, ReadsLines}
+use Rattle.netset_lib.specs.Reading.{HasMore, Adds, AreTexts, AddsLines, ReadsLines, NotesEntries}
 use Rattle.netset_lib.proofs.RefusalLaws.{HasMore-nil, HasMore-trans}
 
 -- ---- one line more
@@ -66,6 +67,47 @@ texts_more grammar list first second line mid after entries others refusals late
     )
     (h (second ++ later) (others ++ more) (later_refusals ++ refused) (k later more refused is))
 
+-- ---- whether there was an entry
+
+none_noted : (old new : Bool) → new ≡ old → NotesEntries old new []
+none_noted old new same = record {
+  found = λ t. inl (sym same ∙ t);
+  kept = λ t. same ∙ t;
+  noted = λ some. absurd (some refl);
+}
+
+one_noted : (old new : Bool) (e : ListEntry) → new ≡ true → NotesEntries old new (e ∷ [])
+one_noted old new e is = record { found = λ t. inr (λ none. absurd cc); kept = λ t. is; noted = λ some. is }
+
+no_front : (xs ys : List ListEntry) → xs ++ ys ≡ [] → xs ≡ []
+no_front [] ys e = refl
+no_front (x ∷ xs) ys e = absurd cc
+
+no_back : (xs ys : List ListEntry) → xs ++ ys ≡ [] → ys ≡ []
+no_back [] ys e = e
+no_back (x ∷ xs) ys e = absurd cc
+
+some_of_both : (a b c : Bool) (xs ys : List ListEntry) → NotesEntries a b xs → NotesEntries b c ys → xs ++ ys ≢ []
+    → c ≡ true
+some_of_both a b c [] ys h k some = k.noted some
+some_of_both a b c (x ∷ xs) ys h k some = k.kept (h.noted (λ none. absurd cc))
+
+found_in_both : (a b : Bool) (xs ys : List ListEntry) → NotesEntries a b xs → (b ≡ true) ⊎ (ys ≢ [])
+    → (a ≡ true) ⊎ (xs ++ ys ≢ [])
+found_in_both a b xs ys h (inr some) = inr (λ none. some (no_back xs ys none))
+found_in_both a b xs ys h (inl t) = elim (h.found t) [
+  | inl before ↦ inl before
+  | inr some ↦ inr (λ none. some (no_front xs ys none))
+]
+
+both_noted : (a b c : Bool) (xs ys : List ListEntry) → NotesEntries a b xs → NotesEntries b c ys
+    → NotesEntries a c (xs ++ ys)
+both_noted a b c xs ys h k = record {
+  found = λ t. found_in_both a b xs ys h (k.found t);
+  kept = λ t. k.kept (h.kept t);
+  noted = some_of_both a b c xs ys h k;
+}
+
 adds_none : (lines : LineReader) (IsMade : List ListEntry → Type 0) → AddsLines lines lines [] IsMade IsMade
 adds_none lines IsMade = record {
   same_grammar = refl;
@@ -75,6 +117,7 @@ adds_none lines IsMade = record {
   read = λ later more refused h. h;
   added = HasMore-nil lines.refused lines.refused.few;
   made = λ before h. subst IsMade (sym (append-nil before)) h;
+  notes = none_noted lines.has_entry lines.has_entry refl;
 }
 
 pub adds_more : (old mid new : LineReader) (first second : List (List ℕ))
@@ -91,6 +134,7 @@ adds_more old mid new first second IsMade IsMadeThen IsMadeNow h k = record {
   added = HasMore-trans old.refused mid.refused new.refused h.refusals k.refusals h.added k.added;
   made = λ before is. subst IsMadeNow (append_assoc before h.entries k.entries)
       (k.made (before ++ h.entries) (h.made before is));
+  notes = both_noted old.has_entry mid.has_entry new.has_entry h.entries k.entries h.notes k.notes;
 }
 
 -- ---- what one line adds
@@ -98,8 +142,8 @@ adds_more old mid new first second IsMade IsMadeThen IsMadeNow h k = record {
 module _ (old new : LineReader) (text : List ℕ) (same_grammar : new.grammar ≡ old.grammar)
     (same_list : new.list ≡ old.list) (next : new.line ≡ old.line + 1) where
   pub adds_empty : (IsMade : List ListEntry → Type 0) → length text ≡ 0 → new.refused ≡ old.refused
-      → AddsLines old new (text ∷ []) IsMade IsMade
-  adds_empty IsMade none same = record {
+      → new.has_entry ≡ old.has_entry → AddsLines old new (text ∷ []) IsMade IsMade
+  adds_empty IsMade none same noted = record {
     same_grammar = same_grammar;
     same_list = same_list;
     entries = [];
@@ -108,12 +152,13 @@ module _ (old new : LineReader) (text : List ℕ) (same_grammar : new.grammar �
         (subst (λ n. AreRead old.grammar old.list (n + 1) later more refused) next h);
     added = subst (λ r. HasMore old.refused r []) (sym same) (HasMore-nil old.refused old.refused.few);
     made = λ before h. subst IsMade (sym (append-nil before)) h;
+    notes = none_noted old.has_entry new.has_entry noted;
   }
 
   pub adds_entry : (IsMade IsMadeNow : List ListEntry → Type 0) (range : AddressRange) → 0 < length text
-      → IsEntryText old.grammar text range → new.refused ≡ old.refused
+      → IsEntryText old.grammar text range → new.refused ≡ old.refused → new.has_entry ≡ true
       → Adds IsMade IsMadeNow (entry_at text range ∷ []) → AddsLines old new (text ∷ []) IsMade IsMadeNow
-  adds_entry IsMade IsMadeNow range some is same made = record {
+  adds_entry IsMade IsMadeNow range some is same noted made = record {
     same_grammar = same_grammar;
     same_list = same_list;
     entries = entry_at text range ∷ [];
@@ -122,13 +167,14 @@ module _ (old new : LineReader) (text : List ℕ) (same_grammar : new.grammar �
         (subst (λ n. AreRead old.grammar old.list (n + 1) later more refused) next h);
     added = subst (λ r. HasMore old.refused r []) (sym same) (HasMore-nil old.refused old.refused.few);
     made = made;
+    notes = one_noted old.has_entry new.has_entry (entry_at text range) noted;
   }
 
   pub adds_refusal : (IsMade : List ListEntry → Type 0) (cause : Option Cause) → 0 < length text
       → IsNoEntry old.grammar text → IsCauseTold old.grammar text cause
       → HasMore old.refused new.refused (refusal_at old.list (old.line + 1) text cause ∷ [])
-      → AddsLines old new (text ∷ []) IsMade IsMade
-  adds_refusal IsMade cause some none told one = record {
+      → new.has_entry ≡ old.has_entry → AddsLines old new (text ∷ []) IsMade IsMade
+  adds_refusal IsMade cause some none told one noted = record {
     same_grammar = same_grammar;
     same_list = same_list;
     entries = [];
@@ -137,6 +183,7 @@ module _ (old new : LineReader) (text : List ℕ) (same_grammar : new.grammar �
         cause told (subst (λ n. AreRead old.grammar old.list (n + 1) later more refused) next h);
     added = one;
     made = λ before h. subst IsMade (sym (append-nil before)) h;
+    notes = none_noted old.has_entry new.has_entry noted;
   }
 
 -- ---- the lines of bytes

@@ -15,7 +15,7 @@ use Rattle.netset_lib.specs.Lists.{ListEntry, Refusal, IsListRead, IsInEntries, 
 use Rattle.netset_lib.specs.ListSets.{HaveMembers}
 use Rattle.netset_lib.specs.Reading.{Adds, WasMadeOf}
 use Rattle.netset_lib.specs.Replies.{work_grammar}
-use Rattle.netset_lib.specs.Sessions.{ReadsNext, WereRead, IsState}
+use Rattle.netset_lib.specs.Sessions.{ReadsNext, WereRead, IsState, IsNoted, has_entry}
 use Rattle.netset_lib.proofs.RefusalLaws.{more_refused}
 
 -- ---- one list
@@ -33,6 +33,7 @@ made_weaker left left_after old new IsMade Other h weaker = record {
   same_grammar = h.same_grammar;
   next = h.next;
   made = weaker h.entries h.made;
+  noted = h.noted;
 }
 
 -- what was made of no entry before the list is made of the list
@@ -93,10 +94,12 @@ members_push (s ∷ sets) (e ∷ entries) set more h same = (h.0, members_push s
 pub list_read : (work : Work) (lists : List (List ℕ)) (old new : Session) (left left_after : Option (List ℕ))
     → WereRead work lists old → ReadsNext (IsState old.work) left left_after old new
     → (bytes : List ℕ) × GaveWhole left left_after bytes × WereRead work (lists ++ bytes ∷ []) new
+    × IsNoted (work_grammar work) (length lists) bytes (has_entry new)
 list_read work lists old new left left_after h next =
     let k = next.read in
     let grammar = work_grammar work in
-    let place : old.reading.lines.list ≡ 0 + length lists = h.count ∙ zero_plus (length lists) in (
+    let place : old.reading.lines.list ≡ 0 + length lists = h.count ∙ zero_plus (length lists) in
+    let is = subst (λ g. IsListRead g old.reading.lines.list k.bytes k.entries k.refusals) h.same_grammar k.read in (
       k.bytes,
       k.given,
       record {
@@ -106,12 +109,17 @@ list_read work lists old new left left_after h next =
         entries = h.entries ++ k.entries ∷ [];
         refusals = h.refusals ++ k.refusals;
         read = lists_push grammar 0 lists h.entries h.refusals k.bytes k.entries k.refusals h.read
-            (subst (λ n. IsListRead grammar n k.bytes k.entries k.refusals) place
-            (subst (λ g. IsListRead g old.reading.lines.list k.bytes k.entries k.refusals) h.same_grammar k.read));
+            (subst (λ n. IsListRead grammar n k.bytes k.entries k.refusals) place is);
         kept = more_refused old.reading.lines.refused new.reading.lines.refused h.refusals k.refusals h.kept k.added;
         state = subst (λ w. IsState w new (h.entries ++ k.entries ∷ [])) h.same_work
             (k.made h.entries (lists_count grammar 0 lists h.entries h.refusals h.read ∙ sym h.count)
             (subst (λ w. IsState w old h.entries) (sym h.same_work) h.state));
+      },
+      record {
+        entries = k.entries;
+        refusals = k.refusals;
+        read = subst (λ n. IsListRead grammar n k.bytes k.entries k.refusals) h.count is;
+        noted = k.noted;
       },
     )
   where

@@ -12,9 +12,10 @@ use Rattle.ipnet.specs.Lines.{lines_of}
 use Rattle.ipnet.proofs.LineLaws.{lines_at}
 use Rattle.ipnet_text.proofs.FrontTexts.{rest_from, rest_is}
 use Rattle.ipnet_text.proofs.LineCuts.{empty_text}
-use Rattle.netset_lib.specs.Entries.{IsEntryText}
+use Rattle.netset_lib.specs.Entries.{IsEntryText, IsEntryWord}
 use Rattle.netset_lib.specs.Lists.{without_blanks, IsContents, Opens}
 use Rattle.netset_lib.proofs.AddressBytes.{IsAddressByte, IsPlainByte}
+use Rattle.netset_lib.proofs.BlankTexts.{first_fails, last_fails, bare_front, bare_back}
 use Rattle.netset_lib.proofs.EntryTexts.{address_bytes, network_cut}
 
 -- ---- the bytes of an entry
@@ -35,7 +36,7 @@ slash = record { no_blank = refl; no_hash = λ e. omega (arith, e); no_semicolon
 dash : IsPlainByte 45
 dash = record { no_blank = refl; no_hash = λ e. omega (arith, e); no_semicolon = λ e. omega (arith, e) }
 
-pub plain_entry : (grammar : Grammar) (text : List ℕ) (range : AddressRange) → IsEntryText grammar text range
+pub plain_entry : (grammar : Grammar) (text : List ℕ) (range : AddressRange) → IsEntryWord grammar text range
     → All IsPlainByte text
 plain_entry grammar text range (inl (inl h)) =
     let cut = network_cut grammar text h.network h.writes in
@@ -46,18 +47,21 @@ plain_entry grammar text range (inr h) =
     (plain_cut h.first_text 45 h.last_text dash (address_bytes grammar h.first_text h.ends.first h.ends.writes_first)
     (address_bytes grammar h.last_text h.ends.last h.ends.writes_last))
 
+-- such a text is an entry
+pub word_is_entry : (grammar : Grammar) (text : List ℕ) (range : AddressRange) → IsEntryWord grammar text range
+    → IsEntryText grammar text range
+word_is_entry grammar text range (inl h) = inl h
+word_is_entry grammar text range (inr h) =
+    let front = bare_front h.first_text (address_bytes grammar h.first_text h.ends.first h.ends.writes_first) in
+    let back = bare_back h.last_text (address_bytes grammar h.last_text h.ends.last h.ends.writes_last) in
+    inr record {
+      first_text = h.first_text;
+      last_text = h.last_text;
+      spelled = h.spelled;
+      ends = rw (front, back) h.ends;
+    }
+
 -- ---- nothing is around them
-
-first_fails : (p : ℕ → Bool) (xs : List ℕ) → (0 < length xs → p (get_or xs 0 0) ≡ false) → prefix_len p xs ≡ 0
-first_fails p [] h = refl
-first_fails p (x ∷ xs) h = let fails : p x ≡ false = h (omega arith) in rw fails
-
-last_fails : (p : ℕ → Bool) (xs : List ℕ) → ((i : ℕ) → i < length xs → p (get_or xs i 0) ≡ false)
-    → suffix_len p xs ≡ 0
-last_fails p xs h =
-    first_fails p (reverse xs)
-    (λ some. let within : 0 < length xs = omega (arith, some, length-reverse xs) in
-    ap p (get_or-reverse xs 0 0 within) ∙ h (length xs - 1 - 0) (omega (arith, within)))
 
 untrimmed : (p : ℕ → Bool) (text : List ℕ) → prefix_len p text ≡ 0 → suffix_len p text ≡ 0
     → take (length (drop (prefix_len p text) text) - suffix_len p (drop (prefix_len p text) text))

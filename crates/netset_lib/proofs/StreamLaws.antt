@@ -47,6 +47,7 @@ takes_weaker more old new A B C D t weaker =
           read = adds.read;
           added = adds.added;
           made = weaker adds.entries adds.made;
+          notes = adds.notes;
         },
       );
     }

@@ -163,9 +163,10 @@ pub up_to_whole : (left left_now : Option (List ℕ)) (start : LineReader) (old 
     → start.list ≡ old.lines.list → start.line ≡ 0 → start.refused ≡ old.lines.refused
     → IsListUpTo false left left_now start now IsMade IsMadeThen → TakesLines false now next IsMadeThen IsMadeNow
     → end.lines.list ≡ next.lines.list + 1 → end.lines.grammar ≡ next.lines.grammar
-    → end.lines.refused ≡ next.lines.refused → WasMadeOf left left_now old end (Adds IsMade IsMadeNow)
+    → end.lines.refused ≡ next.lines.refused → start.has_entry ≡ false → end.lines.has_entry ≡ next.lines.has_entry
+    → WasMadeOf left left_now old end (Adds IsMade IsMadeNow)
 up_to_whole left left_now start old now next end IsMade IsMadeThen IsMadeNow grammar list line refused h t place
-    same_grammar same_refused =
+    same_grammar same_refused none same_entry =
     let all : pending now ≡ t.front = t.is ∙ ap (λ z. t.front ++ z) (t.all refl) ∙ append-nil t.front in
     let both = reads_more start now.lines next.lines (lines_of h.front) (lines_of t.front) IsMade IsMadeThen IsMadeNow
     h.lines t.lines in
@@ -201,4 +202,11 @@ up_to_whole left left_now start old now next end IsMade IsMadeThen IsMadeNow gra
       same_grammar = same_grammar ∙ lines.same_grammar ∙ grammar;
       next = place ∙ ap (λ n. n + 1) (lines.same_list ∙ list);
       made = lines.made;
+      noted = (
+        λ t. elim (lines.notes.found (sym same_entry ∙ t)) [
+          | inl before ↦ let clash : true ≡ false = sym before ∙ none in absurd cc
+          | inr some ↦ some
+        ],
+        λ some. same_entry ∙ lines.notes.noted some,
+      );
     }

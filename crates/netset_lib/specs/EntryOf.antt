@@ -5,11 +5,10 @@ use Rattle.ipnet_base.specs.Address.{IPv4, IPv6, ip_address, ipv4_address, ipv6_
 use Rattle.ipnet_base.specs.Ranges.{AddressRange}
 use Rattle.ipnet.specs.declared.parser.Grammar.{Grammar}
 use Rattle.ipnet.specs.NetworkOf.{ip_network}
-use Rattle.ipnet.specs.NetworkTexts.{IsNetworkText}
 use Rattle.ipnet_sets.specs.SetRanges.{range_of}
 use Rattle.netset_lib.specs.declared.entry.Entry.{Entry}
 use Rattle.netset_lib.specs.declared.entry.Entry.TheVariants.{Network, Address, Ipv4Range, Ipv6Range}
-use Rattle.netset_lib.specs.Entries.{block_range, IsAddressText, JoinsAddresses}
+use Rattle.netset_lib.specs.Entries.{block_range, IsAddressText, IsNetworkOrMasked, JoinsAddresses}
 
 -- The range that the entry represents.
 abbrev pub entry_range : Entry → AddressRange
@@ -21,7 +20,7 @@ entry_range (Ipv6Range first last) = range_of IPv6 (ipv6_bits first) (ipv6_bits 
 -- The text is this entry. Example: `10.0.0.1/32`, `10.0.0.1` and `10.0.0.1-10.0.0.1` have the same range, and are a
 -- `Network`, an `Address` and an `Ipv4Range`.
 abbrev pub IsWrittenAs : Grammar → List ℕ → Entry → Type 0
-IsWrittenAs grammar text (Network n) = IsNetworkText grammar text (ip_network n)
+IsWrittenAs grammar text (Network n) = IsNetworkOrMasked grammar text (ip_network n)
 IsWrittenAs grammar text (Address a) = IsAddressText grammar text (ip_address a)
 IsWrittenAs grammar text (Ipv4Range first last) = JoinsAddresses grammar text (ipv4_address first) (ipv4_address last)
 IsWrittenAs grammar text (Ipv6Range first last) = JoinsAddresses grammar text (ipv6_address first) (ipv6_address last)

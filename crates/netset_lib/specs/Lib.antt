@@ -1,13 +1,16 @@
 -- The definitions that the contracts of this crate use.
 pub mod Entries
 pub mod EntryOf
+pub mod Words
 pub mod Causes
 pub mod EntrySteps
+pub mod CauseSteps
 pub mod Lists
 pub mod RefusedLines
 pub mod FoundEntry
 pub mod Reading
 pub mod Operations
+pub mod Outputs
 pub mod Answers
 pub mod Counts
 pub mod EntryAnswers

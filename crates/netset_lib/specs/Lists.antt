@@ -2,7 +2,7 @@
 use Rattle.std.specs.Prelude.{◌≡◌, ◌≢◌, ◌⊎◌, ◌↔◌, ◌<◌, ◌≤◌, ℕ, ◌+◌, ◌-◌, Bool, true, ◌||◌, ◌==◌, if◌then◌else◌}
 use Rattle.std.specs.Prelude.{nat_eq, List, [], ◌∷◌, length, take, drop, Any, Option, slice_index}
 use Rattle.std.specs.Char.{is_ascii_whitespace}
-use Rattle.std.specs.List.{before_first, prefix_len, suffix_len, starts_with}
+use Rattle.std.specs.List.{before_first, prefix_len, starts_with}
 use Rattle.ipnet_base.specs.Address.{Address}
 use Rattle.ipnet_base.specs.Ranges.{AddressRange}
 use Rattle.ipnet.specs.declared.parser.Grammar.{Grammar}
@@ -10,7 +10,8 @@ use Rattle.ipnet.specs.Lines.{lines_of}
 use Rattle.ipnet_sets.specs.SetRanges.{IsInRange}
 use Rattle.netset_lib.specs.declared.cause.Cause.{Cause}
 use Rattle.netset_lib.specs.Causes.{IsCauseTold}
-use Rattle.netset_lib.specs.Entries.{IsEntryText, IsNoEntry}
+use Rattle.netset_lib.specs.Entries.{IsEntryText, IsNoEntry, after_blanks, before_blanks}
+use Rattle.netset_lib.specs.Words.{leading}
 
 -- The byte order mark in UTF-8 (RFC 3629, section 6).
 abbrev pub byte_order_mark : List ℕ
@@ -38,18 +39,11 @@ pub record IsCommentAt (line : List ℕ) (i : ℕ) : Type 0 where
 -- The text without blanks at its ends. The carriage return of a line end CR LF is a blank, as are space, tab and form
 -- feed.
 abbrev pub without_blanks : List ℕ → List ℕ
-without_blanks text =
-    let rest = drop (prefix_len is_ascii_whitespace text) text in
-    take (length rest - suffix_len is_ascii_whitespace rest) rest
-
--- A blank, ";" (59) or "," (44), which ends the first word of a comment.
-abbrev pub ends_word : ℕ → Bool
-ends_word b = is_ascii_whitespace b || (b == 59 || b == 44)
+without_blanks text = before_blanks (after_blanks text)
 
 -- The first word of a comment, after its sign and blanks. Example: `10.0.0.0/8` of `; 10.0.0.0/8, ours`.
 abbrev pub first_word : List ℕ → List ℕ
-first_word comment =
-    let rest = drop 1 comment in before_first ends_word (drop (prefix_len is_ascii_whitespace rest) rest)
+first_word comment = leading (after_blanks (drop 1 comment))
 
 -- The comment begins with ";" (59), and its first word is an entry.
 abbrev pub HidesEntry : Grammar → List ℕ → Type 0

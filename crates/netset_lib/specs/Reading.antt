@@ -1,6 +1,7 @@
 -- The private steps of reading lists: what they make of the entries, and what they add to the refused lines.
 -- Only private contracts use these.
-use Rattle.std.specs.Prelude.{◌≡◌, ◌<◌, ℕ, ◌+◌, Bool, true, false, List, [], ◌∷◌, ◌++◌, length, take, Option}
+use Rattle.std.specs.Prelude.{◌≡◌, ◌≢◌, ◌⊎◌, ◌↔◌, ◌<◌, ℕ, ◌+◌, Bool, true, false, List, [], ◌∷◌, ◌++◌, length}
+use Rattle.std.specs.Prelude.{take, Option}
 use Rattle.std.specs.Io.KnownBytes.{Consumes, IsAtEnd}
 use Rattle.ipnet.specs.declared.parser.Grammar.{Grammar}
 use Rattle.ipnet.specs.Lines.{lines_of}
@@ -29,6 +30,12 @@ AreTexts grammar list texts line line_after entries refusals =
     → AreRead grammar list (line_after + 1) later more more_refusals
     → AreRead grammar list (line + 1) (texts ++ later) (entries ++ more) (refusals ++ more_refusals)
 
+-- A note whether there was an entry, before and after these entries.
+pub record NotesEntries (old new : Bool) (entries : List ListEntry) : Type 0 where
+  pub found : new ≡ true → (old ≡ true) ⊎ (entries ≢ [])
+  pub kept : old ≡ true → new ≡ true
+  pub noted : entries ≢ [] → new ≡ true
+
 -- Lines with these contents were read: something is made of their entries, and their refused lines are added.
 pub record AddsLines (old new : LineReader) (texts : List (List ℕ)) (IsMade IsMadeNow : List ListEntry → Type 0)
     : Type 0 where
@@ -39,6 +46,7 @@ pub record AddsLines (old new : LineReader) (texts : List (List ℕ)) (IsMade Is
   pub read : AreTexts old.grammar old.list texts old.line new.line entries refusals
   pub added : HasMore old.refused new.refused refusals
   pub made : Adds IsMade IsMadeNow entries
+  pub notes : NotesEntries old.has_entry new.has_entry entries
 
 -- These lines were read.
 abbrev pub ReadsLines : LineReader → LineReader → List (List ℕ) → (IsMade IsMadeNow : List ListEntry → Type 0) → Type 0
@@ -75,6 +83,7 @@ at_first_line r = record {
   list = r.list;
   line = 0;
   refused = r.refused;
+  has_entry = false;
   room = r.room;
 }
 
@@ -113,3 +122,4 @@ pub record WasMadeOf (left left_after : Option (List ℕ)) (old new : Reading) (
   pub same_grammar : new.lines.grammar ≡ old.lines.grammar
   pub next : new.lines.list ≡ old.lines.list + 1
   pub made : IsMade entries
+  pub noted : (new.lines.has_entry ≡ true) ↔ (entries ≢ [])

@@ -1,6 +1,8 @@
 -- The lists that a session has read.
-use Rattle.std.specs.Prelude.{◌≡◌, ◌↔◌, IsTrue, ℕ, not, List, [], ◌∷◌, ◌++◌, length, string_bytes, Option, Some}
+use Rattle.std.specs.Prelude.{◌≡◌, ◌≢◌, ◌↔◌, IsTrue, ℕ, Bool, true, not, List, [], ◌∷◌, ◌++◌, length, string_bytes}
+use Rattle.std.specs.Prelude.{Option, Some}
 use Rattle.ipnet_sets.specs.declared.set.IpSet.{IpSet}
+use Rattle.ipnet.specs.declared.parser.Grammar.{Grammar}
 use Rattle.netset_lib.specs.declared.answer.Answer.{Answer}
 use Rattle.netset_lib.specs.declared.answerer.Answerer.{Answerer}
 use Rattle.netset_lib.specs.declared.answerer.Answers.{Answers}
@@ -12,7 +14,7 @@ use Rattle.netset_lib.specs.declared.session.Session.{Session}
 use Rattle.netset_lib.specs.Answering.{IsAnswererFor, AreAnswersBy}
 use Rattle.netset_lib.specs.Answers.{AreListsRead, IsSetText}
 use Rattle.netset_lib.specs.Counts.{Names, IsCountText, IsComparison}
-use Rattle.netset_lib.specs.Lists.{ListEntry, Refusal, IsInEntries}
+use Rattle.netset_lib.specs.Lists.{ListEntry, Refusal, IsListRead, IsInEntries}
 use Rattle.netset_lib.specs.ListSets.{HaveMembers}
 use Rattle.netset_lib.specs.Operations.{IsInResult}
 use Rattle.netset_lib.specs.Reading.{WasMadeOf}
@@ -73,3 +75,18 @@ pub record WereRead (work : Work) (lists : List (List ℕ)) (s : Session) : Type
   pub read : AreListsRead (work_grammar work) 0 lists entries refusals
   pub kept : AreRefused s.reading.lines.refused refusals
   pub state : IsState work s entries
+
+-- Whether an entry of the list that the session has read last was found.
+abbrev pub has_entry : Session → Bool
+has_entry s = s.reading.lines.has_entry
+
+-- How many lines of the lists that the session has read were refused (`WereRead` has them in `kept`).
+abbrev pub refused_count : Session → ℕ
+refused_count s = s.reading.lines.refused.count
+
+-- The list has an entry if and only if the note is true. `list` is the index of the list.
+pub record IsNoted (grammar : Grammar) (list : ℕ) (bytes : List ℕ) (note : Bool) : Type 0 where
+  pub entries : List ListEntry
+  pub refusals : List Refusal
+  pub read : IsListRead grammar list bytes entries refusals
+  pub noted : (note ≡ true) ↔ (entries ≢ [])

@@ -1,33 +1,41 @@
 //! Why a text is not an entry, if a cause can be named.
-ghost use Rattle.std.specs.Prelude.{◌≡◌, ◌≤◌, ◌↔◌, IsTrue, IfOk, IfSome, IfNone};
-ghost use Rattle.std.specs.Char.{is_ascii_digit};
-ghost use Rattle.std.specs.List.{list_all};
-ghost use Rattle.ipnet_base.specs.Address.{ip_address, width};
-ghost use Rattle.netset_lib.specs.Entries.{IsNoEntry, ReadsAs};
-ghost use Rattle.netset_lib.specs.Causes.{WritesAbove, IsCauseTold};
-ghost use Rattle.netset_lib.specs.EntrySteps.{IsCauseInAddresses, IsCauseInLength, IsCauseInRange};
-ghost use Rattle.netset_lib.specs.EntrySteps.{IsCauseInNetwork, IsCauseInParts};
+ghost use Rattle.std.specs.Prelude.{◌≡◌, ◌↔◌, IsTrue, IfOk, IfSome, Some};
+ghost use Rattle.std.specs.Str.{IsUtf8};
+ghost use Rattle.netset_lib.specs.Entries.{IsNoEntry};
+ghost use Rattle.netset_lib.specs.Causes.{Explains, IsCauseTold, IsFirstOf, causes};
 
-use crate::entry::{read_address, read_entry};
-use ipnet::{Grammar, IpAddr};
+use crate::cause_bytes::{has_byte, has_star, is_host_name, is_no_ipv4};
+use crate::cause_parts::{Parts, is_cut_so, is_entry};
+use crate::cause_words::{has_mask_word, has_two_entries};
+use crate::entry::read_entry;
+use ipnet::Grammar;
 use std::alloc::AllocError;
 use std::str;
 use thiserror::Error;
 
-/// Why a text is not an entry, if that can be named. Leading zeros before the prefix length do not matter, nor do those
-/// before octets that the legacy grammar reads. No text has two causes.
+/// Why a text is not an entry, if that can be named. The causes are tried in the order of the variants, and the first
+/// that is true of the text is its cause. In these sentences, addresses and entries may be those of the legacy grammar.
 ///
 /// ```text
-/// 10.0.0.0/33            LengthAbove32
-/// fd00::/129             LengthAbove128
-/// 10.0.0.9-10.0.0.1      EndsBeforeStart
-/// 10.0.0.1-::1           TwoFamilies
-/// 010.0.0.1              LegacyAlone, in the strict grammar
-/// 1:2:3:4:5:6:7::8       LegacyAlone, in the strict grammar
-/// 10.0.0.0/+33           none
+/// 10.0.0.0/33              LengthAbove32
+/// 10.0.0.9 - 10.0.0.1      EndsBeforeStart
+/// 010.0.0.1                LegacyAlone, in the strict grammar
+/// 10.0.0.0 255.0.0.0       MaskAfterBlank
+/// 10.0.0.0/8, 10.1.0.0/16  TwoEntries
+/// 10/8                     NotFourNumbers
+/// 10.0.0.0/+33             none
 /// ```
 #[derive(Clone, Copy, Debug, PartialEq, Eq, Drop, Error)]
 pub enum Cause {
+    /// The text has a byte 0.
+    #[error("a NUL byte: is the file UTF-16?")]
+    NulByte,
+    /// The bytes are not UTF-8.
+    #[error("not UTF-8")]
+    NotUtf8,
+    /// An entry of the legacy grammar that is not an entry of the strict grammar.
+    #[error("a leading zero, or a \"::\" that replaces no group: use --legacy to accept it")]
+    LegacyAlone,
     /// An IPv4 address, "/" and only decimal digits, of a number above 32.
     #[error("the prefix length is above 32")]
     LengthAbove32,
@@ -40,119 +48,146 @@ pub enum Cause {
     /// Two addresses joined by "-", one of each family.
     #[error("the range has addresses of two families")]
     TwoFamilies,
-    /// An entry of the legacy grammar that is not an entry of the strict grammar.
-    #[error("a leading zero, or a \"::\" that replaces no group: use --legacy to accept it")]
-    LegacyAlone,
+    /// Two entries joined by "-", such as `10.0.0.0/8-10.1.0.0/16`.
+    #[error("a range of networks: write its first and its last address")]
+    RangeOfNetworks,
+    /// Two IPv4 addresses joined by "/", such as `10.0.0.0/0.0.0.255`.
+    #[error("a wildcard mask, or a mask with gaps: write a prefix length, as in 10.0.0.0/8")]
+    WildcardMask,
+    /// An IPv4 address, and a netmask or wildcard mask in the next word, such as `10.0.0.0 255.0.0.0`.
+    #[error("a mask in a second word: write a prefix length, as in 10.0.0.0/8")]
+    MaskAfterBlank,
+    /// The first two words are entries, such as `10.0.0.0/8, 10.1.0.0/16`. A word ends at a blank, "," or ";".
+    #[error("two entries in a line: write one a line, or # before a comment")]
+    TwoEntries,
+    /// An entry is before the first ",".
+    #[error("a comma after the entry: leave it out")]
+    CommaFollows,
+    /// An entry is before the first ";".
+    #[error("a semicolon after the entry: leave it out, or write a blank before it")]
+    SemicolonFollows,
+    /// "[", an entry and "]" begin the text, such as `[::1]:80`.
+    #[error("brackets: leave them out")]
+    InBrackets,
+    /// A quotation mark, an entry and a quotation mark begin the text, such as `"10.0.0.0/8",`.
+    #[error("quotation marks: leave them out")]
+    InQuotes,
+    /// "!", and only an entry after it.
+    #[error("an exception: subtract it with netset difference")]
+    Excluded,
+    /// An IPv6 address is before the first "%", such as `fe80::1%eth0`.
+    #[error("a zone: leave out % and what follows")]
+    HasZone,
+    /// An IPv4 address is before the first ":", such as `10.0.0.1:80`.
+    #[error("a port: leave out : and what follows")]
+    HasPort,
+    /// Up to the first "/" the text has only digits and dots, and is not an IPv4 address, such as `10/8`.
+    #[error("an IPv4 address has four numbers from 0 to 255, as in 10.0.0.0/8")]
+    NotFourNumbers,
+    /// The text has a "*".
+    #[error("a pattern with *: write a network, as in 10.0.0.0/8")]
+    HasStar,
+    /// The text has only letters, digits, ".", "-" and "_", with a letter and a dot among them.
+    #[error("a host name: write its addresses")]
+    HostName,
 }
 
-/// Whether all bytes are decimal digits.
-pub(crate) fn are_digits(text: &[u8]) -> bool
-    ensures { result ≡ list_all is_ascii_digit text.now }
-{
-    text.iter().all(|byte| byte.is_ascii_digit())
-}
+/// The causes, in their order.
+const CAUSES: &[Cause] = &[
+    Cause::NulByte,
+    Cause::NotUtf8,
+    Cause::LegacyAlone,
+    Cause::LengthAbove32,
+    Cause::LengthAbove128,
+    Cause::EndsBeforeStart,
+    Cause::TwoFamilies,
+    Cause::RangeOfNetworks,
+    Cause::WildcardMask,
+    Cause::MaskAfterBlank,
+    Cause::TwoEntries,
+    Cause::CommaFollows,
+    Cause::SemicolonFollows,
+    Cause::InBrackets,
+    Cause::InQuotes,
+    Cause::Excluded,
+    Cause::HasZone,
+    Cause::HasPort,
+    Cause::NotFourNumbers,
+    Cause::HasStar,
+    Cause::HostName,
+];
 
-/// Whether the text is only decimal digits, of a number above this one.
-fn writes_above(most: u32, text: &str) -> bool
-    ensures { IsTrue result ↔ WritesAbove most text.now }
+/// Whether the sentence of the cause is true of the text.
+fn explains(room: &mut String, text: &str, cause: Cause) -> Result<bool, AllocError>
+    requires { IsUtf8 text.now }
+    ensures { IfOk result (λ is. IsTrue is ↔ Explains text.now cause) }
 {
-    if text.is_empty() || !are_digits(text.as_bytes()) {
-        return false;
+    match cause {
+        Cause::NulByte => Ok(has_byte(text.as_bytes(), 0)),
+        Cause::NotUtf8 => Ok(false),
+        Cause::LegacyAlone => is_entry(room, text),
+        Cause::LengthAbove32 => is_cut_so(room, text, '/', Parts::LongIpv4),
+        Cause::LengthAbove128 => is_cut_so(room, text, '/', Parts::LongIpv6),
+        Cause::EndsBeforeStart => is_cut_so(room, text, '-', Parts::Backwards),
+        Cause::TwoFamilies => is_cut_so(room, text, '-', Parts::Apart),
+        Cause::RangeOfNetworks => is_cut_so(room, text, '-', Parts::Entries),
+        Cause::WildcardMask => is_cut_so(room, text, '/', Parts::TwoIpv4),
+        Cause::MaskAfterBlank => has_mask_word(room, text),
+        Cause::TwoEntries => has_two_entries(room, text),
+        Cause::CommaFollows => is_cut_so(room, text, ',', Parts::EntryFirst),
+        Cause::SemicolonFollows => is_cut_so(room, text, ';', Parts::EntryFirst),
+        Cause::InBrackets => is_cut_so(room, text, '[', Parts::Bracketed),
+        Cause::InQuotes => is_cut_so(room, text, '"', Parts::Quoted),
+        Cause::Excluded => is_cut_so(room, text, '!', Parts::Excluded),
+        Cause::HasZone => is_cut_so(room, text, '%', Parts::Ipv6First),
+        Cause::HasPort => is_cut_so(room, text, ':', Parts::Ipv4First),
+        Cause::NotFourNumbers => is_no_ipv4(room, text),
+        Cause::HasStar => Ok(has_star(text)),
+        Cause::HostName => Ok(is_host_name(text.as_bytes())),
     }
-    match text.parse::<u32>() {
-        Ok(number) => number > most,
-        Err(_) => true,
-    }
 }
 
-/// The cause in the length after an address.
-fn cause_in_length(address: IpAddr, length: &str) -> Option<Cause>
-    ensures some { IfSome result (IsCauseInLength (ip_address address).family length.now) }
-    ensures none { IfNone result (¬ (WritesAbove (width (ip_address address).family) length.now)) }
+/// The first of the causes whose sentence is true of the text.
+fn first_cause(room: &mut String, text: &str, causes: &[Cause]) -> Result<Option<Cause>, AllocError>
+    requires { IsUtf8 text.now }
+    ensures { IfOk result (IsFirstOf causes.now text.now) }
 {
-    match address {
-        IpAddr::V4(_) if writes_above(32, length) => Some(Cause::LengthAbove32),
-        IpAddr::V6(_) if writes_above(128, length) => Some(Cause::LengthAbove128),
-        _ => None,
-    }
-}
-
-/// The cause in the parts of a text at "/".
-fn cause_in_network(
-    room: &mut String,
-    address: &str,
-    length: &str,
-) -> Result<Option<Cause>, AllocError>
-    ensures { IfOk result (ReadsAs (λ cause. cause) (IsCauseInNetwork address.now) length.now) }
-{
-    match read_address(room, address, Grammar::Legacy)? {
-        Some(address) => Ok(cause_in_length(address, length)),
-        None => Ok(None),
-    }
-}
-
-/// The cause in the first and the last address of a range.
-fn cause_in_addresses(first: IpAddr, last: IpAddr) -> Option<Cause>
-    ensures some { IfSome result (IsCauseInAddresses (ip_address first) (ip_address last)) }
-    ensures same_family { IfNone result ((ip_address first).family ≡ (ip_address last).family) }
-    ensures ordered { IfNone result ((ip_address first).number ≤ (ip_address last).number) }
-{
-    match (first, last) {
-        (IpAddr::V4(first), IpAddr::V4(last)) => {
-            (last.to_bits() < first.to_bits()).then_some(Cause::EndsBeforeStart)
+    for index in 0..causes.len() {
+        if explains(room, text, causes[index])? {
+            return Ok(Some(causes[index]));
         }
-        (IpAddr::V6(first), IpAddr::V6(last)) => {
-            (last.to_bits() < first.to_bits()).then_some(Cause::EndsBeforeStart)
-        }
-        (IpAddr::V4(_), IpAddr::V6(_)) | (IpAddr::V6(_), IpAddr::V4(_)) => Some(Cause::TwoFamilies),
     }
+    Ok(None)
 }
 
-/// The cause in the parts of a text at "-".
-fn cause_in_range(room: &mut String, first: &str, last: &str) -> Result<Option<Cause>, AllocError>
-    ensures { IfOk result (ReadsAs (λ cause. cause) (IsCauseInRange first.now) last.now) }
-{
-    let Some(first) = read_address(room, first, Grammar::Legacy)? else {
-        return Ok(None);
-    };
-    let Some(last) = read_address(room, last, Grammar::Legacy)? else {
-        return Ok(None);
-    };
-    Ok(cause_in_addresses(first, last))
-}
-
-/// The cause in a text that is an entry of neither grammar.
-fn cause_in_parts(room: &mut String, text: &str) -> Result<Option<Cause>, AllocError>
-    ensures { IfOk result (ReadsAs (λ cause. cause) IsCauseInParts text.now) }
-{
-    match text.split_once('-') {
-        Some((first, last)) => cause_in_range(room, first, last),
-        None => match text.split_once('/') {
-            Some((address, length)) => cause_in_network(room, address, length),
-            None => Ok(None),
-        },
-    }
-}
-
-/// The cause in a text.
+/// The cause of a text.
 fn cause_in_text(
     room: &mut String,
     text: &str,
     grammar: Grammar,
 ) -> Result<Option<Cause>, AllocError>
+    requires { IsUtf8 text.now }
     ensures { IfOk result (IsCauseTold grammar text.now) }
 {
-    match read_entry(room, text, Grammar::Legacy)? {
-        None => cause_in_parts(room, text),
-        Some(_) => match read_entry(room, text, grammar)? {
-            Some(_) => Ok(None),
-            None => Ok(Some(Cause::LegacyAlone)),
-        },
+    match read_entry(room, text, grammar)? {
+        Some(_) => Ok(None),
+        None => first_cause(room, text, CAUSES),
     }
 }
 
-/// Why the whole text is not an entry in this grammar, or `None` if it is one or no cause can be named. Bytes that are
-/// not UTF-8 have none.
+/// The cause of bytes that are not UTF-8.
+fn cause_in_bytes(text: &[u8]) -> Cause
+    requires { ¬ (IsUtf8 text.now) }
+    ensures { IsFirstOf causes text.now (Some result) }
+{
+    if has_byte(text, 0) {
+        Cause::NulByte
+    } else {
+        Cause::NotUtf8
+    }
+}
+
+/// Why the whole text is not an entry in this grammar, or `None` if it is one or no cause can be named.
 ///
 /// Addresses are read into `room`. Its content does not matter, and one `String` can serve many calls. The error means
 /// that memory ran out.
@@ -174,6 +209,6 @@ pub fn cause_of(
 {
     match str::from_utf8(text) {
         Ok(text) => cause_in_text(room, text, grammar),
-        Err(_) => Ok(None),
+        Err(_) => Ok(Some(cause_in_bytes(text))),
     }
 }

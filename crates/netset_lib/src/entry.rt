@@ -1,21 +1,22 @@
 //! The entries of a list: networks, addresses, and ranges from a first to a last address.
 ghost use Rattle.std.specs.Prelude.{IfOk, IfSome, IsNone, ◌↔◌, ◌≡◌};
 ghost use Rattle.ipnet_base.specs.Address.{ip_address};
+ghost use Rattle.ipnet_base.specs.Network.{Network};
 ghost use Rattle.ipnet_base.specs.Ranges.{AddressRange};
 ghost use Rattle.ipnet.specs.NetworkOf.{ip_network};
 ghost use Rattle.ipnet.specs.NetworkTexts.{IsNetworkText};
 ghost use Rattle.netset_lib.specs.Entries.{IsAddressText, IsPlainEntry, IsRangeFrom, WriteRange, IsEntryText};
-ghost use Rattle.netset_lib.specs.Entries.{ReadsAs};
+ghost use Rattle.netset_lib.specs.Entries.{IsMaskedBy, ReadsAs, WriteMasked};
 ghost use Rattle.netset_lib.specs.EntryOf.{entry_range, IsWrittenAs};
 ghost use Rattle.netset_lib.specs.EntrySteps.{HasEnds};
 
-use ipnet::{Grammar, IpAddr, IpNet, Ipv4Addr, Ipv6Addr};
+use ipnet::{Grammar, IpAddr, IpNet, Ipv4Addr, Ipv4Net, Ipv6Addr};
 use std::alloc::AllocError;
 
 /// An entry of a list.
 ///
 /// ```text
-/// 10.0.0.9/8, 10.0.0.1, 10.0.0.1-10.0.0.9, fd00::9/8, fd00::1, fd00::1-fd00::9
+/// 10.0.0.9/8, 10.0.0.9/255.0.0.0, 10.0.0.1, 10.0.0.1-10.0.0.9, fd00::9/8, fd00::1, fd00::1-fd00::9
 /// ```
 #[derive(Clone, Copy, Debug, PartialEq, Eq)]
 pub enum Entry {
@@ -54,7 +55,7 @@ impl Entry {
     }
 }
 
-/// The network that the text writes.
+/// The network that the text writes with a prefix length.
 fn read_network(text: &str, grammar: Grammar) -> Option<IpNet>
     ensures { ReadsAs ip_network (IsNetworkText grammar) text.now result }
 {
@@ -77,6 +78,45 @@ pub(crate) fn read_address(
         Some(network) => Ok(Some(network.addr())),
         None => Ok(None),
     }
+}
+
+/// The network of the IPv4 address with this netmask, if it is one, and if a netmask of zeros follows the address of
+/// zeros.
+fn masked_network(address: IpAddr, mask: IpAddr) -> Option<IpNet>
+    ensures some { IfSome result (λ n. IsMaskedBy (ip_address address) (ip_address mask) (ip_network n)) }
+    ensures none { IsNone result ↔ ((n : Network)
+        → ¬ (IsMaskedBy (ip_address address) (ip_address mask) n)) }
+{
+    match (address, mask) {
+        (IpAddr::V4(address), IpAddr::V4(mask)) => {
+            if mask.to_bits() == 0 && address.to_bits() != 0 {
+                return None;
+            }
+            match Ipv4Net::with_netmask(address, mask) {
+                Ok(network) => Some(IpNet::V4(network)),
+                Err(_) => None,
+            }
+        }
+        _ => None,
+    }
+}
+
+/// The network that the texts of an address and of a netmask write.
+fn read_masked(
+    room: &mut String,
+    address: &str,
+    mask: &str,
+    grammar: Grammar,
+) -> Result<Option<IpNet>, AllocError>
+    ensures { IfOk result (ReadsAs ip_network (WriteMasked grammar address.now) mask.now) }
+{
+    let Some(address) = read_address(room, address, grammar)? else {
+        return Ok(None);
+    };
+    let Some(mask) = read_address(room, mask, grammar)? else {
+        return Ok(None);
+    };
+    Ok(masked_network(address, mask))
 }
 
 /// The entry of the addresses from the first to the last, if these are of one family, and the last does not come
@@ -124,10 +164,15 @@ fn read_plain(room: &mut String, text: &str, grammar: Grammar) -> Result<Option<
     ensures kind { IfOk result (λ found. IfSome found (IsWrittenAs grammar text.now)) }
 {
     match text.split_once('/') {
-        Some(_) => match read_network(text, grammar) {
-            Some(network) => Ok(Some(Entry::Network(network))),
-            None => Ok(None),
-        },
+        Some((address, mask)) => {
+            if let Some(network) = read_network(text, grammar) {
+                return Ok(Some(Entry::Network(network)));
+            }
+            match read_masked(room, address, mask, grammar)? {
+                Some(network) => Ok(Some(Entry::Network(network))),
+                None => Ok(None),
+            }
+        }
         None => match read_address(room, text, grammar)? {
             Some(address) => Ok(Some(Entry::Address(address))),
             None => Ok(None),
@@ -137,19 +182,23 @@ fn read_plain(room: &mut String, text: &str, grammar: Grammar) -> Result<Option<
 
 /// The entry that the whole text is in this grammar, or `None` if it is none.
 ///
-/// An entry is a network, whose host bits do not matter, an address, or a first and a last address of one family
-/// joined by "-", where the last does not come before the first; which of these the text is, the value tells by its
-/// variant, and a range of one address is a range. The legacy grammar takes leading zeros in decimal
-/// numbers, and a "::" that stands for no group. `room` is where addresses are read: what it holds does not matter,
-/// and one `String` can serve many calls. The error is want of memory.
+/// An entry is a network, an address or a range. Host bits of a network do not matter. An IPv4 network can have a
+/// netmask in place of the prefix length; a netmask of zeros only follows the address of zeros. A range is a first and
+/// a last address of one family joined by "-". Its last address does not come before its first, and blanks around the
+/// "-" do not matter. The variant of the value says which of these the text is; a range of one address is a range.
+///
+/// The legacy grammar accepts leading zeros in decimal numbers, and a "::" that replaces no group. Addresses are read
+/// into `room`. Its content does not matter, and one `String` can serve many calls. Fails if memory runs out.
 ///
 /// ```text
 /// 10.0.0.9/8                  Network(10.0.0.9/8)
+/// 10.0.0.9/255.0.0.0          Network(10.0.0.9/8)
 /// 10.0.0.1                    Address(10.0.0.1)
 /// 10.0.0.1-10.0.0.9           Ipv4Range(10.0.0.1, 10.0.0.9)
+/// 10.0.0.1 - 10.0.0.9         Ipv4Range(10.0.0.1, 10.0.0.9)
 /// 10.0.0.9-10.0.0.1           None
 /// 10.0.0.1-::1                None
-/// 10.0.0.1 - 10.0.0.9         None
+/// 10.0.0.5/0.0.0.0            None
 /// ```
 pub fn read_entry(
     room: &mut String,
@@ -160,7 +209,12 @@ pub fn read_entry(
     ensures kind { IfOk result (λ found. IfSome found (IsWrittenAs grammar text.now)) }
 {
     match text.split_once('-') {
-        Some((first, last)) => read_range(room, first, last, grammar),
+        Some((first, last)) => read_range(
+            room,
+            first.trim_ascii_end(),
+            last.trim_ascii_start(),
+            grammar,
+        ),
         None => read_plain(room, text, grammar),
     }
 }

@@ -3,7 +3,7 @@ ghost use Rattle.std.specs.Prelude.{◌≡◌, ◌<◌, ◌≤◌, List, ℕ, �
 ghost use Rattle.std.specs.Net.Addr.{ipv4_octets};
 ghost use Rattle.ipnet.specs.AddressTexts.{IsIpv4AddressText};
 ghost use Rattle.ipnet.specs.declared.parser.Grammar.TheVariants.{Strict};
-ghost use Rattle.netset_lib.specs.Entries.{IsEntryText};
+ghost use Rattle.netset_lib.specs.Entries.{IsEntryWord};
 ghost use Rattle.netset_lib.specs.EntryOf.{entry_range};
 
 use crate::entry::Entry;
@@ -19,7 +19,7 @@ const LONGEST: usize = "255.255.255.255-255.255.255.255\n".len();
 fn network_after(first: Ipv4Addr, bytes: &[u8]) -> Option<(Entry, usize)>
     requires { 16 ≤ length bytes.now }
     ensures entry { IfSome result (λ line. (text : List ℕ) → IsIpv4AddressText Strict text (ipv4_octets first)
-        → IsEntryText Strict (text ++ 47 ∷ take line.1 bytes.now) (entry_range line.0)) }
+        → IsEntryWord Strict (text ++ 47 ∷ take line.1 bytes.now) (entry_range line.0)) }
     ensures newline { IfSome result (λ line. slice_index bytes.now line.1 ≡ 10) }
     ensures few { IfSome result (λ line. line.1 ≤ 3) }
 {
@@ -37,7 +37,7 @@ fn network_after(first: Ipv4Addr, bytes: &[u8]) -> Option<(Entry, usize)>
 fn range_after(first: Ipv4Addr, bytes: &[u8]) -> Option<(Entry, usize)>
     requires { 16 ≤ length bytes.now }
     ensures entry { IfSome result (λ line. (text : List ℕ) → IsIpv4AddressText Strict text (ipv4_octets first)
-        → IsEntryText Strict (text ++ 45 ∷ take line.1 bytes.now) (entry_range line.0)) }
+        → IsEntryWord Strict (text ++ 45 ∷ take line.1 bytes.now) (entry_range line.0)) }
     ensures newline { IfSome result (λ line. slice_index bytes.now line.1 ≡ 10) }
     ensures few { IfSome result (λ line. line.1 ≤ 15) }
 {
@@ -59,7 +59,7 @@ fn range_after(first: Ipv4Addr, bytes: &[u8]) -> Option<(Entry, usize)>
 /// ```
 #[inline]
 pub(crate) fn front_entry(bytes: &[u8]) -> Option<(Entry, usize)>
-    ensures entry { IfSome result (λ line. IsEntryText Strict (take line.1 bytes.now) (entry_range line.0)) }
+    ensures entry { IfSome result (λ line. IsEntryWord Strict (take line.1 bytes.now) (entry_range line.0)) }
     ensures newline { IfSome result (λ line. slice_index bytes.now line.1 ≡ 10) }
     ensures some { IfSome result (λ line. 0 < line.1) }
     ensures within { IfSome result (λ line. line.1 < length bytes.now) }

@@ -191,8 +191,9 @@ pub(crate) fn report_since<X: Write>(
     Ok(())
 }
 
-/// Reports a refused text of this line, and what it is not. Bytes that are not printable ASCII are escaped. Of a long
-/// text only the beginning is reported, so that a file that is not a list does not fill the screen.
+/// Reports a refused text of this line, and what it is not. Bytes of the name and the text that are not printable ASCII
+/// are escaped. Of a long text only the beginning is reported, so that a file that is not a list does not fill the
+/// screen.
 pub(crate) fn report_text<X: Write>(
     faults: &mut X,
     name: &str,
@@ -203,6 +204,7 @@ pub(crate) fn report_text<X: Write>(
     let shown = text.len().min(MOST_SHOWN);
     let rest = if shown < text.len() { ".." } else { "" };
     let text = text[..shown].escape_ascii();
+    let name = name.as_bytes().escape_ascii();
     write!(faults, "{name}:{number}: {what}: {text}{rest}")
 }
 

@@ -2,11 +2,10 @@
 ghost use Rattle.std.specs.Prelude.{◌≡◌, ◌<◌, ◌∷◌, ◌↔◌, List, [], length, IsTrue, OnOk, IfOk, IfSome};
 ghost use Rattle.ipnet.specs.Lines.{lines_of};
 ghost use Rattle.ipnet.specs.declared.parser.Grammar.TheVariants.{Strict};
-ghost use Rattle.netset_lib.specs.Entries.{IsEntryText, ReadsAs};
+ghost use Rattle.netset_lib.specs.Entries.{IsEntryText, IsEntryWord, ReadsAs};
 ghost use Rattle.netset_lib.specs.EntryOf.{entry_range};
-ghost use Rattle.netset_lib.specs.Lists.{ListEntry, Opens, IsCommentAt, ends_word, first_word, HidesEntry};
+ghost use Rattle.netset_lib.specs.Lists.{ListEntry, Opens, IsCommentAt, first_word, HidesEntry};
 ghost use Rattle.netset_lib.specs.Lists.{IsContents};
-ghost use Rattle.std.specs.List.{position_or_len};
 ghost use Rattle.netset_lib.specs.FoundEntry.{entry_of, found_range};
 ghost use Rattle.netset_lib.specs.Reading.{Adds};
 
@@ -14,6 +13,7 @@ use crate::cause::cause_of;
 use crate::entry::{Entry, read_entry};
 use crate::front::front_entry;
 use crate::refused::RefusedLines;
+use crate::word::leading_word;
 use ipnet::Grammar;
 use memchr::{memchr, memchr2};
 use std::alloc::{AllocError, Global};
@@ -70,7 +70,7 @@ pub(crate) fn read_text<'a>(
 
 /// The entry of the first line in the strict grammar, and the bytes after its end.
 fn strict_line<'a>(bytes: &'a [u8]) -> Option<(FoundEntry<'a>, &'a [u8])>
-    ensures entry { IfSome result (λ line. IsEntryText Strict line.0.text.now (found_range line.0)) }
+    ensures entry { IfSome result (λ line. IsEntryWord Strict line.0.text.now (found_range line.0)) }
     ensures some { IfSome result (λ line. 0 < length line.0.text.now) }
     ensures lines { IfSome result (λ line. lines_of bytes.now ≡ line.0.text.now ∷ lines_of line.1.now) }
     ensures shorter { IfSome result (λ line. length line.1.now < length bytes.now) }
@@ -85,7 +85,7 @@ fn strict_line<'a>(bytes: &'a [u8]) -> Option<(FoundEntry<'a>, &'a [u8])>
 
 /// The entry of the first line, and the bytes after its end. `None` says nothing about the line.
 fn front_line<'a>(bytes: &'a [u8], grammar: Grammar) -> Option<(FoundEntry<'a>, &'a [u8])>
-    ensures entry { IfSome result (λ line. IsEntryText grammar line.0.text.now (found_range line.0)) }
+    ensures entry { IfSome result (λ line. IsEntryWord grammar line.0.text.now (found_range line.0)) }
     ensures some { IfSome result (λ line. 0 < length line.0.text.now) }
     ensures lines { IfSome result (λ line. lines_of bytes.now ≡ line.0.text.now ∷ lines_of line.1.now) }
     ensures shorter { IfSome result (λ line. length line.1.now < length bytes.now) }
@@ -123,32 +123,12 @@ fn comment_start(line: &[u8]) -> usize
     line.len()
 }
 
-/// Whether the byte ends the first word of a comment.
-fn is_word_end(byte: u8) -> bool
-    ensures { result ≡ ends_word byte }
-{
-    byte.is_ascii_whitespace() || byte == b';' || byte == b','
-}
-
-/// The length of the first word of the bytes.
-fn word_len(bytes: &[u8]) -> usize
-    ensures { result ≡ position_or_len ends_word bytes.now }
-{
-    for index in 0..bytes.len() {
-        if is_word_end(bytes[index]) {
-            return index;
-        }
-    }
-    bytes.len()
-}
-
 /// The first word of the comment, after its sign and blanks.
 fn first_word_of(comment: &[u8]) -> &[u8]
     requires { 0 < length comment.now }
     ensures { result.now ≡ first_word comment.now }
 {
-    let rest = comment[1..].trim_ascii_start();
-    &rest[..word_len(rest)]
+    leading_word(comment[1..].trim_ascii_start())
 }
 
 /// Whether the comment begins with ";", and its first word is an entry.
@@ -194,6 +174,8 @@ pub(crate) struct LineReader {
     /// The number of lines that were read of the list.
     pub(crate) line: usize,
     pub(crate) refused: RefusedLines,
+    /// Whether an entry of the list was read.
+    pub(crate) has_entry: bool,
     room: String,
 }
 
@@ -214,6 +196,7 @@ impl LineReader {
             list: 0,
             line: 0,
             refused: RefusedLines::new(alloc),
+            has_entry: false,
             room: String::new(alloc),
         }
     }
@@ -238,7 +221,10 @@ impl LineReader {
             return Ok(());
         }
         match read_text(&mut self.room, text, self.grammar)? {
-            Some(found) => collector.push(made, found.text, found.entry),
+            Some(found) => {
+                self.has_entry = true;
+                collector.push(made, found.text, found.entry)
+            }
             None => {
                 let cause = cause_of(&mut self.room, text, self.grammar)?;
                 self.refused
@@ -254,7 +240,7 @@ impl LineReader {
         collector: &C,
         made: &mut M,
     ) -> Result<(), AllocError>
-        requires entry { IsEntryText self.old.grammar found.text.now (found_range found) }
+        requires entry { IsEntryWord self.old.grammar found.text.now (found_range found) }
         requires some { 0 < length found.text.now }
         ensures { OnOk result (ReadsLines self.old self.new (found.entry.text.now ∷ [])
             (C.is_made collector.now made.old) (C.is_made collector.now made.new)) }
@@ -263,6 +249,7 @@ impl LineReader {
             return Err(AllocError);
         };
         self.line = number;
+        self.has_entry = true;
         collector.push(made, found.text, found.entry)
     }
 

@@ -134,6 +134,7 @@ impl Reading {
         let left = self.window.held().len();
         self.window.take(left);
         self.lines.line = 0;
+        self.lines.has_entry = false;
         let more = self.skip_mark(input)?;
         Ok(more)
     }
@@ -173,6 +174,7 @@ impl Reading {
         ensures next { OnOk result (self.new.lines.list ≡ self.old.lines.list + 1) }
         ensures same_grammar { self.new.lines.grammar ≡ self.old.lines.grammar }
         ensures same_refused { self.new.lines.refused ≡ self.old.lines.refused }
+        ensures same_entry { self.new.lines.has_entry ≡ self.old.lines.has_entry }
     {
         let Some(list) = self.lines.list.checked_add(1) else {
             return Err(ReadFailure::Memory);

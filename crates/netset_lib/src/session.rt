@@ -162,6 +162,7 @@ fn answer_of(
 
 impl Session {
     ghost use Rattle.netset_lib.specs.Sessions.{WereRead, ReadsNext, IsState, IsAskState};
+    ghost use Rattle.netset_lib.specs.Sessions.{IsNoted, has_entry, refused_count};
 
     /// Returns a session that has read no list. Fails if memory runs out.
     pub fn new(alloc: Global, work: Work) -> Result<Session, AllocError>
@@ -228,9 +229,32 @@ impl Session {
     pub fn read<R: Read>(&mut self, input: &mut R) -> Result<(), ReadFailure>
         ensures { OnOk result ((work : Work) → (lists : List (List ℕ)) → WereRead work lists self.old
             → ((bytes : List ℕ) × GaveWhole (R.remaining input.old) (R.remaining input.new) bytes
-            × WereRead work (lists ++ bytes ∷ []) self.new)) }
+            × WereRead work (lists ++ bytes ∷ []) self.new
+            × IsNoted (work_grammar work) (length lists) bytes (has_entry self.new))) }
     {
         self.read_next(input)
+    }
+
+    /// How many lines of the lists are not entries.
+    ///
+    /// ```text
+    /// after read("10.0.0.1\nx\n") and read("y\n"): 2
+    /// ```
+    pub fn refused_count(&self) -> usize
+        ensures { result ≡ refused_count self.now }
+    {
+        self.reading.lines.refused.count
+    }
+
+    /// Whether the list that was read last has an entry.
+    ///
+    /// ```text
+    /// after read("10.0.0.1\n"): true; after read("# nothing\n"): false
+    /// ```
+    pub fn has_entry(&self) -> bool
+        ensures { result ≡ has_entry self.now }
+    {
+        self.reading.lines.has_entry
     }
 
     /// Returns the answer over the lists that were read. `names` are the names of the lists, in order; `Count` prints

@@ -1,11 +1,15 @@
-//! Tests of `netset_lib` that call the library: the kinds of entries, the numbers of lists, plans, readers and
-//! writers that fail, lists of rules, and refused memory.
+//! Tests of `netset_lib` that call the library: the kinds of entries, the numbers of lists, plans, changes,
+//! outputs, readers and writers that fail, lists of rules, and refused memory.
 #![tactic(auto)]
 
+#[cfg(test)]
+mod changes;
 #[cfg(test)]
 mod entries;
 #[cfg(test)]
 mod memory;
+#[cfg(test)]
+mod outputs;
 #[cfg(test)]
 mod plans;
 #[cfg(test)]

@@ -125,8 +125,8 @@ fn reports(rt: HostRuntime) -> Result<(), Fail> {
             "deny 10.0.0.0/8 ::1 (more than one word follows)\n",
         ),
         (
-            "deny 10.0.0.1 - 10.0.0.2\n",
-            "deny 10.0.0.1 - 10.0.0.2 (more than one word follows)\n",
+            "deny 10.0.0.1 eth0\n",
+            "deny 10.0.0.1 eth0 (more than one word follows)\n",
         ),
         (
             "deny 10.0.0.1 ; 10.0.0.2\n",

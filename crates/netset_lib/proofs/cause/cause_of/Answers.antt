@@ -1,8 +1,9 @@
-use Rattle.std.proofs.Common.{◌≡◌, IfSome, rules, subst}
+use Rattle.std.proofs.Common.{◌≡◌, IfSome, inr, rules, subst}
 use Rattle.netset_lib.specs.Causes.{IsCauseTold}
 use Rattle.netset_lib.specs.Entries.{IsNoEntry}
 use Rattle.netset_lib.proofs.EntryTexts.{ok_map}
-use Rattle.netset_lib.proofs.CauseTexts.{told_other_bytes, told_no_entry}
+use Rattle.netset_lib.proofs.CauseTexts.{told_no_entry}
+use Rattle.netset_lib.proofs.ListLines.{entry_utf8}
 use Rattle.netset_lib.proofs.cause.cause_of.Goals as goal
 
 pub returns-in-Ok-clause-no_entry : goal.returns-in-Ok-clause-no_entry
@@ -14,5 +15,14 @@ returns-in-Ok-clause-no_entry c =
     (λ told h. told_no_entry grammar c.args.text.now told (subst (λ t. IsCauseTold grammar t told) same h))
     c.cause_in_text.ensures
 
+-- bytes that are not UTF-8 are no entry
 pub returns-in-Err-clause-told : goal.returns-in-Err-clause-told
-returns-in-Err-clause-told c = told_other_bytes c.args.grammar c.args.text.now c.in-Err.ensures.cases.0
+returns-in-Err-clause-told c =
+    inr (
+      λ range is. c.in-Err.ensures.cases.0 (entry_utf8 c.args.grammar c.args.text.now range is),
+      c.cause_in_bytes.ensures,
+    )
+
+pub returns-in-Err-clause-no_entry : goal.returns-in-Err-clause-no_entry
+returns-in-Err-clause-no_entry c = λ range is.
+    c.in-Err.ensures.cases.0 (entry_utf8 c.args.grammar c.args.text.now range is)

@@ -1,5 +1,7 @@
-use Rattle.std.proofs.Common.{◌≡◌, ◌++◌, ◌∷◌, sym, subst, ap₂, ◌∙◌, lit<, All, ◌≢◌, IfSome}
+use Rattle.std.proofs.Common.{◌≡◌, ◌++◌, ◌∷◌, sym, subst, ap₂, ◌∙◌, lit<, All, ◌≢◌, IfOk, IfSome}
+use Rattle.std.proofs.lemmas.Str.Ascii.{trim_ascii_end_is, trim_ascii_start_is}
 use Rattle.netset_lib.specs.Entries.{IsAddressText, IsEntryText, IsPlainEntry, WriteRange, ReadsAs}
+use Rattle.netset_lib.specs.Entries.{after_blanks, before_blanks}
 use Rattle.netset_lib.specs.EntryOf.{entry_range, IsWrittenAs}
 use Rattle.netset_lib.specs.EntrySteps.{HasEnds}
 use Rattle.netset_lib.proofs.AddressBytes.{cut_at, front_lacks, all_lack}
@@ -16,8 +18,14 @@ returns-in-Some-clause-reads c =
     let spelled : text ≡ first ++ 45 ∷ last =
     cut_at 45 text cut.2 ∙ ap₂ (λ a b. a ++ 45 ∷ b) (sym cut.0) (sym cut.1) in
     let lacks : All (λ b. b ≢ 45) first = subst (All (λ b. b ≢ 45)) (sym cut.0) (front_lacks 45 text cut.2) in
-    ok_map (ReadsAs entry_range (WriteRange grammar first) last) (ReadsAs entry_range (IsEntryText grammar) text)
-    c.read_range.result (reads_cut entry_range grammar text first last spelled lacks) c.read_range.ensures.reads
+    let before = trim_ascii_end_is first c.trim_ascii_end.result.now c.trim_ascii_end.ensures.value in
+    let after = trim_ascii_start_is last c.trim_ascii_start.result.now c.trim_ascii_start.ensures.value in
+    ok_map (ReadsAs entry_range (WriteRange grammar (before_blanks first)) (after_blanks last))
+    (ReadsAs entry_range (IsEntryText grammar) text) c.read_range.result
+    (reads_cut entry_range grammar text first last spelled lacks)
+    (subst (λ z. IfOk c.read_range.result (ReadsAs entry_range (WriteRange grammar z) (after_blanks last))) before
+    (subst (λ z. IfOk c.read_range.result
+    (ReadsAs entry_range (WriteRange grammar c.trim_ascii_end.result.now) z)) after c.read_range.ensures.reads))
 
 pub returns-in-Some-clause-kind : goal.returns-in-Some-clause-kind
 returns-in-Some-clause-kind c =
@@ -28,9 +36,16 @@ returns-in-Some-clause-kind c =
     let cut = c.in-Some.ensures.byte (lit< tt) (λ w o h. h) in
     let spelled : text ≡ first ++ 45 ∷ last =
     cut_at 45 text cut.2 ∙ ap₂ (λ a b. a ++ 45 ∷ b) (sym cut.0) (sym cut.1) in
-    ok_map (λ o. IfSome o (HasEnds (IsAddressText grammar first) (IsAddressText grammar last)))
+    let before = trim_ascii_end_is first c.trim_ascii_end.result.now c.trim_ascii_end.ensures.value in
+    let after = trim_ascii_start_is last c.trim_ascii_start.result.now c.trim_ascii_start.ensures.value in
+    ok_map (λ o. IfSome o (HasEnds (IsAddressText grammar (before_blanks first))
+    (IsAddressText grammar (after_blanks last))))
     (λ o. IfSome o (IsWrittenAs grammar text)) c.read_range.result (written_range grammar text first last spelled)
-    c.read_range.ensures.kind
+    (subst (λ z. IfOk c.read_range.result (λ o. IfSome o (HasEnds (IsAddressText grammar z)
+    (IsAddressText grammar (after_blanks last))))) before
+    (subst (λ z. IfOk c.read_range.result (λ o. IfSome o
+    (HasEnds (IsAddressText grammar c.trim_ascii_end.result.now) (IsAddressText grammar z)))) after
+    c.read_range.ensures.kind))
 
 pub returns-in-None-clause-reads : goal.returns-in-None-clause-reads
 returns-in-None-clause-reads c =

@@ -2,7 +2,7 @@
 use Rattle.std.proofs.Common.{◌<◌, length, take, sym, subst, arith}
 use Rattle.ipnet.specs.declared.parser.Grammar.TheVariants.{Strict}
 use Rattle.ipnet_text.proofs.FrontTexts.{take_cut}
-use Rattle.netset_lib.specs.Entries.{IsEntryText}
+use Rattle.netset_lib.specs.Entries.{IsEntryWord}
 use Rattle.netset_lib.specs.EntryOf.{entry_range}
 use Rattle.netset_lib.proofs.FrontEntries.{address_entry}
 use Rattle.netset_lib.proofs.front.front_entry.Goals as goal
@@ -17,7 +17,7 @@ returns-in_ok-entry-in-47-clause-entry c =
     let len = c.in_ok-first.len in
     let more = c.in_ok-entry-in-47.more in
     let within : len < length bytes = omega (arith, c.if-bytes-lt-LONGEST.false, c.in_ok-first.ensures.few) in
-    subst (λ z. IsEntryText Strict z (entry_range c.in_ok-entry-in-47.entry))
+    subst (λ z. IsEntryWord Strict z (entry_range c.in_ok-entry-in-47.entry))
     (sym (take_cut bytes len more 47 within c.in-47.is))
     (c.in_ok-entry-in-47.ensures.entry (take len bytes) c.in_ok-first.ensures.address)
 
@@ -27,6 +27,6 @@ returns-in_ok-entry-in-45-clause-entry c =
     let len = c.in_ok-first.len in
     let more = c.in_ok-entry-in-45.more in
     let within : len < length bytes = omega (arith, c.if-bytes-lt-LONGEST.false, c.in_ok-first.ensures.few) in
-    subst (λ z. IsEntryText Strict z (entry_range c.in_ok-entry-in-45.entry))
+    subst (λ z. IsEntryWord Strict z (entry_range c.in_ok-entry-in-45.entry))
     (sym (take_cut bytes len more 45 within c.in-45.is))
     (c.in_ok-entry-in-45.ensures.entry (take len bytes) c.in_ok-first.ensures.address)

@@ -3,7 +3,7 @@ use Rattle.std.proofs.Common.{◌≡◌, ◌+◌, ◌∷◌, take, sym, ap, ◌�
 use Rattle.ipnet.specs.Lines.{lines_of}
 use Rattle.ipnet.specs.declared.parser.Grammar.TheVariants.{Strict}
 use Rattle.ipnet_text.proofs.FrontTexts.{rest_from}
-use Rattle.netset_lib.specs.Entries.{IsEntryText}
+use Rattle.netset_lib.specs.Entries.{IsEntryWord}
 use Rattle.netset_lib.specs.EntryOf.{entry_range}
 use Rattle.netset_lib.proofs.PlainLines.{plain_entry, plain_line}
 use Rattle.netset_lib.proofs.reader.strict_line.Goals as goal
@@ -11,7 +11,7 @@ use Rattle.netset_lib.proofs.reader.strict_line.Goals as goal
 pub returns-clause-entry : goal.returns-clause-entry
 returns-clause-entry c =
     let same : c.in-Ok.text.now ≡ take c.in_ok-entry.len c.args.bytes.now = search rules in
-    subst (λ z. IsEntryText Strict z (entry_range c.in_ok-entry.entry)) (sym same) c.in_ok-entry.ensures.entry
+    subst (λ z. IsEntryWord Strict z (entry_range c.in_ok-entry.entry)) (sym same) c.in_ok-entry.ensures.entry
 
 pub returns-clause-lines : goal.returns-clause-lines
 returns-clause-lines c =

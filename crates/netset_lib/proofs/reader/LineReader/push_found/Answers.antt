@@ -3,7 +3,7 @@ use Rattle.std.proofs.Common.{refl}
 use Rattle.ipnet_text.proofs.ListsLaws.{OnOk_then}
 use Rattle.netset_lib.specs.FoundEntry.{found_range}
 use Rattle.netset_lib.proofs.ListReading.{adds_entry, reads_one}
-use Rattle.netset_lib.proofs.PlainLines.{plain_contents, plain_entry}
+use Rattle.netset_lib.proofs.PlainLines.{plain_contents, plain_entry, word_is_entry}
 use Rattle.netset_lib.proofs.reader.LineReader.push_found.Goals as goal
 
 pub returns : goal.returns
@@ -16,5 +16,5 @@ returns g c =
     OnOk_then c.push.result c.push.ensures
     (λ made. reads_one old _ text text before after
     (plain_contents old.grammar text (plain_entry old.grammar text range c.requires.entry))
-    (adds_entry old _ text refl refl c.in-Some.ensures.1 before after range c.requires.some c.requires.entry refl
-    made))
+    (adds_entry old _ text refl refl c.in-Some.ensures.1 before after range c.requires.some
+    (word_is_entry old.grammar text range c.requires.entry) refl refl made))

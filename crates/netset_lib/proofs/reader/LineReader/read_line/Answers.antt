@@ -15,7 +15,7 @@ returns-then-is_empty g c =
     let made = g.C.Collector.is_made c.args.collector.now c.args.made.now in
     reads_one c.args.self.now _ c.args.line.now text made made c.in_ok-text.ensures
     (adds_empty c.args.self.now _ text refl refl c.in-Some.ensures.1 made
-    (no_bytes (length text) c.if-is_empty.ensures) refl)
+    (no_bytes (length text) c.if-is_empty.ensures) refl refl)
 
 pub returns-in-Some-2 : goal.returns-in-Some-2
 returns-in-Some-2 g c =
@@ -32,7 +32,7 @@ returns-in-Some-2 g c =
     c.in-Some-2.is in
     OnOk_then c.push.result c.push.ensures
     (λ made. reads_one old _ c.args.line.now text before after c.in_ok-text.ensures
-    (adds_entry old _ text refl refl c.in-Some.ensures.1 before after (found_range f) some is refl
+    (adds_entry old _ text refl refl c.in-Some.ensures.1 before after (found_range f) some is refl refl
     (subst (λ t. Adds before after (entry_at t (found_range f) ∷ [])) same made)))
 
 pub returns-in_ok-cause-in-None : goal.returns-in_ok-cause-in-None
@@ -49,4 +49,4 @@ returns-in_ok-cause-in-None g c =
     (adds_refusal old _ text refl refl c.in-Some.ensures.1 made cause
     (some_bytes (length text) c.if-is_empty.ensures) none c.in_ok-cause-in-None.ensures.told
     (subst (λ n. HasMore old.refused c.push-in-None.new.self (refusal_at old.list n text cause ∷ []))
-    c.in-Some.ensures.1 more)))
+    c.in-Some.ensures.1 more) refl))

@@ -22,7 +22,7 @@ returns-then-not-more g c =
     (is_made c.loop.made)) c.if-not-more.true c.loop.invariant)
     (subst (λ m. TakesLines m c.loop.self c.take_lines.new.self (is_made c.loop.made) (is_made c.take_lines.new.made))
     c.if-not-more.true c.in_ok-take_lines.ensures)
-    place c.end_list.ensures.same_grammar c.end_list.ensures.same_refused)
+    place c.end_list.ensures.same_grammar c.end_list.ensures.same_refused refl c.end_list.ensures.same_entry)
 
 pub loop-preserved : goal.loop-preserved
 loop-preserved g c =

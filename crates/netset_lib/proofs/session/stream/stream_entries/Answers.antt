@@ -71,5 +71,6 @@ returns-then-not-more g c =
     (subst (λ m. TakesLines m c.loop.reading c.take_lines.new.self (AreAnswersBy a c.loop.answers)
     (AreAnswersBy a answers)) c.if-not-more.true c.in_ok-take_lines.ensures)
     c.in_ok-put.ensures.written c.is_any-found.ensures)
-    c.in_ok-end_list.ensures.next c.end_list.ensures.same_grammar c.end_list.ensures.same_refused)
+    c.in_ok-end_list.ensures.next c.end_list.ensures.same_grammar c.end_list.ensures.same_refused refl
+    c.end_list.ensures.same_entry)
     (written_none a held)

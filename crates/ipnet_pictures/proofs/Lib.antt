@@ -1,0 +1,7 @@
+-- Lemmas that the proofs of this crate share.
+pub mod ShareLaws
+pub mod MarkLaws
+pub mod PartLaws
+pub mod SummaryLaws
+pub mod BarLaws
+pub mod FrameLaws

@@ -1,0 +1,7 @@
+-- The definitions that the contracts of this crate cite.
+pub mod Shares
+pub mod MarkTexts
+pub mod Parts
+pub mod Frames
+pub mod Summaries
+pub mod Bars

@@ -1,0 +1,16 @@
+//! Pictures of sets of addresses: what a picture shows of each block.
+#![tactic(auto)]
+
+pub mod bar;
+pub mod frame;
+pub mod marks;
+pub mod part;
+pub mod share;
+pub mod summary;
+
+pub use bar::{BarForm, bar_text};
+pub use frame::frame_in;
+pub use marks::{Marks, RowWidth, mark_len_of, row_len_of};
+pub use part::{count_in, host_bits_of, level_in, levels_in, part_in};
+pub use share::{Level, level_of, tenths_of};
+pub use summary::{free_in, largest_of};

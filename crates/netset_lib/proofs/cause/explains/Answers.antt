@@ -1,0 +1,16 @@
+use Rattle.netset_lib.proofs.cause.explains.Goals as goal
+
+pub returns-in-LegacyAlone : goal.returns-in-LegacyAlone
+returns-in-LegacyAlone c = rw c.in-LegacyAlone.is c.is_entry.ensures
+
+pub returns-in-MaskAfterBlank : goal.returns-in-MaskAfterBlank
+returns-in-MaskAfterBlank c = rw c.in-MaskAfterBlank.is c.has_mask_word.ensures
+
+pub returns-in-TwoEntries : goal.returns-in-TwoEntries
+returns-in-TwoEntries c = rw c.in-TwoEntries.is c.has_two_entries.ensures
+
+pub returns-in-NotFourNumbers : goal.returns-in-NotFourNumbers
+returns-in-NotFourNumbers c = rw c.in-NotFourNumbers.is c.is_no_ipv4.ensures
+
+pub returns-in-HasStar : goal.returns-in-HasStar
+returns-in-HasStar c = rw c.in-HasStar.is c.has_star.ensures

@@ -1,0 +1,18 @@
+use Rattle.std.proofs.Common.{◌≡◌, inr, sym, subst, true, ◌∙◌}
+use Rattle.std.proofs.lemmas.List.{drop_more}
+use Rattle.netset_lib.specs.Causes.{IsFirstOf}
+use Rattle.netset_lib.proofs.cause.first_cause.Goals as goal
+
+-- a cause that does not explain the text is passed over
+pub loop-index-preserved : goal.loop-index-preserved
+loop-index-preserved c = λ told h.
+    c.loop-index.invariant told
+    (subst (λ z. IsFirstOf z c.args.text.now told)
+    (sym (drop_more c.args.causes.now c.loop-index.index _ c.loop-index-test.true))
+    (inr (
+      λ e.
+          let is = c.in_ok-explains.ensures.1 e in
+          let not = c.if-branch.false in
+          absurd cc,
+      h,
+    )))

@@ -1,0 +1,9 @@
+use Rattle.std.proofs.Common.{Option, drop}
+use Rattle.netset_lib.specs.declared.cause.Cause.{Cause}
+use Rattle.netset_lib.specs.Causes.{IsFirstOf}
+use Rattle.netset_lib.proofs.cause.first_cause.Given as goal
+
+-- the first of the causes that are left is the first of all
+abbrev pub invariant-loop-index : goal.invariant-loop-index
+invariant-loop-index l =
+    (told : Option Cause) → IsFirstOf (drop l.index l.fn.causes) l.fn.text told → IsFirstOf l.fn.causes l.fn.text told

@@ -1,0 +1,10 @@
+use Rattle.ipnet.specs.declared.parser.Grammar.TheVariants.{Legacy}
+use Rattle.netset_lib.specs.Entries.{IsEntryText}
+use Rattle.netset_lib.specs.EntryOf.{entry_range}
+use Rattle.netset_lib.proofs.CauseTexts.{none_is}
+use Rattle.netset_lib.proofs.cause_parts.is_entry.Goals as goal
+
+pub returns-in-None : goal.returns-in-None
+returns-in-None c =
+    none_is entry_range (IsEntryText Legacy) c.args.text.now c.in_ok-read_entry.field-0 c.in_ok-read_entry.ensures.reads
+    c.in-None.is

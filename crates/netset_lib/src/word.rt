@@ -1,0 +1,53 @@
+//! The words of a line.
+ghost use Rattle.std.specs.Prelude.{◌≡◌, ◌≤◌, length};
+ghost use Rattle.std.specs.List.{position_or_len, prefix_len};
+ghost use Rattle.netset_lib.specs.Words as words;
+ghost use Rattle.netset_lib.specs.Words.{ends_word, leading};
+
+/// Whether the byte ends a word.
+fn is_word_end(byte: u8) -> bool
+    ensures { result ≡ ends_word byte }
+{
+    byte.is_ascii_whitespace() || byte == b';' || byte == b','
+}
+
+/// The length of the first word of the bytes.
+pub(crate) fn word_len(bytes: &[u8]) -> usize
+    ensures word { result ≡ position_or_len ends_word bytes.now }
+    ensures within { result ≤ length bytes.now }
+{
+    for index in 0..bytes.len() {
+        if is_word_end(bytes[index]) {
+            return index;
+        }
+    }
+    bytes.len()
+}
+
+/// The number of bytes before the first word.
+fn gap_len(bytes: &[u8]) -> usize
+    ensures gap { result ≡ prefix_len ends_word bytes.now }
+    ensures within { result ≤ length bytes.now }
+{
+    for index in 0..bytes.len() {
+        if !is_word_end(bytes[index]) {
+            return index;
+        }
+    }
+    bytes.len()
+}
+
+/// The first word of bytes that begin with one.
+pub(crate) fn leading_word(bytes: &[u8]) -> &[u8]
+    ensures { result.now ≡ leading bytes.now }
+{
+    &bytes[..word_len(bytes)]
+}
+
+/// The second word of bytes that begin with one. It is empty if there is none.
+pub(crate) fn second_word(bytes: &[u8]) -> &[u8]
+    ensures { result.now ≡ words.second_word bytes.now }
+{
+    let rest = &bytes[word_len(bytes)..];
+    leading_word(&rest[gap_len(rest)..])
+}
