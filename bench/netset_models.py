@@ -80,15 +80,15 @@ def sizes(listed):
 
 
 def count(path):
-    yield b"IPv4 %d, IPv6 %d\n" % tuple(sizes(entries(path)))
+    yield b"%s\t%d\t%d\n" % (path.encode(), *sizes(entries(path)))
 
 
 def compare(first_path, second_path):
     first, second = entries(first_path), entries(second_path)
     both, first_sizes, second_sizes = sizes(first + second), sizes(first), sizes(second)
     if both != first_sizes or both != second_sizes:
-        yield b"first alone: IPv4 %d, IPv6 %d\n" % tuple(a - b for a, b in zip(both, second_sizes))
-        yield b"second alone: IPv4 %d, IPv6 %d\n" % tuple(a - b for a, b in zip(both, first_sizes))
+        yield b"only in the first: IPv4 %d, IPv6 %d\n" % tuple(a - b for a, b in zip(both, second_sizes))
+        yield b"only in the second: IPv4 %d, IPv6 %d\n" % tuple(a - b for a, b in zip(both, first_sizes))
 
 
 def kept(set_path, path, is_kept):

@@ -14,11 +14,6 @@ def as_ranges(lines):
     return (line if b"-" in line else line.rstrip(b"\n") + b"-" + line for line in lines)
 
 
-def as_counts(lines):
-    """The numbers of entries and addresses that iprange counted, in the format of netset."""
-    return (b"IPv4 %d, IPv6 0\n" % int(line.split(b",")[1]) for line in lines)
-
-
 class Call(NamedTuple):
     """A row: the words of a netset command and of the other program's. {0} and {1} are the paths of the lists."""
     label: str
@@ -53,18 +48,18 @@ CALLS = [
          "symmetric-difference {0} {1}", "{0} --diff {1}", models.shortest, other_status=1, bound=0.35, peak=12),
     # iprange reads all addresses from standard input
     Call("complement: countries 1 to 40", [FIRST], "complement {0}", "- --except {0}"),
-    Call("count: countries 1 to 40", [FIRST], "count {0}", "-C {0}", as_counts, models.count),
+    Call("count: countries 1 to 40", [FIRST], "count {0}", "-C {0}", None, models.count),
     Call("count: countries 1 to 40, both families", ["countries_both"], "count {0}", model=models.count),
     Call("compare: countries 1 to 40, and 21 to 60", [FIRST, SECOND],
          "compare {0} {1}", "{0} --diff {1} --quiet", None, models.compare, 1, 1),
     Call("filter, beside grepcidr: 10^6 addresses by countries 1 to 40", [FIRST, "addresses_ipv4"],
-         "filter {0} {1}", "-f {0} {1}", unchanged, bound=0.3, peak=12, program="grepcidr"),
+         "filter --stream {0} {1}", "-f {0} {1}", unchanged, bound=0.3, peak=12, program="grepcidr"),
     Call("filter: of all ranges, those in countries 1 to 40", [FIRST, ALL],
          "filter {0} {1}", model=models.inside),
     Call("filter: of all ranges, those outside countries 1 to 40", [FIRST, ALL],
          "filter --outside {0} {1}", model=models.outside),
     Call("route: 10^6 addresses by 10^6 routes", ["routes_ipv4", "addresses_ipv4"],
-         "route {0} {1}", model=models.route, peak=70),
+         "route --stream {0} {1}", model=models.route, status=1, peak=70),
 ]
 
 

@@ -35,6 +35,8 @@ pub struct Call<'a> {
     pub work: Work,
     /// The names of the lists, in order. At most one of them is standard input.
     pub names: Vec<&'a str>,
+    /// Whether the answers are written while the second list is read.
+    pub is_streamed: bool,
 }
 
 /// Why the arguments cannot be used, although each of them is one of the command's.
@@ -46,6 +48,9 @@ pub enum ArgumentFailure {
     /// Two lists are standard input, which can be read once.
     #[error("standard input is named twice")]
     InputTwice,
+    /// The name of a list to be counted has a control character, such as a tab, which would break its line.
+    #[error("the name of a list has a control character")]
+    ControlCharacter,
     /// No command has this name.
     #[error("no such command")]
     NoCommand,
@@ -112,14 +117,18 @@ pub fn first<'a>(alloc: Global, name: &'a str, help: &'a str) -> Arg<'a> {
         .help(help)
 }
 
-/// One list or more.
-fn first_and_more<'a>(alloc: Global) -> Arg<'a> {
-    first(alloc, "FILE", "A list, - for standard input")
-        .num_args(1..)
-        .action(ArgAction::Append)
+/// The only list; standard input, if it is omitted.
+fn one_file<'a>(alloc: Global) -> Arg<'a> {
+    let help = "A list, - for standard input; standard input if it is omitted";
+    first(alloc, "FILE", help).required(false)
 }
 
-/// The only list, or the first of several.
+/// Any number of lists; standard input, if all are omitted.
+fn any_files<'a>(alloc: Global) -> Arg<'a> {
+    one_file(alloc).num_args(1..).action(ArgAction::Append)
+}
+
+/// The first of several lists.
 fn first_file<'a>(alloc: Global) -> Arg<'a> {
     first(alloc, "FILE", "A list, - for standard input")
 }
@@ -188,13 +197,13 @@ fn complement_command<'a>(alloc: Global) -> Result<Command<'a>, AllocError> {
     operation_command(alloc, "complement", about)?
         .arg(flag(alloc, "ipv4", ipv4))?
         .arg(flag(alloc, "ipv6", ipv6))?
-        .arg(first_file(alloc))
+        .arg(one_file(alloc))
 }
 
 /// Adds the commands whose result is a list of addresses.
 fn with_operations<'a>(alloc: Global, command: Command<'a>) -> Result<Command<'a>, AllocError> {
     let union = "The addresses of all lists";
-    let union = operation_command(alloc, "union", union)?.arg(first_and_more(alloc))?;
+    let union = operation_command(alloc, "union", union)?.arg(any_files(alloc))?;
     let intersection = "The addresses that are in every list";
     let difference = "The addresses of the first list that are in none of the others";
     let symmetric = "The addresses that are in exactly one of two lists";
@@ -209,26 +218,36 @@ fn with_operations<'a>(alloc: Global, command: Command<'a>) -> Result<Command<'a
         .subcommand(complement_command(alloc)?)
 }
 
+/// The flag by which the answers are written while the list is read.
+fn stream_flag<'a>(alloc: Global) -> Arg<'a> {
+    let help =
+        "Print each line as soon as it is known; a bad line is reported and left out, with status 2";
+    flag(alloc, "stream", help)
+}
+
 /// The command `filter`.
 fn filter_command<'a>(alloc: Global) -> Result<Command<'a>, AllocError> {
-    let about = "The entries of FILE that lie entirely inside SET, as written, in order";
+    let about =
+        "The entries of FILE that lie entirely inside SET, as written; status 1 if there are none";
     let outside = "Print the entries that lie entirely outside SET instead";
     command_of(alloc, "filter", about)?
         .arg(flag(alloc, "outside", outside))?
+        .arg(stream_flag(alloc))?
         .arg(first(alloc, "SET", "The list of the addresses to filter by"))?
         .arg(other(alloc, "The list to filter; standard input if it is omitted").required(false))
 }
 
 /// Adds the commands whose result is not a list of addresses.
 fn with_queries<'a>(alloc: Global, command: Command<'a>) -> Result<Command<'a>, AllocError> {
-    let count = "The number of IPv4 addresses and of IPv6 addresses in the list";
+    let count =
+        "For each list its name, and how many IPv4 and IPv6 addresses it has, with tabs between; then the total";
     let compare =
         "The number of addresses that are in only one of two lists; status 1 if there are any";
     let route =
-        "For each entry of FILE, the longest network of TABLE that contains it, or - if none does";
+        "For each entry of FILE, the longest network of TABLE that contains it, or - and status 1";
     let asked = "The list of entries to look up; standard input if it is omitted";
     command
-        .subcommand(command_of(alloc, "count", count)?.arg(first_file(alloc))?)?
+        .subcommand(command_of(alloc, "count", count)?.arg(any_files(alloc))?)?
         .subcommand(
             command_of(alloc, "compare", compare)?
                 .arg(first_file(alloc))?
@@ -238,6 +257,7 @@ fn with_queries<'a>(alloc: Global, command: Command<'a>) -> Result<Command<'a>, 
         .subcommand(filter_command(alloc)?)?
         .subcommand(
             command_of(alloc, "route", route)?
+                .arg(stream_flag(alloc))?
                 .arg(first(alloc, "TABLE", "The list of networks to choose from"))?
                 .arg(other(alloc, asked).required(false))?,
         )?
@@ -271,7 +291,8 @@ pub fn flags_of(matches: &ArgMatches) -> Flags {
     }
 }
 
-/// The names of the lists, in order. If `filter` or `route` has only one, standard input is the second.
+/// The names of the lists, in order. Standard input is the list that is not named: the only one, or the second of
+/// `filter` and `route`.
 fn names_of<'a>(
     alloc: Global,
     work: Work,
@@ -284,7 +305,7 @@ fn names_of<'a>(
         }
     }
     let takes_two = matches!(work, Work::Ask(Query::Filter(_) | Query::Route, _));
-    if takes_two && names.len() == 1 {
+    if names.is_empty() || (takes_two && names.len() == 1) {
         names.push(STANDARD_INPUT)?;
     }
     Ok(names)
@@ -309,5 +330,17 @@ pub fn call_of<'a>(alloc: Global, matches: &ArgMatches<'a>) -> Result<Call<'a>, 
     if reads_input_twice(names.as_slice()) {
         return Err(ArgumentFailure::InputTwice);
     }
-    Ok(Call { work, names })
+    let counts = matches!(work, Work::Ask(Query::Count, _));
+    if counts
+        && names
+            .iter()
+            .any(|name| name.bytes().any(|byte| byte.is_ascii_control()))
+    {
+        return Err(ArgumentFailure::ControlCharacter);
+    }
+    Ok(Call {
+        work,
+        names,
+        is_streamed: matches.get_flag("stream"),
+    })
 }

@@ -63,7 +63,7 @@ fn read_from<R: Read + Drop>(session: &mut Session, input: R) -> Result<usize, U
 }
 
 /// Why the file was not opened.
-fn unopened(error: &io::Error) -> Unread {
+pub fn unopened(error: &io::Error) -> Unread {
     let failure = if error.kind() == ErrorKind::OutOfMemory {
         ReadFailure::Memory
     } else {

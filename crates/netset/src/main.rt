@@ -10,6 +10,7 @@ mod output;
 mod plan;
 mod replacement;
 mod rules;
+mod stream;
 mod version;
 
 use crate::arguments::{ArgumentFailure, Call, call_of, matches_of, output_of, reports_of, words};
@@ -19,6 +20,7 @@ use crate::lists::{read_lists, report_unread};
 use crate::output::{CLOSED, Streams};
 use crate::plan::{PLAN, planned};
 use crate::rules::run_if_rules;
+use crate::stream::stream_list;
 use clap::ArgMatches;
 use netset_lib::{Session, Work, run};
 use std::cell::Cell;
@@ -117,13 +119,23 @@ fn ran(rt: &HostRuntime, matches: &ArgMatches, streams: &mut Streams<'_>) -> u8 
 
 /// Reads the lists, and runs the operation or the query.
 fn answered(rt: &HostRuntime, matches: &ArgMatches, streams: &mut Streams<'_>) -> u8 {
-    let Call { work, names } = match call_of(rt.alloc(), matches) {
+    let Call {
+        work,
+        names,
+        is_streamed,
+    } = match call_of(rt.alloc(), matches) {
         Ok(call) => call,
         Err(failure) => return refused(rt, failure),
     };
     let names = names.as_slice();
-    match session_of(rt, work, names, streams) {
-        Ok(session) => run(session, names, &mut streams.answer, &mut streams.faults),
-        Err(status) => status,
+    match names {
+        [_, name] if is_streamed => match session_of(rt, work, &names[..1], streams) {
+            Ok(session) => stream_list(rt, session, names, name, streams),
+            Err(status) => status,
+        },
+        _ => match session_of(rt, work, names, streams) {
+            Ok(session) => run(session, names, &mut streams.answer, &mut streams.faults),
+            Err(status) => status,
+        },
     }
 }

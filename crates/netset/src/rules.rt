@@ -1,5 +1,5 @@
 //! The commands that read a list of rules.
-use crate::arguments::{FIRST, command_of, first, operation_command};
+use crate::arguments::{FIRST, STANDARD_INPUT, command_of, first, operation_command};
 use crate::lists::{read_rules, report_unread};
 use crate::output::Streams;
 use clap::{Arg, ArgMatches, Command};
@@ -22,7 +22,8 @@ const ACTIONS: &[&str] = &[PERMIT, "deny"];
 
 /// The list of rules.
 fn rules_file<'a>(alloc: Global) -> Arg<'a> {
-    first(alloc, "RULES", "The list of rules, - for standard input")
+    let help = "The list of rules, - for standard input; standard input if it is omitted";
+    first(alloc, "RULES", help).required(false)
 }
 
 /// Adds the commands that read a list of rules.
@@ -71,7 +72,7 @@ pub fn run_if_rules(
 ) -> Option<u8> {
     let (name, matches) = matches.subcommand()?;
     let query = query_of(name, matches)?;
-    let file = matches.get_str(FIRST)?;
+    let file = matches.get_str(FIRST).unwrap_or(STANDARD_INPUT);
     let grammar = if matches.get_flag("legacy") {
         Grammar::Legacy
     } else {

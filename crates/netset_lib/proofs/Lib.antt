@@ -24,7 +24,10 @@ pub mod CountTexts
 pub mod FilterLaws
 pub mod TableLaws
 pub mod RouteLaws
+pub mod EntryAnswerLaws
+pub mod AnsweringLaws
 pub mod SessionLaws
+pub mod StreamLaws
 pub mod CommentLaws
 pub mod RuleLaws
 pub mod RuleAnswerLaws

@@ -7,19 +7,15 @@ use Rattle.ipnet_sets.specs.declared.set.IpSet.{IpSet}
 use Rattle.ipnet_sets.specs.Members.{IsMember}
 use Rattle.ipnet_text.specs.Inputs.{GaveWhole}
 use Rattle.netset_lib.specs.declared.command.Work.{Work}
-use Rattle.netset_lib.specs.declared.filter.Side.{Side}
 use Rattle.netset_lib.specs.declared.reading.Reading.{Reading}
 use Rattle.netset_lib.specs.declared.refused.RefusedLines.{RefusedLines}
 use Rattle.netset_lib.specs.declared.session.Session.{Session}
 use Rattle.netset_lib.specs.Answers.{AreListsRead}
-use Rattle.netset_lib.specs.Filtering.{AreFiltered}
-use Rattle.netset_lib.specs.Filters.{IsOnSide}
 use Rattle.netset_lib.specs.Lists.{ListEntry, Refusal, IsListRead, IsInEntries, HaveAddresses}
 use Rattle.netset_lib.specs.ListSets.{HaveMembers}
 use Rattle.netset_lib.specs.Reading.{Adds, WasMadeOf}
 use Rattle.netset_lib.specs.Replies.{work_grammar}
-use Rattle.netset_lib.specs.Sessions.{ReadsNext, WereRead, IsState, IsFilterState, IsNoted, has_entry}
-use Rattle.netset_lib.proofs.FilterLaws.{filtered_same, side_same}
+use Rattle.netset_lib.specs.Sessions.{ReadsNext, WereRead, IsState, IsNoted, has_entry}
 use Rattle.netset_lib.proofs.RefusalLaws.{more_refused}
 
 -- ---- one list
@@ -49,7 +45,7 @@ made_of left left_after old new IsMade IsMadeNow h start =
 
 -- ---- one list more
 
-lists_push : (grammar : Grammar) (list : ℕ) (lists : List (List ℕ)) (entries : List (List ListEntry))
+pub lists_push : (grammar : Grammar) (list : ℕ) (lists : List (List ℕ)) (entries : List (List ListEntry))
     (refusals : List Refusal) (bytes : List ℕ) (more : List ListEntry) (later : List Refusal)
     → AreListsRead grammar list lists entries refusals → IsListRead grammar (list + length lists) bytes more later
     → AreListsRead grammar list (lists ++ bytes ∷ []) (entries ++ more ∷ []) (refusals ++ later)

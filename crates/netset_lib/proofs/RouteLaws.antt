@@ -21,7 +21,7 @@ use Rattle.ipnet_sets.specs.SetRanges.{IsInRange}
 use Rattle.ipnet_sets.specs.declared.routes.RouteTable.{RouteTable}
 use Rattle.netset_lib.specs.Entries.{IsEntryText}
 use Rattle.netset_lib.specs.Lists.{ListEntry, Refusal, AreRead}
-use Rattle.netset_lib.specs.RouteAnswers.{IsTableNetwork, Holds, HaveNone, IsRouteLine, AreRouteLines}
+use Rattle.netset_lib.specs.RouteAnswers.{IsTableNetwork, Holds, HaveNone, IsRouteLine}
 use Rattle.netset_lib.specs.Routing.{AreTableNetworks, InTable, HasEnds, HoldsEnds, IsLongestIfAny, route_line}
 use Rattle.netset_lib.proofs.TableLaws.{plain_route, table_good}
 
@@ -145,34 +145,13 @@ entries_some grammar list line ((b ∷ text) ∷ texts) entries refusals (inr (m
 -- ---- lines
 
 -- the line with what was found
-line_found : (IsOne : Network → Type 0) (e : ListEntry) (found : Option IpNet)
+pub line_found : (IsOne : Network → Type 0) (e : ListEntry) (found : Option IpNet)
     → IsLongestIfAny IsOne (HoldsEnds e) found → IsRouteLine IsOne HoldsEnds e (route_line e.text found)
 line_found IsOne e None h = inr (h, refl)
 line_found IsOne e (Some network) h = inl (ip_network network, h, refl)
 
-lines_push : (IsOne : Network → Type 0) (entries : List ListEntry) (e : ListEntry) (text line : List ℕ)
-    → AreRouteLines IsOne HoldsEnds entries text → IsRouteLine IsOne HoldsEnds e line
-    → AreRouteLines IsOne HoldsEnds (entries ++ e ∷ []) (text ++ line)
-lines_push IsOne [] e text line h is =
-    (line, [], ap (λ t. t ++ line) h ∙ sym (append-nil line), is, refl)
-lines_push IsOne (first ∷ entries) e text line (own, rest, cut, is_own, h) is = (
-  own,
-  rest ++ line,
-  ap (λ t. t ++ line) cut ∙ append_assoc own rest line,
-  is_own,
-  lines_push IsOne entries e rest line h is,
-)
-
--- one line more
-pub one_routed : (IsOne : Network → Type 0) (entries : List ListEntry) (e : ListEntry) (text new : List ℕ)
-    (found : Option IpNet) → AreRouteLines IsOne HoldsEnds entries text → IsLongestIfAny IsOne (HoldsEnds e) found
-    → new ≡ text ++ route_line e.text found → AreRouteLines IsOne HoldsEnds (entries ++ e ∷ []) new
-one_routed IsOne entries e text new found h longest is =
-    subst (AreRouteLines IsOne HoldsEnds (entries ++ e ∷ [])) (sym is)
-    (lines_push IsOne entries e text (route_line e.text found) h (line_found IsOne e found longest))
-
--- the same lines, where the two tables have the same networks, and the entry has an address
-line_same : (IsOne IsOther : Network → Type 0) (e : ListEntry) (line : List ℕ)
+-- the same line, where the two tables have the same networks, and the entry has an address
+pub line_same : (IsOne IsOther : Network → Type 0) (e : ListEntry) (line : List ℕ)
     → ((n : Network) → IsOne n ↔ IsOther n) → HasSome e → IsRouteLine IsOne HoldsEnds e line
     → IsRouteLine IsOther Holds e line
 line_same IsOne IsOther e line same some (inl (n, longest, is)) = inl (
@@ -187,36 +166,10 @@ line_same IsOne IsOther e line same some (inl (n, longest, is)) = inl (
 line_same IsOne IsOther e line same some (inr (none, is)) =
     inr (λ k one holds. none k ((same k).1 one) ((ends_hold e.range k some).1 holds), is)
 
-line_by : (IsOne IsOther : Network → Type 0) (e : ListEntry) (line : List ℕ)
-    → ((n : Network) → IsOne n ↔ IsOther n) → IsRouteLine IsOne HoldsEnds e line
-    → IsRouteLine IsOther HoldsEnds e line
-line_by IsOne IsOther e line same (inl (n, longest, is)) = inl (
-  n,
-  record {
-    network = (same n).0 longest.network;
-    holds = longest.holds;
-    longest = λ k one. longest.longest k ((same k).1 one);
-  },
-  is,
+-- no network of either table holds the entry
+pub none_same : (IsOne IsOther : Network → Type 0) (e : ListEntry) → ((n : Network) → IsOne n ↔ IsOther n)
+    → HasSome e → HaveNone IsOne (HoldsEnds e) ↔ HaveNone IsOther (Holds e)
+none_same IsOne IsOther e same some = (
+  λ none k one holds. none k ((same k).1 one) ((ends_hold e.range k some).1 holds),
+  λ none k one holds. none k ((same k).0 one) ((ends_hold e.range k some).0 holds),
 )
-line_by IsOne IsOther e line same (inr (none, is)) = inr (λ k one. none k ((same k).1 one), is)
-
-pub lines_same : (IsOne IsOther : Network → Type 0) (entries : List ListEntry) (text : List ℕ)
-    → ((n : Network) → IsOne n ↔ IsOther n) → All HasSome entries → AreRouteLines IsOne HoldsEnds entries text
-    → AreRouteLines IsOther Holds entries text
-lines_same IsOne IsOther [] text same some h = h
-lines_same IsOne IsOther (e ∷ entries) text same some (line, rest, cut, is, h) = (
-  line,
-  rest,
-  cut,
-  line_same IsOne IsOther e line same (All-head HasSome e entries some) is,
-  lines_same IsOne IsOther entries rest same (All-tail HasSome e entries some) h,
-)
-
--- the same lines by another table with the same networks
-pub lines_by : (IsOne IsOther : Network → Type 0) (entries : List ListEntry) (text : List ℕ)
-    → ((n : Network) → IsOne n ↔ IsOther n) → AreRouteLines IsOne HoldsEnds entries text
-    → AreRouteLines IsOther HoldsEnds entries text
-lines_by IsOne IsOther [] text same h = h
-lines_by IsOne IsOther (e ∷ entries) text same (line, rest, cut, is, h) =
-    (line, rest, cut, line_by IsOne IsOther e line same is, lines_by IsOne IsOther entries rest same h)

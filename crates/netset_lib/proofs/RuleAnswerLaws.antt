@@ -141,3 +141,8 @@ pub unreached_all : (lines : List LineOfRule) (found : List Unreached) (i : ℕ)
     → text ≡ old ++ unreached_lines lines found
 unreached_all lines found i old text past h =
     sym (ap (λ z. text ++ unreached_lines lines z) (drop_all i found past) ∙ append-nil text) ∙ h
+
+-- a text for which the status is not 1 is empty
+pub none_or_some : (text : List ℕ) (status : ℕ) → status ≡ 0 → ((text ≡ [] → ⊥) → status ≡ 1) → text ≡ []
+none_or_some [] status none some = refl
+none_or_some (b ∷ text) status none some = absurd (omega (arith, none, some (λ e. absurd (omega (arith, ap length e)))))

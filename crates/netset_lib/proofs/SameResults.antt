@@ -26,7 +26,7 @@ nots : {A B : Type 0} → A ↔ B → (¬ A) ↔ (¬ B)
 nots f = (λ h b. h (f.1 b), λ h a. h (f.0 a))
 
 module _ (x : Address) where
-  some_same : (sets : List IpSet) (lists : List (List ListEntry)) → HaveMembers sets lists
+  pub some_same : (sets : List IpSet) (lists : List (List ListEntry)) → HaveMembers sets lists
       → IsInSome IsMember sets x ↔ IsInSome IsInEntries lists x
   some_same [] [] h = (λ k. absurd (some_none IsMember x k), λ k. absurd (some_none IsInEntries x k))
   some_same [] (l ∷ lists) h = absurd h

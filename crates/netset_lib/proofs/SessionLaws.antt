@@ -1,8 +1,7 @@
 -- What a session keeps of lists, and the answer that it makes of that.
-use Rattle.std.proofs.Common.{◌≡◌, ◌≢◌, ℕ, ◌+◌, ◌↔◌, List, [], ◌∷◌, ◌++◌, All, length, refl, sym, ap, ◌∙◌, subst, arith}
-use Rattle.std.proofs.Common.{string_bytes}
-use Rattle.ipnet_base.specs.Address.{Address, IsAddress, address_at}
-use Rattle.ipnet_base.specs.Network.{Network}
+use Rattle.std.proofs.Common.{◌≡◌, ◌≢◌, ℕ, ◌+◌, ◌↔◌, Bool, true, false, not, List, [], ◌∷◌, ◌++◌, All, length, refl}
+use Rattle.std.proofs.Common.{sym, ap, ◌∙◌, subst, arith, string_bytes, Some}
+use Rattle.ipnet_base.specs.Address.{Address, address_at}
 use Rattle.ipnet.specs.declared.parser.Grammar.{Grammar}
 use Rattle.ipnet_sets.specs.declared.set.IpSet.{IpSet}
 use Rattle.ipnet_sets.specs.Members.{IsMember, HasNoAddress}
@@ -13,13 +12,16 @@ use Rattle.std.proofs.lemmas.List.Elements.{All-head}
 use Rattle.netset_lib.specs.declared.answer.Request.{Request}
 use Rattle.netset_lib.specs.declared.command.Work.{Work}
 use Rattle.netset_lib.specs.declared.command.Work.TheVariants.{Combine, Ask}
-use Rattle.netset_lib.specs.declared.filter.Side.{Side}
+use Rattle.netset_lib.specs.declared.answer.Answer.{Answer}
+use Rattle.netset_lib.specs.declared.answerer.Answerer.{Answerer}
+use Rattle.netset_lib.specs.declared.query.Query.{Query}
 use Rattle.netset_lib.specs.declared.query.Query.TheVariants.{Count, Compare, Filter, Route}
 use Rattle.netset_lib.specs.declared.session.Session.{Session}
 use Rattle.netset_lib.specs.Answers.{AreListsRead, IsSetText, IsAnswer, IsNamedComplement, IsNamedOperation}
-use Rattle.netset_lib.specs.Counts.{IsCountsLine, IsComparison, IsCountAnswer, IsCompareAnswer}
-use Rattle.netset_lib.specs.Filtering.{AreFiltered}
-use Rattle.netset_lib.specs.Filters.{IsOnSide, IsFilterAnswer}
+use Rattle.netset_lib.specs.Answering.{IsAnswererFor, AreAnswersBy}
+use Rattle.netset_lib.specs.Counts.{Names, IsComparison, IsCountAnswer, IsCompareAnswer}
+use Rattle.netset_lib.specs.EntryAnswers.{IsFoundIn}
+use Rattle.netset_lib.specs.Filters.{IsFilterAnswer}
 use Rattle.netset_lib.specs.Lists.{ListEntry, Refusal, AreRead, IsInEntries, HaveAddresses}
 use Rattle.netset_lib.specs.ListSets.{HaveMembers}
 use Rattle.netset_lib.specs.Operations.{IsInResult, IsCountFor}
@@ -27,15 +29,15 @@ use Rattle.netset_lib.specs.PairSets.{ArePairSets}
 use Rattle.netset_lib.specs.PlanAnswers.{IsResultSet}
 use Rattle.netset_lib.specs.declared.operation.Families.TheVariants.{Named}
 use Rattle.netset_lib.specs.declared.operation.Operation.TheVariants.{Complement}
-use Rattle.netset_lib.specs.Replies.{work_grammar, TakesCount, IsWorkAnswer}
-use Rattle.netset_lib.specs.RouteAnswers.{IsTableNetwork, Holds, AreRouteLines, IsRouteAnswer}
-use Rattle.netset_lib.specs.Routing.{AreTableNetworks, InTable, HoldsEnds}
-use Rattle.netset_lib.specs.Sessions.{WereRead, IsState, IsFilterState, IsRouteState, IsTextFor}
+use Rattle.netset_lib.specs.Replies.{work_grammar, TakesCount, IsWorkAnswer, AreReplies, IsFoundFor, IsKept}
+use Rattle.netset_lib.specs.Replies.{HasNoRoute, IsOutcome, AreCompared, HasFound}
+use Rattle.netset_lib.specs.RouteAnswers.{IsRouteAnswer}
+use Rattle.netset_lib.specs.Sessions.{WereRead, IsState, IsAskState, IsReplyOf}
 use Rattle.netset_lib.proofs.AnswerTexts.{text_of_same}
-use Rattle.netset_lib.proofs.CountTexts.{counts_same, comparison_same}
-use Rattle.netset_lib.proofs.FilterLaws.{filtered_same, side_same}
+use Rattle.netset_lib.proofs.AnsweringLaws.{replies_right, found_right}
+use Rattle.netset_lib.proofs.CountTexts.{comparison_same}
 use Rattle.netset_lib.proofs.ListsReading.{lists_count, none_of_length}
-use Rattle.netset_lib.proofs.RouteLaws.{lines_by, lines_same, entries_some, HasSome}
+use Rattle.netset_lib.proofs.RouteLaws.{entries_some, HasSome}
 use Rattle.netset_lib.proofs.SameResults.{result_same}
 
 -- ---- texts of sets, and of the lists that the sets were read from
@@ -52,12 +54,6 @@ combined_right request sets entries set text members same right =
       λ k. (same x).1 ((result_same x request.operation sets entries members).1 k),
     )) right
 
-pub count_right : (sets : List IpSet) (set : IpSet) (entries : List ListEntry) (text : List ℕ) → sets ≡ set ∷ []
-    → HaveMembers sets (entries ∷ []) → IsCountsLine (IsMember set) text → IsCountsLine (IsInEntries entries) text
-count_right sets set entries text one members right =
-    counts_same (IsMember set) (IsInEntries entries) text
-    (subst (λ z. HaveMembers z (entries ∷ [])) one members).0 right
-
 pub compare_right : (sets : List IpSet) (a b : IpSet) (first second : List ListEntry) (text : List ℕ)
     → sets ≡ a ∷ b ∷ [] → HaveMembers sets (first ∷ second ∷ []) → IsComparison (IsMember a) (IsMember b) text
     → IsComparison (IsInEntries first) (IsInEntries second) text
@@ -65,52 +61,24 @@ compare_right sets a b first second text two members right =
     let both = subst (λ z. HaveMembers z (first ∷ second ∷ [])) two members in
     comparison_same (IsMember a) (IsMember b) (IsInEntries first) (IsInEntries second) text both.0 both.1.0 right
 
--- ---- a filter, one list after the other
+-- ---- a filter or a route, one list after the other
 
-pub filter_first : (side : Side) (s : Session) (set wanted : IpSet) (entries : List ListEntry)
-    (before : List (List ListEntry)) (old : List IpSet) → length before ≡ 0 → (before ≡ [] → old ≡ [])
-    → s.sets.items ≡ old ++ wanted ∷ [] → HaveAddresses (IsMember set) entries
-    → ((x : Address) → IsAddress x → IsMember wanted x ↔ IsOnSide side (IsMember set) x)
-    → IsFilterState side s (before ++ entries ∷ [])
-filter_first side s set wanted entries [] old none start pushed same on = (
-  wanted,
-  pushed ∙ ap (λ z. z ++ wanted ∷ []) (start refl),
-  λ x fits.
-      let sides = side_same side (IsMember set) (IsInEntries entries) x (same x) in
-      (λ m. sides.0 ((on x fits).0 m), λ o. (on x fits).1 (sides.1 o)),
-)
-filter_first side s set wanted entries (first ∷ before) old none start pushed same on = absurd (omega (arith, none))
+pub asked_first : (query : Query) (s : Session) (answerer : Answerer) (entries : List ListEntry)
+    (before : List (List ListEntry)) → length before ≡ 0 → s.answerer ≡ Some answerer
+    → IsAnswererFor query answerer entries → IsAskState query s (before ++ entries ∷ [])
+asked_first query s answerer entries [] none is for = (answerer, is, for)
+asked_first query s answerer entries (first ∷ before) none is for = absurd (omega (arith, none))
 
-pub filter_second : (side : Side) (old s : Session) (set : IpSet) (entries : List ListEntry)
-    (before : List (List ListEntry)) → length before ≡ 1 → IsFilterState side old before
-    → old.sets.items ≡ set ∷ [] → AreFiltered (IsMember set) (string_bytes s.text) entries
-    → IsFilterState side s (before ++ entries ∷ [])
-filter_second side old s set entries [] one state is filtered = absurd (omega (arith, one))
-filter_second side old s set entries (first ∷ []) one (kept, sets, same) is filtered =
-    let both : kept ∷ [] ≡ set ∷ [] = sym sets ∙ is in
-    filtered_same (IsMember set) (IsOnSide side (IsInEntries first)) entries (string_bytes s.text)
-    (subst (λ z. (x : Address) → IsAddress x → IsMember z x ↔ IsOnSide side (IsInEntries first) x) (head_same both)
-    same) filtered
-  where
-    head_same : {a b : IpSet} → a ∷ [] ≡ b ∷ [] → a ≡ b
-    head_same e = cc
-filter_second side old s set entries (first ∷ second ∷ before) one state is filtered = absurd (omega (arith, one))
-
--- ---- a route, one list after the other
-
-pub route_first : (s : Session) (entries : List ListEntry) (before : List (List ListEntry)) → length before ≡ 0
-    → AreTableNetworks (InTable s.table) entries → IsRouteState s (before ++ entries ∷ [])
-route_first s entries [] none networks = networks
-route_first s entries (first ∷ before) none networks = absurd (omega (arith, none))
-
-pub route_second : (old s : Session) (entries : List ListEntry) (before : List (List ListEntry))
-    → length before ≡ 1 → IsRouteState old before
-    → AreRouteLines (InTable old.table) HoldsEnds entries (string_bytes s.text)
-    → IsRouteState s (before ++ entries ∷ [])
-route_second old s entries [] one state lines = absurd (omega (arith, one))
-route_second old s entries (first ∷ []) one state lines =
-    lines_by (InTable old.table) (IsTableNetwork first) entries (string_bytes s.text) state lines
-route_second old s entries (first ∷ second ∷ before) one state lines = absurd (omega (arith, one))
+pub asked_second : (query : Query) (old s : Session) (answerer : Answerer) (entries : List ListEntry)
+    (before : List (List ListEntry)) → length before ≡ 1 → IsAskState query old before
+    → old.answerer ≡ Some answerer → AreAnswersBy answerer s.answers entries
+    → IsAskState query s (before ++ entries ∷ [])
+asked_second query old s answerer entries [] one state is answers = absurd (omega (arith, one))
+asked_second query old s answerer entries (first ∷ []) one (kept, has, for) is answers =
+    let both : Some kept ≡ Some answerer = sym has ∙ is in
+    let same : kept ≡ answerer = cc in
+    (answerer, subst (λ z. IsAnswererFor query z first) same for, answers)
+asked_second query old s answerer entries (first ∷ second ∷ before) one state is answers = absurd (omega (arith, one))
 
 -- ---- the answer
 
@@ -258,63 +226,101 @@ pair_right grammar lists s front one other h none two is =
         record { first = a; second = b; read = read; of_first = both.0; of_second = both.1 }
     go (a ∷ b ∷ c ∷ entries) count read state = absurd (omega (arith, count))
 
-module _ (lists : List (List ℕ)) (s : Session) (answer : List ℕ) where
+pub not_not : (b : Bool) → not (not b) ≡ b
+not_not true = refl
+not_not false = refl
+
+module _ (names : Names) (lists : List (List ℕ)) (s : Session) (answer : Answer) where
+  asked_right : (query : Query) (grammar : Grammar) (a b : List ListEntry)
+      → AreListsRead grammar 0 lists (a ∷ b ∷ []) [] → IsAskState query s (a ∷ b ∷ [])
+      → answer.text ≡ s.answers.text
+      → AreReplies query a b (string_bytes answer.text) × IsFoundIn (IsFoundFor query a) s.answers.found b
+  asked_right query grammar a b read (answerer, for, made) text =
+      let some = second_some grammar lists a b read in (
+        subst (AreReplies query a b) (ap string_bytes (sym text))
+            (replies_right query answerer a b (string_bytes s.answers.text) for some made.text),
+        found_right query answerer a b (string_bytes s.answers.text) s.answers.found for some made.text made.found,
+      )
+
   right_by_entries : (work : Work) (entries : List (List ListEntry)) → TakesCount work (length lists)
       → length entries ≡ length lists → AreListsRead (work_grammar work) 0 lists entries [] → IsState work s entries
       → (IsNamedComplement work → (set : IpSet) → s.sets.items ≡ set ∷ [] → ¬ (HasNoAddress set))
-      → IsTextFor work s.sets.items (string_bytes s.text) answer → IsWorkAnswer work lists answer
-  right_by_entries (Combine request) entries count same read state some text = record {
-    count = count;
-    entries = entries;
-    read = read;
-    right = text entries state;
-    named = λ is. family_some s.sets.items entries state (some is);
-  }
-  right_by_entries (Ask Count grammar) [] count same read state some text = absurd (omega (arith, count, same))
-  right_by_entries (Ask Count grammar) (list ∷ []) count same read state some text =
-      record { entries = list; read = read; right = text list state }
-  right_by_entries (Ask Count grammar) (list ∷ second ∷ others) count same read state some text =
+      → IsReplyOf work names s.sets.items s.answers answer
+      → IsWorkAnswer work names lists (string_bytes answer.text) × IsOutcome work lists answer.succeeded
+  right_by_entries (Combine request) entries count same read state some reply = (
+    record {
+      count = count;
+      entries = entries;
+      read = read;
+      right = reply.1 entries state;
+      named = λ is. family_some s.sets.items entries state (some is);
+    },
+    reply.0,
+  )
+  right_by_entries (Ask Count grammar) entries count same read state some reply =
+      (record { entries = entries; read = read; right = reply.1 entries state }, reply.0)
+  right_by_entries (Ask Compare grammar) [] count same read state some reply = absurd (omega (arith, count, same))
+  right_by_entries (Ask Compare grammar) (a ∷ []) count same read state some reply = absurd (omega (arith, count, same))
+  right_by_entries (Ask Compare grammar) (a ∷ b ∷ []) count same read state some reply =
+      let (right, none) = reply a b state in (
+        record { first = a; second = b; read = read; right = right },
+        record {
+          first = a;
+          second = b;
+          read = read;
+          is_same = (λ t. right.only (none.0 t), λ are. none.1 (right.same are));
+        },
+      )
+  right_by_entries (Ask Compare grammar) (a ∷ b ∷ c ∷ others) count same read state some reply =
       absurd (omega (arith, count, same))
-  right_by_entries (Ask Compare grammar) [] count same read state some text = absurd (omega (arith, count, same))
-  right_by_entries (Ask Compare grammar) (a ∷ []) count same read state some text = absurd (omega (arith, count, same))
-  right_by_entries (Ask Compare grammar) (a ∷ b ∷ []) count same read state some text =
-      record { first = a; second = b; read = read; right = text a b state }
-  right_by_entries (Ask Compare grammar) (a ∷ b ∷ c ∷ others) count same read state some text =
+  right_by_entries (Ask (Filter side) grammar) [] count same read state some reply =
       absurd (omega (arith, count, same))
-  right_by_entries (Ask (Filter side) grammar) [] count same read state some text = absurd (omega (arith, count, same))
-  right_by_entries (Ask (Filter side) grammar) (a ∷ []) count same read state some text =
+  right_by_entries (Ask (Filter side) grammar) (a ∷ []) count same read state some reply =
       absurd (omega (arith, count, same))
-  right_by_entries (Ask (Filter side) grammar) (a ∷ b ∷ []) count same read state some text = record {
-    set = a;
-    entries = b;
-    read = read;
-    kept = state.kept;
-    are_kept = state.are_kept;
-    spelled = text ∙ state.spelled;
-  }
-  right_by_entries (Ask (Filter side) grammar) (a ∷ b ∷ c ∷ others) count same read state some text =
+  right_by_entries (Ask (Filter side) grammar) (a ∷ b ∷ []) count same read state some reply =
+      let (replies, found) = asked_right (Filter side) grammar a b read state reply.0 in (
+        record {
+          set = a;
+          entries = b;
+          read = read;
+          kept = replies.0;
+          are_kept = replies.1;
+          spelled = replies.2;
+        },
+        record {
+          first = a;
+          second = b;
+          read = read;
+          is_found = subst (λ z. IsFoundIn (IsKept side a) z b) (sym reply.1) found;
+        },
+      )
+  right_by_entries (Ask (Filter side) grammar) (a ∷ b ∷ c ∷ others) count same read state some reply =
       absurd (omega (arith, count, same))
-  right_by_entries (Ask Route grammar) [] count same read state some text = absurd (omega (arith, count, same))
-  right_by_entries (Ask Route grammar) (a ∷ []) count same read state some text = absurd (omega (arith, count, same))
-  right_by_entries (Ask Route grammar) (a ∷ b ∷ []) count same read state some text = record {
-    table = a;
-    entries = b;
-    read = read;
-    right = subst (AreRouteLines (IsTableNetwork a) Holds b) (sym text)
-        (lines_same (IsTableNetwork a) (IsTableNetwork a) b (string_bytes s.text) (λ n. (λ t. t, λ t. t))
-        (second_some grammar lists a b read) state);
-  }
-  right_by_entries (Ask Route grammar) (a ∷ b ∷ c ∷ others) count same read state some text =
+  right_by_entries (Ask Route grammar) [] count same read state some reply = absurd (omega (arith, count, same))
+  right_by_entries (Ask Route grammar) (a ∷ []) count same read state some reply = absurd (omega (arith, count, same))
+  right_by_entries (Ask Route grammar) (a ∷ b ∷ []) count same read state some reply =
+      let (replies, found) = asked_right Route grammar a b read state reply.0 in (
+        record { table = a; entries = b; read = read; right = replies },
+        record {
+          first = a;
+          second = b;
+          read = read;
+          is_found = subst (λ z. IsFoundIn (HasNoRoute a) z b)
+              (sym (ap not reply.1 ∙ not_not s.answers.found)) found;
+        },
+      )
+  right_by_entries (Ask Route grammar) (a ∷ b ∷ c ∷ others) count same read state some reply =
       absurd (omega (arith, count, same))
 
   pub right_answer : (work : Work) → WereRead work lists s → TakesCount work (length lists)
       → s.reading.lines.refused.count ≡ 0
       → (IsNamedComplement s.work → (set : IpSet) → s.sets.items ≡ set ∷ [] → ¬ (HasNoAddress set))
-      → IsTextFor s.work s.sets.items (string_bytes s.text) answer → IsWorkAnswer work lists answer
-  right_answer work h count none some text =
+      → IsReplyOf s.work names s.sets.items s.answers answer
+      → IsWorkAnswer work names lists (string_bytes answer.text) × IsOutcome work lists answer.succeeded
+  right_answer work h count none some reply =
       right_by_entries work h.entries count (lists_count (work_grammar work) 0 lists h.entries h.refusals h.read)
       (subst (AreListsRead (work_grammar work) 0 lists h.entries)
       (none_of_length h.refusals (sym h.kept.count ∙ none)) h.read) h.state
       (subst (λ w. IsNamedComplement w → (set : IpSet) → s.sets.items ≡ set ∷ [] → ¬ (HasNoAddress set)) h.same_work
       some)
-      (subst (λ w. IsTextFor w s.sets.items (string_bytes s.text) answer) h.same_work text)
+      (subst (λ w. IsReplyOf w names s.sets.items s.answers answer) h.same_work reply)

@@ -16,7 +16,8 @@ use Rattle.ipnet_text.proofs.ClosedLines.{IsClosed, closed_append}
 use Rattle.netset_lib.specs.declared.reader.LineReader.{LineReader}
 use Rattle.netset_lib.specs.declared.reading.Reading.{Reading}
 use Rattle.netset_lib.specs.Lists.{after_mark, byte_order_mark, ListEntry, AreRead, AreContents}
-use Rattle.netset_lib.specs.Reading.{Adds, ReadsLines, pending, IsPastMark, TakesLines, WasMadeOf, HasMore}
+use Rattle.netset_lib.specs.Reading.{Adds, ReadsLines, pending, IsPastMark, IsBegun, TakesLines, WasMadeOf}
+use Rattle.netset_lib.specs.Reading.{HasMore, at_first_line}
 use Rattle.netset_lib.proofs.ListReading.{reads_none, reads_more}
 
 -- ---- a byte order mark
@@ -77,18 +78,6 @@ nothing_left bytes shown new_carry new_held count is all none rest =
 
 -- ---- a list up to what is pending
 
--- what reads lines, before the first line of a list
-abbrev pub at_first_line : LineReader → LineReader
-at_first_line r = record {
-  alloc = r.alloc;
-  grammar = r.grammar;
-  list = r.list;
-  line = 0;
-  refused = r.refused;
-  has_entry = false;
-  room = r.room;
-}
-
 -- the lines of the front of a list were read, behind a byte order mark if it has one
 pub record IsListUpTo (more : Bool) (left left_now : Option (List ℕ)) (start : LineReader) (now : Reading)
     (IsMade IsMadeNow : List ListEntry → Type 0) : Type 0 where
@@ -102,7 +91,7 @@ pub record IsListUpTo (more : Bool) (left left_now : Option (List ℕ)) (start :
   pub lines : ReadsLines start now.lines (lines_of front) IsMade IsMadeNow
 
 -- nothing was read but a byte order mark
-pub up_to_mark : (more : Bool) (left left_now : Option (List ℕ)) (old now : Reading)
+up_to_mark : (more : Bool) (left left_now : Option (List ℕ)) (old now : Reading)
     (IsMade : List ListEntry → Type 0) → old.carry.items ≡ [] → IsPastMark more left left_now old now
     → IsListUpTo more left left_now old.lines now IsMade IsMade
 up_to_mark more left left_now old now IsMade none h =
@@ -117,6 +106,14 @@ up_to_mark more left left_now old now IsMade none h =
       end = h.end;
       lines = rw h.same_lines (reads_none old.lines IsMade);
     }
+
+-- a list that was begun
+pub up_to_begin : (more : Bool) (left left_now : Option (List ℕ)) (old now : Reading)
+    (IsMade : List ListEntry → Type 0) → IsBegun more left left_now old now
+    → IsListUpTo more left left_now (at_first_line old.lines) now IsMade IsMade
+up_to_begin more left left_now old now IsMade h =
+    subst (λ r. IsListUpTo more left left_now r now IsMade IsMade) h.lines
+    (up_to_mark more left left_now h.start now IsMade h.none h.past)
 
 -- and more lines, while more bytes may come
 pub up_to_lines : (left left_now : Option (List ℕ)) (start : LineReader) (now next : Reading)

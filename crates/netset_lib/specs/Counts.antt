@@ -1,7 +1,9 @@
 -- Counting the addresses of a list, and comparing two lists; and the texts of the results.
-use Rattle.std.specs.Prelude.{◌≡◌, ◌↔◌, ℕ, List, [], ◌∷◌, ◌++◌, codes, decimal}
+use Rattle.std.specs.Prelude.{◌≡◌, ◌↔◌, ℕ, ◌+◌, List, [], ◌∷◌, ◌++◌, codes, decimal, slice_get, Option, Some, None}
+use Rattle.std.specs.Borrow.{Bor}
 use Rattle.ipnet_base.specs.Address.{IPv4, IPv6, Address}
 use Rattle.ipnet.specs.declared.parser.Grammar.{Grammar}
+use Rattle.ipnet_sets.specs.ManySets.{IsInSome}
 use Rattle.ipnet_sets.specs.Members.{IsCountOf}
 use Rattle.netset_lib.specs.Answers.{AreListsRead}
 use Rattle.netset_lib.specs.Lists.{ListEntry, IsInEntries}
@@ -22,31 +24,80 @@ pub record IsCountsLine (InSet : Address → Type 0) (line : List ℕ) : Type 0 
   pub counts : HasCounts InSet ipv4 ipv6
   pub spelled : line ≡ counts_line ipv4 ipv6
 
+-- The names of lists, in order.
+abbrev pub Names : Type 0
+Names = List (Bor (List ℕ))
+
+-- A name, or `list` for a list without a name.
+abbrev pub name_or_list : Option (Bor (List ℕ)) → List ℕ
+name_or_list None = codes "list"
+name_or_list (Some name) = name.now
+
+-- The name of the list with this index.
+abbrev pub name_at : Names → ℕ → List ℕ
+name_at names i = name_or_list (slice_get names i)
+
+-- A name and the two numbers, with a tab (9) before each number, on one line. Example: `a.txt`, `6` and `0`.
+abbrev pub count_line : List ℕ → ℕ → ℕ → List ℕ
+count_line name ipv4 ipv6 = name ++ 9 ∷ [] ++ decimal ipv4 ++ 9 ∷ [] ++ decimal ipv6 ++ 10 ∷ []
+
+-- The line with the name and the number of addresses of the set in each family.
+pub record IsCountLine (name : List ℕ) (InSet : Address → Type 0) (line : List ℕ) : Type 0 where
+  pub ipv4 : ℕ
+  pub ipv6 : ℕ
+  pub counts : HasCounts InSet ipv4 ipv6
+  pub spelled : line ≡ count_line name ipv4 ipv6
+
+-- A line for each list, with its name. The first of these lists has the index `i`.
+abbrev pub AreCountLines : {L : Type 0} → (L → Address → Type 0) → Names → ℕ → List L → List ℕ → Type 0
+AreCountLines In names i [] text = text ≡ []
+AreCountLines In names i (list ∷ lists) text =
+    (line : List ℕ) × (rest : List ℕ) × (text ≡ line ++ rest) × IsCountLine (name_at names i) (In list) line
+    × AreCountLines In names (i + 1) lists rest
+
+-- The line `total` with the addresses of all lists together, if there are two lists or more. Each address counts once.
+abbrev pub IsTotalText : {L : Type 0} → (L → Address → Type 0) → List L → List ℕ → Type 0
+IsTotalText In [] text = text ≡ []
+IsTotalText In (list ∷ []) text = text ≡ []
+IsTotalText In (first ∷ second ∷ others) text =
+    IsCountLine (codes "total") (IsInSome In (first ∷ second ∷ others)) text
+
+-- A line for each list, and the total.
+-- Example: `a`, 4, 0; `b`, 4, 1; `total`, 6, 1 for `10.0.0.0/30` in the list a, and `10.0.0.2-10.0.0.5`, `::1` in the
+-- list b.
+pub record IsCountText {L : Type 0} (In : L → Address → Type 0) (names : Names) (lists : List L)
+    (text : List ℕ) : Type 0 where
+  pub lines : List ℕ
+  pub total : List ℕ
+  pub each : AreCountLines In names 0 lists lines
+  pub all : IsTotalText In lists total
+  pub spelled : text ≡ lines ++ total
+
 -- The two sets have the same addresses.
 abbrev pub HaveSame : (Address → Type 0) → (Address → Type 0) → Type 0
 HaveSame First Second = (x : Address) → First x ↔ Second x
 
 -- A line with the number of addresses that are only in the first set, and a line for the second.
--- Example: for 10.0.0.0/31 and 10.0.0.1, `first alone: IPv4 1, IPv6 0` and `second alone: IPv4 0, IPv6 0`.
-pub record AreAloneLines (First Second : Address → Type 0) (text : List ℕ) : Type 0 where
+-- Example: for 10.0.0.0/31 and 10.0.0.1, `only in the first: IPv4 1, IPv6 0` and `only in the second: IPv4 0, IPv6 0`.
+pub record AreDifferences (First Second : Address → Type 0) (text : List ℕ) : Type 0 where
   pub first_line : List ℕ
   pub second_line : List ℕ
   pub first : IsCountsLine (λ x. First x × ¬ (Second x)) first_line
   pub second : IsCountsLine (λ x. Second x × ¬ (First x)) second_line
-  pub spelled : text ≡ codes "first alone: " ++ first_line ++ codes "second alone: " ++ second_line
+  pub spelled : text ≡ codes "only in the first: " ++ first_line ++ codes "only in the second: " ++ second_line
 
 -- The text is empty if and only if the two sets have the same addresses; otherwise it is these two lines.
 pub record IsComparison (First Second : Address → Type 0) (text : List ℕ) : Type 0 where
   pub same : HaveSame First Second → text ≡ []
   pub only : text ≡ [] → HaveSame First Second
-  pub differ : ¬ (HaveSame First Second) → AreAloneLines First Second text
+  pub differ : ¬ (HaveSame First Second) → AreDifferences First Second text
 
--- No line of the list is refused, and the text is its number of addresses.
--- Example: `IPv4 6, IPv6 0` for `10.0.0.0/30` and `10.0.0.2-10.0.0.5`. Each address counts once.
-pub record IsCountAnswer (grammar : Grammar) (lists : List (List ℕ)) (text : List ℕ) : Type 0 where
-  pub entries : List ListEntry
-  pub read : AreListsRead grammar 0 lists (entries ∷ []) []
-  pub right : IsCountsLine (IsInEntries entries) text
+-- No line of the lists is refused, and the text is their numbers of addresses.
+pub record IsCountAnswer (names : Names) (grammar : Grammar) (lists : List (List ℕ)) (text : List ℕ)
+    : Type 0 where
+  pub entries : List (List ListEntry)
+  pub read : AreListsRead grammar 0 lists entries []
+  pub right : IsCountText IsInEntries names entries text
 
 -- No line of the two lists is refused, and the text compares their addresses.
 pub record IsCompareAnswer (grammar : Grammar) (lists : List (List ℕ)) (text : List ℕ) : Type 0 where

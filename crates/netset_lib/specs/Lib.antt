@@ -13,10 +13,12 @@ pub mod Operations
 pub mod Outputs
 pub mod Answers
 pub mod Counts
+pub mod EntryAnswers
 pub mod Filters
 pub mod Filtering
 pub mod RouteAnswers
 pub mod Routing
+pub mod Answering
 pub mod ListSets
 pub mod ListTexts
 pub mod Replies
@@ -30,6 +32,7 @@ pub mod ListingSteps
 pub mod Runs
 pub mod Commands
 pub mod Sessions
+pub mod Streams
 pub mod RuleLines
 pub mod RuleContentsOf
 pub mod RuleSteps

@@ -75,6 +75,33 @@ pub record IsPastMark (more : Bool) (left left_after : Option (List ℕ)) (old n
       ≡ held new.window ++ rest
   pub end : more ≡ false → IsAtEnd left_after
 
+-- A reader of lines, before the first line of a list.
+abbrev pub at_first_line : LineReader → LineReader
+at_first_line r = record {
+  alloc = r.alloc;
+  grammar = r.grammar;
+  list = r.list;
+  line = 0;
+  refused = r.refused;
+  has_entry = false;
+  room = r.room;
+}
+
+-- A list was begun: no line of it was read, and its first bytes are pending, past a byte order mark.
+pub record IsBegun (more : Bool) (left left_after : Option (List ℕ)) (old new : Reading) : Type 0 where
+  pub start : Reading
+  pub none : start.carry.items ≡ []
+  pub lines : start.lines ≡ at_first_line old.lines
+  pub past : IsPastMark more left left_after start new
+
+-- More bytes are pending, and none of their lines was read.
+pub record GoesOn (more : Bool) (left left_after : Option (List ℕ)) (old new : Reading) : Type 0 where
+  pub given : List ℕ
+  pub is : pending new ≡ pending old ++ given
+  pub same_lines : new.lines ≡ old.lines
+  pub read : Consumes left left_after given
+  pub end : more ≡ false → IsAtEnd left_after
+
 -- The front of the pending bytes was read. It is complete lines, and if `more` is false, it is all.
 pub record TakesLines (more : Bool) (old new : Reading) (IsMade IsMadeNow : List ListEntry → Type 0) : Type 0 where
   pub front : List ℕ

@@ -1,5 +1,5 @@
 -- What is asked of lists, and the results.
-use Rattle.std.specs.Prelude.{◌≡◌, ℕ, List, [], ◌∷◌, length}
+use Rattle.std.specs.Prelude.{◌≡◌, ◌≤◌, ◌↔◌, Bool, IsTrue, not, ℕ, List, [], ◌∷◌, length}
 use Rattle.ipnet.specs.declared.parser.Grammar.{Grammar}
 use Rattle.netset_lib.specs.declared.answer.Failure.{Failure}
 use Rattle.netset_lib.specs.declared.answer.Failure.TheVariants as Failures
@@ -8,25 +8,27 @@ use Rattle.netset_lib.specs.declared.command.Work.TheVariants.{Combine, Ask}
 use Rattle.netset_lib.specs.declared.query.Query.{Query}
 use Rattle.netset_lib.specs.declared.query.Query.TheVariants.{Count, Compare, Filter, Route}
 use Rattle.netset_lib.specs.Answers.{AreListsRead, IsAnswer, IsNamedComplement, HasRefused}
-use Rattle.netset_lib.specs.Counts.{IsCountAnswer, IsCompareAnswer, HaveSame}
-use Rattle.netset_lib.specs.Filters.{IsFilterAnswer}
+use Rattle.netset_lib.specs.Counts.{Names, IsCountAnswer, IsCompareAnswer, HaveSame}
+use Rattle.netset_lib.specs.EntryAnswers.{IsFoundIn}
+use Rattle.netset_lib.specs.declared.filter.Side.{Side}
+use Rattle.netset_lib.specs.Filters.{IsOnSide, LiesIn, AreKept, text_of_entries, IsFilterAnswer}
 use Rattle.netset_lib.specs.Lists.{ListEntry, IsInEntries}
 use Rattle.netset_lib.specs.Operations.{IsCountFor}
-use Rattle.netset_lib.specs.RouteAnswers.{IsRouteAnswer}
+use Rattle.netset_lib.specs.RouteAnswers.{IsTableNetwork, Holds, HaveNone, AreRouteLines, IsRouteAnswer}
 
--- The number of lists that the query takes.
-abbrev pub count_for : Query → ℕ
-count_for Count = 1
-count_for Compare = 2
-count_for (Filter side) = 2
-count_for Route = 2
+-- The query takes this number of lists.
+abbrev pub IsCountOfLists : Query → ℕ → Type 0
+IsCountOfLists Count n = 1 ≤ n
+IsCountOfLists Compare n = n ≡ 2
+IsCountOfLists (Filter side) n = n ≡ 2
+IsCountOfLists Route n = n ≡ 2
 
--- The text of the query's result for the lists.
-abbrev pub IsReply : Query → Grammar → List (List ℕ) → List ℕ → Type 0
-IsReply Count = IsCountAnswer
-IsReply Compare = IsCompareAnswer
-IsReply (Filter side) = IsFilterAnswer side
-IsReply Route = IsRouteAnswer
+-- The text of the query's result for the lists, which have these names.
+abbrev pub IsReply : Query → Names → Grammar → List (List ℕ) → List ℕ → Type 0
+IsReply Count names = IsCountAnswer names
+IsReply Compare names = IsCompareAnswer
+IsReply (Filter side) names = IsFilterAnswer side
+IsReply Route names = IsRouteAnswer
 
 -- The grammar of the entries.
 abbrev pub work_grammar : Work → Grammar
@@ -36,12 +38,12 @@ work_grammar (Ask query grammar) = grammar
 -- The work takes this number of lists.
 abbrev pub TakesCount : Work → ℕ → Type 0
 TakesCount (Combine request) n = IsCountFor request.operation n
-TakesCount (Ask query grammar) n = n ≡ count_for query
+TakesCount (Ask query grammar) n = IsCountOfLists query n
 
--- The text that is the answer over the lists.
-abbrev pub IsWorkAnswer : Work → List (List ℕ) → List ℕ → Type 0
-IsWorkAnswer (Combine request) = IsAnswer request
-IsWorkAnswer (Ask query grammar) = IsReply query grammar
+-- The text that is the answer over the lists, which have these names.
+abbrev pub IsWorkAnswer : Work → Names → List (List ℕ) → List ℕ → Type 0
+IsWorkAnswer (Combine request) names = IsAnswer request
+IsWorkAnswer (Ask query grammar) names = IsReply query names grammar
 
 -- Why there is no answer: a wrong number of lists, refused lines, a complement for the families of a list without
 -- entries, or out of memory. When memory runs out is not specified.
@@ -65,3 +67,51 @@ pub record AreOtherLists (grammar : Grammar) (lists : List (List ℕ)) : Type 0 
   pub second : List ListEntry
   pub read : AreListsRead grammar 0 lists (first ∷ second ∷ []) []
   pub differ : ¬ (HaveSame (IsInEntries first) (IsInEntries second))
+
+-- No line of the two lists is refused. `same` says whether they have the same addresses.
+pub record AreCompared (grammar : Grammar) (lists : List (List ℕ)) (same : Bool) : Type 0 where
+  pub first : List ListEntry
+  pub second : List ListEntry
+  pub read : AreListsRead grammar 0 lists (first ∷ second ∷ []) []
+  pub is_same : IsTrue same ↔ HaveSame (IsInEntries first) (IsInEntries second)
+
+-- No line of the two lists is refused. `found` says whether an entry of the second list has the property that `Has`
+-- defines by the entries of the first.
+pub record HasFound (Has : List ListEntry → ListEntry → Type 0) (grammar : Grammar) (lists : List (List ℕ))
+    (found : Bool) : Type 0 where
+  pub first : List ListEntry
+  pub second : List ListEntry
+  pub read : AreListsRead grammar 0 lists (first ∷ second ∷ []) []
+  pub is_found : IsFoundIn (Has first) found second
+
+-- The entry is on this side of the list.
+abbrev pub IsKept : Side → List ListEntry → ListEntry → Type 0
+IsKept side first e = LiesIn (IsOnSide side (IsInEntries first)) e
+
+-- No network of the table contains the entry.
+abbrev pub HasNoRoute : List ListEntry → ListEntry → Type 0
+HasNoRoute table e = HaveNone (IsTableNetwork table) (Holds e)
+
+-- The entries by which the status of the query is chosen: those that a filter prints, and those that have no route.
+abbrev pub IsFoundFor : Query → List ListEntry → ListEntry → Type 0
+IsFoundFor Count first = λ e. ⊥
+IsFoundFor Compare first = λ e. ⊥
+IsFoundFor (Filter side) first = IsKept side first
+IsFoundFor Route first = HasNoRoute first
+
+-- The text is the answers of a filter or a route to the entries `second`, by the entries `first`.
+abbrev pub AreReplies : Query → List ListEntry → List ListEntry → List ℕ → Type 0
+AreReplies Count first second text = ⊥
+AreReplies Compare first second text = ⊥
+AreReplies (Filter side) first second text = (kept : List ListEntry)
+    × AreKept (IsKept side first) second kept × (text ≡ text_of_entries kept)
+AreReplies Route first second text = AreRouteLines (IsTableNetwork first) Holds second text
+
+-- Whether the work succeeds: two lists have the same addresses, a filter prints an entry, each entry has a route. Any
+-- other work succeeds.
+abbrev pub IsOutcome : Work → List (List ℕ) → Bool → Type 0
+IsOutcome (Combine request) lists succeeded = IsTrue succeeded
+IsOutcome (Ask Count grammar) lists succeeded = IsTrue succeeded
+IsOutcome (Ask Compare grammar) lists succeeded = AreCompared grammar lists succeeded
+IsOutcome (Ask (Filter side) grammar) lists succeeded = HasFound (IsKept side) grammar lists succeeded
+IsOutcome (Ask Route grammar) lists succeeded = HasFound HasNoRoute grammar lists (not succeeded)

@@ -7,6 +7,7 @@ use Rattle.ipnet.specs.CanonicalTexts.{canonical_text}
 use Rattle.ipnet.specs.declared.parser.Grammar.{Grammar}
 use Rattle.ipnet_sets.specs.SetRanges.{IsInRange}
 use Rattle.netset_lib.specs.Answers.{AreListsRead}
+use Rattle.netset_lib.specs.EntryAnswers.{AreAnswers}
 use Rattle.netset_lib.specs.Lists.{ListEntry}
 
 -- The network is a maximal block of an entry of the table.
@@ -37,10 +38,7 @@ IsRouteLine InTable Holding e line =
 
 -- The lines of the entries, in order.
 abbrev pub AreRouteLines : (Network → Type 0) → (ListEntry → Network → Type 0) → List ListEntry → List ℕ → Type 0
-AreRouteLines InTable Holding [] text = text ≡ []
-AreRouteLines InTable Holding (e ∷ entries) text =
-    (line : List ℕ) × (rest : List ℕ) × (text ≡ line ++ rest) × IsRouteLine InTable Holding e line
-    × AreRouteLines InTable Holding entries rest
+AreRouteLines InTable Holding = AreAnswers (IsRouteLine InTable Holding)
 
 -- No line of the two lists is refused, and the text has a line for each entry of the second list, with the first as the
 -- table.

@@ -1,50 +1,42 @@
 -- The lists that a session has read.
-use Rattle.std.specs.Prelude.{◌≡◌, ◌≢◌, ◌↔◌, ℕ, Bool, true, List, [], ◌∷◌, ◌++◌, length, string_bytes, Option}
-use Rattle.ipnet_base.specs.Address.{Address, IsAddress}
-use Rattle.ipnet_sets.specs.Members.{IsMember}
+use Rattle.std.specs.Prelude.{◌≡◌, ◌≢◌, ◌↔◌, IsTrue, ℕ, Bool, true, not, List, [], ◌∷◌, ◌++◌, length, string_bytes}
+use Rattle.std.specs.Prelude.{Option, Some}
 use Rattle.ipnet_sets.specs.declared.set.IpSet.{IpSet}
 use Rattle.ipnet.specs.declared.parser.Grammar.{Grammar}
+use Rattle.netset_lib.specs.declared.answer.Answer.{Answer}
+use Rattle.netset_lib.specs.declared.answerer.Answerer.{Answerer}
+use Rattle.netset_lib.specs.declared.answerer.Answers.{Answers}
 use Rattle.netset_lib.specs.declared.command.Work.{Work}
 use Rattle.netset_lib.specs.declared.command.Work.TheVariants.{Combine, Ask}
-use Rattle.netset_lib.specs.declared.filter.Side.{Side}
+use Rattle.netset_lib.specs.declared.query.Query.{Query}
 use Rattle.netset_lib.specs.declared.query.Query.TheVariants.{Count, Compare, Filter, Route}
 use Rattle.netset_lib.specs.declared.session.Session.{Session}
+use Rattle.netset_lib.specs.Answering.{IsAnswererFor, AreAnswersBy}
 use Rattle.netset_lib.specs.Answers.{AreListsRead, IsSetText}
-use Rattle.netset_lib.specs.Counts.{IsCountsLine, IsComparison}
-use Rattle.netset_lib.specs.Filtering.{AreFiltered}
-use Rattle.netset_lib.specs.Filters.{IsOnSide}
+use Rattle.netset_lib.specs.Counts.{Names, IsCountText, IsComparison}
 use Rattle.netset_lib.specs.Lists.{ListEntry, Refusal, IsListRead, IsInEntries}
 use Rattle.netset_lib.specs.ListSets.{HaveMembers}
 use Rattle.netset_lib.specs.Operations.{IsInResult}
 use Rattle.netset_lib.specs.Reading.{WasMadeOf}
 use Rattle.netset_lib.specs.RefusedLines.{AreRefused}
 use Rattle.netset_lib.specs.Replies.{work_grammar}
-use Rattle.netset_lib.specs.RouteAnswers.{IsTableNetwork, AreRouteLines}
-use Rattle.netset_lib.specs.Routing.{AreTableNetworks, InTable, HoldsEnds}
 
--- A filter has the addresses on its side after the first list, and the text of the answer after the second.
-abbrev pub IsFilterState : Side → Session → List (List ListEntry) → Type 0
-IsFilterState side s [] = s.sets.items ≡ []
-IsFilterState side s (entries ∷ []) = (set : IpSet) × (s.sets.items ≡ set ∷ [])
-    × ((x : Address) → IsAddress x → IsMember set x ↔ IsOnSide side (IsInEntries entries) x)
-IsFilterState side s (first ∷ second ∷ []) =
-    AreFiltered (IsOnSide side (IsInEntries first)) (string_bytes s.text) second
-IsFilterState side s (first ∷ second ∷ third ∷ others) = Unit {0}
-
--- A route has the table after the first list, and the text of the answer after the second.
-abbrev pub IsRouteState : Session → List (List ListEntry) → Type 0
-IsRouteState s [] = Unit {0}
-IsRouteState s (entries ∷ []) = AreTableNetworks (InTable s.table) entries
-IsRouteState s (first ∷ second ∷ []) = AreRouteLines (IsTableNetwork first) HoldsEnds second (string_bytes s.text)
-IsRouteState s (first ∷ second ∷ third ∷ others) = Unit {0}
+-- A filter or a route has its answerer after the first list, and the lines of the answer after the second.
+abbrev pub IsAskState : Query → Session → List (List ListEntry) → Type 0
+IsAskState query s [] = Unit {0}
+IsAskState query s (first ∷ []) =
+    (answerer : Answerer) × (s.answerer ≡ Some answerer) × IsAnswererFor query answerer first
+IsAskState query s (first ∷ second ∷ []) =
+    (answerer : Answerer) × IsAnswererFor query answerer first × AreAnswersBy answerer s.answers second
+IsAskState query s (first ∷ second ∷ third ∷ others) = Unit {0}
 
 -- What the session keeps of lists with these entries.
 abbrev pub IsState : Work → Session → List (List ListEntry) → Type 0
 IsState (Combine request) s entries = HaveMembers s.sets.items entries
 IsState (Ask Count grammar) s entries = HaveMembers s.sets.items entries
 IsState (Ask Compare grammar) s entries = HaveMembers s.sets.items entries
-IsState (Ask (Filter side) grammar) s entries = IsFilterState side s entries
-IsState (Ask Route grammar) s entries = IsRouteState s entries
+IsState (Ask (Filter side) grammar) s entries = IsAskState (Filter side) s entries
+IsState (Ask Route grammar) s entries = IsAskState Route s entries
 
 -- The next list was read, and what the session kept of the lists before it, it keeps of these and it.
 -- Only private contracts use this.
@@ -55,17 +47,23 @@ pub record ReadsNext (State : Session → List (List ListEntry) → Type 0) (lef
       (λ entries. (before : List (List ListEntry)) → length before ≡ old.reading.lines.list → State old before
       → State new (before ++ entries ∷ []))
 
--- The text is the answer, if the sets and the other text are what was made of the lists.
+-- This is the answer, if the sets and the answers to entries are what was made of the lists.
 -- Only private contracts use this.
-abbrev pub IsTextFor : Work → List IpSet → List ℕ → List ℕ → Type 0
-IsTextFor (Combine request) sets text answer = (entries : List (List ListEntry)) → HaveMembers sets entries
-    → IsSetText request.form (IsInResult IsInEntries request.operation entries) answer
-IsTextFor (Ask Count grammar) sets text answer = (entries : List ListEntry) → HaveMembers sets (entries ∷ [])
-    → IsCountsLine (IsInEntries entries) answer
-IsTextFor (Ask Compare grammar) sets text answer = (first second : List ListEntry)
-    → HaveMembers sets (first ∷ second ∷ []) → IsComparison (IsInEntries first) (IsInEntries second) answer
-IsTextFor (Ask (Filter side) grammar) sets text answer = answer ≡ text
-IsTextFor (Ask Route grammar) sets text answer = answer ≡ text
+abbrev pub IsReplyOf : Work → Names → List IpSet → Answers → Answer → Type 0
+IsReplyOf (Combine request) names sets answers answer = IsTrue answer.succeeded
+    × ((entries : List (List ListEntry)) → HaveMembers sets entries
+    → IsSetText request.form (IsInResult IsInEntries request.operation entries) (string_bytes answer.text))
+IsReplyOf (Ask Count grammar) names sets answers answer = IsTrue answer.succeeded
+    × ((entries : List (List ListEntry)) → HaveMembers sets entries
+    → IsCountText IsInEntries names entries (string_bytes answer.text))
+IsReplyOf (Ask Compare grammar) names sets answers answer = (first second : List ListEntry)
+    → HaveMembers sets (first ∷ second ∷ [])
+    → IsComparison (IsInEntries first) (IsInEntries second) (string_bytes answer.text)
+    × (IsTrue answer.succeeded ↔ (string_bytes answer.text ≡ []))
+IsReplyOf (Ask (Filter side) grammar) names sets answers answer =
+    (answer.text ≡ answers.text) × (answer.succeeded ≡ answers.found)
+IsReplyOf (Ask Route grammar) names sets answers answer =
+    (answer.text ≡ answers.text) × (answer.succeeded ≡ not answers.found)
 
 -- The session of this work has read exactly these lists, in this order.
 pub record WereRead (work : Work) (lists : List (List ℕ)) (s : Session) : Type 0 where

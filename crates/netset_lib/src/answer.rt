@@ -39,6 +39,16 @@ pub struct Request {
     pub form: Form,
 }
 
+/// The answer over lists.
+#[derive(Debug, Drop)]
+pub struct Answer {
+    /// Its text.
+    pub text: String,
+    /// Whether two compared lists have the same addresses, a filter printed an entry, or each entry has a route. Other
+    /// work always succeeds.
+    pub succeeded: bool,
+}
+
 /// Why there is no answer.
 #[derive(Debug, Drop)]
 pub enum Failure {

@@ -2,6 +2,7 @@
 #![tactic(auto)]
 
 pub mod answer;
+mod answerer;
 pub mod cause;
 mod cause_bytes;
 mod cause_parts;
@@ -35,7 +36,7 @@ pub mod rule_program;
 pub mod session;
 mod word;
 
-pub use answer::{Failure, Form, Request};
+pub use answer::{Answer, Failure, Form, Request};
 pub use cause::Cause;
 pub use cause_parts::is_entry_text;
 pub use changes::changes_text;
@@ -50,7 +51,7 @@ pub use operation::{Families, Operation};
 pub use output::{Output, finish, is_unfinished_name, unfinished_name};
 pub use plan::{PlanFailure, PlanRequest, plan_text};
 pub use plan_program::run_plan;
-pub use program::run;
+pub use program::{run, run_stream};
 pub use query::Query;
 pub use reading::ReadFailure;
 pub use refused::{RefusedLine, RefusedLines};
@@ -59,3 +60,4 @@ pub use rule_line::RuleCause;
 pub use rule_list::{RefusedRule, RuleLine, RuleList};
 pub use rule_program::run_rules;
 pub use session::Session;
+pub use session::stream::{StreamFailure, Streamed};

@@ -1,22 +1,20 @@
 //! The program, over any writers.
-ghost use Rattle.std.specs.Prelude.{◌≡◌, ◌≢◌, ◌≤◌, ◌⊎◌, ◌↔◌, List, [], ℕ, IsTrue};
+ghost use Rattle.std.specs.Prelude.{◌≡◌, ◌≤◌, ◌==◌, ◌⊎◌, List, ℕ, IsTrue};
 ghost use Rattle.std.specs.Io.{StartsWith};
 ghost use Rattle.std.specs.Io.KnownBytes.{Appends, Keeps};
-ghost use Rattle.ipnet.specs.declared.parser.Grammar.{Grammar};
-ghost use Rattle.netset_lib.specs.Replies.{AreSameLists, AreOtherLists};
+ghost use Rattle.netset_lib.specs.Replies.{IsOutcome};
 ghost use Rattle.netset_lib.specs.Runs.{IsAnswered, IsCutShort};
 ghost use Rattle.netset_lib.specs.Sessions.{WereRead};
-ghost use Rattle.netset_lib.specs.declared.command.Work.TheVariants.{Ask};
-ghost use Rattle.netset_lib.specs.declared.query.Query.TheVariants.{Compare};
+ghost use Rattle.netset_lib.specs.Streams.{IsWorkStreamed};
+ghost use Rattle.netset_lib.specs.declared.command.Work.{Work};
 
-use crate::answer::Failure;
-use crate::command::Work;
-use crate::query::Query;
+use crate::answer::{Answer, Failure};
 use crate::refused::{RefusedLine, RefusedLines};
 use crate::session::Session;
+use crate::session::stream::{StreamFailure, Streamed};
 use ipnet_text::write_whole;
 use std::io;
-use std::io::Write;
+use std::io::{Read, Write};
 
 /// At most this many bytes of a refused line are reported.
 const MOST_SHOWN: usize = 100;
@@ -39,7 +37,7 @@ const NO_FAMILY: &str = "netset: the list has no entries: choose --ipv4 or --ipv
 /// | 2 | `netset: the list has no entries: choose --ipv4 or --ipv6, or both` | as `Failure::NoFamily` says |
 /// | 2 | `netset: out of memory` | memory runs out |
 /// | 2 | `netset: output cannot be written` | a write fails, or the flush after it; the answer may be out in part |
-/// | 1 | nothing | the lists were compared, and do not have the same addresses; `out` has what differs |
+/// | 1 | nothing | the answer did not succeed: two lists differ, a filter printed nothing, or an entry has no route |
 /// | 0 | nothing | otherwise |
 ///
 /// Of a text of more than 100 bytes the first 100 are reported, and `..` after them. The cause is left out if none can
@@ -50,24 +48,21 @@ const NO_FAMILY: &str = "netset: the list has no entries: choose --ipv4 or --ipv
 /// Union of "10.0.0.0/33\n", named a:               status 2, and faults gets
 ///     "a:1: not a network, an address or a range: 10.0.0.0/33 (the prefix length is above 32)\n"
 /// Compare of "10.0.0.0/31\n" and "10.0.0.0\n":     status 1, and out gets
-///     "first alone: IPv4 1, IPv6 0\nsecond alone: IPv4 0, IPv6 0\n"
+///     "only in the first: IPv4 1, IPv6 0\nonly in the second: IPv4 0, IPv6 0\n"
 /// ```
 pub fn run<W: Write, X: Write>(session: Session, names: &[&str], out: &mut W, faults: &mut X) -> u8
     ensures status { result ≤ 2 }
     ensures answered { result ≤ 1 → (work : Work) → (lists : List (List ℕ)) → WereRead work lists session
-        → IsAnswered work lists (W.contents out.old) (W.contents out.new) }
-    ensures different { result ≡ 1 → (work : Work) → (lists : List (List ℕ)) → WereRead work lists session
-        → ((grammar : Grammar) × (work ≡ Ask Compare grammar) × AreOtherLists grammar lists) }
-    ensures same { result ≡ 0 → (grammar : Grammar) → (lists : List (List ℕ))
-        → WereRead (Ask Compare grammar) lists session → AreSameLists grammar lists }
+        → IsAnswered work names.now lists (W.contents out.old) (W.contents out.new) }
+    ensures outcome { result ≤ 1 → (work : Work) → (lists : List (List ℕ)) → WereRead work lists session
+        → IsOutcome work lists (result == 0) }
     ensures cut_short { result ≡ 2 → (work : Work) → (lists : List (List ℕ)) → WereRead work lists session
         → Keeps (W.contents out.old) (W.contents out.new)
-        ⊎ IsCutShort work lists (W.contents out.old) (W.contents out.new) }
+        ⊎ IsCutShort work names.now lists (W.contents out.old) (W.contents out.new) }
     ensures faultless { result ≤ 1 → Keeps (X.contents faults.old) (X.contents faults.new) }
 {
-    let work = session.work();
-    let text = match session.answer() {
-        Ok(text) => text,
+    let Answer { text, succeeded } = match session.answer(names) {
+        Ok(answer) => answer,
         Err(failure) => {
             let _ = report(faults, names, &failure);
             return 2;
@@ -77,17 +72,74 @@ pub fn run<W: Write, X: Write>(session: Session, names: &[&str], out: &mut W, fa
         let _ = writeln!(faults, "netset: output cannot be written");
         return 2;
     }
-    status_of(work, text.as_str())
+    if succeeded { 0 } else { 1 }
 }
 
-/// Returns the exit status for this answer: 1 for a comparison that is not empty, since it says what differs.
-fn status_of(work: Work, text: &str) -> u8
-    ensures status { result ≤ 1 }
-    ensures different { (result ≡ 1) ↔ (((grammar : Grammar) × (work ≡ Ask Compare grammar)) × (text.now ≢ [])) }
+/// Writes the answers of a filter or a route to `out` while the second list is read from `input`, and returns the exit
+/// status. The session has read the first list. `names` are the names of the two lists, for the reports on `faults`.
+///
+/// | Status | On `faults` | When |
+/// |---|---|---|
+/// | 2 | as `run` reports it | the first list has lines that are not entries, or the work cannot be streamed |
+/// | 2 | `NAME:LINE: not a network, an address or a range: TEXT (CAUSE)` | such lines of the second list are left out |
+/// | 2 | `netset: NAME: cannot be read`, or `out of memory` | the second list is answered in part |
+/// | 2 | `netset: output cannot be written` | a write fails, or a flush |
+/// | 1 | nothing | a filter printed nothing, or an entry has no route |
+/// | 0 | nothing | otherwise |
+///
+/// ```text
+/// Filter by "10.0.0.0/8\n", of "10.0.0.1\nx\n10.0.0.2\n": status 2, and out gets "10.0.0.1\n10.0.0.2\n"
+/// ```
+pub fn run_stream<R: Read, W: Write, X: Write>(
+    session: Session,
+    names: &[&str],
+    input: &mut R,
+    out: &mut W,
+    faults: &mut X,
+) -> u8
+    ensures status { result ≤ 2 }
+    ensures streamed { result ≤ 1 → (work : Work) → (lists : List (List ℕ)) → WereRead work lists session
+        → ((s : Streamed) × (s.refused ≡ 0) × (s.succeeded ≡ (result == 0))
+        × IsWorkStreamed work lists (R.remaining input.old) (R.remaining input.new)
+        (W.contents out.old) (W.contents out.new) s) }
 {
-    match work {
-        Work::Ask(Query::Compare, _) if !text.is_empty() => 1,
-        _ => 0,
+    match session.stream(names, input, out, faults) {
+        Ok(streamed) => stream_status(streamed),
+        Err(failure) => {
+            let _ = report_stream(faults, names, &failure);
+            2
+        }
+    }
+}
+
+/// The exit status of a stream.
+fn stream_status(streamed: Streamed) -> u8
+    ensures status { result ≤ 2 }
+    ensures whole { result ≤ 1 → streamed.refused ≡ 0 }
+    ensures succeeded { result ≤ 1 → streamed.succeeded ≡ (result == 0) }
+{
+    if streamed.refused != 0 {
+        2
+    } else if streamed.succeeded {
+        0
+    } else {
+        1
+    }
+}
+
+/// Reports why a stream ended.
+fn report_stream<X: Write>(
+    faults: &mut X,
+    names: &[&str],
+    failure: &StreamFailure,
+) -> io::Result<()> {
+    match failure {
+        StreamFailure::Start(failure) => report(faults, names, failure),
+        StreamFailure::Read(failure) => {
+            let name = names.get(1).copied().unwrap_or("list");
+            writeln!(faults, "netset: {name}: {failure}")
+        }
+        StreamFailure::Unwritable => writeln!(faults, "netset: output cannot be written"),
     }
 }
 
@@ -116,10 +168,23 @@ pub(crate) fn report<X: Write>(
 
 /// Reports the first refused lines, and the number of the others.
 fn report_lines<X: Write>(faults: &mut X, names: &[&str], lines: &RefusedLines) -> io::Result<()> {
-    for line in &lines.shown {
-        report_line(faults, names, line)?;
+    report_since(faults, names, lines, (0, 0))
+}
+
+/// Reports the refused lines as `report_lines` does. `before` is how many of them are reported already, first of those
+/// that are kept, and then of all.
+pub(crate) fn report_since<X: Write>(
+    faults: &mut X,
+    names: &[&str],
+    lines: &RefusedLines,
+    before: (usize, usize),
+) -> io::Result<()> {
+    let (shown, count) = before;
+    for index in shown..lines.shown.len() {
+        report_line(faults, names, &lines.shown[index])?;
     }
-    let more = lines.count.saturating_sub(lines.shown.len());
+    let new = lines.count.saturating_sub(count);
+    let more = new.saturating_sub(lines.shown.len().saturating_sub(shown));
     if more != 0 {
         writeln!(faults, "netset: and {more} more")?;
     }

@@ -1,12 +1,12 @@
 //! Questions about lists, whose answer is not a list of addresses.
-ghost use Rattle.std.specs.Prelude.{◌≡◌};
+ghost use Rattle.std.specs.Prelude.{◌↔◌, IsTrue};
 
 use crate::filter::Side;
 
 /// What is asked of lists.
 #[derive(Clone, Copy, Debug, PartialEq, Eq)]
 pub enum Query {
-    /// How many addresses one list has.
+    /// How many addresses each list has, and all of them together.
     Count,
     /// Whether two lists have the same addresses, and how many addresses only the first and only the second has.
     Compare,
@@ -17,15 +17,15 @@ pub enum Query {
 }
 
 impl Query {
-    ghost use Rattle.netset_lib.specs.Replies.{count_for};
+    ghost use Rattle.netset_lib.specs.Replies.{IsCountOfLists};
 
-    /// Returns the number of lists that the query takes: 1 for `Count`, and 2 for every other.
-    pub fn count(self) -> usize
-        ensures { result ≡ count_for self }
+    /// Whether the query takes this number of lists: `Count` takes 1 and more, and every other takes 2.
+    pub fn takes(self, count: usize) -> bool
+        ensures { IsTrue result ↔ IsCountOfLists self count }
     {
         match self {
-            Query::Count => 1,
-            Query::Compare | Query::Filter(_) | Query::Route => 2,
+            Query::Count => count >= 1,
+            Query::Compare | Query::Filter(_) | Query::Route => count == 2,
         }
     }
 }

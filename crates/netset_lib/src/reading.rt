@@ -11,7 +11,7 @@ use std::io::Read;
 use thiserror::Error;
 
 /// Bounds the loops, so that they provably end.
-const MOST_READS: u64 = u64::MAX;
+pub(crate) const MOST_READS: u64 = u64::MAX;
 
 /// The byte order mark in UTF-8.
 pub(crate) const BYTE_ORDER_MARK: [u8; 3] = [0xEF, 0xBB, 0xBF];
@@ -49,7 +49,7 @@ pub(crate) struct Reading {
 
 impl Reading {
     ghost use Rattle.netset_lib.specs.RefusedLines.{AreRefused};
-    ghost use Rattle.netset_lib.specs.Reading.{Adds, IsPastMark, TakesLines, WasMadeOf, pending};
+    ghost use Rattle.netset_lib.specs.Reading.{Adds, IsPastMark, IsBegun, GoesOn, TakesLines, WasMadeOf, pending};
 
     /// Returns what reads the first list. Fails if memory runs out.
     pub(crate) fn new(alloc: Global, grammar: Grammar) -> Result<Reading, AllocError>
@@ -86,7 +86,7 @@ impl Reading {
     }
 
     /// Reads the lines that are complete. If `more` is false, all lines are.
-    fn take_lines<M, C: Collector<M>>(
+    pub(crate) fn take_lines<M, C: Collector<M>>(
         &mut self,
         more: bool,
         collector: &C,
@@ -126,6 +126,28 @@ impl Reading {
         Ok(())
     }
 
+    /// Begins a list: reads its first bytes, and returns whether more may come.
+    pub(crate) fn begin<R: Read>(&mut self, input: &mut R) -> Result<bool, ReadError>
+        ensures { IfOk result (λ more. IsBegun more (R.remaining input.old) (R.remaining input.new) self.old self.new) }
+    {
+        self.carry.clear();
+        let left = self.window.held().len();
+        self.window.take(left);
+        self.lines.line = 0;
+        self.lines.has_entry = false;
+        let more = self.skip_mark(input)?;
+        Ok(more)
+    }
+
+    /// Reads more bytes after those that are pending, and returns whether more may come.
+    pub(crate) fn go_on<R: Read>(&mut self, input: &mut R) -> Result<bool, ReadFailure>
+        ensures { IfOk result (λ more. GoesOn more (R.remaining input.old) (R.remaining input.new) self.old self.new) }
+    {
+        self.make_room()?;
+        let more = self.window.fill(input)?;
+        Ok(more)
+    }
+
     /// Reads one list up to its end: hands its entries over, and keeps its refused lines.
     pub(crate) fn read_list<R: Read, M, C: Collector<M>>(
         &mut self,
@@ -136,25 +158,19 @@ impl Reading {
         ensures { OnOk result (WasMadeOf (R.remaining input.old) (R.remaining input.new) self.old self.new
             (Adds (C.is_made collector.now made.old) (C.is_made collector.now made.new))) }
     {
-        self.carry.clear();
-        let left = self.window.held().len();
-        self.window.take(left);
-        self.lines.line = 0;
-        self.lines.has_entry = false;
-        let mut more = self.skip_mark(input)?;
+        let mut more = self.begin(input)?;
         for _ in 0..MOST_READS {
             self.take_lines(more, collector, made)?;
             if !more {
                 return self.end_list();
             }
-            self.make_room()?;
-            more = self.window.fill(input)?;
+            more = self.go_on(input)?;
         }
         Err(ReadFailure::Unreadable)
     }
 
     /// Goes on to the next list. Fails if there are more lists than a `usize` counts.
-    fn end_list(&mut self) -> Result<(), ReadFailure>
+    pub(crate) fn end_list(&mut self) -> Result<(), ReadFailure>
         ensures next { OnOk result (self.new.lines.list ≡ self.old.lines.list + 1) }
         ensures same_grammar { self.new.lines.grammar ≡ self.old.lines.grammar }
         ensures same_refused { self.new.lines.refused ≡ self.old.lines.refused }

@@ -7,9 +7,7 @@ ghost use Rattle.ipnet.specs.SubnetsLeft.{ip_subnets_left};
 ghost use Rattle.ipnet_sets.specs.Routes.{ip_networks};
 ghost use Rattle.netset_lib.specs.EntryOf.{entry_range};
 ghost use Rattle.netset_lib.specs.Reading.{WasMadeOf};
-ghost use Rattle.netset_lib.specs.RouteAnswers.{AreRouteLines};
 ghost use Rattle.netset_lib.specs.Routing.{IsTruncatedOne, AddsMaximal, AreTableNetworks, InTable, HasEnds};
-ghost use Rattle.netset_lib.specs.Routing.{HoldsEnds};
 ghost use Rattle.netset_lib.specs.Routing.{IsLongestIfAny, route_line};
 
 use crate::entry::Entry;
@@ -85,7 +83,7 @@ fn is_holder(table: &RouteTable<()>, network: &IpNet, address: &IpAddr) -> bool
 
 /// The longest network of the table that holds the first and the last address of the entry: the longest that holds the
 /// first one, or the nearest around it that holds the last one too.
-fn longest_holding(table: &RouteTable<()>, entry: Entry) -> Option<IpNet>
+pub(crate) fn longest_holding(table: &RouteTable<()>, entry: Entry) -> Option<IpNet>
     ensures { IsLongestIfAny (InTable table.now) (HasEnds (entry_range entry)) result }
 {
     let (first, last) = entry.ends();
@@ -103,7 +101,11 @@ fn longest_holding(table: &RouteTable<()>, entry: Entry) -> Option<IpNet>
 }
 
 /// Appends the line of the entry that is written so.
-fn push_line(text: &mut String, written: &str, network: Option<IpNet>) -> Result<(), AllocError>
+pub(crate) fn push_line(
+    text: &mut String,
+    written: &str,
+    network: Option<IpNet>,
+) -> Result<(), AllocError>
     ensures { OnOk result (string_bytes text.new ≡ string_bytes text.old ++ route_line written.now network) }
 {
     text.push_str(written)?;
@@ -115,33 +117,4 @@ fn push_line(text: &mut String, written: &str, network: Option<IpNet>) -> Result
         None => text.push_str(" -")?,
     }
     text.push_str("\n")
-}
-
-/// Collects a line for each entry, with the longest network of the table that holds it.
-#[derive(Drop)]
-struct EntriesWithRoutes<'a> {
-    table: &'a RouteTable<()>,
-}
-
-impl<'a> Collector<String> for EntriesWithRoutes<'a> {
-    ghost is_made = { λ collector text entries.
-        AreRouteLines (InTable collector.table.now) HoldsEnds entries (string_bytes text) };
-
-    fn push(&self, made: &mut String, text: &str, entry: Entry) -> Result<(), AllocError> {
-        push_line(made, text, longest_holding(self.table, entry))
-    }
-}
-
-/// Reads one list, and writes a line for each of its entries, with the longest network of the table that holds it.
-pub(crate) fn read_routed<R: Read>(
-    reading: &mut Reading,
-    input: &mut R,
-    table: &RouteTable<()>,
-) -> Result<String, ReadFailure>
-    ensures { IfOk result (λ text. WasMadeOf (R.remaining input.old) (R.remaining input.new) reading.old reading.new
-        (λ entries. AreRouteLines (InTable table.now) HoldsEnds entries (string_bytes text))) }
-{
-    let mut text = String::new(reading.lines.alloc);
-    reading.read_list(input, &EntriesWithRoutes { table }, &mut text)?;
-    Ok(text)
 }

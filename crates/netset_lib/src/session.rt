@@ -3,30 +3,30 @@ ghost use Rattle.std.specs.Prelude.{◌≡◌, ◌++◌, ◌∷◌, ◌↔◌, �
 ghost use Rattle.std.specs.Prelude.{string_bytes, Err, false};
 ghost use Rattle.ipnet_text.specs.Inputs.{GaveWhole};
 ghost use Rattle.netset_lib.specs.Answers.{IsSetText};
-ghost use Rattle.netset_lib.specs.Counts.{IsCountsLine, IsComparison};
+ghost use Rattle.netset_lib.specs.Counts.{IsCountText, IsComparison};
 ghost use Rattle.netset_lib.specs.Lists.{ListEntry, IsInEntries};
 ghost use Rattle.netset_lib.specs.ListSets.{HaveMembers};
 ghost use Rattle.ipnet_sets.specs.Members.{HasNoAddress};
 ghost use Rattle.ipnet_sets.specs.declared.set.IpSet.{IpSet};
 ghost use Rattle.netset_lib.specs.Operations.{IsInResult};
 ghost use Rattle.netset_lib.specs.Answers.{IsNamedComplement};
-ghost use Rattle.netset_lib.specs.Replies.{work_grammar, TakesCount, IsWorkAnswer, IsWorkFailure};
-ghost use Rattle.netset_lib.specs.Sessions.{IsTextFor};
+ghost use Rattle.netset_lib.specs.Replies.{work_grammar, TakesCount, IsWorkAnswer, IsOutcome, IsWorkFailure};
+ghost use Rattle.netset_lib.specs.Sessions.{IsReplyOf};
 
 pub mod pair;
 pub mod result;
+pub mod stream;
 
-use crate::answer::{Failure, Request, set_text};
+use crate::answer::{Answer, Failure, Request, set_text};
+use crate::answerer::{Answerer, Answers, read_answerer, read_answers};
 use crate::command::Work;
 use crate::counts::{comparison_text, counts_text};
-use crate::filter::{Side, read_filtered, side_set};
 use crate::list::read_set;
 use crate::operation::{Families, Operation, combined};
 use crate::query::Query;
 use crate::reading::{ReadFailure, Reading};
-use crate::route::{read_routed, read_table};
 use ipnet::Grammar;
-use ipnet_sets::{IpSet, RouteTable};
+use ipnet_sets::IpSet;
 use std::alloc::{AllocError, Global};
 use std::io::Read;
 
@@ -42,8 +42,8 @@ pub struct Session {
     work: Work,
     reading: Reading,
     sets: Vec<IpSet>,
-    table: RouteTable<()>,
-    text: String,
+    answerer: Option<Answerer>,
+    answers: Answers,
 }
 
 /// The grammar of the entries.
@@ -62,7 +62,7 @@ fn takes(work: Work, count: usize) -> bool
 {
     match work {
         Work::Combine(request) => request.operation.takes(count),
-        Work::Ask(query, _) => count == query.count(),
+        Work::Ask(query, _) => query.takes(count),
     }
 }
 
@@ -116,15 +116,12 @@ fn combined_text(alloc: Global, request: Request, sets: &[IpSet]) -> Result<Stri
     set_text(alloc, request.form, &set)
 }
 
-/// The counts of the one set.
-fn count_text(alloc: Global, sets: &[IpSet]) -> Result<String, AllocError>
-    ensures { IfOk result (λ text. (entries : List ListEntry) → HaveMembers sets.now (entries ∷ [])
-        → IsCountsLine (IsInEntries entries) (string_bytes text)) }
+/// The counts of the sets, which have these names.
+fn count_text(alloc: Global, names: &[&str], sets: &[IpSet]) -> Result<String, AllocError>
+    ensures { IfOk result (λ text. (entries : List (List ListEntry)) → HaveMembers sets.now entries
+        → IsCountText IsInEntries names.now entries (string_bytes text)) }
 {
-    let [set] = sets else {
-        return Err(AllocError);
-    };
-    counts_text(alloc, set)
+    counts_text(alloc, names, sets)
 }
 
 /// What differs between the two sets.
@@ -138,21 +135,33 @@ fn compare_text(alloc: Global, sets: &[IpSet]) -> Result<String, AllocError>
     comparison_text(alloc, first, second)
 }
 
-/// The text of the answer. Of a filter and a route it is the text that reading made.
-fn text_of(alloc: Global, work: Work, sets: &[IpSet], text: String) -> Result<String, AllocError>
-    ensures { IfOk result (λ answer. IsTextFor work sets.now (string_bytes text) (string_bytes answer)) }
+/// The answer. The text of a filter and a route was made by reading.
+fn answer_of(
+    alloc: Global,
+    work: Work,
+    names: &[&str],
+    sets: &[IpSet],
+    answers: Answers,
+) -> Result<Answer, AllocError>
+    ensures { IfOk result (IsReplyOf work names.now sets.now answers) }
 {
-    match work {
-        Work::Combine(request) => combined_text(alloc, request, sets),
-        Work::Ask(Query::Count, _) => count_text(alloc, sets),
-        Work::Ask(Query::Compare, _) => compare_text(alloc, sets),
-        Work::Ask(Query::Filter(_), _) => Ok(text),
-        Work::Ask(Query::Route, _) => Ok(text),
-    }
+    let found = answers.found;
+    let (text, succeeded) = match work {
+        Work::Combine(request) => (combined_text(alloc, request, sets)?, true),
+        Work::Ask(Query::Count, _) => (count_text(alloc, names, sets)?, true),
+        Work::Ask(Query::Compare, _) => {
+            let text = compare_text(alloc, sets)?;
+            let same = text.is_empty();
+            (text, same)
+        }
+        Work::Ask(Query::Filter(_), _) => (answers.text, found),
+        Work::Ask(Query::Route, _) => (answers.text, !found),
+    };
+    Ok(Answer { text, succeeded })
 }
 
 impl Session {
-    ghost use Rattle.netset_lib.specs.Sessions.{WereRead, ReadsNext, IsState, IsFilterState, IsRouteState};
+    ghost use Rattle.netset_lib.specs.Sessions.{WereRead, ReadsNext, IsState, IsAskState};
     ghost use Rattle.netset_lib.specs.Sessions.{IsNoted, has_entry, refused_count};
 
     /// Returns a session that has read no list. Fails if memory runs out.
@@ -163,16 +172,9 @@ impl Session {
             work,
             reading: Reading::new(alloc, grammar_of(work))?,
             sets: Vec::new(alloc),
-            table: RouteTable::from_routes(alloc, Vec::new(alloc))?,
-            text: String::new(alloc),
+            answerer: None,
+            answers: Answers::new(alloc),
         })
-    }
-
-    /// Returns what is asked of the lists.
-    pub fn work(&self) -> Work
-        ensures { (work : Work) → (lists : List (List ℕ)) → WereRead work lists self.now → result ≡ work }
-    {
-        self.work
     }
 
     /// Reads the next list into a set.
@@ -184,40 +186,19 @@ impl Session {
         Ok(keep(&mut self.sets, set)?)
     }
 
-    /// Reads the next list of a filter: the first into a set, and the second into the text of the answer.
-    fn read_filter<R: Read>(&mut self, side: Side, input: &mut R) -> Result<(), ReadFailure>
-        ensures { OnOk result (ReadsNext (IsFilterState side)
+    /// Reads the next list of a filter or a route: the first into the answerer, and the second into the answers.
+    fn read_asked<R: Read>(&mut self, query: Query, input: &mut R) -> Result<(), ReadFailure>
+        ensures { OnOk result (ReadsNext (IsAskState query)
             (R.remaining input.old) (R.remaining input.new) self.old self.new) }
     {
         match self.reading.lines.list {
-            0 => {
-                let alloc = self.reading.lines.alloc;
-                let set = read_set(&mut self.reading, input)?;
-                let wanted = side_set(alloc, side, set)?;
-                Ok(keep(&mut self.sets, wanted)?)
-            }
+            0 => self.answerer = Some(read_answerer(query, &mut self.reading, input)?),
             1 => {
-                let [set] = self.sets.as_slice() else {
+                let Some(answerer) = &self.answerer else {
                     return Err(ReadFailure::Memory);
                 };
-                self.text = read_filtered(&mut self.reading, input, set)?;
-                Ok(())
+                self.answers = read_answers(answerer, &mut self.reading, input)?;
             }
-            _ => {
-                let _ = read_set(&mut self.reading, input)?;
-                Ok(())
-            }
-        }
-    }
-
-    /// Reads the next list of a route: the first into a table, and the second into the text of the answer.
-    fn read_route<R: Read>(&mut self, input: &mut R) -> Result<(), ReadFailure>
-        ensures { OnOk result (ReadsNext IsRouteState
-            (R.remaining input.old) (R.remaining input.new) self.old self.new) }
-    {
-        match self.reading.lines.list {
-            0 => self.table = read_table(&mut self.reading, input)?,
-            1 => self.text = read_routed(&mut self.reading, input, &self.table)?,
             _ => {
                 let _ = read_set(&mut self.reading, input)?;
             }
@@ -231,8 +212,8 @@ impl Session {
             (R.remaining input.old) (R.remaining input.new) self.old self.new) }
     {
         match self.work {
-            Work::Ask(Query::Filter(side), _) => self.read_filter(side, input),
-            Work::Ask(Query::Route, _) => self.read_route(input),
+            Work::Ask(Query::Filter(side), _) => self.read_asked(Query::Filter(side), input),
+            Work::Ask(Query::Route, _) => self.read_asked(Query::Route, input),
             Work::Ask(Query::Count, _) => self.read_into_sets(input),
             Work::Ask(Query::Compare, _) => self.read_into_sets(input),
             Work::Combine(_) => self.read_into_sets(input),
@@ -276,19 +257,23 @@ impl Session {
         self.reading.lines.has_entry
     }
 
-    /// Returns the answer over the lists that were read.
+    /// Returns the answer over the lists that were read. `names` are the names of the lists, in order; `Count` prints
+    /// them.
     ///
     /// The error is `Count` if the work takes another number of lists; `Refused` if lines are not entries, with the
     /// first ten of these and their number; `NoFamily` for the complement of a list without entries, if no family is
     /// chosen; and `Memory` if memory runs out.
     ///
     /// ```text
-    /// Difference of "10.0.0.0/8 # ours\n" and "10.0.0.0-10.127.255.255\r\n":  "10.128.0.0/9\n"
+    /// Difference of "10.0.0.0/8 # ours\n" and "10.0.0.0-10.127.255.255\r\n":  "10.128.0.0/9\n", succeeded
+    /// Route of "10.0.0.0/8\n" and "::1\n":                                    "::1 -\n", not succeeded
     /// Union of "10.0.0.0/33\n":                                               Refused, of list 0 line 1
     /// ```
-    pub fn answer(self) -> Result<String, Failure>
-        ensures answer { IfOk result (λ text. (work : Work) → (lists : List (List ℕ)) → WereRead work lists self
-            → IsWorkAnswer work lists (string_bytes text)) }
+    pub fn answer(self, names: &[&str]) -> Result<Answer, Failure>
+        ensures answer { IfOk result (λ answer. (work : Work) → (lists : List (List ℕ)) → WereRead work lists self
+            → IsWorkAnswer work names.now lists (string_bytes answer.text)) }
+        ensures outcome { IfOk result (λ answer. (work : Work) → (lists : List (List ℕ)) → WereRead work lists self
+            → IsOutcome work lists answer.succeeded) }
         ensures failure { IfErr result (λ failure. (work : Work) → (lists : List (List ℕ)) → WereRead work lists self
             → IsWorkFailure work lists failure) }
         ensures count { (work : Work) → (lists : List (List ℕ)) → WereRead work lists self
@@ -298,7 +283,7 @@ impl Session {
             work,
             reading,
             sets,
-            text,
+            answers,
             ..
         } = self;
         let lines = reading.lines;
@@ -313,8 +298,8 @@ impl Session {
         if has_no_family(work, sets.as_slice()) {
             return Err(Failure::NoFamily);
         }
-        match text_of(alloc, work, sets.as_slice(), text) {
-            Ok(text) => Ok(text),
+        match answer_of(alloc, work, names, sets.as_slice(), answers) {
+            Ok(answer) => Ok(answer),
             Err(_) => Err(Failure::Memory),
         }
     }

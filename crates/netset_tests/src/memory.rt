@@ -141,17 +141,19 @@ fn runs(rt: HostRuntime) -> Result<(), Fail> {
 fn queries(rt: HostRuntime) -> Result<(), Fail> {
     grow_stack(rt.alloc())?;
     let alloc = rt.alloc();
-    let differences: &[u8] = b"first alone: IPv4 1, IPv6 0\nsecond alone: IPv4 0, IPv6 0\n";
+    let differences: &[u8] =
+        b"only in the first: IPv4 1, IPv6 0\nonly in the second: IPv4 0, IPv6 0\n";
     let routes: &[u8] = b"::1 -\n10.0.0.1 10.0.0.0/8\n";
     let set = "10.0.0.0/8\n+::1\n10.0.0.1\n";
     // label, the query, its lists, status, standard output
-    let rows: [(&str, Query, &str, u8, &[u8]); 5] = [
+    let rows: [(&str, Query, &str, u8, &[u8]); 6] = [
+        ("count", Query::Count, "10.0.0.0/31\n::1\n", 0, b"a\t2\t1\n"),
         (
-            "count",
+            "count of two lists",
             Query::Count,
-            "10.0.0.0/31\n::1\n",
+            "10.0.0.0/31\n+10.0.0.1\n::1\n",
             0,
-            b"IPv4 2, IPv6 1\n",
+            b"a\t2\t0\nb\t1\t1\ntotal\t2\t1\n",
         ),
         ("compare", Query::Compare, "10.0.0.1\n+\n", 1, differences),
         ("filter", Query::Filter(Side::Inside), set, 0, b"10.0.0.1\n"),
@@ -162,7 +164,7 @@ fn queries(rt: HostRuntime) -> Result<(), Fail> {
             0,
             b"::1\n",
         ),
-        ("route", Query::Route, set, 0, routes),
+        ("route", Query::Route, set, 1, routes),
     ];
     for (label, query, given, status, wanted) in rows {
         let lists = lists_of(alloc, given)?;

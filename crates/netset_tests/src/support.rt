@@ -21,7 +21,7 @@ pub fn session_of(alloc: Global, work: Work, lists: &[Vec<u8>]) -> Result<Sessio
 /// The answer over these lists.
 pub fn answer(alloc: Global, work: Work, lists: &[Vec<u8>]) -> Result<String, Failure> {
     match session_of(alloc, work, lists) {
-        Ok(session) => session.answer(),
+        Ok(session) => session.answer(&NAMES).map(|answer| answer.text),
         Err(_) => Err(Failure::Memory),
     }
 }

@@ -24,12 +24,13 @@ returns c =
     ] in
     let one = c.in_ok-push_counts.ensures in
     let two = c.in_ok-push_counts-2.ensures in
-    let lines = lines_alone first second c.in_ok-first_alone.first_alone c.in_ok-second_alone.second_alone one.0 two.0
-    (string_bytes c.push_counts-2.new.text) c.in_ok-first_alone.ensures.members c.in_ok-second_alone.ensures.members
+    let lines = lines_alone first second c.in_ok-only_first.only_first c.in_ok-only_second.only_second one.0 two.0
+    (string_bytes c.push_counts-2.new.text) c.in_ok-only_first.ensures.members c.in_ok-only_second.ensures.members
     one.1 two.1
     (four_joined (string_bytes c.new-text.result) (string_bytes c.push_str.new.self)
     (string_bytes c.push_counts.new.text) (string_bytes c.push_str-2.new.self) (string_bytes c.push_counts-2.new.text)
-    (codes "first alone: ") one.0 (codes "second alone: ") two.0 c.new-text.ensures.bytes c.in_ok-push_str.ensures.bytes
+    (codes "only in the first: ") one.0 (codes "only in the second: ") two.0 c.new-text.ensures.bytes
+    c.in_ok-push_str.ensures.bytes
     one.2 c.in_ok-push_str-2.ensures.bytes two.2) in
     record {
       same = λ h. absurd (clash (λ x. (h x).0) (λ x. (h x).1));

@@ -2,7 +2,7 @@ use Rattle.std.proofs.Common.{refl, sym, subst, inr, ◌∙◌}
 use Rattle.std.specs.Io.{StartsWith}
 use Rattle.std.specs.Io.KnownBytes.{Appends}
 use Rattle.netset_lib.specs.RuleAnswers.{IsRuleAnswer}
-use Rattle.netset_lib.proofs.CountTexts.{none_or_some}
+use Rattle.netset_lib.proofs.RuleAnswerLaws.{none_or_some}
 use Rattle.netset_lib.proofs.RuleAnswerLaws.{one_unreached, all_reached}
 use Rattle.netset_lib.proofs.rule_program.run_rules.Goals as goal
 

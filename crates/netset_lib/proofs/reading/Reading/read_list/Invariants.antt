@@ -1,4 +1,5 @@
-use Rattle.netset_lib.proofs.WindowReading.{IsListUpTo, at_first_line}
+use Rattle.netset_lib.specs.Reading.{at_first_line}
+use Rattle.netset_lib.proofs.WindowReading.{IsListUpTo}
 use Rattle.netset_lib.proofs.reading.Reading.read_list.Given as goal
 
 -- the list was read up to what is pending

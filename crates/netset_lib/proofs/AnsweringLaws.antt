@@ -1,0 +1,109 @@
+-- The answers to entries that were made one by one, and the answers to the query.
+use Rattle.std.proofs.Common.{◌≡◌, ◌⊎◌, ◌↔◌, Bool, true, false, ℕ, List, [], ◌∷◌, ◌++◌, All}
+use Rattle.std.proofs.Common.{Option, Some, None, refl, sym, ap}
+use Rattle.std.proofs.Common.{◌∙◌, subst, inl, inr, append-nil, string_bytes}
+use Rattle.std.proofs.lemmas.List.Elements.{All-nil, All-cons}
+use Rattle.ipnet_base.specs.Address.{Address, IsAddress}
+use Rattle.ipnet.specs.declared.net.IpNet.{IpNet}
+use Rattle.ipnet_sets.specs.Members.{IsMember}
+use Rattle.ipnet_sets.specs.declared.set.IpSet.{IpSet}
+use Rattle.ipnet_sets.specs.declared.routes.RouteTable.{RouteTable}
+use Rattle.netset_lib.specs.declared.answerer.Answerer.{Answerer}
+use Rattle.netset_lib.specs.declared.answerer.Answerer.TheVariants as Answerers
+use Rattle.netset_lib.specs.declared.answerer.Answers.{Answers}
+use Rattle.netset_lib.specs.declared.query.Query.{Query}
+use Rattle.netset_lib.specs.declared.query.Query.TheVariants.{Count, Compare, Filter, Route}
+use Rattle.netset_lib.specs.Answering.{IsAnswererFor, IsAnswerBy, IsFoundBy, AreAnswersBy, AddsAnswer}
+use Rattle.netset_lib.specs.EntryAnswers.{AreAnswers, IsFoundIn}
+use Rattle.netset_lib.specs.Filtering.{HasAddresses, IsFilterLine}
+use Rattle.netset_lib.specs.Filters.{IsOnSide, LiesIn}
+use Rattle.netset_lib.specs.Lists.{ListEntry, IsInEntries}
+use Rattle.netset_lib.specs.Replies.{AreReplies, IsFoundFor, HasNoRoute, IsKept}
+use Rattle.netset_lib.specs.RouteAnswers.{IsTableNetwork, Holds, HaveNone, IsRouteLine}
+use Rattle.netset_lib.specs.Routing.{InTable, HoldsEnds, IsLongestIfAny, route_line}
+use Rattle.netset_lib.proofs.EntryAnswerLaws.{answers_append, answers_same, found_same, found_none, found_push}
+use Rattle.netset_lib.proofs.FilterLaws.{kept_of_lines, lies_same, filter_line_same}
+use Rattle.netset_lib.proofs.RouteLaws.{HasSome, line_found, line_same, none_same}
+
+-- ---- one entry more
+
+pub none_made : (answerer : Answerer) (answers : Answers) → string_bytes answers.text ≡ [] → answers.found ≡ false
+    → AreAnswersBy answerer answers []
+none_made answerer answers empty none =
+    record { text = empty; found = found_none (IsFoundBy answerer) answers.found none }
+
+pub made_push : (answerer : Answerer) (old new : Answers) (entries : List ListEntry) (e : ListEntry)
+    → AreAnswersBy answerer old entries → AddsAnswer answerer old new e
+    → AreAnswersBy answerer new (entries ++ e ∷ [])
+made_push answerer old new entries e h adds = record {
+  text = subst (AreAnswers (IsAnswerBy answerer) (entries ++ e ∷ [])) (sym adds.text)
+      (answers_append (IsAnswerBy answerer) entries (e ∷ []) (string_bytes old.text) adds.line h.text
+      (adds.line, [], sym (append-nil adds.line), adds.answer, refl));
+  found = found_push (IsFoundBy answerer) entries e old.found new.found h.found adds.found;
+}
+
+pub routed_some : (table : RouteTable (Unit {0})) (old new : Answers) (e : ListEntry) (network : IpNet)
+    → IsLongestIfAny (InTable table) (HoldsEnds e) (Some network)
+    → string_bytes new.text ≡ string_bytes old.text ++ route_line e.text (Some network) → new.found ≡ old.found
+    → AddsAnswer (Answerers.Route table) old new e
+routed_some table old new e network longest text same = record {
+  line = route_line e.text (Some network);
+  answer = line_found (InTable table) e (Some network) longest;
+  text = text;
+  found = inr (λ none. none _ longest.network longest.holds, same);
+}
+
+pub routed_none : (table : RouteTable (Unit {0})) (old new : Answers) (e : ListEntry)
+    → IsLongestIfAny (InTable table) (HoldsEnds e) None
+    → string_bytes new.text ≡ string_bytes old.text ++ route_line e.text None → new.found ≡ true
+    → AddsAnswer (Answerers.Route table) old new e
+routed_none table old new e none text now = record {
+  line = route_line e.text None;
+  answer = line_found (InTable table) e None none;
+  text = text;
+  found = inl (none, now);
+}
+
+-- ---- the query
+
+-- the entries that a filter answered are of addresses
+all_fit : (InSet : Address → Type 0) (entries : List ListEntry) (text : List ℕ)
+    → AreAnswers (λ e line. HasAddresses e.range × IsFilterLine InSet e line) entries text
+    → All (λ e. HasAddresses e.range) entries
+all_fit InSet [] text h = All-nil (λ e. HasAddresses e.range)
+all_fit InSet (e ∷ entries) text (line, rest, cut, is, h) =
+    All-cons (λ z. HasAddresses z.range) e entries is.0 (all_fit InSet entries rest h)
+
+-- the answers, by the entries of the first list
+pub replies_right : (query : Query) (answerer : Answerer) (first second : List ListEntry) (text : List ℕ)
+    → IsAnswererFor query answerer first → All HasSome second → AreAnswers (IsAnswerBy answerer) second text
+    → AreReplies query first second text
+replies_right (Filter side) (Answerers.Filter set) first second text same some h =
+    kept_of_lines (IsOnSide side (IsInEntries first)) second text
+    (answers_same (IsAnswerBy (Answerers.Filter set)) (IsFilterLine (IsOnSide side (IsInEntries first)))
+    (λ e. HasAddresses e.range)
+    (λ e line fits is. filter_line_same (IsMember set) (IsOnSide side (IsInEntries first)) e line same fits is.1) second
+    text (all_fit (IsMember set) second text h) h)
+replies_right (Filter side) (Answerers.Route table) first second text same some h = absurd same
+replies_right Route (Answerers.Filter set) first second text same some h = absurd same
+replies_right Route (Answerers.Route table) first second text same some h =
+    answers_same (IsRouteLine (InTable table) HoldsEnds) (IsRouteLine (IsTableNetwork first) Holds) HasSome
+    (λ e line has. line_same (InTable table) (IsTableNetwork first) e line same has) second text some h
+replies_right Count answerer first second text same some h = absurd same
+replies_right Compare answerer first second text same some h = absurd same
+
+-- whether an entry was found, by the entries of the first list
+pub found_right : (query : Query) (answerer : Answerer) (first second : List ListEntry) (text : List ℕ) (found : Bool)
+    → IsAnswererFor query answerer first → All HasSome second → AreAnswers (IsAnswerBy answerer) second text
+    → IsFoundIn (IsFoundBy answerer) found second → IsFoundIn (IsFoundFor query first) found second
+found_right (Filter side) (Answerers.Filter set) first second text found same some h is =
+    found_same (LiesIn (IsMember set)) (IsKept side first) (λ e. HasAddresses e.range)
+    (λ e fits. lies_same (IsMember set) (IsOnSide side (IsInEntries first)) e same fits) found second
+    (all_fit (IsMember set) second text h) is
+found_right (Filter side) (Answerers.Route table) first second text found same some h is = absurd same
+found_right Route (Answerers.Filter set) first second text found same some h is = absurd same
+found_right Route (Answerers.Route table) first second text found same some h is =
+    found_same (λ e. HaveNone (InTable table) (HoldsEnds e)) (HasNoRoute first) HasSome
+    (λ e has. none_same (InTable table) (IsTableNetwork first) e same has) found second some is
+found_right Count answerer first second text found same some h is = absurd same
+found_right Compare answerer first second text found same some h is = absurd same

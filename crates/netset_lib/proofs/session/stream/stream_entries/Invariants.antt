@@ -1,0 +1,16 @@
+use Rattle.std.proofs.Common.{◌≡◌, false, [], string_bytes}
+use Rattle.netset_lib.specs.Reading.{at_first_line}
+use Rattle.netset_lib.specs.Streams.{IsWritten}
+use Rattle.netset_lib.proofs.WindowReading.{IsListUpTo}
+use Rattle.netset_lib.proofs.session.stream.stream_entries.Given as goal
+
+-- the list was read up to what is pending, and the answers to its entries were written
+abbrev pub invariant-loop : goal.invariant-loop
+invariant-loop g l = record {
+  text : string_bytes l.answers.text ≡ [];
+  found : l.answers.found ≡ false;
+  list : IsListUpTo l.more (g.R.Read.remaining l.fn.input) (g.R.Read.remaining l.input)
+      (at_first_line l.fn.stream.reading.lines) l.reading
+      (IsWritten l.fn.stream.answerer (g.W.Write.contents l.fn.out) (g.W.Write.contents l.fn.out) false)
+      (IsWritten l.fn.stream.answerer (g.W.Write.contents l.fn.out) (g.W.Write.contents l.out) l.found);
+}
