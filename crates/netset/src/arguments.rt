@@ -219,10 +219,10 @@ fn with_operations<'a>(alloc: Global, command: Command<'a>) -> Result<Command<'a
 }
 
 /// The flag by which the answers are written while the list is read.
-fn stream_flag<'a>(alloc: Global) -> Arg<'a> {
+fn stream_flag<'a>(alloc: Global) -> Result<Arg<'a>, AllocError> {
     let help =
         "Print each line as soon as it is known; a bad line is reported and left out, with status 2";
-    flag(alloc, "stream", help)
+    flag(alloc, "stream", help).conflicts_with(NO_EMPTY)
 }
 
 /// The command `filter`.
@@ -232,7 +232,7 @@ fn filter_command<'a>(alloc: Global) -> Result<Command<'a>, AllocError> {
     let outside = "Print the entries that lie entirely outside SET instead";
     command_of(alloc, "filter", about)?
         .arg(flag(alloc, "outside", outside))?
-        .arg(stream_flag(alloc))?
+        .arg(stream_flag(alloc)?)?
         .arg(first(alloc, "SET", "The list of the addresses to filter by"))?
         .arg(other(alloc, "The list to filter; standard input if it is omitted").required(false))
 }
@@ -257,7 +257,7 @@ fn with_queries<'a>(alloc: Global, command: Command<'a>) -> Result<Command<'a>, 
         .subcommand(filter_command(alloc)?)?
         .subcommand(
             command_of(alloc, "route", route)?
-                .arg(stream_flag(alloc))?
+                .arg(stream_flag(alloc)?)?
                 .arg(first(alloc, "TABLE", "The list of networks to choose from"))?
                 .arg(other(alloc, asked).required(false))?,
         )?

@@ -1,6 +1,7 @@
 -- The texts of entries: a network, an address, or a first and a last address of one family joined by "-". An entry
 -- represents a range of addresses.
-use Rattle.std.specs.Prelude.{◌≡◌, ◌⊎◌, ◌≤◌, ◌↔◌, ℕ, ◌-◌, List, ◌++◌, length, take, drop, codes, Option, IfSome, IsNone}
+use Rattle.std.specs.Prelude.{◌≡◌, ◌≢◌, ◌⊎◌, ◌≤◌, ◌↔◌, ℕ, ◌-◌, List, ◌++◌, length, take, drop, codes, Option}
+use Rattle.std.specs.Prelude.{IfSome, IsNone}
 use Rattle.std.specs.Char.{is_ascii_whitespace}
 use Rattle.std.specs.Int.{w32, w128, from_be_bytes}
 use Rattle.std.specs.List.{prefix_len, suffix_len}
@@ -41,13 +42,15 @@ abbrev pub IsAddressText : Grammar → List ℕ → Address → Type 0
 IsAddressText grammar text x = IsIpv4Text grammar text x ⊎ IsIpv6Text grammar text x
 
 -- The IPv4 network with this address and this netmask. A netmask of zeros is accepted only after the address of zeros,
--- because as a wildcard mask it means one address.
+-- because as a wildcard mask it means one address. A netmask of ones is not accepted after the address of zeros: as a
+-- wildcard mask it means all addresses.
 -- Example: 10.0.0.9 and 255.0.0.0 give 10.0.0.9/8. 10.0.0.0 and 0.0.0.255 give nothing, nor do 10.0.0.5 and 0.0.0.0.
 pub record IsMaskedBy (address mask : Address) (n : Network) : Type 0 where
   pub address_family : address.family ≡ IPv4
   pub mask_family : mask.family ≡ IPv4
   pub has : HasAddressAndNetmask n address mask
   pub whole : mask.number ≡ 0 → address.number ≡ 0
+  pub single : mask.number ≡ 4294967295 → address.number ≢ 0
 
 -- The texts of the address and of the netmask of this network.
 pub record WriteMasked (grammar : Grammar) (address_text mask_text : List ℕ) (n : Network) : Type 0 where

@@ -58,7 +58,7 @@ pub record IsContents (grammar : Grammar) (line text : List ℕ) : Type 0 where
   pub start : ℕ
   pub comment : IsCommentAt line start
   pub is : ((text ≡ without_blanks (take start line)) × ((text ≡ []) ⊎ ¬ (HidesEntry grammar (drop start line))))
-      ⊎ ((text ≡ without_blanks line) × HidesEntry grammar (drop start line))
+      ⊎ ((text ≡ without_blanks line) × (without_blanks (take start line) ≢ []) × HidesEntry grammar (drop start line))
 
 -- The contents of each line.
 abbrev pub AreContents : Grammar → List (List ℕ) → List (List ℕ) → Type 0

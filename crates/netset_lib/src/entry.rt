@@ -92,6 +92,9 @@ fn masked_network(address: IpAddr, mask: IpAddr) -> Option<IpNet>
             if mask.to_bits() == 0 && address.to_bits() != 0 {
                 return None;
             }
+            if mask.to_bits() == u32::MAX && address.to_bits() == 0 {
+                return None;
+            }
             match Ipv4Net::with_netmask(address, mask) {
                 Ok(network) => Some(IpNet::V4(network)),
                 Err(_) => None,

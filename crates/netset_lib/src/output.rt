@@ -31,6 +31,7 @@ pub trait Output: Write {
 pub fn finish<O: Output, X: Write>(status: u8, out: &mut O, faults: &mut X) -> u8
     ensures published { ¬ (O.is_published out.old) → (result ≤ 1) ↔ O.is_published out.new }
     ensures same { result ≤ 1 → result ≡ status }
+    ensures failed { status ≤ 1 → result ≤ 2 }
     ensures unpublished { 2 ≤ status → (result ≡ status) × (out.new ≡ out.old) }
     ensures faultless { result ≤ 1 → Keeps (X.contents faults.old) (X.contents faults.new) }
 {

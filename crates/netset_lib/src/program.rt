@@ -1,5 +1,5 @@
 //! The program, over any writers.
-ghost use Rattle.std.specs.Prelude.{◌≡◌, ◌≤◌, ◌==◌, ◌⊎◌, List, ℕ, IsTrue};
+ghost use Rattle.std.specs.Prelude.{◌≡◌, ◌≤◌, ◌==◌, ◌⊎◌, ◌↔◌, List, ℕ, IsTrue};
 ghost use Rattle.std.specs.Io.{StartsWith};
 ghost use Rattle.std.specs.Io.KnownBytes.{Appends, Keeps};
 ghost use Rattle.netset_lib.specs.Replies.{IsOutcome};
@@ -115,7 +115,7 @@ pub fn run_stream<R: Read, W: Write, X: Write>(
 /// The exit status of a stream.
 fn stream_status(streamed: Streamed) -> u8
     ensures status { result ≤ 2 }
-    ensures whole { result ≤ 1 → streamed.refused ≡ 0 }
+    ensures whole { (result ≤ 1) ↔ (streamed.refused ≡ 0) }
     ensures succeeded { result ≤ 1 → streamed.succeeded ≡ (result == 0) }
 {
     if streamed.refused != 0 {

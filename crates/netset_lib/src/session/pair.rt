@@ -1,8 +1,8 @@
 //! The addresses of each of the two lists of a session.
-ghost use Rattle.std.specs.Prelude.{List, ℕ, IfOk, IfErr};
+ghost use Rattle.std.specs.Prelude.{◌≡◌, ◌≢◌, List, ℕ, length, Err, IfOk, IfErr};
 ghost use Rattle.ipnet.specs.declared.parser.Grammar.{Grammar};
 ghost use Rattle.netset_lib.specs.PairSets.{ArePairSets};
-ghost use Rattle.netset_lib.specs.Replies.{IsWorkFailure};
+ghost use Rattle.netset_lib.specs.Replies.{IsWorkFailure, TakesCount};
 ghost use Rattle.netset_lib.specs.declared.command.Work.TheVariants.{Ask};
 ghost use Rattle.netset_lib.specs.declared.query.Query.TheVariants.{Compare};
 
@@ -27,6 +27,10 @@ impl Session {
             → WereRead (Ask Compare grammar) lists self → ArePairSets grammar lists pair.0 pair.1) }
         ensures failure { IfErr result (λ failure. (grammar : Grammar) → (lists : List (List ℕ))
             → WereRead (Ask Compare grammar) lists self → IsWorkFailure (Ask Compare grammar) lists failure) }
+        ensures count { (grammar : Grammar) → (lists : List (List ℕ)) → WereRead (Ask Compare grammar) lists self
+            → ¬ (TakesCount (Ask Compare grammar) (length lists)) → result ≡ Err Failure.Count }
+        ensures other { (work : Work) → (lists : List (List ℕ)) → WereRead work lists self
+            → ((grammar : Grammar) → work ≢ Ask Compare grammar) → result ≡ Err Failure.Count }
     {
         let Session {
             work,

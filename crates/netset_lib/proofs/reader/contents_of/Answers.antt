@@ -1,5 +1,5 @@
-use Rattle.std.proofs.Common.{take, length, inl, inr, sym, subst}
-use Rattle.ipnet_text.proofs.LineCuts.{no_bytes, empty_text}
+use Rattle.std.proofs.Common.{◌≡◌, ◌<◌, [], take, length, inl, inr, sym, ◌∙◌, subst, arith}
+use Rattle.ipnet_text.proofs.LineCuts.{no_bytes, some_bytes, empty_text}
 use Rattle.netset_lib.specs.Lists.{HidesEntry}
 use Rattle.netset_lib.proofs.CommentLaws.{behind}
 use Rattle.netset_lib.proofs.ListLines.{trimmed}
@@ -17,15 +17,22 @@ returns-then-is_empty c =
     }
 
 pub returns-then-branch : goal.returns-then-branch
-returns-then-branch c = record {
-  start = c.comment_start-start.result;
-  comment = c.comment_start-start.ensures;
-  is = inr (
-    trimmed c.args.line.now c.trim_ascii.result.now c.trim_ascii.ensures.value,
-    subst (HidesEntry c.args.grammar) (behind c.args.line.now c.comment_start-start.result)
-        (c.in_ok-hides_entry.ensures.0 c.if-branch.true),
-  );
-}
+returns-then-branch c =
+    let text = c.trim_ascii-text.result.now in record {
+      start = c.comment_start-start.result;
+      comment = c.comment_start-start.ensures;
+      is = inr (
+        trimmed c.args.line.now c.trim_ascii.result.now c.trim_ascii.ensures.value,
+        (λ none.
+            let empty : text ≡ [] =
+            trimmed (take c.comment_start-start.result c.args.line.now) text c.trim_ascii-text.ensures.value ∙ none in
+            let some : 0 < length text = some_bytes (length text) c.if-is_empty.ensures in
+            let wrong : 0 < 0 = subst (λ t. 0 < length t) empty some in
+            absurd (omega (arith, wrong))),
+        subst (HidesEntry c.args.grammar) (behind c.args.line.now c.comment_start-start.result)
+            (c.in_ok-hides_entry.ensures.0 c.if-branch.true),
+      );
+    }
 
 pub returns : goal.returns
 returns c = record {
