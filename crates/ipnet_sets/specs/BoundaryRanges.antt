@@ -29,13 +29,3 @@ before_last boundaries = (length boundaries - 1) / 2 * 2
 abbrev pub count_of : List AddressRange → ℕ
 count_of [] = 0
 count_of (r ∷ ranges) = address_count r + count_of ranges
-
--- The maximal blocks of each range, one range after the other.
-abbrev pub AreBlocksOfRanges : List AddressRange → List Network → Type 0
-AreBlocksOfRanges [] networks = networks ≡ []
-AreBlocksOfRanges (r ∷ ranges) networks = (front : List Network) × (rest : List Network)
-    × AreMaximalBlocks (IsInRange r) 0 front × AreBlocksOfRanges ranges rest × (networks ≡ front ++ rest)
-
--- The new list is the old list followed by these blocks.
-abbrev pub HasBlocksAdded : List AddressRange → List Network → List Network → Type 0
-HasBlocksAdded ranges old new = (more : List Network) × AreBlocksOfRanges ranges more × (new ≡ old ++ more)
