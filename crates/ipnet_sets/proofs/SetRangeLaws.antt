@@ -1,19 +1,15 @@
 -- The ranges of a set that is stored by its boundaries, and their networks. `ts` are the boundaries of the family `f`;
 -- the first two of them are `s`, the first number of a range, and `u`, the number after its last one.
-use Rattle.std.proofs.Common.{◌≡◌, ℕ, suc, ◌+◌, ◌-◌, ◌<◌, ◌≤◌, ◌⊎◌, ◌↔◌, true, false, not}
+use Rattle.std.proofs.Common.{◌≡◌, ℕ, suc, ◌-◌, ◌<◌, ◌≤◌, ◌⊎◌, ◌↔◌, true, false, not}
 use Rattle.std.proofs.Common.{List, [], ◌∷◌, ◌++◌, drop, map, Contains, All, AllPairs, Any}
-use Rattle.std.proofs.Common.{refl, sym, ap, ◌∙◌, subst, arith, inl, inr, le-leb, append_assoc}
+use Rattle.std.proofs.Common.{refl, sym, ap, ◌∙◌, subst, arith, inl, inr, le-leb}
 use Rattle.std.proofs.lemmas.Bool.{cases_lt, lt-leb}
-use Rattle.std.proofs.lemmas.List.{append-nil, drop-map}
+use Rattle.std.proofs.lemmas.List.{drop-map}
 use Rattle.std.proofs.lemmas.List.Elements.{Contains-append_left, Contains-append_right, Contains-append_cases}
 use Rattle.ipnet_base.specs.Address.{Family, IPv4, IPv6, Address, greatest_number, family_index}
-use Rattle.ipnet_base.specs.Network.{Network}
-use Rattle.ipnet_base.specs.Blocks.{AreMaximalBlocks, IsInEither, AreSeparated}
 use Rattle.ipnet_base.specs.Ranges.{AddressRange}
-use Rattle.ipnet_base.proofs.ListLaws.{contains_nil, contains_here, contains_cases, any_from_contains, pairs_head}
-use Rattle.ipnet_base.proofs.ListLaws.{pairs_tail, pairs_cons, all_from_members, pairs_append}
-use Rattle.ipnet_base.proofs.SeparationLaws.{AreMaximalBlocks-append}
-use Rattle.ipnet_base.proofs.UniqueLaws.{AreMaximalBlocks-same_set, AreMaximalBlocks-nil}
+use Rattle.ipnet_base.proofs.ListLaws.{contains_nil, contains_here, contains_cases, any_from_contains}
+use Rattle.ipnet_base.proofs.ListLaws.{pairs_cons, all_from_members, pairs_append}
 use Rattle.ipnet_sets.specs.declared.set.IpSet.{IpSet}
 use Rattle.ipnet_sets.specs.Boundaries.{is_inside, AreBoundaries}
 use Rattle.ipnet_sets.specs.Members.{boundaries_of, IsMember}

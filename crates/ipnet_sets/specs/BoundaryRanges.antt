@@ -1,12 +1,10 @@
 -- The ranges between the boundaries of a set, and the networks of each of these ranges.
 -- `RangesLeft` uses `ranges_of`. The other definitions are for private contracts.
-use Rattle.std.specs.Prelude.{◌≡◌, ℕ, ◌+◌, ◌-◌, ◌*◌, ◌/◌, ◌≤◌, true, List, [], ◌∷◌, ◌++◌, length}
+use Rattle.std.specs.Prelude.{◌≡◌, ℕ, ◌+◌, ◌-◌, ◌*◌, ◌/◌, ◌≤◌, true, List, [], ◌∷◌, length}
 use Rattle.ipnet_base.specs.Address.{Family, Address, greatest_number}
-use Rattle.ipnet_base.specs.Network.{Network}
-use Rattle.ipnet_base.specs.Blocks.{AreMaximalBlocks}
 use Rattle.ipnet_base.specs.Ranges.{AddressRange, address_count}
 use Rattle.ipnet_sets.specs.Boundaries.{is_inside}
-use Rattle.ipnet_sets.specs.SetRanges.{range_of, IsInRange}
+use Rattle.ipnet_sets.specs.SetRanges.{range_of}
 
 -- The addresses of the family that are inside.
 pub record IsInBoundaries (f : Family) (boundaries : List ℕ) (x : Address) : Type 0 where

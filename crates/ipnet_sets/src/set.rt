@@ -325,8 +325,8 @@ impl IpSet {
         }
     }
 
-    /// Returns the fewest networks that contain exactly the addresses of the set, one after the other, without host bits,
-    /// IPv4 before IPv6 and ascending. They are the networks of `networks`. Allocates nothing.
+    /// Returns the fewest networks that contain exactly the addresses of the set, one after the other, without host
+    /// bits, IPv4 before IPv6 and ascending. They are the networks of `networks`. Allocates nothing.
     ///
     /// ```text
     /// of 10.0.0.0 to 10.0.0.5: 10.0.0.0/30, then 10.0.0.4/31

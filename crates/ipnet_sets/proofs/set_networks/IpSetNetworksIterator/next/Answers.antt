@@ -19,8 +19,8 @@ returns-clause-steps c =
     let later = ranges_left c.next-2.new.self in
     let valid = first_range_valid c.args.self.now.ranges r later c.in_ok-range.ensures.steps in
     first_network (ip_subnets_left c.walk_of-self.result) (ip_subnets_left c.args.self.now.walk)
-    (ip_network c.in_ok-network.network) (ip_subnets_left c.next-3.new.self) (ranges_left c.args.self.now.ranges) later r
-    c.in_default.ensures.steps.0 c.in_ok-range.ensures.steps valid.1 (c.walk_of-self.ensures.blocks valid.0)
+    (ip_network c.in_ok-network.network) (ip_subnets_left c.next-3.new.self) (ranges_left c.args.self.now.ranges) later
+    r c.in_default.ensures.steps.0 c.in_ok-range.ensures.steps valid.1 (c.walk_of-self.ensures.blocks valid.0)
     c.in_ok-network.ensures.steps
 
 pub returns-clause-goes : goal.returns-clause-goes
