@@ -7,6 +7,8 @@ pub mod Pushed
 pub mod ManySets
 pub mod BoundaryRanges
 pub mod RangesLeft
+pub mod RangeBlocks
+pub mod NetworksLeft
 pub mod Routes
 pub mod RouteValues
 pub mod RouteSteps
