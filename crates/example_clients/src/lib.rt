@@ -8,4 +8,5 @@
 pub mod lists;
 pub mod networks;
 pub mod plans;
+pub mod routes;
 pub mod texts;

@@ -15,6 +15,7 @@ pub mod RouteSteps
 pub mod RoutesOf
 pub mod MatchesLeft
 pub mod RouteMaps
+pub mod RouteLends
 pub mod RouteMapSteps
 pub mod RouteMapsOf
 pub mod RouteMapsLeft
