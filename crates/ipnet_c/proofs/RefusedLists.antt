@@ -30,7 +30,8 @@ first_refused (r ∷ shown) (first ∷ refusals) line e some is =
     (first, refusals, refl, ap (λ z. z.line) (sym same) ∙ ap (λ z. z.line) (sym is))
 
 -- a list with a refused line
-pub list_refused : (grammar : Grammar) (text buffer : List ℕ) (count_old : ℕ) (set : IpSet) (refused : RefusedLines) (line : RefusedLine)
+pub list_refused : (grammar : Grammar) (text buffer : List ℕ) (count_old : ℕ) (set : IpSet) (refused : RefusedLines)
+    (line : RefusedLine)
     → IsReadList grammar text set refused → 0 < length refused.shown.items → line ≡ get_or refused.shown.items 0 line
     → IsListReply grammar text buffer buffer count_old line.line 1
 list_refused grammar text buffer count_old set refused line h some is =
@@ -45,7 +46,8 @@ list_refused grammar text buffer count_old set refused line h some is =
     }
 
 -- a list without one
-pub list_compiled : (grammar : Grammar) (text image old new : List ℕ) (count_old count status : ℕ) (set : IpSet) (refused : RefusedLines)
+pub list_compiled : (grammar : Grammar) (text image old new : List ℕ) (count_old count status : ℕ) (set : IpSet)
+    (refused : RefusedLines)
     → IsReadList grammar text set refused → length refused.shown.items ≡ 0 → IsImageOf image set
     → (status ≡ 0) ⊎ (status ≡ 4) → (status ≡ 0 → IsWritten image old new count)
     → (status ≡ 4 → IsTooLong image old new count) → IsListReply grammar text old new count_old count status

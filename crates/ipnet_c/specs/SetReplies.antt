@@ -149,8 +149,8 @@ AreNetworksInBytes bytes width count = ((width ≡ 6) ⊎ (width ≡ 18)) × (le
 
 -- Whether the set contains every address of each of many networks: `networks` has `width` bytes for each, one after the
 -- other, and the byte of the network in `new` is what the question about this network returns.
--- Example: of the image of 10.0.0.0/30, with the width 6, 0, 10, 0, 0, 2, 31, 0, 10, 0, 0, 0, 29, 0, 10, 0, 0, 0, 33 gives
--- 1, 0 and `prefix_too_long`.
+-- Example: of the image of 10.0.0.0/30, with the width 6, 0, 10, 0, 0, 2, 31, 0, 10, 0, 0, 0, 29, 0, 10, 0, 0, 0, 33
+-- gives 1, 0 and `prefix_too_long`.
 pub record IsCoversAllReply (set networks : List ℕ) (width : ℕ) (old new : List ℕ) (status : ℕ) : Type 0 where
   pub known : (status ≡ statuses.ok) ⊎ ((status ≡ statuses.wrong_length) ⊎ (status ≡ statuses.not_a_set))
   pub ok : status ≡ statuses.ok → (i : ℕ) → i < length old

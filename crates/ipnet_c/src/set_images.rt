@@ -68,8 +68,8 @@ pub extern "C" fn ipnet_set_from_text(
     compile(alloc, text, Grammar::Strict, buffer, count)
 }
 
-/// Like `ipnet_set_from_text`, for a text of the legacy grammar: octets and lengths may have leading zeros, and "::" may
-/// replace no group.
+/// Like `ipnet_set_from_text`, for a text of the legacy grammar: octets and lengths may have leading zeros, and "::"
+/// may replace no group.
 ///
 /// ```text
 /// "10.0.0.0/31\n10.0.00.2/31\n"    0, and the image of 10.0.0.0/30, of 40 bytes

@@ -59,8 +59,8 @@ pub extern "C" fn ipnet_set_from_list(
     compile_list(alloc, text, Grammar::Strict, buffer, count)
 }
 
-/// Like `ipnet_set_from_list`, for a list of the legacy grammar, as `netset --legacy` reads its files: octets and lengths
-/// may have leading zeros, and "::" may replace no group.
+/// Like `ipnet_set_from_list`, for a list of the legacy grammar, as `netset --legacy` reads its files: octets and
+/// lengths may have leading zeros, and "::" may replace no group.
 ///
 /// ```text
 /// "010.0.0.0-10.0.0.03 # ours\n"    0, and the image of 10.0.0.0/30, of 40 bytes

@@ -166,12 +166,12 @@ fn cover_answer(image: &IpSetImage<'_>, network: &[u8]) -> u8
 /// Writes for each of many networks what `ipnet_set_covers` returns for it: 1 if the set, given by its image, contains
 /// every address of the network, 0 if it does not, and 6, 7 or 8 if the bytes of the network have this fault.
 ///
-/// `networks` has `width` bytes for each network in byte form, 6 for IPv4 or 18 for IPv6, one after the other; `answers`
-/// gets one byte for each. Only the header of the image is tested.
+/// `networks` has `width` bytes for each network in byte form, 6 for IPv4 or 18 for IPv6, one after the other;
+/// `answers` gets one byte for each. Only the header of the image is tested.
 ///
-/// Returns 0; 6 if the width is neither 6 nor 18, or if the number of bytes is not the width for each byte of `answers`;
-/// else 11 if the bytes of the set do not begin with the header of an image, or have another length than it states.
-/// `answers` changes only at 0.
+/// Returns 0; 6 if the width is neither 6 nor 18, or if the number of bytes is not the width for each byte of
+/// `answers`; else 11 if the bytes of the set do not begin with the header of an image, or have another length than it
+/// states. `answers` changes only at 0.
 ///
 /// ```text
 /// the image of 10.0.0.0/30, the width 6, and 0, 10, 0, 0, 2, 31, 0, 10, 0, 0, 0, 29    0, and 1, 0

@@ -67,7 +67,8 @@ returns c =
     let h : HasAddressesOfText Strict c.args.text.now c.in-Ok-read_set.set =
     subst (λ t. HasAddressesOfText Strict t c.in-Ok-read_set.set) same c.in-Ok-read_set.ensures.addresses in
     let k : HasAddressesOfText Strict c.args.other.now c.in-Ok-read_set-2.others =
-    subst (λ t. HasAddressesOfText Strict t c.in-Ok-read_set-2.others) same_other c.in-Ok-read_set-2.ensures.addresses in
+    subst (λ t. HasAddressesOfText Strict t c.in-Ok-read_set-2.others) same_other
+    c.in-Ok-read_set-2.ensures.addresses in
     let set = c.in-Ok-read_set.set in
     let others = c.in-Ok-read_set-2.others in
     let equal : IsTrue c.eq.result ↔ HaveSameAddresses set others =

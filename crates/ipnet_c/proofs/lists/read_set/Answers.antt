@@ -32,7 +32,8 @@ returns-clause-addresses c =
     let (networks, written, made) = c.in_ok-push_lines.ensures.networks in
     let taken = made [] (none_taken c.new.result true c.new.ensures) in
     let sink = c.push_lines.new.sink in
-    set_of_taken c.args.grammar c.args.text.now networks sink.builder sink.is_empty c.in-Ok.set written taken c.in-Ok.ensures
+    set_of_taken c.args.grammar c.args.text.now networks sink.builder sink.is_empty c.in-Ok.set written taken
+    c.in-Ok.ensures
 
 pub returns-clause-bad_at_once : goal.returns-clause-bad_at_once
 returns-clause-bad_at_once c = λ number h.

@@ -10,8 +10,8 @@ returns c =
     let (same, utf8) = c.in-Ok.ensures.cases in
     let made = c.write_answer in
     let set = c.in-Ok-read_set.set in
-    compiled c.args.grammar c.args.text.now c.as_slice.result.now c.args.buffer.now made.new.buffer c.args.count.now made.new.count
-    made.result utf8
+    compiled c.args.grammar c.args.text.now c.as_slice.result.now c.args.buffer.now made.new.buffer c.args.count.now
+    made.new.count made.result utf8
     (record {
       set = set;
       image_of = subst (λ z. IsImageOf z set) (sym c.as_slice.ensures.value) c.in-Ok-to_bytes.ensures;

@@ -24,7 +24,8 @@ returns-then-are_empty c =
     let h : HasAddressesOfText Strict c.args.text.now c.in-Ok-read_set.set =
     subst (λ t. HasAddressesOfText Strict t c.in-Ok-read_set.set) same c.in-Ok-read_set.ensures.addresses in
     let k : HasAddressesOfText Strict c.args.other.now c.in-Ok-read_set-2.others =
-    subst (λ t. HasAddressesOfText Strict t c.in-Ok-read_set-2.others) same_other c.in-Ok-read_set-2.ensures.addresses in
+    subst (λ t. HasAddressesOfText Strict t c.in-Ok-read_set-2.others) same_other
+    c.in-Ok-read_set-2.ensures.addresses in
     let (none, none_other) = c.are_empty.ensures.0 c.if-are_empty.true in
     let made = c.write_answer in
     combined c.args.operation c.args.text.now c.args.other.now [] c.args.buffer.now made.new.buffer c.args.count.now
@@ -78,7 +79,8 @@ returns-in_default-combined_text c =
     let h : HasAddressesOfText Strict c.args.text.now c.in-Ok-read_set.set =
     subst (λ t. HasAddressesOfText Strict t c.in-Ok-read_set.set) same c.in-Ok-read_set.ensures.addresses in
     let k : HasAddressesOfText Strict c.args.other.now c.in-Ok-read_set-2.others =
-    subst (λ t. HasAddressesOfText Strict t c.in-Ok-read_set-2.others) same_other c.in-Ok-read_set-2.ensures.addresses in
+    subst (λ t. HasAddressesOfText Strict t c.in-Ok-read_set-2.others) same_other
+    c.in-Ok-read_set-2.ensures.addresses in
     not_combined c.args.operation c.args.text.now c.args.other.now c.args.buffer.now c.args.count.now utf8 utf8_other
     (λ none none_other. false≢true (sym c.if-are_empty.false ∙ c.are_empty.ensures.1 (
       empty_set Strict c.args.text.now c.in-Ok-read_set.set h none,
@@ -94,7 +96,8 @@ returns c =
     let h : HasAddressesOfText Strict c.args.text.now c.in-Ok-read_set.set =
     subst (λ t. HasAddressesOfText Strict t c.in-Ok-read_set.set) same c.in-Ok-read_set.ensures.addresses in
     let k : HasAddressesOfText Strict c.args.other.now c.in-Ok-read_set-2.others =
-    subst (λ t. HasAddressesOfText Strict t c.in-Ok-read_set-2.others) same_other c.in-Ok-read_set-2.ensures.addresses in
+    subst (λ t. HasAddressesOfText Strict t c.in-Ok-read_set-2.others) same_other
+    c.in-Ok-read_set-2.ensures.addresses in
     let made = c.write_answer-2 in
     let (set, is, text) = c.in-Ok-combined_text.ensures in
     combined c.args.operation c.args.text.now c.args.other.now c.as_bytes.result.now c.args.buffer.now made.new.buffer
