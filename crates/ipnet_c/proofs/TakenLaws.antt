@@ -44,8 +44,9 @@ one_taken old new is_empty networks n pushed h = record {
 
 -- the set of the networks that were taken, and of none
 pub set_of_taken : (grammar : Grammar) (text : List ℕ) (networks : List Network) (builder : IpSetBuilder)
-    (is_empty : Bool) (set : IpSet) → AreNetworksOf grammar (lines_of text) networks → AreTaken builder is_empty networks
-    → ((x : Address) → IsMember set x ↔ IsPushed builder x) → HasAddressesOfText grammar text set
+    (is_empty : Bool) (set : IpSet) → AreNetworksOf grammar (lines_of text) networks
+    → AreTaken builder is_empty networks → ((x : Address) → IsMember set x ↔ IsPushed builder x)
+    → HasAddressesOfText grammar text set
 set_of_taken grammar text networks builder is_empty set written h made = record {
   networks = networks;
   written = written;
