@@ -1,0 +1,24 @@
+-- Each turn writes the answer for one more network.
+use Rattle.std.proofs.Common.{refl, subst, arith}
+use Rattle.ipnet_sets.specs.Images.{HasHeader}
+use Rattle.ipnet_c.proofs.SetQuestionReplies.{AreCoversOf, covers_more, covers_all}
+use Rattle.ipnet_c.proofs.set_questions.ipnet_set_covers_all.Goals as goal
+
+pub loop-index-init : goal.loop-index-init
+loop-index-init c = record { as_many = refl; done = λ i less. absurd (omega arith) }
+
+pub loop-index-preserved : goal.loop-index-preserved
+loop-index-preserved c =
+    covers_more c.in-Ok.image.bytes.now c.args.networks.now c.args.width c.loop-index.index c.args.answers.now
+    c.loop-index.answers c.cover_answer.result c.loop-index.invariant
+    (omega (arith, c.loop-index-test.true, c.loop-index.auto.answers)) c.cover_answer.ensures
+
+pub returns : goal.returns
+returns c =
+    let same = c.in-Ok.ensures in
+    covers_all c.args.set.now c.args.networks.now c.args.width c.loop-index.index c.args.answers.now
+    c.loop-index.answers (subst HasHeader same c.in-Ok.image.header)
+    (c.are_networks.ensures.0 (c.if-not-are_networks.false))
+    (subst (λ z. AreCoversOf z c.args.networks.now c.args.width c.loop-index.index c.args.answers.now
+    c.loop-index.answers) same c.loop-index.invariant)
+    (omega (arith, c.loop-index-test.false))
