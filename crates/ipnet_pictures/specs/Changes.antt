@@ -12,7 +12,7 @@ use Rattle.ipnet_pictures.specs.Parts.{HasNone, HasSome}
 abbrev pub IsOnlyIn : (Address → Type 0) → (Address → Type 0) → Address → Type 0
 IsOnlyIn First Second x = First x × ¬ (Second x)
 
--- What happens to the addresses of the block, if the set `Before` becomes the set `After`.
+-- The change of the addresses of the block, if the set `Before` becomes the set `After`.
 -- Example: from 10.0.0.0/30 to 10.0.0.2/31, 10.0.0.0/30 has the change `Removed`, 10.0.0.2/31 is `Unchanged`, and
 -- 10.0.0.4/30 is `Unused`. From 10.0.0.0 to 10.0.0.1, 10.0.0.0/30 is `Mixed`.
 abbrev pub IsChange : (Address → Type 0) → (Address → Type 0) → Network → Change → Type 0

@@ -11,7 +11,7 @@ use ipnet::{IpAddr, IpNet};
 use ipnet_sets::IpSet;
 use std::alloc::{AllocError, Global};
 
-/// What happens to the addresses of a block, if one set becomes another.
+/// The change of the addresses of a block, if one set becomes another.
 ///
 /// ```text
 /// from 10.0.0.0/30 to 10.0.0.2/31: 10.0.0.0/30 is Removed, 10.0.0.2/31 is Unchanged, 10.0.0.4/30 is Unused

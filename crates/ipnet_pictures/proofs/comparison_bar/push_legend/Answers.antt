@@ -32,7 +32,8 @@ returns c =
       },
       five_joined (string_bytes c.args.text.now) (string_bytes c.push_worded.new.text)
           (string_bytes c.push_worded-2.new.text) (string_bytes c.push_worded-3.new.text)
-          (string_bytes c.push_str.new.self) (string_bytes c.push_str-2.new.self) (worded_line (codes "- only in the first: ") removed)
+          (string_bytes c.push_str.new.self) (string_bytes c.push_str-2.new.self)
+          (worded_line (codes "- only in the first: ") removed)
           (worded_line (codes "+ only in the second: ") added) (worded_line (codes "= in both: ") kept)
           (codes "! is - and + in one mark") (10 ∷ []) c.in_ok-push_worded.ensures c.in_ok-push_worded-2.ensures
           c.in_ok-push_worded-3.ensures c.in_ok-push_str.ensures.bytes c.in_ok-push_str-2.ensures.bytes,
