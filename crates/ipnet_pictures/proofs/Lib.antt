@@ -4,4 +4,7 @@ pub mod MarkLaws
 pub mod PartLaws
 pub mod SummaryLaws
 pub mod BarLaws
+pub mod OutsideLaws
+pub mod ChangeLaws
+pub mod ComparisonLaws
 pub mod FrameLaws
