@@ -1,5 +1,6 @@
 //! The command line: the lists to read, and what to do with them.
 use crate::changes::changes_command;
+use crate::forms::with_forms;
 use crate::listing::with_listings;
 use crate::lists::{Empties, Reports};
 use crate::plan::plan_command;
@@ -174,8 +175,7 @@ pub fn operation_command<'a>(
     name: &'a str,
     about: &'a str,
 ) -> Result<Command<'a>, AllocError> {
-    let ranges = "Print the fewest ranges, such as 10.0.0.0-10.0.0.5, instead of networks";
-    command_of(alloc, name, about)?.arg(flag(alloc, "ranges", ranges))
+    with_forms(alloc, command_of(alloc, name, about)?)
 }
 
 /// The command of an operation on at least two lists.

@@ -3,6 +3,7 @@
 
 mod arguments;
 mod changes;
+mod forms;
 mod leftovers;
 mod listing;
 mod lists;
@@ -15,6 +16,7 @@ mod version;
 
 use crate::arguments::{ArgumentFailure, Call, call_of, matches_of, output_of, reports_of, words};
 use crate::changes::{CHANGES, changed};
+use crate::forms::form_of;
 use crate::listing::run_if_listing;
 use crate::lists::{read_lists, report_unread};
 use crate::output::{CLOSED, Streams};
@@ -22,6 +24,7 @@ use crate::plan::{PLAN, planned};
 use crate::rules::run_if_rules;
 use crate::stream::stream_list;
 use clap::ArgMatches;
+use netset_forms::run_form;
 use netset_lib::{Session, Work, run};
 use std::cell::Cell;
 use std::io::{ErrorKind, Write};
@@ -128,13 +131,27 @@ fn answered(rt: &HostRuntime, matches: &ArgMatches, streams: &mut Streams<'_>) -
         Err(failure) => return refused(rt, failure),
     };
     let names = names.as_slice();
+    let form = match matches.subcommand() {
+        Some((_, matches)) => form_of(rt, matches),
+        None => Ok(None),
+    };
+    let form = match form {
+        Ok(form) => form,
+        Err(status) => return status,
+    };
     match names {
         [_, name] if is_streamed => match session_of(rt, work, &names[..1], streams) {
             Ok(session) => stream_list(rt, session, names, name, streams),
             Err(status) => status,
         },
         _ => match session_of(rt, work, names, streams) {
-            Ok(session) => run(session, names, &mut streams.answer, &mut streams.faults),
+            Ok(session) => {
+                let (out, faults) = (&mut streams.answer, &mut streams.faults);
+                match form {
+                    Some(request) => run_form(session, request, names, out, faults),
+                    None => run(session, names, out, faults),
+                }
+            }
             Err(status) => status,
         },
     }

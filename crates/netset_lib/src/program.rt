@@ -64,7 +64,7 @@ pub fn run<W: Write, X: Write>(session: Session, names: &[&str], out: &mut W, fa
     let Answer { text, succeeded } = match session.answer(names) {
         Ok(answer) => answer,
         Err(failure) => {
-            let _ = report(faults, names, &failure);
+            let _ = report_failure(faults, names, &failure);
             return 2;
         }
     };
@@ -134,7 +134,7 @@ fn report_stream<X: Write>(
     failure: &StreamFailure,
 ) -> io::Result<()> {
     match failure {
-        StreamFailure::Start(failure) => report(faults, names, failure),
+        StreamFailure::Start(failure) => report_failure(faults, names, failure),
         StreamFailure::Read(failure) => {
             let name = names.get(1).copied().unwrap_or("list");
             writeln!(faults, "netset: {name}: {failure}")
@@ -152,8 +152,8 @@ pub(crate) fn written<W: Write>(out: &mut W, bytes: &[u8]) -> bool
     write_whole(out, bytes).is_ok() && out.flush().is_ok()
 }
 
-/// Reports the failure.
-pub(crate) fn report<X: Write>(
+/// Reports why a session has no answer, as `run` does.
+pub fn report_failure<X: Write>(
     faults: &mut X,
     names: &[&str],
     failure: &Failure,

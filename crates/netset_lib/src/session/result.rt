@@ -18,7 +18,7 @@ impl Session {
     ghost use Rattle.netset_lib.specs.Sessions.{WereRead};
 
     /// The allocator of the session.
-    pub(crate) fn alloc(&self) -> Global {
+    pub fn alloc(&self) -> Global {
         self.reading.lines.alloc
     }
 
