@@ -97,12 +97,16 @@ front_before_slash text front digits h e =
       ascii = omega arith;
       no_dash = λ e. omega (arith, e);
       no_slash = λ e. omega (arith, e);
+      no_quote = λ e. omega (arith, e);
+      no_comma = λ e. omega (arith, e);
     } in
     let two : IsAddressByte 50 = record {
       plain = record { no_blank = refl; no_hash = λ e. omega (arith, e); no_semicolon = λ e. omega (arith, e) };
       ascii = omega arith;
       no_dash = λ e. omega (arith, e);
       no_slash = λ e. omega (arith, e);
+      no_quote = λ e. omega (arith, e);
+      no_comma = λ e. omega (arith, e);
     } in
     (one_back IsAddressByte 47 (λ k. k.no_slash refl) text (51 ∷ 50 ∷ []) front digits
     (e ∙ append_assoc front (47 ∷ []) digits)
