@@ -1,5 +1,6 @@
 //! The command line: the lists to read, and what to do with them.
 use crate::changes::changes_command;
+use crate::entries::with_entries;
 use crate::listing::with_listings;
 use crate::lists::{Empties, Reports};
 use crate::plan::plan_command;
@@ -118,7 +119,7 @@ pub fn first<'a>(alloc: Global, name: &'a str, help: &'a str) -> Arg<'a> {
 }
 
 /// The only list; standard input, if it is omitted.
-fn one_file<'a>(alloc: Global) -> Arg<'a> {
+pub fn one_file<'a>(alloc: Global) -> Arg<'a> {
     let help = "A list, - for standard input; standard input if it is omitted";
     first(alloc, "FILE", help).required(false)
 }
@@ -272,6 +273,7 @@ fn command<'a>(alloc: Global) -> Result<Command<'a>, AllocError> {
         .subcommand_required(true)
         .arg_required_else_help(true);
     let command = with_queries(alloc, with_operations(alloc, command)?)?;
+    let command = with_entries(alloc, command)?;
     with_rules(alloc, with_listings(alloc, command)?)
 }
 

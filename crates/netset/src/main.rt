@@ -3,6 +3,7 @@
 
 mod arguments;
 mod changes;
+mod entries;
 mod leftovers;
 mod listing;
 mod lists;
@@ -15,6 +16,7 @@ mod version;
 
 use crate::arguments::{ArgumentFailure, Call, call_of, matches_of, output_of, reports_of, words};
 use crate::changes::{CHANGES, changed};
+use crate::entries::run_if_entries;
 use crate::listing::run_if_listing;
 use crate::lists::{read_lists, report_unread};
 use crate::output::{CLOSED, Streams};
@@ -108,6 +110,9 @@ fn ran(rt: &HostRuntime, matches: &ArgMatches, streams: &mut Streams<'_>) -> u8 
         return status;
     }
     if let Some(status) = run_if_listing(rt, matches, streams) {
+        return status;
+    }
+    if let Some(status) = run_if_entries(rt, matches, streams) {
         return status;
     }
     match matches.subcommand() {

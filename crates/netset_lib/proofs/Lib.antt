@@ -8,11 +8,13 @@ pub mod ListLines
 pub mod FrontEntries
 pub mod PlainLines
 pub mod CauseTexts
+pub mod CauseOrder
 pub mod LengthTexts
 pub mod PlanLaws
 pub mod ChangeLaws
 pub mod ListingLaws
 pub mod ListReading
+pub mod MarkLaws
 pub mod WindowReading
 pub mod OperationLaws
 pub mod OutputNames
@@ -28,6 +30,7 @@ pub mod EntryAnswerLaws
 pub mod AnsweringLaws
 pub mod SessionLaws
 pub mod StreamLaws
+pub mod StreamParts
 pub mod CommentLaws
 pub mod RuleLaws
 pub mod RuleAnswerLaws

@@ -8,6 +8,7 @@ pub mod CauseSteps
 pub mod Lists
 pub mod RefusedLines
 pub mod FoundEntry
+pub mod Marks
 pub mod Reading
 pub mod Operations
 pub mod Outputs

@@ -2,6 +2,7 @@
 ghost use Rattle.std.specs.Prelude.{◌≡◌, ◌+◌, ◌<◌, [], length, OnOk, IfOk};
 ghost use Rattle.ipnet_text.specs.Window.{held};
 
+use crate::mark::{MOST_READS, begin_input};
 use crate::reader::{Collector, LineReader};
 use ipnet::Grammar;
 use ipnet_text::window::SIZE;
@@ -9,12 +10,6 @@ use ipnet_text::{ReadError, Window, lines_len};
 use std::alloc::{AllocError, Global};
 use std::io::Read;
 use thiserror::Error;
-
-/// Bounds the loops, so that they provably end.
-pub(crate) const MOST_READS: u64 = u64::MAX;
-
-/// The byte order mark in UTF-8.
-pub(crate) const BYTE_ORDER_MARK: [u8; 3] = [0xEF, 0xBB, 0xBF];
 
 /// Why a list was not read.
 #[derive(Clone, Copy, Debug, PartialEq, Eq, Drop, Error)]
@@ -49,7 +44,7 @@ pub(crate) struct Reading {
 
 impl Reading {
     ghost use Rattle.netset_lib.specs.RefusedLines.{AreRefused};
-    ghost use Rattle.netset_lib.specs.Reading.{Adds, IsPastMark, IsBegun, GoesOn, TakesLines, WasMadeOf, pending};
+    ghost use Rattle.netset_lib.specs.Reading.{Adds, IsBegun, GoesOn, TakesLines, WasMadeOf, pending};
 
     /// Returns what reads the first list. Fails if memory runs out.
     pub(crate) fn new(alloc: Global, grammar: Grammar) -> Result<Reading, AllocError>
@@ -62,27 +57,6 @@ impl Reading {
             carry: Vec::new(alloc),
             lines: LineReader::new(alloc, grammar),
         })
-    }
-
-    /// Fills the window until it has the length of a byte order mark or the input has ended, and returns whether more
-    /// bytes may come. If the bytes begin with a byte order mark, that is taken.
-    fn skip_mark<R: Read>(&mut self, input: &mut R) -> Result<bool, ReadError>
-        requires { held self.old.window ≡ [] }
-        ensures { IfOk result (λ more. IsPastMark more
-            (R.remaining input.old) (R.remaining input.new) self.old self.new) }
-    {
-        let mut more = true;
-        for _ in 0..MOST_READS {
-            let held = self.window.held();
-            if BYTE_ORDER_MARK.len() <= held.len() || !more {
-                if held.starts_with(&BYTE_ORDER_MARK) {
-                    self.window.take(BYTE_ORDER_MARK.len());
-                }
-                return Ok(more);
-            }
-            more = self.window.fill(input)?;
-        }
-        Err(ReadError)
     }
 
     /// Reads the lines that are complete. If `more` is false, all lines are.
@@ -135,7 +109,7 @@ impl Reading {
         self.window.take(left);
         self.lines.line = 0;
         self.lines.has_entry = false;
-        let more = self.skip_mark(input)?;
+        let more = begin_input(&mut self.window, input)?;
         Ok(more)
     }
 

@@ -5,8 +5,9 @@ ghost use Rattle.netset_lib.specs.Lists.{after_mark};
 ghost use Rattle.netset_lib.specs.RuleContentsOf.{contents_of, line_of_rule, rule_refusal};
 ghost use Rattle.netset_lib.specs.RuleLines.{IsRuleList, no_rules};
 
+use crate::mark::BYTE_ORDER_MARK;
 use crate::reader::{contents_of, first_line};
-use crate::reading::{BYTE_ORDER_MARK, ReadFailure};
+use crate::reading::ReadFailure;
 use crate::rule_line::{RuleCause, read_rule};
 use ipnet::Grammar;
 use ipnet_rules::Rule;
