@@ -1,2 +1,7 @@
 -- Lemmas that the proofs of this crate share.
 pub mod SupernetLaws
+pub mod WitnessLaws
+pub mod CoverLaws
+pub mod SpanLaws
+pub mod RedundancyLaws
+pub mod PieceLaws

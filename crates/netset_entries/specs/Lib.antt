@@ -1,2 +1,7 @@
 -- The definitions that the contracts of this crate cite.
 pub mod Supernets
+pub mod EntryPlaces
+pub mod EntryTexts
+pub mod Redundancy
+pub mod Spans
+pub mod Covers

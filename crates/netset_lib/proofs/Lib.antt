@@ -21,6 +21,7 @@ pub mod OutputNames
 pub mod SameResults
 pub mod AnswerTexts
 pub mod ListsReading
+pub mod EntryListLaws
 pub mod ListTexts
 pub mod CountTexts
 pub mod FilterLaws

@@ -28,9 +28,9 @@ empty_line : (grammar : Grammar) (list line : ℕ) (text : List ℕ) (texts : Li
 empty_line grammar list line [] texts entries refusals none h = h
 empty_line grammar list line (b ∷ text) texts entries refusals none h = absurd (omega arith)
 
--- the entry that the text is
-abbrev pub entry_at : List ℕ → AddressRange → ListEntry
-entry_at text range = record { text = text; range = range }
+-- the entry that the text of this line is
+abbrev pub entry_at : ℕ → List ℕ → AddressRange → ListEntry
+entry_at line text range = record { line = line; text = text; range = range }
 
 -- the line refused
 abbrev pub refusal_at : ℕ → ℕ → List ℕ → Option Cause → Refusal
@@ -39,7 +39,7 @@ refusal_at list line text cause = record { list = list; line = line; text = text
 entry_line : (grammar : Grammar) (list line : ℕ) (text : List ℕ) (texts : List (List ℕ)) (range : AddressRange)
     (more : List ListEntry) (refusals : List Refusal) → 0 < length text → IsEntryText grammar text range
     → AreRead grammar list (line + 1) texts more refusals
-    → AreRead grammar list line (text ∷ texts) (entry_at text range ∷ more) refusals
+    → AreRead grammar list line (text ∷ texts) (entry_at line text range ∷ more) refusals
 entry_line grammar list line [] texts range more refusals some is h = absurd (omega arith)
 entry_line grammar list line (b ∷ text) texts range more refusals some is h =
     inl (more, record { range = range; next = refl; writes = is }, h)
@@ -157,17 +157,17 @@ module _ (old new : LineReader) (text : List ℕ) (same_grammar : new.grammar �
 
   pub adds_entry : (IsMade IsMadeNow : List ListEntry → Type 0) (range : AddressRange) → 0 < length text
       → IsEntryText old.grammar text range → new.refused ≡ old.refused → new.has_entry ≡ true
-      → Adds IsMade IsMadeNow (entry_at text range ∷ []) → AddsLines old new (text ∷ []) IsMade IsMadeNow
+      → Adds IsMade IsMadeNow (entry_at (old.line + 1) text range ∷ []) → AddsLines old new (text ∷ []) IsMade IsMadeNow
   adds_entry IsMade IsMadeNow range some is same noted made = record {
     same_grammar = same_grammar;
     same_list = same_list;
-    entries = entry_at text range ∷ [];
+    entries = entry_at (old.line + 1) text range ∷ [];
     refusals = [];
     read = λ later more refused h. entry_line old.grammar old.list (old.line + 1) text later range more refused some is
         (subst (λ n. AreRead old.grammar old.list (n + 1) later more refused) next h);
     added = subst (λ r. HasMore old.refused r []) (sym same) (HasMore-nil old.refused old.refused.few);
     made = made;
-    notes = one_noted old.has_entry new.has_entry (entry_at text range) noted;
+    notes = one_noted old.has_entry new.has_entry (entry_at (old.line + 1) text range) noted;
   }
 
   pub adds_refusal : (IsMade : List ListEntry → Type 0) (cause : Option Cause) → 0 < length text

@@ -136,7 +136,7 @@ entries_some grammar list line [] entries refusals h = rw h.0 (All-nil HasSome)
 entries_some grammar list line ([] ∷ texts) entries refusals h =
     entries_some grammar list (line + 1) texts entries refusals h
 entries_some grammar list line ((b ∷ text) ∷ texts) entries refusals (inl (more, next, h)) =
-    rw next.next (All-cons HasSome (record { text = b ∷ text; range = next.range }) more
+    rw next.next (All-cons HasSome (record { line = line; text = b ∷ text; range = next.range }) more
     (entry_some grammar (b ∷ text) next.range next.writes)
     (entries_some grammar list (line + 1) texts more refusals h))
 entries_some grammar list line ((b ∷ text) ∷ texts) entries refusals (inr (more, next, h)) =

@@ -11,6 +11,6 @@ use Rattle.netset_lib.specs.Lists.{ListEntry}
 abbrev pub found_range : FoundEntry → AddressRange
 found_range f = entry_range f.entry
 
--- The entry that is spelled as this text.
-abbrev pub entry_of : List ℕ → Entry → ListEntry
-entry_of text entry = record { text = text; range = entry_range entry }
+-- The entry on this line that is spelled as this text.
+abbrev pub entry_of : ℕ → List ℕ → Entry → ListEntry
+entry_of line text entry = record { line = line; text = text; range = entry_range entry }

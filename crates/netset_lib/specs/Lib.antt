@@ -22,6 +22,8 @@ pub mod Routing
 pub mod Answering
 pub mod ListSets
 pub mod ListTexts
+pub mod EntryLines
+pub mod EntryListsOf
 pub mod Replies
 pub mod PlanAnswers
 pub mod Planning

@@ -66,8 +66,9 @@ AreContents grammar [] texts = texts ≡ []
 AreContents grammar (line ∷ lines) texts = (text : List ℕ) × (more : List (List ℕ)) × (texts ≡ text ∷ more)
     × IsContents grammar line text × AreContents grammar lines more
 
--- An entry of a list: its text and its range.
+-- An entry of a list: its line number from 1, its text and its range.
 pub record ListEntry : Type 0 where
+  pub line : ℕ
   pub text : List ℕ
   pub range : AddressRange
 
@@ -79,10 +80,10 @@ pub record Refusal : Type 0 where
   pub text : List ℕ
   pub cause : Option Cause
 
--- The first of the entries has this text, and `more` are the others.
-pub record IsNextEntry (grammar : Grammar) (text : List ℕ) (entries more : List ListEntry) : Type 0 where
+-- The first of the entries has this line number and this text, and `more` are the others.
+pub record IsNextEntry (grammar : Grammar) (line : ℕ) (text : List ℕ) (entries more : List ListEntry) : Type 0 where
   pub range : AddressRange
-  pub next : entries ≡ record { text = text; range = range } ∷ more
+  pub next : entries ≡ record { line = line; text = text; range = range } ∷ more
   pub writes : IsEntryText grammar text range
 
 -- The first of the refused lines has this text, which is not an entry, and its cause; `more` are the others.
@@ -99,13 +100,13 @@ abbrev pub AreRead : Grammar → ℕ → ℕ → List (List ℕ) → List ListEn
 AreRead grammar list line [] entries refusals = (entries ≡ []) × (refusals ≡ [])
 AreRead grammar list line ([] ∷ texts) entries refusals = AreRead grammar list (line + 1) texts entries refusals
 AreRead grammar list line ((b ∷ text) ∷ texts) entries refusals =
-    ((more : List ListEntry) × IsNextEntry grammar (b ∷ text) entries more
+    ((more : List ListEntry) × IsNextEntry grammar line (b ∷ text) entries more
     × AreRead grammar list (line + 1) texts more refusals)
     ⊎ ((more : List Refusal) × IsNextRefusal grammar list line (b ∷ text) refusals more
     × AreRead grammar list (line + 1) texts entries more)
 
 -- The bytes of the list with this index have these entries and refused lines. A list can be read in only one way.
--- Example: `10.0.0.1\n\nx # y\n` has one entry, and line 3, `x`, is refused without a cause.
+-- Example: `10.0.0.1\n\nx # y\n` has one entry, on line 1, and line 3, `x`, is refused without a cause.
 abbrev pub IsListRead : Grammar → ℕ → List ℕ → List ListEntry → List Refusal → Type 0
 IsListRead grammar list bytes entries refusals = (texts : List (List ℕ))
     × AreContents grammar (lines_of (after_mark bytes)) texts × AreRead grammar list 1 texts entries refusals

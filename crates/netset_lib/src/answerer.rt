@@ -1,5 +1,5 @@
 //! Filters and routes: how each entry of the second list is answered, once the first list was read.
-ghost use Rattle.std.specs.Prelude.{◌≡◌, ◌++◌, [], None, OnOk, IfOk, string_bytes, true, false};
+ghost use Rattle.std.specs.Prelude.{◌≡◌, ◌++◌, ℕ, [], None, OnOk, IfOk, string_bytes, true, false};
 ghost use Rattle.netset_lib.specs.Answering.{IsAnswererFor, AreAnswersBy, AddsAnswer};
 ghost use Rattle.netset_lib.specs.FoundEntry.{entry_of};
 ghost use Rattle.netset_lib.specs.Reading.{WasMadeOf};
@@ -48,8 +48,8 @@ impl Answers {
 
 /// Adds a line with the entry, if it lies in the set.
 fn push_kept(answers: &mut Answers, set: &IpSet, text: &str, entry: Entry) -> Result<(), AllocError>
-    ensures { OnOk result
-        (AddsAnswer (Answerers.Filter set.now) answers.old answers.new (entry_of text.now entry)) }
+    ensures { (line : ℕ) → OnOk result
+        (AddsAnswer (Answerers.Filter set.now) answers.old answers.new (entry_of line text.now entry)) }
 {
     if covers_entry(set, entry) {
         answers.text.push_str(text)?;
@@ -76,8 +76,8 @@ fn push_route(
     text: &str,
     entry: Entry,
 ) -> Result<(), AllocError>
-    ensures { OnOk result
-        (AddsAnswer (Answerers.Route table.now) answers.old answers.new (entry_of text.now entry)) }
+    ensures { (line : ℕ) → OnOk result
+        (AddsAnswer (Answerers.Route table.now) answers.old answers.new (entry_of line text.now entry)) }
 {
     match longest_holding(table, entry) {
         Some(network) => push_line(&mut answers.text, text, Some(network)),
@@ -88,7 +88,13 @@ fn push_route(
 impl Collector<Answers> for Answerer {
     ghost is_made = { AreAnswersBy };
 
-    fn push(&self, made: &mut Answers, text: &str, entry: Entry) -> Result<(), AllocError> {
+    fn push(
+        &self,
+        made: &mut Answers,
+        _: usize,
+        text: &str,
+        entry: Entry,
+    ) -> Result<(), AllocError> {
         match self {
             Answerer::Filter(set) => push_kept(made, set, text, entry),
             Answerer::Route(table) => push_route(made, table, text, entry),

@@ -24,10 +24,10 @@ pub(crate) trait Collector<M> {
     /// Whether the value is made of these entries.
     ghost is_made: { Self → M → List ListEntry → Type 0 };
 
-    /// Adds an entry, which is spelled as the text. Fails if memory runs out.
-    fn push(&self, made: &mut M, text: &str, entry: Entry) -> Result<(), AllocError>
+    /// Adds an entry of the line with this number, which is spelled as the text. Fails if memory runs out.
+    fn push(&self, made: &mut M, line: usize, text: &str, entry: Entry) -> Result<(), AllocError>
         ensures { OnOk result
-            (Adds (is_made self.now made.old) (is_made self.now made.new) (entry_of text.now entry ∷ [])) };
+            (Adds (is_made self.now made.old) (is_made self.now made.new) (entry_of line text.now entry ∷ [])) };
 }
 
 /// Returns the first line of bytes that are not empty, and the bytes after its end.
@@ -236,7 +236,7 @@ impl LineReader {
         match read_text(&mut self.room, text, self.grammar)? {
             Some(found) => {
                 self.has_entry = true;
-                collector.push(made, found.text, found.entry)
+                collector.push(made, number, found.text, found.entry)
             }
             None => {
                 let cause = cause_of(&mut self.room, text, self.grammar)?;
@@ -263,7 +263,7 @@ impl LineReader {
         };
         self.line = number;
         self.has_entry = true;
-        collector.push(made, found.text, found.entry)
+        collector.push(made, number, found.text, found.entry)
     }
 
     /// Reads the first line of bytes that are not empty, and returns the bytes after its end. Fails as `read_line`

@@ -54,7 +54,13 @@ struct Networks;
 impl Collector<Vec<(IpNet, ())>> for Networks {
     ghost is_made = { λ _ routes. AreTableNetworks (IsTruncatedOne (ip_networks routes.items)) };
 
-    fn push(&self, made: &mut Vec<(IpNet, ())>, _: &str, entry: Entry) -> Result<(), AllocError> {
+    fn push(
+        &self,
+        made: &mut Vec<(IpNet, ())>,
+        _: usize,
+        _: &str,
+        entry: Entry,
+    ) -> Result<(), AllocError> {
         push_entry(made, entry)
     }
 }

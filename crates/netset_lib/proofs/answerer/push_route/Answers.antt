@@ -6,18 +6,18 @@ use Rattle.netset_lib.proofs.AnsweringLaws.{routed_some, routed_none}
 use Rattle.netset_lib.proofs.answerer.push_route.Goals as goal
 
 pub returns-in-Some : goal.returns-in-Some
-returns-in-Some c =
+returns-in-Some c line =
     let table = c.args.table.now in
-    let e = entry_of c.args.text.now c.args.entry in
+    let e = entry_of line c.args.text.now c.args.entry in
     on_ok_weaker c.push_line.result
     (λ text. routed_some table c.args.answers.now _ e c.in-Some.network
     (subst (IsLongestIfAny (InTable table) (HoldsEnds e)) c.in-Some.is c.longest_holding.ensures) text refl)
     c.push_line.ensures
 
 pub returns-in-None : goal.returns-in-None
-returns-in-None c =
+returns-in-None c line =
     let table = c.args.table.now in
-    let e = entry_of c.args.text.now c.args.entry in
+    let e = entry_of line c.args.text.now c.args.entry in
     on_ok_weaker c.push_missing.result
     (λ text. routed_none table c.args.answers.now _ e
     (subst (IsLongestIfAny (InTable table) (HoldsEnds e)) c.in-None.is c.longest_holding.ensures) text

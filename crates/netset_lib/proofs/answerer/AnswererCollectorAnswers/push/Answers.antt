@@ -7,16 +7,16 @@ use Rattle.netset_lib.proofs.answerer.AnswererCollectorAnswers.push.Goals as goa
 
 pub returns-in-Filter : goal.returns-in-Filter
 returns-in-Filter c =
-    let e = entry_of c.args.text.now c.args.entry in
+    let e = entry_of c.args.arg3 c.args.text.now c.args.entry in
     on_ok_weaker c.push_kept.result
     (λ adds before h. made_push c.args.self.now c.args.made.now c.push_kept.new.answers before e h
     (subst (λ a. AddsAnswer a c.args.made.now c.push_kept.new.answers e) (sym c.in-Filter.is) adds))
-    c.push_kept.ensures
+    (c.push_kept.ensures c.args.arg3)
 
 pub returns-in-Route : goal.returns-in-Route
 returns-in-Route c =
-    let e = entry_of c.args.text.now c.args.entry in
+    let e = entry_of c.args.arg3 c.args.text.now c.args.entry in
     on_ok_weaker c.push_route.result
     (λ adds before h. made_push c.args.self.now c.args.made.now c.push_route.new.answers before e h
     (subst (λ a. AddsAnswer a c.args.made.now c.push_route.new.answers e) (sym c.in-Route.is) adds))
-    c.push_route.ensures
+    (c.push_route.ensures c.args.arg3)

@@ -13,7 +13,7 @@ returns c =
     let last = ip_address c.ends-first.result.1 in
     on_ok_weaker c.push_range.result
     (λ adds before has. has_more (IsPushed c.args.made.now) (IsPushed c.push_range.new.self) (IsFromTo first last)
-    before (entry_of c.args.arg3.now c.args.entry)
+    before (entry_of c.args.arg3 c.args.arg4.now c.args.entry)
     (ends_in_range first last (entry_range c.args.entry) c.ends-first.ensures.first c.ends-first.ensures.last) adds
     has)
     c.push_range.ensures.added

@@ -1,8 +1,9 @@
 -- An entry with nothing around it is the contents of its line (`PlainLines`).
-use Rattle.std.proofs.Common.{refl}
+use Rattle.std.proofs.Common.{◌∷◌, [], refl, subst}
 use Rattle.ipnet_text.proofs.ListsLaws.{OnOk_then}
 use Rattle.netset_lib.specs.FoundEntry.{found_range}
-use Rattle.netset_lib.proofs.ListReading.{adds_entry, reads_one}
+use Rattle.netset_lib.specs.Reading.{Adds}
+use Rattle.netset_lib.proofs.ListReading.{adds_entry, entry_at, reads_one}
 use Rattle.netset_lib.proofs.PlainLines.{plain_contents, plain_entry, word_is_entry}
 use Rattle.netset_lib.proofs.reader.LineReader.push_found.Goals as goal
 
@@ -17,4 +18,5 @@ returns g c =
     (λ made. reads_one old _ text text before after
     (plain_contents old.grammar text (plain_entry old.grammar text range c.requires.entry))
     (adds_entry old _ text refl refl c.in-Some.ensures.1 before after range c.requires.some
-    (word_is_entry old.grammar text range c.requires.entry) refl refl made))
+    (word_is_entry old.grammar text range c.requires.entry) refl refl
+    (subst (λ n. Adds before after (entry_at n text range ∷ [])) c.in-Some.ensures.1 made)))

@@ -33,7 +33,8 @@ returns-in-Some-2 g c =
     OnOk_then c.push.result c.push.ensures
     (λ made. reads_one old _ c.args.line.now text before after c.in_ok-text.ensures
     (adds_entry old _ text refl refl c.in-Some.ensures.1 before after (found_range f) some is refl refl
-    (subst (λ t. Adds before after (entry_at t (found_range f) ∷ [])) same made)))
+    (subst (λ n. Adds before after (entry_at n text (found_range f) ∷ [])) c.in-Some.ensures.1
+    (subst (λ t. Adds before after (entry_at c.in-Some.number t (found_range f) ∷ [])) same made))))
 
 pub returns-in_ok-cause-in-None : goal.returns-in_ok-cause-in-None
 returns-in_ok-cause-in-None g c =

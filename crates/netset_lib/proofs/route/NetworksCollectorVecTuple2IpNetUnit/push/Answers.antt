@@ -8,5 +8,5 @@ pub returns : goal.returns
 returns c =
     on_ok_weaker c.push_entry.result
     (λ adds before h. more_networks (ip_networks c.args.made.now.items) (ip_networks c.push_entry.new.routes.items)
-    before (entry_of c.args.arg3.now c.args.entry) h adds)
+    before (entry_of c.args.arg3 c.args.arg4.now c.args.entry) h adds)
     c.push_entry.ensures
