@@ -1,6 +1,6 @@
 -- The climb to the longest route that holds a network: from the last route up to the network to the smallest network
--- that contains both, and so on.
-use Rattle.std.proofs.Common.{◌≡◌, ◌≢◌, ℕ, ◌-◌, ◌/◌, ◌^◌, ◌<◌, ◌≤◌, List, Contains, sym, ap}
+-- that contains both and is shorter than the bound of this route, and so on.
+use Rattle.std.proofs.Common.{◌≡◌, ◌≢◌, ℕ, ◌-◌, ◌/◌, ◌^◌, ◌<◌, ◌≤◌, ◌⊎◌, List, Contains, sym, ap}
 use Rattle.std.proofs.Common.{◌∙◌}
 use Rattle.std.proofs.Common.{subst, arith, inl, inr}
 use Rattle.std.proofs.lemmas.Bool.{cases_lt}
@@ -84,21 +84,33 @@ module _ {V : Type 0} (list : List (IpNet × V)) (table : IsTable (ip_networks l
         | inr before ↦ encloses k r.0 wanted before last.up_to (climbed.all k c sub) not_held
       ]
 
-      pub climb_apart : wanted.family ≢ r.0.family → (k : Network) → Contains (ip_networks list) k → IsSubnetOf n k
+      climb_apart : wanted.family ≢ r.0.family → (k : Network) → Contains (ip_networks list) k → IsSubnetOf n k
           → ⊥
       climb_apart apart k c sub = apart (
           (climbed.all k c sub (own wanted) (own_in wanted)).same_family
           ∙ sym (around k c sub (own r.0) (own_in r.0)).same_family
           )
 
-      module _ (s : Network) (common : IsCommonSupernet wanted r.0 s) where
-        pub climb_on : IsClimbedTo (ip_networks list) n s
-        climb_on = record {
+      -- and is shorter than the bound of the last route
+      module _ (b : ℕ) (bound : (k : Network) → Contains (ip_networks list) k → IsSubnetOf r.0 k → k ≢ r.0
+          → k.prefix_len < b) where
+        below : (k : Network) → Contains (ip_networks list) k → IsSubnetOf n k → k.prefix_len < b
+        below k c sub = bound k c (around k c sub) (λ same. out (subst (IsSubnetOf n) same sub))
+
+        pub climb_end : (b ≡ 0) ⊎ (wanted.family ≢ r.0.family) → (k : Network) → Contains (ip_networks list) k
+            → IsSubnetOf n k → ⊥
+        climb_end (inl zero) k c sub = omega (arith, zero, below k c sub)
+        climb_end (inr apart) k c sub = climb_apart apart k c sub
+
+        pub climb_on : (s : Network) → IsCommonSupernet wanted r.0 b s → IsClimbedTo (ip_networks list) n s
+        climb_on s common = record {
           network = common.network;
           truncated = common.truncated;
           holds = λ x a. common.first x (climbed.holds x a);
-          all = λ k c sub. common.smallest k (valid k c) (climbed.all k c sub) (around k c sub);
+          all = λ k c sub. common.smallest k (valid k c) (climbed.all k c sub) (around k c sub) (below k c sub);
         }
+
+      module _ (b : ℕ) (s : Network) (common : IsCommonSupernet wanted r.0 b s) where
 
         -- the common network is shorter
         pub climb_shorter : s.prefix_len < wanted.prefix_len
@@ -123,18 +135,18 @@ module _ {V : Type 0} (list : List (IpNet × V)) (table : IsTable (ip_networks l
                 ]
 
 -- the common network, from how many bits two addresses share
-pub common_from_bits : (n k m s : Network) (bits : ℕ) → IsNetwork n → IsNetwork k
+pub common_from_bits : (n k m s : Network) (bits bound : ℕ) → IsNetwork n → IsNetwork k
     → AreSharedBits (own n) (own k) bits → m.family ≡ n.family → m.number ≡ n.number
     → m.prefix_len ≤ bits → m.prefix_len ≤ n.prefix_len → m.prefix_len ≤ k.prefix_len
-    → ((l : ℕ) → l ≤ bits → l ≤ n.prefix_len → l ≤ k.prefix_len → l ≤ m.prefix_len)
-    → IsTruncationOf s m → IsCommonSupernet n k s
-common_from_bits n k m s bits valid_n valid_k shared family number in_bits in_n in_k most is = record {
+    → ((l : ℕ) → l ≤ bits → l < bound → l ≤ n.prefix_len → l ≤ k.prefix_len → l ≤ m.prefix_len)
+    → IsTruncationOf s m → IsCommonSupernet n k bound s
+common_from_bits n k m s bits bound valid_n valid_k shared family number in_bits in_n in_k most is = record {
   network = is.network;
   truncated = is.truncated;
   first = λ x a. is.same_block.1 x (nested n m (own n) (own_in n) n_in (omega (arith, in_n, ap width family)) x a);
   second = λ x a. is.same_block.1 x (nested k m (own k) (own_in k) k_in
       (omega (arith, in_k, ap width family, ap width shared.same_family)) x a);
-  smallest = λ o valid_o n_sub k_sub x a.
+  smallest = λ o valid_o n_sub k_sub lt x a.
       let n_at : InBlock o (own n) = n_sub (own n) (own_in n) in
       let k_at : InBlock o (own k) = k_sub (own k) (own_in k) in
       let w : width n.family ≡ width o.family = ap width n_at.same_family in
@@ -145,7 +157,7 @@ common_from_bits n k m s bits valid_n valid_k shared family number in_bits in_n 
       let same : n.number / 2 ^ (width n.family - o.prefix_len) ≡ k.number / 2 ^ (width n.family - o.prefix_len)
       = subst (λ z. n.number / 2 ^ z ≡ k.number / 2 ^ z) b (n_at.same_prefix ∙ sym k_at.same_prefix) in
       let few : o.prefix_len ≤ bits = (shared.shared o.prefix_len fits).0 same in
-      let len : o.prefix_len ≤ m.prefix_len = most o.prefix_len few short_n short_k in
+      let len : o.prefix_len ≤ m.prefix_len = most o.prefix_len few lt short_n short_k in
       nested m o (own n) n_in n_at (omega (arith, len, w, ap width family)) x (is.same_block.0 x a);
 }
   where

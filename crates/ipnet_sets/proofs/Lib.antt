@@ -27,6 +27,7 @@ pub mod RouteValueLaws
 pub mod RouteLackingLaws
 pub mod ChunkLaws
 pub mod RouteMapLaws
+pub mod BoundLaws
 pub mod ClimbLaws
 pub mod SharedBitLaws
 pub mod RouteMapParts

@@ -6,8 +6,7 @@ use Rattle.std.proofs.Common.{add-one, ap₂}
 use Rattle.std.specs.List.{flat_map, insert, remove}
 use Rattle.std.proofs.lemmas.Bool.{cases_lt}
 use Rattle.std.proofs.lemmas.List.{length-append, length-map, get_or-map, map-append, take-append-drop, get_or-drop}
-use Rattle.std.proofs.lemmas.List.{get_or_default}
-use Rattle.std.specs.Vec.{with_item}
+use Rattle.std.proofs.lemmas.List.{get_or_default, get_or-set_same, take-set}
 use Rattle.std.proofs.lemmas.List.{length-set, length-drop, get_or-take, take-map, drop-map}
 use Rattle.std.proofs.lemmas.List.{length-take-le, drop_more, drop_all, set_split}
 use Rattle.std.proofs.lemmas.List.Elements.{All-append, All-cons, All-drop, All-take, All-set, All-same}
@@ -18,7 +17,7 @@ use Rattle.ipnet_base.specs.Network.{IsTruncationOf}
 use Rattle.ipnet_base.specs.Blocks.{IsAscending}
 use Rattle.ipnet_base.specs.Stack.{IsBeforeOrEqual}
 use Rattle.ipnet_base.proofs.ListLaws.{contains_nil, contains_here, contains_there, contains_cases, pairs_append}
-use Rattle.ipnet_base.proofs.ListLaws.{pairs_cons, pairs_head, pairs_tail, pair_at, one_place, all_at}
+use Rattle.ipnet_base.proofs.ListLaws.{pairs_cons, pairs_head, pairs_tail, pair_at, one_place, all_at, contains_at}
 use Rattle.ipnet_base.proofs.ListLaws.{all_from_members, at_place, same_from_members}
 use Rattle.ipnet_base.proofs.NetworkLaws.{truncation_from_relation}
 use Rattle.ipnet_base.proofs.OrderLaws.{IsBefore-asymmetric, IsBefore-transitive, IsBeforeOrEqual-transitive}
@@ -28,18 +27,19 @@ use Rattle.ipnet_sets.specs.Routes.{Route, networks_of, ip_routes, ip_networks, 
 use Rattle.ipnet_sets.specs.Routes.{IsTableOf}
 use Rattle.ipnet_sets.specs.RouteSteps.{IsTable, IsPlaceAfter}
 use Rattle.ipnet_sets.specs.RouteMaps.{IsWithRoute, IsWithoutRoute}
-use Rattle.ipnet_sets.specs.RouteMapSteps.{Chunk, all_of, AreFilled, first_network, firsts_of, chunk_at}
+use Rattle.ipnet_sets.specs.RouteMapSteps.{all_of, AreFilled, first_network, firsts_of, chunk_at}
+use Rattle.ipnet_sets.specs.declared.route_map.chunk.Chunk.{Chunk}
 use Rattle.ipnet_sets.specs.RouteMapSteps.{position_of, IsLastUpTo}
 use Rattle.ipnet_sets.proofs.RouteLaws.{not_back, ascending_of, table_of, network_of_route, read_at, found_network}
 use Rattle.ipnet_sets.proofs.RouteLaws.{same_networks}
 use Rattle.ipnet_sets.proofs.RouteOrderLaws.{element_at}
 use Rattle.ipnet.specs.NetLaws.{ip_valid}
 use Rattle.ipnet_sets.proofs.ChunkLaws.{pairs_left, pairs_right, pairs_across, all_left, all_right, member_of_either}
-use Rattle.ipnet_sets.proofs.ChunkLaws.{chunk_split, read_in_chunk, set_in_chunk}
+use Rattle.ipnet_sets.proofs.ChunkLaws.{chunk_split, chunk_only, read_in_chunk, set_in_chunk}
 
 -- the routes of a chunk
 abbrev pub items : {V : Type 0} → Chunk V → List (IpNet × V)
-items chunk = chunk.items
+items chunk = chunk.routes.items
 
 -- the parts of a table
 table_left : (xs ys : List Network) → IsTable (xs ++ ys) → IsTable xs
@@ -72,11 +72,11 @@ firsts_in : {V : Type 0} (cs : List (Chunk V)) → AreFilled cs → (k : Network
     → Contains (ip_networks (all_of cs)) k
 firsts_in [] filled k c = absurd (contains_nil k c)
 firsts_in (x ∷ xs) filled k c =
-    subst (λ z. Contains z k) (sym (networks_append x.items (all_of xs)))
-    (elim (contains_cases (first_network x.items) (firsts_of xs) k c) [
-      | inl same ↦ Contains-append_left (ip_networks x.items) (ip_networks (all_of xs)) k
-          (subst (Contains (ip_networks x.items)) same (first_in x.items (filled 0 x (omega arith))))
-      | inr later ↦ Contains-append_right (ip_networks x.items) (ip_networks (all_of xs)) k
+    subst (λ z. Contains z k) (sym (networks_append x.routes.items (all_of xs)))
+    (elim (contains_cases (first_network x.routes.items) (firsts_of xs) k c) [
+      | inl same ↦ Contains-append_left (ip_networks x.routes.items) (ip_networks (all_of xs)) k
+          (subst (Contains (ip_networks x.routes.items)) same (first_in x.routes.items (filled 0 x (omega arith))))
+      | inr later ↦ Contains-append_right (ip_networks x.routes.items) (ip_networks (all_of xs)) k
           (firsts_in xs (λ i d l. filled (suc i) d (omega (arith, l))) k later)
     ])
 
@@ -93,23 +93,23 @@ firsts_table cs t filled =
         → IsAscending (firsts_of cs)
     go [] t filled = λ i j d l m. absurd (omega (arith, m))
     go (x ∷ xs) t filled =
-        let parts : IsTable (ip_networks x.items ++ ip_networks (all_of xs))
-        = subst IsTable (networks_append x.items (all_of xs)) t in
+        let parts : IsTable (ip_networks x.routes.items ++ ip_networks (all_of xs))
+        = subst IsTable (networks_append x.routes.items (all_of xs)) t in
         let others : AreFilled xs = λ i d l. filled (suc i) d (omega (arith, l)) in
-        pairs_cons IsBefore (first_network x.items) (firsts_of xs)
-        (λ y c. table_across (ip_networks x.items) (ip_networks (all_of xs)) parts (first_network x.items) y
-        (first_in x.items (filled 0 x (omega arith))) (firsts_in xs others y c))
-        (go xs (table_right (ip_networks x.items) (ip_networks (all_of xs)) parts) others)
+        pairs_cons IsBefore (first_network x.routes.items) (firsts_of xs)
+        (λ y c. table_across (ip_networks x.routes.items) (ip_networks (all_of xs)) parts (first_network x.routes.items) y
+        (first_in x.routes.items (filled 0 x (omega arith))) (firsts_in xs others y c))
+        (go xs (table_right (ip_networks x.routes.items) (ip_networks (all_of xs)) parts) others)
 
 -- a network that comes before the first of the chunks comes before all
 pub before_all : {V : Type 0} (cs : List (Chunk V)) → IsTable (ip_networks (all_of cs)) → AreFilled cs → (n : Network)
-    → ((d : Chunk V) → 0 < length cs → get_or cs 0 d ≡ d → IsBefore n (first_network d.items))
+    → ((d : Chunk V) → 0 < length cs → get_or cs 0 d ≡ d → IsBefore n (first_network d.routes.items))
     → (k : Network) → Contains (ip_networks (all_of cs)) k → IsBefore n k
 before_all [] t filled n h k c = absurd (contains_nil k c)
 before_all {V} (x ∷ xs) t filled n h k c =
-    go x.items refl
+    go x.routes.items refl
   where
-    go : (rs : List (IpNet × V)) → x.items ≡ rs → IsBefore n k
+    go : (rs : List (IpNet × V)) → x.routes.items ≡ rs → IsBefore n k
     go [] e = absurd (omega (arith, filled 0 x (omega arith), ap length e))
     go (r ∷ rs) e =
         let first : IsBefore n (ip_network r.0)
@@ -155,47 +155,47 @@ module _ {V : Type 0} (cs : List (Chunk V)) (t : IsTable (ip_networks (all_of cs
   abbrev late_part : List (IpNet × V)
   late_part = all_of (drop (suc i) cs)
 
-  parts_are : ip_networks (all_of cs) ≡ ip_networks early_part ++ (ip_networks c.items ++ ip_networks late_part)
+  parts_are : ip_networks (all_of cs) ≡ ip_networks early_part ++ (ip_networks c.routes.items ++ ip_networks late_part)
   parts_are =
       ap ip_networks (chunk_split (items {V = V}) cs i c l e)
-      ∙ networks_append early_part (c.items ++ late_part)
-      ∙ ap (λ z. ip_networks early_part ++ z) (networks_append c.items late_part)
+      ∙ networks_append early_part (c.routes.items ++ late_part)
+      ∙ ap (λ z. ip_networks early_part ++ z) (networks_append c.routes.items late_part)
 
-  parts_table : IsTable (ip_networks early_part ++ (ip_networks c.items ++ ip_networks late_part))
+  parts_table : IsTable (ip_networks early_part ++ (ip_networks c.routes.items ++ ip_networks late_part))
   parts_table = subst IsTable parts_are t
 
-  behind_table : IsTable (ip_networks c.items ++ ip_networks late_part)
-  behind_table = table_right (ip_networks early_part) (ip_networks c.items ++ ip_networks late_part) parts_table
+  behind_table : IsTable (ip_networks c.routes.items ++ ip_networks late_part)
+  behind_table = table_right (ip_networks early_part) (ip_networks c.routes.items ++ ip_networks late_part) parts_table
 
-  pub chunk_table : IsTable (ip_networks c.items)
-  chunk_table = table_left (ip_networks c.items) (ip_networks late_part) behind_table
+  pub chunk_table : IsTable (ip_networks c.routes.items)
+  chunk_table = table_left (ip_networks c.routes.items) (ip_networks late_part) behind_table
 
-  has_first : Contains (ip_networks c.items) (first_network c.items)
-  has_first = first_in c.items (subst (λ z. 0 < length z.items) e (filled i c l))
+  has_first : Contains (ip_networks c.routes.items) (first_network c.routes.items)
+  has_first = first_in c.routes.items (subst (λ z. 0 < length z.routes.items) e (filled i c l))
 
-  abbrev pub chunk_first : Contains (firsts_of cs) (first_network c.items)
+  abbrev pub chunk_first : Contains (firsts_of cs) (first_network c.routes.items)
   chunk_first = (
     i,
-    omega (arith, l, length-map cs (λ z. first_network z.items)),
-    get_or-map (λ z. first_network z.items) cs i c (first_network c.items) l ∙ ap (λ z. first_network z.items) e,
+    omega (arith, l, length-map cs (λ z. first_network z.routes.items)),
+    get_or-map (λ z. first_network z.routes.items) cs i c (first_network c.routes.items) l ∙ ap (λ z. first_network z.routes.items) e,
   )
 
   -- the place in all chunks, from the place among their first networks and the place in the chunk
   pub place_in_chunk : (n : Network) (place : ℕ) → IsPlaceAfter (firsts_of cs) n place → i ≡ place - 1 → (j : ℕ)
-      → IsPlaceAfter (ip_networks c.items) n j
+      → IsPlaceAfter (ip_networks c.routes.items) n j
       → IsPlaceAfter (ip_networks (all_of cs)) n (position_of cs i j)
   place_in_chunk n place after is j mid =
       subst (λ z. IsPlaceAfter (ip_networks (all_of cs)) n (z + j)) (length-map early_part (λ r. ip_network r.0))
       (subst (λ z. IsPlaceAfter z n (length (ip_networks early_part) + j)) (sym parts_are)
-      (place_in_middle (ip_networks early_part) (ip_networks c.items) (ip_networks late_part) n j early mid late))
+      (place_in_middle (ip_networks early_part) (ip_networks c.routes.items) (ip_networks late_part) n j early mid late))
     where
       early : (k : Network) → Contains (ip_networks early_part) k → IsBeforeOrEqual k n
       early k a = elim (cases_lt i place) [
-        | inl lt ↦ IsBeforeOrEqual-transitive k (first_network c.items) n
-            (inr (table_across (ip_networks early_part) (ip_networks c.items ++ ip_networks late_part) parts_table k
-            (first_network c.items) a
-            (Contains-append_left (ip_networks c.items) (ip_networks late_part) (first_network c.items) has_first)))
-            (after.up_to (first_network c.items) chunk_first lt)
+        | inl lt ↦ IsBeforeOrEqual-transitive k (first_network c.routes.items) n
+            (inr (table_across (ip_networks early_part) (ip_networks c.routes.items ++ ip_networks late_part) parts_table k
+            (first_network c.routes.items) a
+            (Contains-append_left (ip_networks c.routes.items) (ip_networks late_part) (first_network c.routes.items) has_first)))
+            (after.up_to (first_network c.routes.items) chunk_first lt)
         | inr ge ↦
             let zero_chunk : i ≡ 0 = omega (arith, ge, is) in
             absurd (contains_nil k (subst (λ z. Contains (ip_networks (all_of (take z cs))) k) zero_chunk a))
@@ -203,34 +203,65 @@ module _ {V : Type 0} (cs : List (Chunk V)) (t : IsTable (ip_networks (all_of cs
 
       late : (k : Network) → Contains (ip_networks late_part) k → IsBefore n k
       late = before_all (drop (suc i) cs)
-          (table_right (ip_networks c.items) (ip_networks late_part) behind_table)
-          (All-drop (λ z. 0 < length z.items) (suc i) cs filled) n
+          (table_right (ip_networks c.routes.items) (ip_networks late_part) behind_table)
+          (All-drop (λ z. 0 < length z.routes.items) (suc i) cs filled) n
           (λ d m at.
           let far : place ≤ suc i = omega (arith, is) in
-          after.above (first_network d.items) (next d m at) far)
+          after.above (first_network d.routes.items) (next d m at) far)
         where
           next : (d : Chunk V) → 0 < length (drop (suc i) cs) → get_or (drop (suc i) cs) 0 d ≡ d
-              → Contains (firsts_of cs) (first_network d.items)
+              → Contains (firsts_of cs) (first_network d.routes.items)
           next d m at =
               let there : get_or cs (suc i) d ≡ d
               = ap (λ z. get_or cs z d) (omega arith) ∙ sym (get_or-drop (suc i) cs 0 d) ∙ at in
               let inside : suc i < length cs = omega (arith, m, length-drop (suc i) cs) in (
                 suc i,
-                omega (arith, inside, length-map cs (λ z. first_network z.items)),
-                get_or-map (λ z. first_network z.items) cs (suc i) d (first_network d.items) inside
-                    ∙ ap (λ z. first_network z.items) there,
+                omega (arith, inside, length-map cs (λ z. first_network z.routes.items)),
+                get_or-map (λ z. first_network z.routes.items) cs (suc i) d (first_network d.routes.items) inside
+                    ∙ ap (λ z. first_network z.routes.items) there,
               )
+
+  -- and from a place inside the chunk
+  pub place_inside_chunk : (n : Network) (j : ℕ) → 0 < j → j < length c.routes.items
+      → IsPlaceAfter (ip_networks c.routes.items) n j → IsPlaceAfter (ip_networks (all_of cs)) n (position_of cs i j)
+  place_inside_chunk n j some less mid =
+      subst (λ z. IsPlaceAfter (ip_networks (all_of cs)) n (z + j)) (length-map early_part (λ r. ip_network r.0))
+      (subst (λ z. IsPlaceAfter z n (length (ip_networks early_part) + j)) (sym parts_are)
+      (place_in_middle (ip_networks early_part) networks (ip_networks late_part) n j early mid late))
+    where
+      networks : List Network
+      networks = ip_networks c.routes.items
+
+      size : length networks ≡ length c.routes.items
+      size = length-map c.routes.items (λ r. ip_network r.0)
+
+      first_at : Contains networks (get_or networks 0 n)
+      first_at = contains_at networks 0 n (omega (arith, some, less, size))
+
+      next_at : Contains networks (get_or networks j n)
+      next_at = contains_at networks j n (omega (arith, less, size))
+
+      early : (k : Network) → Contains (ip_networks early_part) k → IsBeforeOrEqual k n
+      early k a = IsBeforeOrEqual-transitive k (get_or networks 0 n) n
+          (inr (table_across (ip_networks early_part) (networks ++ ip_networks late_part) parts_table k
+          (get_or networks 0 n) a (Contains-append_left networks (ip_networks late_part) (get_or networks 0 n) first_at)))
+          (mid.up_to (get_or networks 0 n) first_at some)
+
+      late : (k : Network) → Contains (ip_networks late_part) k → IsBefore n k
+      late k b = IsBefore-transitive n (get_or networks j n) k
+          (mid.above (get_or networks j n) next_at (omega arith))
+          (table_across networks (ip_networks late_part) behind_table (get_or networks j n) k next_at b)
 
   -- a place in the chunk of the last first network up to n is not its start
   pub not_at_start : (n : Network) (place : ℕ) → IsPlaceAfter (firsts_of cs) n place → i < place → (j : ℕ)
-      → IsPlaceAfter (ip_networks c.items) n j → 0 < j
+      → IsPlaceAfter (ip_networks c.routes.items) n j → 0 < j
   not_at_start n place after lt zero mid =
-      absurd (not_back n (first_network c.items) (mid.above (first_network c.items) has_first (omega arith))
-      (after.up_to (first_network c.items) chunk_first lt))
+      absurd (not_back n (first_network c.routes.items) (mid.above (first_network c.routes.items) has_first (omega arith))
+      (after.up_to (first_network c.routes.items) chunk_first lt))
   not_at_start n place after lt (suc j) mid = omega arith
 
 -- the route before the place after a network is the last route up to it
-last_before_place : {V : Type 0} (list : List (IpNet × V)) → IsTable (ip_networks list) → (n : Network) (place : ℕ)
+pub last_before_place : {V : Type 0} (list : List (IpNet × V)) → IsTable (ip_networks list) → (n : Network) (place : ℕ)
     → IsPlaceAfter (ip_networks list) n place → (q : ℕ) → place ≡ suc q → (r : IpNet × V) → r ≡ get_or list q r
     → IsLastUpTo list n (ip_network r.0, r.1)
 last_before_place list t n place after q e r is = record {
@@ -268,38 +299,27 @@ chunk_inside {V} cs i l = elim (cases_lt i (length cs)) [
       absurd (omega (arith, l, ap length none))
 ]
 
--- the last route up to a network, by the chunk that it is in and its place there
+-- a route by the chunk that it is in and its place there
 module _ {V : Type 0} (cs : List (Chunk V)) (t : IsTable (ip_networks (all_of cs))) (filled : AreFilled cs) (i : ℕ)
     (c : Chunk V) (l : i < length cs) (e : get_or cs i c ≡ c) (n : Network) where
-  pub last_in_chunk : (place : ℕ) → IsPlaceAfter (firsts_of cs) n place → i ≡ place - 1 → i < place → (j : ℕ)
-      → IsPlaceAfter (ip_networks c.items) n j → (r : IpNet × V) → r ≡ get_or c.items (j - 1) r
-      → IsLastUpTo (all_of cs) n (ip_network r.0, r.1)
-  last_in_chunk place after is lt j mid r at =
-      let some : 0 < j = not_at_start cs t filled i c l e n place after lt j mid in
-      let inside : j - 1 < length c.items
-      = omega (arith, some, mid.within, length-map c.items (λ z. ip_network z.0)) in
-      last_before_place (all_of cs) t n (position_of cs i j) (place_in_chunk cs t filled i c l e n place after is j mid)
-      (position_of cs i (j - 1)) (omega (arith, some)) r
-      (at ∙ sym (read_in_chunk (items {V = V}) cs i c l e (j - 1) r inside))
-
   -- whether the route before the place after n is the one of n
-  pub behind_is : (j : ℕ) → 0 < j → j ≤ length c.items → IsPlaceAfter (ip_networks (all_of cs)) n (position_of cs i j)
-      → (r : IpNet × V) → r ≡ get_or c.items (j - 1) r
+  pub behind_is : (j : ℕ) → 0 < j → j ≤ length c.routes.items → IsPlaceAfter (ip_networks (all_of cs)) n (position_of cs i j)
+      → (r : IpNet × V) → r ≡ get_or c.routes.items (j - 1) r
       → Contains (ip_networks (all_of cs)) n → ip_network r.0 ≡ n
   behind_is j some le after r at has =
       (found_network (all_of cs) t n (position_of cs i j) after has).1 r
       (at ∙ sym (read_in_chunk (items {V = V}) cs i c l e (j - 1) r (omega (arith, some, le)))
       ∙ ap (λ z. get_or (all_of cs) z r) (omega (arith, some)))
 
-  pub behind_has : (j : ℕ) → 0 < j → j ≤ length c.items → (r : IpNet × V) → r ≡ get_or c.items (j - 1) r
+  pub behind_has : (j : ℕ) → 0 < j → j ≤ length c.routes.items → (r : IpNet × V) → r ≡ get_or c.routes.items (j - 1) r
       → ip_network r.0 ≡ n → Contains (ip_networks (all_of cs)) n
   behind_has j some le r at same =
       subst (Contains (ip_networks (all_of cs))) same
       (subst (λ z. Contains z (ip_network r.0)) (sym (parts_are cs t filled i c l e))
       (Contains-append_right (ip_networks (all_of (take i cs)))
-      (ip_networks c.items ++ ip_networks (all_of (drop (suc i) cs))) (ip_network r.0)
-      (Contains-append_left (ip_networks c.items) (ip_networks (all_of (drop (suc i) cs))) (ip_network r.0)
-      (read_at (λ z. ip_network z.0) c.items (j - 1) r (omega (arith, some, le)) at))))
+      (ip_networks c.routes.items ++ ip_networks (all_of (drop (suc i) cs))) (ip_network r.0)
+      (Contains-append_left (ip_networks c.routes.items) (ip_networks (all_of (drop (suc i) cs))) (ip_network r.0)
+      (read_at (λ z. ip_network z.0) c.routes.items (j - 1) r (omega (arith, some, le)) at))))
 
 -- if the list has the network, it is the last one up to it
 last_is_it : {V : Type 0} (list : List (IpNet × V)) (n : Network) (r : Route V) → IsLastUpTo list n r
@@ -313,9 +333,9 @@ last_is_it list n r h c = elim (h.last n c) [
 ]
 
 -- a list with one more element in its middle
-member_of_middle : {X : Type 0} (es bs : List X) (y x : X)
+pub member_of_middle : {X : Type 0} (es bs : List X) (y x : X)
     → Contains (es ++ y ∷ bs) x ↔ ((x ≡ y) ⊎ Contains (es ++ bs) x)
-member_of_middle es bs y x = (
+pub member_of_middle es bs y x = (
   λ c. elim (Contains-append_cases es (y ∷ bs) x c) [
     | inl a ↦ inr (Contains-append_left es bs x a)
     | inr b ↦ elim (contains_cases y bs x b) [
@@ -583,24 +603,6 @@ module _ {V : Type 0} (old : List (IpNet × V)) (t : IsTable (ip_networks old)) 
       subst₂ (λ k w. Contains (ip_routes old) (k, w)) its_network (sym (is there.0 ∙ ap (λ z. z.1) (there.1 there.0)))
       (read_at (λ z. (ip_network z.0, z.1)) old q there.0 inside_old (sym (there.1 there.0)))
 
--- what `get` finds
-pub get_none : {V : Type 0} (list : List (IpNet × V)) (t n : Network) → t ≡ n
-    → ((k : Network) → Contains (ip_networks list) k → IsBefore t k) → Contains (networks_of (ip_routes list)) n → ⊥
-get_none list t n same none has =
-    let itself : IsBefore t t
-    = none t (subst₂ (λ ns k. Contains ns k) (same_networks list) (sym same) has) in
-    IsBefore-asymmetric t t itself itself
-
-pub get_other : {V : Type 0} (list : List (IpNet × V)) (t n : Network) (r : Route V) → t ≡ n → IsLastUpTo list t r
-    → (r.0 ≡ t → ⊥) → Contains (networks_of (ip_routes list)) n → ⊥
-get_other list t n r same last out has =
-    out (last_is_it list t r last (subst₂ (λ ns k. Contains ns k) (same_networks list) (sym same) has))
-
-pub get_found : {V : Type 0} (list : List (IpNet × V)) (t n : Network) (r : Route V) → t ≡ n → IsLastUpTo list t r
-    → r.0 ≡ t → Contains (ip_routes list) (n, r.1)
-get_found list t n r same last is =
-    subst (λ z. Contains (ip_routes list) (z, r.1)) (is ∙ same) last.member
-
 -- two lists of routes of the same networks
 pub table_of_routes : {V : Type 0} (old new : List (IpNet × V)) → ip_routes new ≡ ip_routes old
     → IsTable (ip_networks old) → IsTable (ip_networks new)
@@ -664,10 +666,10 @@ same_table {V} list routes t is =
 
 -- a chunk exchanged for two that have routes
 abbrev pub Filled : {V : Type 0} → Chunk V → Type 0
-Filled chunk = 0 < length chunk.items
+Filled chunk = 0 < length chunk.routes.items
 
 pub filled_with : {V : Type 0} (cs new : List (Chunk V)) (i j : ℕ) (a b : Chunk V) → new ≡ insert (set cs i a) j b
-    → AreFilled cs → 0 < length a.items → 0 < length b.items → AreFilled new
+    → AreFilled cs → 0 < length a.routes.items → 0 < length b.routes.items → AreFilled new
 filled_with {V} cs new i j a b is filled some_a some_b =
     All-same Filled new (insert (set cs i a) j b) is
     (All-append Filled (take j (set cs i a)) (b ∷ drop j (set cs i a)) (All-take Filled j (set cs i a) all)
@@ -688,12 +690,42 @@ out_cut list t n is out has =
     out (subst₂ (λ ns k. Contains ns k) (same_networks list) (sym (truncation_from_relation t n is)) has)
 
 -- a value exchanged in its chunk is exchanged in the list of all routes
-pub value_set : {V : Type 0} (cs : List (Chunk V)) (i j : ℕ) (c : Chunk V) (y : IpNet × V) (w : V) → i < length cs
-    → get_or cs i c ≡ c → j < length c.items → y ≡ get_or c.items j y → (d : IpNet × V)
-    → all_of (set cs i (with_item c j (y.0, w)))
-    ≡ set (all_of cs) (position_of cs i j) ((get_or (all_of cs) (position_of cs i j) d).0, w)
-value_set cs i j c y w l at inside is d =
-    let read : y ≡ get_or (all_of cs) (position_of cs i j) d
-    = is ∙ get_or_default c.items j y d inside ∙ sym (read_in_chunk items cs i c l at j d inside) in
-    set_in_chunk items cs i c l at (with_item c j (y.0, w)) j ((get_or (all_of cs) (position_of cs i j) d).0, w) inside
-    (ap (λ z. set c.items j (z.0, w)) read)
+pub value_set : {V : Type 0} (cs : List (Chunk V)) (i j : ℕ) (c d : Chunk V) (y : IpNet × V) (w : V) → i < length cs
+    → get_or cs i c ≡ c → j < length c.routes.items → y ≡ get_or c.routes.items j y
+    → d.routes.items ≡ set c.routes.items j (y.0, w) → (e : IpNet × V)
+    → all_of (set cs i d) ≡ set (all_of cs) (position_of cs i j) ((get_or (all_of cs) (position_of cs i j) e).0, w)
+value_set cs i j c d y w l at inside is made e =
+    let read : y ≡ get_or (all_of cs) (position_of cs i j) e
+    = is ∙ get_or_default c.routes.items j y e inside ∙ sym (read_in_chunk items cs i c l at j e inside) in
+    set_in_chunk items cs i c l at d j ((get_or (all_of cs) (position_of cs i j) e).0, w) inside
+    (made ∙ ap (λ z. set c.routes.items j (z.0, w)) read)
+
+-- where a route of a chunk is in the list of all routes
+pub inside_all : {V : Type 0} (cs : List (Chunk V)) (i j : ℕ) (c : Chunk V) → i < length cs → get_or cs i c ≡ c
+    → j < length c.routes.items → position_of cs i j < length (all_of cs)
+inside_all {V} cs i j c l e inside = omega (
+  arith,
+  inside,
+  ap length (chunk_split (items {V = V}) cs i c l e),
+  length-append (all_of (take i cs)) (c.routes.items ++ all_of (drop (suc i) cs)),
+  length-append c.routes.items (all_of (drop (suc i) cs)),
+)
+
+-- the route before the place after a network is the last one up to it
+pub last_up_to_place : {V : Type 0} (cs : List (Chunk V)) → IsTable (ip_networks (all_of cs)) → (n : Network)
+    (i j p : ℕ) (c : Chunk V) (r : IpNet × V) → IsPlaceAfter (ip_networks (all_of cs)) n p
+    → p ≡ position_of cs i j + 1 → i < length cs → get_or cs i c ≡ c → j < length c.routes.items
+    → r ≡ get_or c.routes.items j r → IsLastUpTo (all_of cs) n (ip_network r.0, r.1)
+last_up_to_place {V} cs t n i j p c r after e l at inside is =
+    last_before_place (all_of cs) t n p after (position_of cs i j) (omega (arith, e)) r
+    (is ∙ sym (read_in_chunk (items {V = V}) cs i c l at j r inside))
+
+-- an exchanged chunk does not move the places in it
+pub same_position : {V : Type 0} (cs : List (Chunk V)) (i j : ℕ) (d : Chunk V)
+    → position_of (set cs i d) i j ≡ position_of cs i j
+same_position cs i j d = ap (λ z. length (all_of z) + j) (take-set cs i d)
+
+pub chunk_now : {V : Type 0} (cs : List (Chunk V)) (i : ℕ) (d : Chunk V) → i < length cs
+    → chunk_at (set cs i d) i ≡ d.routes.items
+chunk_now {V} cs i d l =
+    chunk_only (items {V = V}) (set cs i d) i d (omega (arith, l, length-set cs i d)) (get_or-set_same cs i d d l)

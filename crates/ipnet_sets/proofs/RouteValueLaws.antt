@@ -1,6 +1,6 @@
 -- Equality and clones of lists of routes.
 use Rattle.std.proofs.Common.{◌≡◌, zero, suc, ◌<◌, ◌↔◌, Bool, true, false, ◌&&◌, List, [], ◌∷◌, ◌++◌, length}
-use Rattle.std.proofs.Common.{vec_len, IsTrue, refl, ap, ap₂, arith}
+use Rattle.std.proofs.Common.{map, IsTrue, refl, ap, ap₂, arith}
 use Rattle.std.specs.Bool.{one_answer}
 use Rattle.std.specs.Cmp.Lexicographic.{pointwise}
 use Rattle.std.specs.List.{AllZip}
@@ -14,7 +14,8 @@ use Rattle.ipnet.specs.declared.net.IpNet.{IpNet}
 use Rattle.ipnet.specs.NetworkOf.{ip_network}
 use Rattle.ipnet_sets.specs.Routes.{Route, ip_routes, ip_networks}
 use Rattle.ipnet_sets.specs.RouteValues.{AreClones, AreEqual, is_same_network, are_equal}
-use Rattle.ipnet_sets.specs.RouteMapSteps.{Chunk, all_of, AreFilled}
+use Rattle.ipnet_sets.specs.RouteMapSteps.{all_of, bounds_of, AreFilled}
+use Rattle.ipnet_sets.specs.declared.route_map.chunk.Chunk.{Chunk}
 
 both : (a b : Bool) → (a && b) ≡ true → (a ≡ true) × (b ≡ true)
 both true b e = (refl, e)
@@ -97,7 +98,8 @@ cloned_routes is_clone (x ∷ xs) (y ∷ ys) h =
 -- clones of chunks are clones of all their routes
 abbrev pub AreChunkClones : {V : Type 0} → (V → V → Type 0) → List (Chunk V) → List (Chunk V) → Type 0
 AreChunkClones is_clone cs ds =
-    AllZip (λ c d. AllZip (IsClone is_clone) c.items d.items × (vec_len d ≡ vec_len c)) cs ds
+    AllZip (λ c d. AllZip (IsClone is_clone) c.routes.items d.routes.items
+    × (map (λ m. m.bound) d.marks.items ≡ map (λ m. m.bound) c.marks.items)) cs ds
 
 zip_append : {X : Type 0} (R : X → X → Type 0) (ws bs cs ds : List X) → AllZip R ws bs → AllZip R cs ds
     → AllZip R (ws ++ cs) (bs ++ ds)
@@ -112,9 +114,18 @@ cloned_chunks is_clone [] [] h = tt
 cloned_chunks is_clone [] (d ∷ ds) h = absurd h
 cloned_chunks is_clone (c ∷ cs) [] h = absurd h
 cloned_chunks is_clone (c ∷ cs) (d ∷ ds) h =
-    zip_append (IsClone is_clone) c.items d.items (all_of cs) (all_of ds) h.0.0 (cloned_chunks is_clone cs ds h.1)
+    zip_append (IsClone is_clone) c.routes.items d.routes.items (all_of cs) (all_of ds) h.0.0
+    (cloned_chunks is_clone cs ds h.1)
 
-filled_cons : {V : Type 0} (d : Chunk V) (ds : List (Chunk V)) → 0 < length d.items → AreFilled ds
+-- and their bounds are the same
+pub cloned_bounds : {V : Type 0} (is_clone : V → V → Type 0) (cs ds : List (Chunk V))
+    → AreChunkClones is_clone cs ds → bounds_of ds ≡ bounds_of cs
+cloned_bounds is_clone [] [] h = refl
+cloned_bounds is_clone [] (d ∷ ds) h = absurd h
+cloned_bounds is_clone (c ∷ cs) [] h = absurd h
+cloned_bounds is_clone (c ∷ cs) (d ∷ ds) h = ap₂ ◌++◌ h.0.1 (cloned_bounds is_clone cs ds h.1)
+
+filled_cons : {V : Type 0} (d : Chunk V) (ds : List (Chunk V)) → 0 < length d.routes.items → AreFilled ds
     → AreFilled (d ∷ ds)
 filled_cons d ds first others zero e l = first
 filled_cons d ds first others (suc k) e l = others k e (omega (arith, l))
@@ -126,5 +137,5 @@ cloned_filled is_clone [] (d ∷ ds) h filled = absurd h
 cloned_filled is_clone (c ∷ cs) [] h filled = absurd h
 cloned_filled is_clone (c ∷ cs) (d ∷ ds) h filled =
     filled_cons d ds
-    (omega (arith, filled 0 c (omega arith), AllZip-long (IsClone is_clone) c.items d.items h.0.0))
+    (omega (arith, filled 0 c (omega arith), AllZip-long (IsClone is_clone) c.routes.items d.routes.items h.0.0))
     (cloned_filled is_clone cs ds h.1 (λ k e l. filled (suc k) e (omega (arith, l))))

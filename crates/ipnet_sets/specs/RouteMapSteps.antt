@@ -1,10 +1,9 @@
 -- The private steps of a map of routes: its chunks, a place in them, and the last route up to a network.
 -- Only private contracts use these.
 use Rattle.std.specs.Prelude.{◌≡◌, ℕ, ◌+◌, ◌-◌, ◌/◌, ◌^◌, ◌<◌, ◌≤◌, ◌⊎◌, ◌↔◌, List, [], ◌∷◌, length, map, take, drop}
-use Rattle.std.specs.Prelude.{Contains, All, Vec}
+use Rattle.std.specs.Prelude.{Contains, All, ◌≢◌, get_or}
 use Rattle.std.specs.Prelude.{Bool, ◌&&◌, ◌++◌, Option, Some, None, nat_eq, nat_le, if◌then◌else◌}
 use Rattle.std.specs.List.{flat_map, insert}
-use Rattle.std.specs.declared.alloc.Global.{Global}
 use Rattle.ipnet_base.specs.Address.{Address, IPv4, width, family_index}
 use Rattle.ipnet_base.specs.Network.{Network, IsNetwork, IsSubnetOf, IsTruncated, IsBefore, host_bits}
 use Rattle.ipnet_base.specs.Stack.{IsBeforeOrEqual}
@@ -12,18 +11,25 @@ use Rattle.ipnet.specs.declared.net.IpNet.{IpNet}
 use Rattle.ipnet.specs.NetworkOf.{ip_network}
 use Rattle.ipnet_sets.specs.Routes.{Route, ip_routes, ip_networks}
 use Rattle.ipnet_sets.specs.RouteSteps.{IsPlaceAfter}
-
--- A chunk: a list of routes that are next to each other in the map.
-abbrev pub Chunk : Type 0 → Type 0
-Chunk V = Vec (IpNet × V) Global
+use Rattle.ipnet_sets.specs.declared.route_map.chunk.Chunk.{Chunk}
 
 -- The routes of the chunks, one chunk after the other.
 abbrev pub all_of : {V : Type 0} → List (Chunk V) → List (IpNet × V)
-all_of chunks = flat_map (λ c. c.items) chunks
+all_of chunks = flat_map (λ c. c.routes.items) chunks
+
+-- The bounds of the routes of the chunks, in the same order.
+abbrev pub bounds_of : {V : Type 0} → List (Chunk V) → List ℕ
+bounds_of chunks = flat_map (λ c. map (λ m. m.bound) c.marks.items) chunks
+
+-- The new bounds are at least the old ones, and the bounds of networks within `n` are more than the length of `n`.
+pub record AreRaised (networks : List Network) (n : Network) (old new : List ℕ) : Type 0 where
+  pub size : length new ≡ length old
+  pub kept : (i : ℕ) → get_or old i 0 ≤ get_or new i 0
+  pub inside : (k : Network) (c : Contains networks k) → IsSubnetOf k n → k ≢ n → n.prefix_len < get_or new c.0 0
 
 -- Each chunk has a route.
 abbrev pub AreFilled : {V : Type 0} → List (Chunk V) → Type 0
-AreFilled chunks = All (λ c. 0 < length c.items) chunks
+AreFilled chunks = All (λ c. 0 < length c.routes.items) chunks
 
 -- The network of the first route; any network if there is none.
 abbrev pub first_network : {V : Type 0} → List (IpNet × V) → Network
@@ -32,7 +38,7 @@ first_network (r ∷ rs) = ip_network r.0
 
 -- The first network of each chunk.
 abbrev pub firsts_of : {V : Type 0} → List (Chunk V) → List Network
-firsts_of chunks = map (λ c. first_network c.items) chunks
+firsts_of chunks = map (λ c. first_network c.routes.items) chunks
 
 -- The routes of the chunk at an index; none if there is no such chunk.
 abbrev pub chunk_at : {V : Type 0} → List (Chunk V) → ℕ → List (IpNet × V)
@@ -49,14 +55,15 @@ pub record IsLastUpTo {V : Type 0} (routes : List (IpNet × V)) (n : Network) (r
   pub up_to : IsBeforeOrEqual route.0 n
   pub last : (k : Network) → Contains (ip_networks routes) k → IsBeforeOrEqual k route.0 ⊎ IsBefore n k
 
--- The smallest network that contains both, without host bits.
--- Example: 10.0.0.0/14 for 10.1.0.0/16 and 10.2.0.0/16.
-pub record IsCommonSupernet (n k s : Network) : Type 0 where
+-- The smallest network that contains both and whose prefix length is below the bound, without host bits.
+-- Example: for 10.1.0.0/16 and 10.2.0.0/16, 10.0.0.0/14 if the bound is 17, and 10.0.0.0/8 if it is 9.
+pub record IsCommonSupernet (n k : Network) (bound : ℕ) (s : Network) : Type 0 where
   pub network : IsNetwork s
   pub truncated : IsTruncated s
   pub first : IsSubnetOf n s
   pub second : IsSubnetOf k s
-  pub smallest : (o : Network) → IsNetwork o → IsSubnetOf n o → IsSubnetOf k o → IsSubnetOf s o
+  pub smallest : (o : Network) → IsNetwork o → IsSubnetOf n o → IsSubnetOf k o → o.prefix_len < bound
+      → IsSubnetOf s o
 
 -- The addresses are of one family, and share exactly this many of their first bits.
 -- Example: 10.1.0.0 and 10.2.0.0 share 14.
@@ -66,12 +73,12 @@ pub record AreSharedBits (x y : Address) (bits : ℕ) : Type 0 where
   pub shared : (l : ℕ) → l ≤ width x.family
       → (x.number / 2 ^ (width x.family - l) ≡ y.number / 2 ^ (width x.family - l)) ↔ (l ≤ bits)
 
--- The new list is the old one with the route at the place after the networks that come before it.
-pub record IsInsertedInOrder {V : Type 0} (old : List (IpNet × V)) (route : IpNet × V) (new : List (IpNet × V)) : Type 0
-  where
-    pub place : ℕ
+-- The new lists are the old ones with the route and its bound at the place after the networks that come before it.
+pub record IsInsertedInOrder {V : Type 0} (old : List (IpNet × V)) (old_bounds : List ℕ) (route : IpNet × V) (bound : ℕ)
+  (place : ℕ) (new : List (IpNet × V)) (new_bounds : List ℕ) : Type 0 where
     pub after : IsPlaceAfter (ip_networks old) (ip_network route.0) place
     pub inserted : new ≡ insert old place route
+    pub bounds : new_bounds ≡ insert old_bounds place bound
 
 -- The block of `k` contains the block of `n`, as a test of their numbers.
 -- Example: true for 10.0.0.0/8 and 10.1.0.0/16.

@@ -44,6 +44,13 @@ pub record AreLinks (networks : List Network) (links : List ℕ) : Type 0 where
   pub nearest : (n : Network) (c : Contains networks n) (d : ℕ) → c.0 < length links
       → IsNearest networks n c.0 (get_or links c.0 d)
 
+-- Each bound is more than the prefix length of each other network of the list that contains the network at its place.
+-- Example: for 10.0.0.0/8 and 10.1.0.0/16, 0 and 9, or greater numbers.
+pub record AreBounds (networks : List Network) (bounds : List ℕ) : Type 0 where
+  pub size : length bounds ≡ length networks
+  pub bound : (n k : Network) (c : Contains networks n) → Contains networks k → IsSubnetOf n k → k ≢ n
+      → k.prefix_len < get_or bounds c.0 0
+
 -- The index splits the list: the networks before it come before `n`, and `n` comes before the others or equals one.
 pub record IsPlaceOf (networks : List Network) (n : Network) (place : ℕ) : Type 0 where
   pub within : place ≤ length networks

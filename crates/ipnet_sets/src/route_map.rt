@@ -9,12 +9,12 @@ ghost use Rattle.ipnet.specs.NetworkOf.{ip_network};
 ghost use Rattle.ipnet_sets.specs.Routes.{Route, networks_of, ip_routes, ip_networks, IsLongestMatch, IsLongestHolder};
 ghost use Rattle.ipnet_sets.specs.Routes.{AreMatches};
 ghost use Rattle.ipnet_sets.specs.Routes.{AreWithin};
-ghost use Rattle.ipnet_sets.specs.RouteSteps.{IsTable};
+ghost use Rattle.ipnet_sets.specs.RouteSteps.{IsTable, AreBounds};
 ghost use Rattle.ipnet_sets.specs.RouteMaps.{IsWithRoute, IsWithoutRoute};
-ghost use Rattle.ipnet_sets.specs.RouteMapSteps.{all_of, AreFilled};
+ghost use Rattle.ipnet_sets.specs.RouteMapSteps.{all_of, bounds_of, AreFilled};
 
-use crate::routes::{RouteTable, is_same};
-use chunks::Chunk;
+use crate::routes::RouteTable;
+use chunk::Chunk;
 use common::common_supernet;
 use index::ChunkIndex;
 use ipnet::{IpAddr, IpNet};
@@ -22,7 +22,9 @@ use matches::MapMatches;
 use routes::MapRoutes;
 use std::alloc::{AllocError, Global};
 
+mod bounds;
 mod changes;
+mod chunk;
 mod chunks;
 mod common;
 mod index;
@@ -39,6 +41,7 @@ fn covering_in<'a, V>(
 ) -> Option<&'a (IpNet, V)>
     requires table { IsTable (ip_networks (all_of chunks.now)) }
     requires filled { AreFilled chunks.now }
+    requires bounds { AreBounds (ip_networks (all_of chunks.now)) (bounds_of chunks.now) }
     ensures none { IsNone result ↔ ((k : Network) → Contains (networks_of (ip_routes (all_of chunks.now))) k
         → ¬ (IsSubnetOf (ip_network network.now) k)) }
     ensures some { IfSome result (λ route. IsLongestHolder (ip_routes (all_of chunks.now)) (ip_network network.now)
@@ -47,16 +50,35 @@ fn covering_in<'a, V>(
     let mut wanted = network.trunc();
     loop {
         let bucket = index.bucket(&wanted, chunks.len());
-        let Some(route) = chunks::last_up_to(chunks, bucket, &wanted) else {
+        let place = chunks::place_after_all(chunks, bucket, &wanted);
+        if place.index == 0 {
             return None;
-        };
+        }
+        let place = place.before();
+        let chunk = &chunks[place.chunk];
+        let route = &chunk.routes[place.index];
         if route.0.contains(network) {
             return Some(route);
         }
-        let Some(common) = common_supernet(&wanted, &route.0) else {
+        let bound = chunk.marks[place.index].bound;
+        let Some(common) = common_supernet(&wanted, &route.0, bound) else {
             return None;
         };
         wanted = common;
+    }
+}
+
+/// More than the prefix length of each network in the chunks that contains the network's whole block; 0 if none does.
+fn bound_of<V>(chunks: &[Chunk<V>], index: &ChunkIndex, network: &IpNet) -> u8
+    requires table { IsTable (ip_networks (all_of chunks.now)) }
+    requires filled { AreFilled chunks.now }
+    requires bounds { AreBounds (ip_networks (all_of chunks.now)) (bounds_of chunks.now) }
+    ensures { (k : Network) → Contains (ip_networks (all_of chunks.now)) k → IsSubnetOf (ip_network network.now) k
+        → k.prefix_len < result }
+{
+    match covering_in(chunks, index, network) {
+        Some(route) => route.0.prefix_len() + 1,
+        None => 0,
     }
 }
 
@@ -77,6 +99,7 @@ pub struct RouteMap<V> {
     ghost table: { IsTable (ip_networks (all_of chunks.items)) },
     ghost filled: { AreFilled chunks.items },
     ghost size: { count ≡ length (all_of chunks.items) },
+    ghost bounds: { AreBounds (ip_networks (all_of chunks.items)) (bounds_of chunks.items) },
 }
 
 impl<V> RouteMap<V> {
@@ -104,7 +127,8 @@ impl<V> RouteMap<V> {
         ensures { IfOk result (λ m. map_routes m ≡ routes_of table) }
     {
         let count = table.len();
-        let chunks = chunks::chunks_of(alloc, table.into_routes())?;
+        let bounds = table.bounds(alloc)?;
+        let chunks = chunks::chunks_of(alloc, table.into_routes(), bounds.as_slice())?;
         let mut index = ChunkIndex::new(alloc);
         index.fill(chunks.as_slice());
         Ok(RouteMap {
@@ -175,8 +199,9 @@ impl<V> RouteMap<V> {
             let old = changes::exchange(&mut self.chunks, place, &network, value);
             return Ok(Some(old));
         }
+        let bound = bound_of(chunks, &self.index, &network);
         let before = ChunkIndex::before(chunks, place);
-        changes::put_route(self.alloc, &mut self.chunks, place, (network, value))?;
+        changes::put_route(self.alloc, &mut self.chunks, place, (network, value), bound)?;
         self.count += 1;
         self.index.follow(self.chunks.as_slice(), before);
         Ok(None)
@@ -225,13 +250,12 @@ impl<V> RouteMap<V> {
         let network = network.trunc();
         let chunks = self.chunks.as_slice();
         let bucket = self.index.bucket(&network, chunks.len());
-        let Some(route) = chunks::last_up_to(chunks, bucket, &network) else {
-            return None;
-        };
-        if !is_same(&route.0, &network) {
+        let place = chunks::place_after_all(chunks, bucket, &network);
+        if !chunks::is_behind(chunks, place, &network) {
             return None;
         }
-        Some(&route.1)
+        let place = place.before();
+        Some(&self.chunks[place.chunk].routes[place.index].1)
     }
 
     /// Returns a reference to the value of the network, to change it; `None` if the map does not have the network.
@@ -256,7 +280,7 @@ impl<V> RouteMap<V> {
             return None;
         }
         let place = place.before();
-        Some(&mut self.chunks[place.chunk][place.index].1)
+        Some(&mut self.chunks[place.chunk].routes[place.index].1)
     }
 
     /// The route of the longest network that holds the address, or `None` if no network of the map holds it.

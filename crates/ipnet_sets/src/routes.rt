@@ -22,6 +22,7 @@ use matches::RouteMatches;
 use std::alloc::{AllocError, Global};
 use std::slice;
 
+mod bounds;
 pub mod changes;
 pub mod image;
 pub(crate) mod index;

@@ -1,30 +1,26 @@
 //! The chunks of a map of routes: lists of routes, one after the other in the order of networks. The search for a place
 //! in them, and the changes at a place.
-ghost use Rattle.std.specs.Prelude.{◌≡◌, ◌<◌, ◌≤◌, ◌+◌, ◌++◌, ◌∷◌, [], length, set, OnOk, OnErr, IfOk, IfSome, IfNone};
+ghost use Rattle.std.specs.Prelude.{◌≡◌, ◌<◌, ◌≤◌, ◌+◌, ◌++◌, ◌∷◌, [], length, set, OnOk, OnErr, IfOk};
 ghost use Rattle.std.specs.Prelude.{slice_index_or, IsTrue, Contains, ◌↔◌};
 ghost use Rattle.std.specs.List.{insert, remove};
-ghost use Rattle.ipnet_base.specs.Network.{Network, IsBefore};
 ghost use Rattle.ipnet.specs.NetworkOf.{ip_network};
 ghost use Rattle.ipnet_sets.specs.Routes.{ip_networks};
 ghost use Rattle.ipnet_sets.specs.RouteSteps.{IsTable, IsPlaceAfter, IsPlaceOf};
-ghost use Rattle.ipnet_sets.specs.RouteMapSteps.{all_of, AreFilled, firsts_of, chunk_at, position_of, IsLastUpTo};
+ghost use Rattle.ipnet_sets.specs.RouteMapSteps.{all_of, bounds_of, AreFilled, firsts_of, chunk_at, position_of};
 ghost use Rattle.ipnet_sets.specs.RouteMapSteps.{IsInsertedInOrder};
 
+use super::chunk::{Chunk, Mark, bits_of};
 use crate::routes::index::{Bucket, probe};
 use crate::routes::{is_same, place_after};
 use ipnet::IpNet;
 use ipnet::net::laws::ip_nets_compare_by_network;
 use std::alloc::{AllocError, Global};
-use std::mem;
 
 /// The most routes of a chunk.
 pub(crate) const FULL: usize = 128;
 
 /// How many routes a chunk has that is made of routes in order.
 const FILLED: usize = 96;
-
-/// A list of routes that are next to each other in the map.
-pub(crate) type Chunk<V> = Vec<(IpNet, V)>;
 
 /// The index of a chunk, and the index of a route in it.
 #[derive(Clone, Copy)]
@@ -47,14 +43,6 @@ impl Place {
     }
 }
 
-/// The bucket for a search in all of a list.
-pub(crate) fn all(count: usize) -> Bucket {
-    Bucket {
-        start: 0,
-        end: count,
-    }
-}
-
 /// How many chunks begin with this network or one that comes before it.
 pub(crate) fn chunk_after<V>(chunks: &[Chunk<V>], bucket: Bucket, network: &IpNet) -> usize
     requires table { IsTable (ip_networks (all_of chunks.now)) }
@@ -66,7 +54,7 @@ pub(crate) fn chunk_after<V>(chunks: &[Chunk<V>], bucket: Bucket, network: &IpNe
     let mut high = chunks.len();
     while low < high {
         let middle = probe(low, high, bucket);
-        let first = chunks[middle][0].0;
+        let first = chunks[middle].routes[0].0;
         if *network < first {
             high = middle;
         } else {
@@ -76,29 +64,28 @@ pub(crate) fn chunk_after<V>(chunks: &[Chunk<V>], bucket: Bucket, network: &IpNe
     low
 }
 
-/// The last route whose network is this one or comes before it.
-pub(crate) fn last_up_to<'a, V>(
-    chunks: &'a [Chunk<V>],
-    bucket: Bucket,
-    network: &IpNet,
-) -> Option<&'a (IpNet, V)>
-    requires table { IsTable (ip_networks (all_of chunks.now)) }
-    requires filled { AreFilled chunks.now }
-    ensures some { IfSome result (λ route. IsLastUpTo (all_of chunks.now) (ip_network network.now)
-        (ip_network route.now.0, route.now.1)) }
-    ensures none { IfNone result ((k : Network) → Contains (ip_networks (all_of chunks.now)) k
-        → IsBefore (ip_network network.now) k) }
-{
-    let after = chunk_after(chunks, bucket, network);
-    if after == 0 {
-        return None;
+/// The routes of a chunk between which a search for a network begins, by their first bits.
+fn bucket_in(marks: &[Mark], network: &IpNet) -> Bucket {
+    let bits = bits_of(network);
+    let start = marks.partition_point(|mark| mark.bits < bits);
+    let mut end = start;
+    while end < marks.len() && marks[end].bits == bits {
+        end += 1;
     }
-    let chunk = chunks[after - 1].as_slice();
-    let place = place_after(chunk, all(chunk.len()), network);
-    Some(&chunk[place - 1])
+    Bucket { start, end }
 }
 
-/// The place after the routes whose networks are this one or come before it; in the chunk of the last of them.
+/// The place in a chunk after the networks that are this one or come before it.
+fn place_in<V>(chunk: &Chunk<V>, network: &IpNet) -> usize
+    requires { IsTable (ip_networks chunk.now.routes.items) }
+    ensures { IsPlaceAfter (ip_networks chunk.now.routes.items) (ip_network network.now) result }
+{
+    let bucket = bucket_in(chunk.marks.as_slice(), network);
+    place_after(chunk.routes.as_slice(), bucket, network)
+}
+
+/// The place after the routes whose networks are this one or come before it; in the chunk of the last of them. The
+/// search begins at the chunk before the end of the bucket.
 pub(crate) fn place_after_all<V>(chunks: &[Chunk<V>], bucket: Bucket, network: &IpNet) -> Place
     requires table { IsTable (ip_networks (all_of chunks.now)) }
     requires filled { AreFilled chunks.now }
@@ -112,9 +99,15 @@ pub(crate) fn place_after_all<V>(chunks: &[Chunk<V>], bucket: Bucket, network: &
     if count == 0 {
         return Place { chunk: 0, index: 0 };
     }
+    let chunk = bucket.end.saturating_sub(1);
+    if chunk < count {
+        let index = place_in(&chunks[chunk], network);
+        if 0 < index && index < chunks[chunk].routes.len() {
+            return Place { chunk, index };
+        }
+    }
     let chunk = chunk_after(chunks, bucket, network).saturating_sub(1);
-    let routes = chunks[chunk].as_slice();
-    let index = place_after(routes, all(routes.len()), network);
+    let index = place_in(&chunks[chunk], network);
     Place { chunk, index }
 }
 
@@ -133,7 +126,7 @@ pub(crate) fn is_behind<V>(chunks: &[Chunk<V>], place: Place, network: &IpNet) -
     if place.index == 0 {
         return false;
     }
-    is_same(&chunks[place.chunk][place.index - 1].0, network)
+    is_same(&chunks[place.chunk].routes[place.index - 1].0, network)
 }
 
 /// The place of the network; if the chunks do not have it, the place of the next one.
@@ -152,11 +145,12 @@ pub(crate) fn place_of_all<V>(chunks: &[Chunk<V>], bucket: Bucket, network: &IpN
     place
 }
 
-/// Inserts a route at a place.
+/// Inserts a route and its bound at a place.
 pub(crate) fn put_at<V: Drop>(
     chunks: &mut Vec<Chunk<V>>,
     place: Place,
     route: (IpNet, V),
+    bound: u8,
 ) -> Result<(), AllocError>
     requires filled { AreFilled chunks.old.items }
     requires chunk { place.chunk < length chunks.old.items }
@@ -164,9 +158,17 @@ pub(crate) fn put_at<V: Drop>(
     ensures filled { AreFilled chunks.new.items }
     ensures put { OnOk result (all_of chunks.new.items ≡ insert (all_of chunks.old.items)
         (position_of chunks.old.items place.chunk place.index) route) }
+    ensures bounds { OnOk result (bounds_of chunks.new.items ≡ insert (bounds_of chunks.old.items)
+        (position_of chunks.old.items place.chunk place.index) bound) }
+    ensures chunk { OnOk result (place.chunk < length chunks.new.items) }
+    ensures index { OnOk result (place.index < length (chunk_at chunks.new.items place.chunk)) }
+    ensures same_place { OnOk result (position_of chunks.new.items place.chunk place.index
+        ≡ position_of chunks.old.items place.chunk place.index) }
     ensures unchanged { OnErr result (all_of chunks.new.items ≡ all_of chunks.old.items) }
+    ensures old_bounds { OnErr result (bounds_of chunks.new.items ≡ bounds_of chunks.old.items) }
 {
-    chunks[place.chunk].insert(place.index, route)?;
+    let mark = Mark::new(&route.0, bound);
+    chunks[place.chunk].insert(place.index, route, mark)?;
     Ok(())
 }
 
@@ -181,10 +183,28 @@ pub(crate) fn replace_at<V>(chunks: &mut Vec<Chunk<V>>, place: Place, value: V) 
           (slice_index_or (all_of chunks.old.items) (position_of chunks.old.items place.chunk place.index) d).0,
           value,
         ) }
+    ensures bounds { bounds_of chunks.new.items ≡ bounds_of chunks.old.items }
     ensures value { (d : IpNet × V) → result
         ≡ (slice_index_or (all_of chunks.old.items) (position_of chunks.old.items place.chunk place.index) d).1 }
 {
-    mem::replace(&mut chunks[place.chunk][place.index].1, value)
+    chunks[place.chunk].replace(place.index, value)
+}
+
+/// Sets the bound of the route at a place.
+pub(crate) fn set_bound_at<V>(chunks: &mut Vec<Chunk<V>>, place: Place, bound: u8)
+    requires filled { AreFilled chunks.old.items }
+    requires chunk { place.chunk < length chunks.old.items }
+    requires index { place.index < length (chunk_at chunks.old.items place.chunk) }
+    ensures filled { AreFilled chunks.new.items }
+    ensures routes { all_of chunks.new.items ≡ all_of chunks.old.items }
+    ensures bounds { bounds_of chunks.new.items ≡ set (bounds_of chunks.old.items)
+        (position_of chunks.old.items place.chunk place.index) bound }
+    ensures chunk { place.chunk < length chunks.new.items }
+    ensures index { place.index < length (chunk_at chunks.new.items place.chunk) }
+    ensures same_place { position_of chunks.new.items place.chunk place.index
+        ≡ position_of chunks.old.items place.chunk place.index }
+{
+    chunks[place.chunk].set_bound(place.index, bound);
 }
 
 /// Removes the route at a place, and returns it. A chunk that has no other route is removed too.
@@ -195,11 +215,13 @@ pub(crate) fn take_at<V>(chunks: &mut Vec<Chunk<V>>, place: Place) -> (IpNet, V)
     ensures filled { AreFilled chunks.new.items }
     ensures taken { all_of chunks.new.items ≡ remove (all_of chunks.old.items)
         (position_of chunks.old.items place.chunk place.index) }
+    ensures bounds { bounds_of chunks.new.items ≡ remove (bounds_of chunks.old.items)
+        (position_of chunks.old.items place.chunk place.index) }
     ensures route { (d : IpNet × V) → result
         ≡ slice_index_or (all_of chunks.old.items) (position_of chunks.old.items place.chunk place.index) d }
 {
     let route = chunks[place.chunk].remove(place.index);
-    if chunks[place.chunk].len() == 0 {
+    if chunks[place.chunk].routes.len() == 0 {
         let chunk = chunks.remove(place.chunk);
         chunk.destroy_empty();
     }
@@ -217,17 +239,22 @@ fn kept_of(count: usize, is_last: bool) -> usize
 
 /// Divides a chunk of at least two routes into two chunks: in halves, but the last chunk of all before its last route,
 /// so that routes that come in order fill their chunks.
-pub(crate) fn split<V: Drop>(chunks: &mut Vec<Chunk<V>>, chunk: usize) -> Result<(), AllocError>
+pub(crate) fn split<V: Drop>(
+    alloc: Global,
+    chunks: &mut Vec<Chunk<V>>,
+    chunk: usize,
+) -> Result<(), AllocError>
     requires filled { AreFilled chunks.old.items }
     requires chunk { chunk < length chunks.old.items }
     requires two { 2 ≤ length (chunk_at chunks.old.items chunk) }
     ensures filled { AreFilled chunks.new.items }
     ensures some { 0 < length chunks.new.items }
     ensures unchanged { all_of chunks.new.items ≡ all_of chunks.old.items }
+    ensures old_bounds { bounds_of chunks.new.items ≡ bounds_of chunks.old.items }
 {
     chunks.reserve(1)?;
-    let kept = kept_of(chunks[chunk].len(), chunk + 1 == chunks.len());
-    let others = chunks[chunk].split_off(kept)?;
+    let kept = kept_of(chunks[chunk].routes.len(), chunk + 1 == chunks.len());
+    let others = chunks[chunk].split_off(alloc, kept)?;
     let Ok(()) = chunks.insert(chunk + 1, others) else {
         unreachable!()
     };
@@ -239,30 +266,36 @@ pub(crate) fn push_last<V: Drop>(
     alloc: Global,
     chunks: &mut Vec<Chunk<V>>,
     route: (IpNet, V),
+    bound: u8,
 ) -> Result<(), AllocError>
     requires filled { AreFilled chunks.old.items }
     ensures filled { AreFilled chunks.new.items }
+    ensures some { OnOk result (0 < length chunks.new.items) }
     ensures pushed { OnOk result (all_of chunks.new.items ≡ all_of chunks.old.items ++ route ∷ []) }
+    ensures bounds { OnOk result (bounds_of chunks.new.items ≡ bounds_of chunks.old.items ++ bound ∷ []) }
     ensures unchanged { OnErr result (all_of chunks.new.items ≡ all_of chunks.old.items) }
+    ensures old_bounds { OnErr result (bounds_of chunks.new.items ≡ bounds_of chunks.old.items) }
 {
     let count = chunks.len();
-    if count > 0 && chunks[count - 1].len() < FILLED {
-        chunks[count - 1].push(route)?;
+    let mark = Mark::new(&route.0, bound);
+    if count > 0 && chunks[count - 1].routes.len() < FILLED {
+        chunks[count - 1].push(route, mark)?;
         return Ok(());
     }
-    let mut chunk = Vec::new(alloc);
-    chunk.push(route)?;
+    let chunk = Chunk::of_route(alloc, route, mark)?;
     chunks.push(chunk)?;
     Ok(())
 }
 
-/// Inserts a route at the place after the networks that come before it; divides its chunk first if it is full.
+/// Inserts a route at the place after the networks that come before it, and returns its place; divides its chunk first
+/// if it is full.
 pub(crate) fn put_in_order<V: Drop>(
     alloc: Global,
     chunks: &mut Vec<Chunk<V>>,
     place: Place,
     route: (IpNet, V),
-) -> Result<(), AllocError>
+    bound: u8,
+) -> Result<Place, AllocError>
     requires table { IsTable (ip_networks (all_of chunks.old.items)) }
     requires filled { AreFilled chunks.old.items }
     requires chunk { 0 < length chunks.old.items → place.chunk < length chunks.old.items }
@@ -270,31 +303,49 @@ pub(crate) fn put_in_order<V: Drop>(
     requires place { IsPlaceAfter (ip_networks (all_of chunks.old.items)) (ip_network route.0)
         (position_of chunks.old.items place.chunk place.index) }
     ensures filled { AreFilled chunks.new.items }
-    ensures put { OnOk result (IsInsertedInOrder (all_of chunks.old.items) route (all_of chunks.new.items)) }
+    ensures put { IfOk result (λ at. IsInsertedInOrder (all_of chunks.old.items) (bounds_of chunks.old.items) route
+        bound (position_of chunks.new.items at.chunk at.index) (all_of chunks.new.items)
+        (bounds_of chunks.new.items)) }
+    ensures chunk { IfOk result (λ at. at.chunk < length chunks.new.items) }
+    ensures index { IfOk result (λ at. at.index < length (chunk_at chunks.new.items at.chunk)) }
     ensures unchanged { OnErr result (all_of chunks.new.items ≡ all_of chunks.old.items) }
+    ensures old_bounds { OnErr result (bounds_of chunks.new.items ≡ bounds_of chunks.old.items) }
 {
     if chunks.len() == 0 {
-        return push_last(alloc, chunks, route);
+        push_last(alloc, chunks, route, bound)?;
+        return Ok(Place { chunk: 0, index: 0 });
     }
-    if chunks[place.chunk].len() < FULL {
-        return put_at(chunks, place, route);
+    if chunks[place.chunk].routes.len() < FULL {
+        put_at(chunks, place, route, bound)?;
+        return Ok(place);
     }
-    split(chunks, place.chunk)?;
-    let place = place_after_all(chunks.as_slice(), all(chunks.len()), &route.0);
-    put_at(chunks, place, route)
+    split(alloc, chunks, place.chunk)?;
+    let halves = Bucket {
+        start: place.chunk + 1,
+        end: place.chunk.saturating_add(2),
+    };
+    let place = place_after_all(chunks.as_slice(), halves, &route.0);
+    put_at(chunks, place, route, bound)?;
+    Ok(place)
 }
 
-/// The chunks of a list of routes.
+/// The chunks of a list of routes and their bounds.
 pub(crate) fn chunks_of<V: Drop>(
     alloc: Global,
     routes: Vec<(IpNet, V)>,
+    bounds: &[u8],
 ) -> Result<Vec<Chunk<V>>, AllocError>
+    requires { length bounds.now ≡ length routes.items }
     ensures filled { IfOk result (λ chunks. AreFilled chunks.items) }
     ensures routes { IfOk result (λ chunks. all_of chunks.items ≡ routes.items) }
+    ensures bounds { IfOk result (λ chunks. bounds_of chunks.items ≡ bounds.now) }
 {
     let mut chunks = Vec::new(alloc);
+    let mut index = 0;
     for route in routes {
-        push_last(alloc, &mut chunks, route)?;
+        let bound = bounds[index];
+        push_last(alloc, &mut chunks, route, bound)?;
+        index += 1;
     }
     Ok(chunks)
 }
@@ -307,10 +358,10 @@ pub(crate) fn joined<V: Drop>(
 ) -> Result<Vec<(IpNet, V)>, AllocError>
     ensures { IfOk result (λ routes. routes.items ≡ all_of chunks.items) }
 {
-    let mut routes = Vec::with_capacity(alloc, count)?;
+    let mut all = Vec::with_capacity(alloc, count)?;
     for chunk in chunks {
-        let mut chunk = chunk;
-        routes.append(&mut chunk)?;
+        let mut routes = chunk.into_routes();
+        all.append(&mut routes)?;
     }
-    Ok(routes)
+    Ok(all)
 }

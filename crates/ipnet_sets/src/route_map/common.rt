@@ -1,5 +1,5 @@
-//! The smallest network that contains two networks.
-ghost use Rattle.std.specs.Prelude.{◌≡◌, ◌≢◌, IfSome, IfNone};
+//! The smallest network that contains two networks and is shorter than a bound.
+ghost use Rattle.std.specs.Prelude.{◌≡◌, ◌≢◌, ◌⊎◌, IfSome, IfNone};
 ghost use Rattle.ipnet_base.specs.Address.{ipv4_address, ipv6_address, ip_address};
 ghost use Rattle.ipnet.specs.NetworkOf.{ip_network};
 ghost use Rattle.ipnet_sets.specs.RouteMapSteps.{AreSharedBits, IsCommonSupernet};
@@ -32,14 +32,18 @@ fn shared_bits(ip: IpAddr, other: IpAddr) -> Option<u8>
     }
 }
 
-/// The smallest network that contains both, without host bits; `None` if they are of two families.
-pub(crate) fn common_supernet(network: &IpNet, other: &IpNet) -> Option<IpNet>
+/// The smallest network that contains both and whose prefix length is below the bound, without host bits; `None` if
+/// they are of two families, or the bound is 0.
+pub(crate) fn common_supernet(network: &IpNet, other: &IpNet, bound: u8) -> Option<IpNet>
     ensures some { IfSome result (λ s.
-        IsCommonSupernet (ip_network network.now) (ip_network other.now) (ip_network s)) }
-    ensures none { IfNone result ((ip_network network.now).family ≢ (ip_network other.now).family) }
+        IsCommonSupernet (ip_network network.now) (ip_network other.now) bound (ip_network s)) }
+    ensures none { IfNone result ((bound ≡ 0) ⊎ ((ip_network network.now).family ≢ (ip_network other.now).family)) }
 {
+    if bound == 0 {
+        return None;
+    }
     let ip = network.addr();
     let shared = shared_bits(ip, other.addr())?;
-    let len = shared.min(network.prefix_len()).min(other.prefix_len());
+    let len = shared.min(bound - 1).min(network.prefix_len()).min(other.prefix_len());
     Some(IpNet::new_assert(ip, len).trunc())
 }

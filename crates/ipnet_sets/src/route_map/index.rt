@@ -1,142 +1,110 @@
-//! The index of a map of routes: for the first bits of an address, the chunks between which a search begins. A search
-//! is right whatever the index says; the index makes it short.
-use super::chunks::{Chunk, Place};
-use crate::routes::index::{Bucket, bucket_of};
+//! The index of a map of routes: the first bits of the first network of each chunk, by which a search finds the chunk
+//! to begin with. A search is right whatever the index says; the index makes it short.
+use super::chunk::{Chunk, bits_of};
+use super::chunks::Place;
+use crate::routes::index::Bucket;
 use ipnet::IpNet;
 use std::alloc::Global;
 
 /// A map with this many chunks or more has an index.
-const INDEXED: usize = 32;
+const INDEXED: usize = 8;
 
-/// How many buckets an index has: 2^16 of IPv4 and 2^16 of IPv6.
-const BUCKETS: usize = 131_072;
-
-/// After this many chunks were added or removed the index is made anew.
-const CHANGES: u32 = 1_024;
-
-/// For each bucket the index of the first chunk that begins in it or a later one, and then the number of chunks.
-/// Without an index the list is empty.
+/// The key of the first network of each chunk. Without an index the list is empty.
 #[derive(Clone, Drop)]
 pub(crate) struct ChunkIndex {
-    starts: Vec<u32>,
-    changes: u32,
+    firsts: Vec<u64>,
 }
 
-/// The number of chunks, and the bucket in which one of them begins, before a change in this chunk.
+/// The number of chunks before a change, and where the change is.
 #[derive(Clone, Copy)]
 pub(crate) struct Before {
     count: usize,
-    chunk: usize,
-    bucket: Option<usize>,
+    place: Place,
 }
 
-/// An index of a chunk, in four bytes; the greatest number if it does not fit.
-fn small(index: usize) -> u32 {
-    u32::try_from(index).unwrap_or(u32::MAX)
+/// A number in the order of networks: the first bits, and a bit above them for IPv6.
+fn key_of(network: &IpNet) -> u64 {
+    let bits = u64::from(bits_of(network));
+    match network {
+        IpNet::V4(_) => bits,
+        IpNet::V6(_) => bits + (1 << 32),
+    }
 }
 
-/// The bucket in which the chunk at an index begins.
-fn begins_in<V>(chunks: &[Chunk<V>], index: usize) -> Option<usize> {
+/// The key of the first network of the chunk at an index.
+fn first_key<V>(chunks: &[Chunk<V>], index: usize) -> Option<u64> {
     let chunk = chunks.get(index)?;
-    let route = chunk.as_slice().first()?;
-    bucket_of(&route.0)
+    let route = chunk.routes.as_slice().first()?;
+    Some(key_of(&route.0))
 }
 
 impl ChunkIndex {
-    /// Returns an index without buckets. Allocates nothing.
+    /// Returns an index without chunks. Allocates nothing.
     pub(crate) fn new(alloc: Global) -> ChunkIndex {
         ChunkIndex {
-            starts: Vec::new(alloc),
-            changes: 0,
+            firsts: Vec::new(alloc),
         }
     }
 
-    /// Makes the index of the chunks anew; if there are few, or memory runs out, it has no buckets.
+    /// Makes the index of the chunks anew; if there are few, or memory runs out, it is empty.
     pub(crate) fn fill<V>(&mut self, chunks: &[Chunk<V>]) {
-        self.starts.clear();
-        self.changes = 0;
-        if chunks.len() < INDEXED || self.starts.reserve(BUCKETS + 1).is_err() {
+        self.firsts.clear();
+        if chunks.len() < INDEXED || self.firsts.reserve(chunks.len()).is_err() {
             return;
         }
         for index in 0..chunks.len() {
-            if let Some(bucket) = begins_in(chunks, index)
-                && self.starts.len() <= bucket
-                && bucket < BUCKETS
-                && self.starts.resize(bucket + 1, small(index)).is_err()
-            {
-                return;
+            if let Some(key) = first_key(chunks, index) {
+                // Memory was reserved.
+                let _ = self.firsts.push(key);
             }
         }
-        // Memory was reserved.
-        let _ = self.starts.resize(BUCKETS + 1, small(chunks.len()));
     }
 
-    /// Returns the chunks between which a search for the network begins.
+    /// Returns the numbers of chunks that begin before the network, and that begin with its first bits or before it.
     pub(crate) fn bucket(&self, network: &IpNet, count: usize) -> Bucket {
-        let all = Bucket {
-            start: 0,
-            end: count,
-        };
-        let Some(bucket) = bucket_of(network) else {
-            return all;
-        };
-        if self.starts.len() <= bucket + 1 {
-            return all;
+        if self.firsts.len() != count {
+            return Bucket {
+                start: 0,
+                end: count,
+            };
         }
-        Bucket {
-            start: self.starts[bucket] as usize,
-            end: self.starts[bucket + 1] as usize,
+        let key = key_of(network);
+        let start = self.firsts.partition_point(|first| *first < key);
+        let mut end = start;
+        if start < count && self.firsts[start] == key {
+            end = self.firsts.partition_point(|first| *first <= key);
         }
+        Bucket { start, end }
     }
 
     /// Returns the facts that `follow` needs of the chunks before a change at a place.
     pub(crate) fn before<V>(chunks: &[Chunk<V>], place: Place) -> Before {
         Before {
             count: chunks.len(),
-            chunk: place.chunk,
-            bucket: begins_in(chunks, place.chunk),
+            place,
         }
     }
 
     /// Follows a change: a chunk is added after the one that was changed, that one is removed, or it begins with
     /// another network.
     pub(crate) fn follow<V>(&mut self, chunks: &[Chunk<V>], before: Before) {
-        if chunks.len() > before.count {
-            if let Some(added) = begins_in(chunks, before.chunk.saturating_add(1)) {
-                self.shift(added, usize::MAX, true);
+        let chunk = before.place.chunk;
+        let is_kept = self.firsts.len() == before.count && chunk < self.firsts.len();
+        if is_kept && chunks.len() > before.count {
+            if let Some(added) = first_key(chunks, chunk + 1) {
+                // If memory runs out, the index is made anew.
+                let _ = self.firsts.insert(chunk + 1, added);
             }
-            self.changes = self.changes.saturating_add(1);
-        } else if chunks.len() < before.count {
-            if let Some(removed) = before.bucket {
-                self.shift(removed, usize::MAX, false);
-            }
-            self.changes = self.changes.saturating_add(1);
-        } else if let Some(old) = before.bucket
-            && let Some(new) = begins_in(chunks, before.chunk)
+        } else if is_kept && chunks.len() < before.count {
+            self.firsts.remove(chunk);
+        } else if is_kept
+            && before.place.index <= 1
+            && let Some(first) = first_key(chunks, chunk)
         {
-            if old < new {
-                self.shift(old, new, false);
-            } else if new < old {
-                self.shift(new, old, true);
-            }
+            self.firsts[chunk] = first;
         }
-        if self.changes >= CHANGES || self.starts.is_empty() && chunks.len() >= INDEXED {
+        if self.firsts.len() != chunks.len() && chunks.len() >= INDEXED {
             self.fill(chunks);
-        }
-    }
-
-    /// Adds one to the chunks of the buckets after the first up to the last, or subtracts one.
-    fn shift(&mut self, first: usize, last: usize, is_added: bool) {
-        let end = last.min(self.starts.len().saturating_sub(1));
-        for index in first.saturating_add(1)..end.saturating_add(1) {
-            if index < self.starts.len() {
-                let chunk = self.starts[index];
-                self.starts[index] = if is_added {
-                    chunk.wrapping_add(1)
-                } else {
-                    chunk.wrapping_sub(1)
-                };
-            }
         }
     }
 }

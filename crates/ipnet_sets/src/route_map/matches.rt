@@ -1,10 +1,10 @@
 //! The routes of a map that hold an address, one after the other.
 ghost use Rattle.std.specs.Iterator.{YieldsFirstBy, item_count};
 ghost use Rattle.ipnet_sets.specs.Routes.{ip_route, ip_networks};
-ghost use Rattle.ipnet_sets.specs.RouteSteps.{IsTable};
-ghost use Rattle.ipnet_sets.specs.RouteMapSteps.{all_of, AreFilled};
+ghost use Rattle.ipnet_sets.specs.RouteSteps.{IsTable, AreBounds};
+ghost use Rattle.ipnet_sets.specs.RouteMapSteps.{all_of, bounds_of, AreFilled};
 
-use super::chunks::Chunk;
+use super::chunk::Chunk;
 use super::covering_in;
 use super::index::ChunkIndex;
 use ipnet::IpNet;
@@ -23,6 +23,7 @@ pub struct MapMatches<'a, V> {
     pub(crate) wanted: Option<IpNet>,
     ghost table: { IsTable (ip_networks (all_of chunks.now)) },
     ghost filled: { AreFilled chunks.now },
+    ghost bounds: { AreBounds (ip_networks (all_of chunks.now)) (bounds_of chunks.now) },
 }
 
 impl<'a, V> Iterator for MapMatches<'a, V> {

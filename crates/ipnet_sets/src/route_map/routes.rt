@@ -4,7 +4,8 @@ ghost use Rattle.std.specs.Iterator.{YieldsFirstBy, item_count};
 ghost use Rattle.ipnet_sets.specs.Routes.{ip_route, ip_routes};
 ghost use Rattle.ipnet_sets.specs.RouteMapSteps.{AreFilled, all_of, chunk_at, position_of};
 
-use super::chunks::{Chunk, Place};
+use super::chunk::Chunk;
+use super::chunks::Place;
 use ipnet::IpNet;
 use std::iter::FusedIterator;
 
@@ -51,7 +52,7 @@ impl<'a, V> MapRoutes<'a, V> {
                 last: &[],
             };
         }
-        let routes = chunks[start.chunk].as_slice();
+        let routes = chunks[start.chunk].routes.as_slice();
         if start.chunk == end.chunk {
             let first = cut(routes, start.index, end.index);
             return MapRoutes {
@@ -62,7 +63,7 @@ impl<'a, V> MapRoutes<'a, V> {
         }
         let first = cut(routes, start.index, routes.len());
         let middle = cut(chunks, start.chunk + 1, end.chunk);
-        let last = cut(chunks[end.chunk].as_slice(), 0, end.index);
+        let last = cut(chunks[end.chunk].routes.as_slice(), 0, end.index);
         MapRoutes {
             first,
             middle,
@@ -79,7 +80,7 @@ impl<'a, V> MapRoutes<'a, V> {
             return;
         }
         if let Some((chunk, others)) = self.middle.split_first() {
-            self.first = chunk.as_slice();
+            self.first = chunk.routes.as_slice();
             self.middle = others;
             return;
         }

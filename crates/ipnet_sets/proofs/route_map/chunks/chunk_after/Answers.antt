@@ -20,15 +20,15 @@ loop-low-preserved-then-lt g c =
       arith,
       c.probe-middle.ensures.below,
       c.loop-low.invariant.within,
-      length-map cs (λ z. first_network z.items),
+      length-map cs (λ z. first_network z.routes.items),
     ) in
     place_down (firsts_of cs) (firsts_table cs c.requires.table c.requires.filled) n c.loop-low.low c.loop-low.high
-    (first_network chunk.items)
+    (first_network chunk.routes.items)
     (chunk_first cs c.requires.table c.requires.filled middle chunk inside (sym c.index-chunks-middle.is))
     c.probe-middle.ensures.from c.probe-middle.ensures.below
     (subst (IsBefore n)
-    (sym (first_is chunk.items route
-    (subst (λ z. 0 < length z.items) (sym c.index-chunks-middle.is) (c.requires.filled middle chunk inside))
+    (sym (first_is chunk.routes.items route
+    (subst (λ z. 0 < length z.routes.items) (sym c.index-chunks-middle.is) (c.requires.filled middle chunk inside))
     c.index.ensures))
     (less_gives c.args.network.now route.0 (c.ip_nets_compare_by_network.ensures.compare c.args.network.now route.0)
     (sym c.lt.ensures ∙ c.if-lt.true))) c.loop-low.invariant
@@ -44,15 +44,15 @@ loop-low-preserved g c =
       arith,
       c.probe-middle.ensures.below,
       c.loop-low.invariant.within,
-      length-map cs (λ z. first_network z.items),
+      length-map cs (λ z. first_network z.routes.items),
     ) in
     place_up (firsts_of cs) (firsts_table cs c.requires.table c.requires.filled) n c.loop-low.low c.loop-low.high
-    (first_network chunk.items)
+    (first_network chunk.routes.items)
     (chunk_first cs c.requires.table c.requires.filled middle chunk inside (sym c.index-chunks-middle.is))
     c.probe-middle.ensures.below
     (subst (λ z. IsBeforeOrEqual z n)
-    (sym (first_is chunk.items route
-    (subst (λ z. 0 < length z.items) (sym c.index-chunks-middle.is) (c.requires.filled middle chunk inside))
+    (sym (first_is chunk.routes.items route
+    (subst (λ z. 0 < length z.routes.items) (sym c.index-chunks-middle.is) (c.requires.filled middle chunk inside))
     c.index.ensures))
     (not_less_gives c.args.network.now route.0
     (c.ip_nets_compare_by_network.ensures.compare c.args.network.now route.0)

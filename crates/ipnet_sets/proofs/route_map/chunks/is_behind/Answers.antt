@@ -29,7 +29,7 @@ returns-clause-has g c =
     let route = c.index.result.now in
     let some : 0 < j = omega (arith, c.if-place-eq0.false) in
     let inside : i < length cs = chunk_inside cs i (omega (arith, some, c.requires.index)) in
-    let le : j ≤ length chunk.items
+    let le : j ≤ length chunk.routes.items
     = subst (λ z. j ≤ length z) (chunk_only items cs i chunk inside (sym c.index-chunks-place.is)) c.requires.index in (
       λ yes. behind_has cs c.requires.table c.requires.filled i chunk inside (sym c.index-chunks-place.is) n j some le
           route

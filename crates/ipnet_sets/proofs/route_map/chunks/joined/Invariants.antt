@@ -3,4 +3,4 @@ use Rattle.ipnet_sets.specs.RouteMapSteps.{all_of}
 use Rattle.ipnet_sets.proofs.route_map.chunks.joined.Given as goal
 
 abbrev pub invariant-loop-chunk : goal.invariant-loop-chunk
-invariant-loop-chunk g l = l.routes.items ≡ all_of l.yielded
+invariant-loop-chunk g l = l.all.items ≡ all_of l.yielded

@@ -1,10 +1,9 @@
 -- The chunk has the new value at its place, and so have all chunks.
-use Rattle.std.proofs.Common.{◌≡◌, ◌<◌, length, get_or, set, sym, ap, ap₂, ◌∙◌, subst}
-use Rattle.std.specs.Vec.{with_item}
-use Rattle.std.proofs.lemmas.List.{get_or_default}
+use Rattle.std.proofs.Common.{◌≡◌, ◌<◌, length, get_or, map, set, sym, ap, ◌∙◌, subst}
 use Rattle.ipnet_sets.specs.RouteMapSteps.{all_of, position_of}
 use Rattle.ipnet_sets.proofs.ChunkLaws.{chunk_only, set_in_chunk, read_in_chunk}
 use Rattle.ipnet_sets.proofs.RouteMapLaws.{items}
+use Rattle.ipnet_sets.proofs.BoundLaws.{bound_same}
 use Rattle.ipnet_sets.proofs.route_map.chunks.replace_at.Goals as goal
 
 pub returns-clause-set : goal.returns-clause-set
@@ -14,15 +13,18 @@ returns-clause-set g c d =
     let j = c.args.place.index in
     let chunk = c.index_mut.result.now in
     let at = sym c.index_mut.ensures.value in
-    let y = c.index_mut-2.result.now in
-    let inside : j < length chunk.items
+    let inside : j < length chunk.routes.items
     = subst (λ z. j < length z) (chunk_only items cs i chunk c.requires.chunk at) c.requires.index in
-    let read : y ≡ get_or (all_of cs) (position_of cs i j) d
-    = c.index_mut-2.ensures.value ∙ get_or_default chunk.items j y d inside
-    ∙ sym (read_in_chunk items cs i chunk c.requires.chunk at j d inside) in
-    set_in_chunk items cs i chunk c.requires.chunk at (with_item chunk j (y.0, c.replace.new.dest)) j
+    set_in_chunk items cs i chunk c.requires.chunk at c.replace.new.self j
     ((get_or (all_of cs) (position_of cs i j) d).0, c.args.value) inside
-    (ap₂ (λ a b. set chunk.items j (a, b)) (ap (λ z. z.0) read) c.replace.ensures.after)
+    (c.replace.ensures.routes d
+    ∙ ap (λ z. set chunk.routes.items j (z.0, c.args.value))
+    (sym (read_in_chunk items cs i chunk c.requires.chunk at j d inside)))
+
+pub returns-clause-bounds : goal.returns-clause-bounds
+returns-clause-bounds g c =
+    bound_same c.args.chunks.now.items c.args.place.chunk c.index_mut.result.now c.requires.chunk
+    (sym c.index_mut.ensures.value) c.replace.new.self (ap (map (λ m. m.bound)) c.replace.ensures.marks)
 
 pub returns-clause-value : goal.returns-clause-value
 returns-clause-value g c d =
@@ -31,10 +33,7 @@ returns-clause-value g c d =
     let j = c.args.place.index in
     let chunk = c.index_mut.result.now in
     let at = sym c.index_mut.ensures.value in
-    let y = c.index_mut-2.result.now in
-    let inside : j < length chunk.items
+    let inside : j < length chunk.routes.items
     = subst (λ z. j < length z) (chunk_only items cs i chunk c.requires.chunk at) c.requires.index in
-    let read : y ≡ get_or (all_of cs) (position_of cs i j) d
-    = c.index_mut-2.ensures.value ∙ get_or_default chunk.items j y d inside
-    ∙ sym (read_in_chunk items cs i chunk c.requires.chunk at j d inside) in
-    c.replace.ensures.value ∙ ap (λ z. z.1) read
+    c.replace.ensures.value d
+    ∙ ap (λ z. z.1) (sym (read_in_chunk items cs i chunk c.requires.chunk at j d inside))

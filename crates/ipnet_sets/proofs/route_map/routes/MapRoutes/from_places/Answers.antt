@@ -41,7 +41,7 @@ returns-then-start-end-2 g c =
     let same : b ≡ a = omega (arith, c.if-start-end-2.true) in
     let order : position_of cs a i ≤ position_of cs a j
     = subst (λ z. position_of cs a i ≤ position_of cs z j) same c.requires.order in
-    let small : j ≤ length chunk.items
+    let small : j ≤ length chunk.routes.items
     = subst (λ z. j ≤ length z) (chunk_only items cs a chunk inside (sym c.index-chunks-start.is))
     (subst (λ z. j ≤ length (all_of (take 1 (drop z cs)))) same c.requires.end_index) in
     ap ip_routes (append-nil c.cut-first.result.now ∙ c.cut-first.ensures
@@ -56,8 +56,8 @@ invariant_of-result-2 g c =
     let b = c.args.end.chunk in
     record {
       filled = subst AreFilled (sym c.cut-middle.ensures)
-          (All-take (λ z. 0 < length z.items) (b - (a + 1)) (drop (a + 1) cs)
-          (All-drop (λ z. 0 < length z.items) (a + 1) cs c.requires.filled));
+          (All-take (λ z. 0 < length z.routes.items) (b - (a + 1)) (drop (a + 1) cs)
+          (All-drop (λ z. 0 < length z.routes.items) (a + 1) cs c.requires.filled));
     }
 
 pub returns : goal.returns
@@ -72,10 +72,10 @@ returns g c =
     let some : 0 < length cs = omega (arith, c.if-chunks-eq0.false) in
     let from : a < length cs = c.requires.start_chunk some in
     let to : b < length cs = c.requires.end_chunk some in
-    let small_i : i ≤ length first.items
+    let small_i : i ≤ length first.routes.items
     = subst (λ z. i ≤ length z) (chunk_only items cs a first from (sym c.index-chunks-start.is))
     c.requires.start_index in
-    let small_j : j ≤ length last.items
+    let small_j : j ≤ length last.routes.items
     = subst (λ z. j ≤ length z) (chunk_only items cs b last to (sym c.index-chunks-end.is)) c.requires.end_index in
     let whole : j - 0 ≡ j = omega arith in
     ap ip_routes (ap₂ ◌++◌

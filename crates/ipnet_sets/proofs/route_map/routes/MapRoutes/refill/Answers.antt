@@ -6,6 +6,6 @@ use Rattle.ipnet_sets.proofs.route_map.routes.MapRoutes.refill.Goals as goal
 pub returns-in-Some-clause-none : goal.returns-in-Some-clause-none
 returns-in-Some-clause-none g c e =
     let chunk = c.in-Some.chunk.now in
-    let some : 0 < length chunk.items
+    let some : 0 < length chunk.routes.items
     = subst AreFilled c.in-Some.ensures.cases.0 c.args.self.now.filled 0 chunk (omega arith) in
     absurd (omega (arith, e, some, ap length c.as_slice-self.ensures.value))

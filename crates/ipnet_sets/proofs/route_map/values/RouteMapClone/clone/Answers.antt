@@ -1,9 +1,10 @@
 -- The clone has as many chunks of as many routes, with the same networks.
-use Rattle.std.proofs.Common.{sym, ◌∙◌, subst}
+use Rattle.std.proofs.Common.{sym, ◌∙◌, subst, subst₂}
 use Rattle.std.proofs.lemmas.Slice.Zip.{AllZip-long}
-use Rattle.ipnet_sets.specs.RouteSteps.{IsTable}
+use Rattle.ipnet_sets.specs.RouteSteps.{IsTable, AreBounds}
 use Rattle.ipnet_sets.specs.RouteMapSteps.{all_of}
 use Rattle.ipnet_sets.proofs.RouteValueLaws.{IsClone, cloned_networks, cloned_routes, cloned_chunks, cloned_filled}
+use Rattle.ipnet_sets.proofs.RouteValueLaws.{cloned_bounds}
 use Rattle.ipnet_sets.proofs.route_map.values.RouteMapClone.clone.Goals as goal
 
 pub invariant_of-result : goal.invariant_of-result
@@ -17,6 +18,8 @@ invariant_of-result g c =
       table = subst IsTable (sym (cloned_networks is_clone (all_of map.chunks.items) (all_of chunks) all)) map.table;
       filled = cloned_filled is_clone map.chunks.items chunks clones map.filled;
       size = map.size ∙ sym (AllZip-long (IsClone is_clone) (all_of map.chunks.items) (all_of chunks) all);
+      bounds = subst₂ AreBounds (sym (cloned_networks is_clone (all_of map.chunks.items) (all_of chunks) all))
+          (sym (cloned_bounds is_clone map.chunks.items chunks clones)) map.bounds;
     }
 
 pub returns : goal.returns
