@@ -81,6 +81,8 @@ def routes(bench):
              "of the table's", "bound", "py-radix ns", "the original's map ns", "its search ns", "answers")
     for name, count in wanted:
         match_row(bench, name, count)
+    if bench.wants("routes_ipv4", "random_match", "map_random_match"):
+        random_row(bench, path_of("routes_ipv4"))
     wanted = [name for name in SET_LISTS if bench.wants(name, "fill_map", "update_map")]
     if wanted:
         head("Changes of a `RouteMap` of 10^6 routes", "list", "insert ns", "bound", "an update ns", "bound",
@@ -100,6 +102,27 @@ def match_row(bench, name, count):
     row(name, format(count, ","), *("%.0f" % (time / count) for time in (table, changed)), shown(part),
         bench.judged(label, part, 1), each(python, count), each(original, count),
         each(searched, count) if search == ["linear_match"] else "-", bench.compared(label, answers + more))
+
+
+# A map's question may take as long as a table's did when it searched by halving only, before it had an index: 922 ns,
+# beside 352 ns with it, in one run.
+RANDOM_BOUND = 2.62
+
+
+def random_row(bench, source):
+    """A question of a table and of a map of all routes, about random addresses. The programs take turns."""
+    head("The longest match of random addresses, `routes_ipv4`", "routes", "`RouteTable` ns", "`RouteMap` ns",
+         "of the table's", "bound", "answers")
+    lines = {task: [] for task in ("random_match", "map_random_match")}
+    for _ in range(bench.rounds):
+        for task, taken in lines.items():
+            taken.append(figure(bench.programs.our_calls, [task], source)[0])
+    table, changed = (least([line["min_ns"] for line in taken]) for taken in lines.values())
+    items = lines["random_match"][0]["items"]
+    answers = [(line["items"], line["check"]) for taken in lines.values() for line in taken]
+    part = ratio(changed, table)
+    row(format(items, ","), each(table, items), each(changed, items), shown(part),
+        bench.judged("random addresses, map", part, RANDOM_BOUND), bench.compared("random addresses", answers))
 
 
 def change_row(bench, name, source):

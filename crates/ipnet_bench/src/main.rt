@@ -200,6 +200,11 @@ fn over_maps(
         let map = maps::route_map(alloc, networks.as_slice())?;
         return measure::report(rt, alloc, task, maps::UpdateMap { map, networks });
     }
+    if task == "map_random_match" {
+        let addresses = input::random_addresses(alloc, networks.len())?;
+        let map = maps::route_map(alloc, networks.as_slice())?;
+        return measure::report(rt, alloc, task, maps::MapLongestMatch { map, addresses });
+    }
     let (first, _) = input::halves(alloc, networks.as_slice())?;
     let addresses = input::last_addresses(alloc, networks.as_slice())?;
     let map = maps::route_map(alloc, first.as_slice())?;
@@ -252,7 +257,9 @@ fn over_networks(
         "permitted" | "unreached" | "verdict" | "compiled_verdict" => {
             over_rules(rt, alloc, task, networks.as_slice())
         }
-        "fill_map" | "update_map" | "map_longest_match" => over_maps(rt, alloc, task, networks),
+        "fill_map" | "update_map" | "map_longest_match" | "map_random_match" => {
+            over_maps(rt, alloc, task, networks)
+        }
         _ => over_sets(rt, alloc, task, networks),
     }
 }

@@ -19,6 +19,7 @@ mod networks;
 mod pairs;
 mod prefix_lists;
 mod ranges;
+mod route_maps;
 mod routes;
 mod sets;
 mod texts;
@@ -83,6 +84,7 @@ fn answer(alloc: Global, question: Question<'_>) -> Answer {
         "Error" => errors::ask(alloc, question),
         "IpSet" => sets::ask(alloc, question.call, question.first, question.second),
         "PrefixList" => { prefix_lists::ask(alloc, question.call, question.first, question.second) }
+        "RouteMap" => { route_maps::ask(alloc, question.call, question.first, question.second) }
         "RouteTable" => routes::ask(alloc, question.call, question.first, question.second),
         _ => Ok(None),
     }

@@ -25,6 +25,7 @@ pub fn ask(
         "within" => ask_within(alloc, &table, part),
         "removed" | "put" => ask_changes(alloc, call, &table, part),
         "into_routes" => Ok(Some(show(alloc, table.into_routes())?)),
+        "write" => write(alloc, table, part),
         "map" => Ok(Some(show(alloc, table.map(alloc, |value| value.len())?.routes())?)),
         _ => ask_table(alloc, call, &table),
     }
@@ -74,6 +75,23 @@ fn ask_get(
         return Ok(None);
     };
     Ok(Some(show(alloc, table.get(&network))?))
+}
+
+/// The routes after the value of the network became `w`, by `get_mut`; `None` if the text is not a network.
+fn write(
+    alloc: Global,
+    table: RouteTable<String>,
+    network: &str,
+) -> Result<Option<String>, AllocError> {
+    let Ok(network) = network.parse::<IpNet>() else {
+        return Ok(None);
+    };
+    let mut table = table;
+    if let Some(value) = table.get_mut(&network) {
+        let written = String::from_str(alloc, "w")?;
+        *value = written;
+    }
+    Ok(Some(show(alloc, table.routes())?))
 }
 
 /// The longest match of the address; `None` if the text is not an address.
