@@ -144,7 +144,7 @@ static ipnet_status set_from_list_legacy(struct lent *lent)
 
 static ipnet_status set_from_text_legacy(struct lent *lent)
 {
-    static const char text[] = "10.0.00.0/23\nfd00::/32\n";
+    static const char text[] = "10.0.0.0/023\nfd00::/32\n";
     uint8_t image[128];
     ipnet_status status = ipnet_set_from_text_legacy(text, strlen(text), image, sizeof image, &lent->number);
     lent->yes = status == IPNET_OK ? lent->number == list_set.len && memcmp(image, list_set.bytes, list_set.len) == 0

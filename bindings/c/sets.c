@@ -275,7 +275,7 @@ static void try_lists(void)
 /* Lists in the legacy grammar: the same set as a strict list; the strict calls refuse them. */
 static void try_legacy(void)
 {
-    const char networks[] = "10.0.0.0/31\n10.0.00.2/31\n1:2:3:4:5:6:7::8/127\n", people[] = "010.0.0.0-10.0.0.03 # ours\n";
+    const char networks[] = "10.0.0.0/31\n10.0.00.2/031\n1:2:3:4:5:6:7::8/127\n", people[] = "010.0.0.0-10.0.0.03 # ours\n";
     struct bytes set = image_of("10.0.0.0/30\n1:2:3:4:5:6:7:8/127"), four = image_of("10.0.0.0/30");
     uint8_t buffer[256];
     size_t count = 0;

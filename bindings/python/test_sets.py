@@ -95,7 +95,7 @@ class Sets(unittest.TestCase):
             self.assertEqual((caught.exception.line, caught.exception.text), (line, part))
 
     def test_legacy(self):
-        self.assertEqual(IpSet("010.0.0.0/30", legacy=True), IpSet("10.0.0.0/30"))
+        self.assertEqual(IpSet("010.0.0.0/030", legacy=True), IpSet("10.0.0.0/30"))
         self.assertEqual(IpSet(["10.0.00.1", "fd00::1"], legacy=True), IpSet(["10.0.0.1", "fd00::1"]))
         self.assertEqual(IpSet.from_list("010.0.0.1-10.0.0.02", legacy=True), IpSet(["10.0.0.1", "10.0.0.2"]))
         for made in (lambda: IpSet("010.0.0.0/30"), lambda: IpSet.from_list("010.0.0.1"),

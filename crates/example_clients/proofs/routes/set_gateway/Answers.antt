@@ -1,4 +1,4 @@
--- The last value that is written through the reference is the gateway.
+-- The value behind the reference is the gateway when the reference ends.
 use Rattle.example_clients.proofs.routes.set_gateway.Goals as goal
 
 pub returns-in-Some-clause-set : goal.returns-in-Some-clause-set
