@@ -215,8 +215,8 @@ ipnet_status ipnet_print(const uint8_t *network, size_t network_len, char *buffe
  * two sets are equal if and only if their images are equal bytes. An image has 32 bytes, and 4 (IPv4) or 16 (IPv6) for
  * each end of a range.
  *
- * The questions ipnet_set_contains, ipnet_set_covers, ipnet_set_contains_all and ipnet_set_covers_all allocate nothing,
- * and test only the header of the image, so that each takes a few memory accesses. If the image comes from outside, test all of it once
+ * The questions ipnet_set_contains, ipnet_set_covers and ipnet_set_contains_all allocate nothing, and test only the
+ * header of the image, so that each takes a few memory accesses. If the image comes from outside, test all of it once
  * with ipnet_set_check. Whatever the bytes are, no call reads outside of them, and every call ends. */
 
 /* Writes the image of the addresses of a list, in the strict grammar.
@@ -234,12 +234,6 @@ ipnet_status ipnet_print(const uint8_t *network, size_t network_len, char *buffe
  */
 ipnet_status ipnet_set_from_text(const char *text, size_t text_len, void *buffer, size_t buffer_len, size_t *count);
 
-/* Like ipnet_set_from_text, for a text in the legacy grammar.
- *
- *     "10.0.0.0/31\n10.0.00.2/31"   OK, 40
- */
-ipnet_status ipnet_set_from_text_legacy(const char *text, size_t text_len, void *buffer, size_t buffer_len, size_t *count);
-
 /* Writes the image of the addresses of a list as people keep it, read as the program netset reads its files. A line is a
  * network (10.0.0.0/8 or 10.0.0.0/255.0.0.0), an address (10.0.0.7), a range of addresses (10.0.0.3-10.0.0.9), or empty.
  * It may have blanks around it, end with "\r\n", and have a comment after "#" or ";". A byte order mark at the start is
@@ -256,12 +250,6 @@ ipnet_status ipnet_set_from_text_legacy(const char *text, size_t text_len, void 
  *     "10.0.0.1\n10.0.0.1 10.0.0.2\n"    BAD_LINE, 2
  */
 ipnet_status ipnet_set_from_list(const char *text, size_t text_len, void *buffer, size_t buffer_len, size_t *count);
-
-/* Like ipnet_set_from_list, with numbers in the legacy grammar, as netset reads its files with the option --legacy.
- *
- *     "010.0.0.0-10.0.0.03 # ours"   OK, 40
- */
-ipnet_status ipnet_set_from_list_legacy(const char *text, size_t text_len, void *buffer, size_t buffer_len, size_t *count);
 
 /* Writes the fewest networks of a set, given by its image, as text in the form of the result of ipnet_aggregate_text.
  *
@@ -304,19 +292,6 @@ uint32_t ipnet_set_covers(const void *set, size_t set_len, const uint8_t *networ
  */
 ipnet_status ipnet_set_contains_all(const void *set, size_t set_len, const void *addresses, size_t addresses_len,
                                     size_t width, uint8_t *answers, size_t answers_len);
-
-/* Writes for each of many networks what ipnet_set_covers returns for it: 1, 0, or the status of bytes that are not a
- * network. `networks` has `width` bytes for each network in byte form, 6 for IPv4 or 18 for IPv6; `answers` gets one byte
- * for each.
- *
- * OK                all answers are written
- * WRONG_LENGTH      if and only if `width` is neither 6 nor 18, or `networks_len` is not `width` times `answers_len`
- * NOT_A_SET         as ipnet_set_contains; checked after the lengths
- *
- * `answers` is modified only on OK.
- */
-ipnet_status ipnet_set_covers_all(const void *set, size_t set_len, const void *networks, size_t networks_len, size_t width,
-                                  uint8_t *answers, size_t answers_len);
 
 /* Writes the numbers of addresses of a set, given by its image, into `counts`, which has four numbers. counts[0] is the
  * number of IPv4 addresses. The number of IPv6 addresses is counts[1] + 2^64 * counts[2] + 2^128 * counts[3]; counts[3]

@@ -132,26 +132,6 @@ static ipnet_status set_from_list(struct lent *lent)
     return status;
 }
 
-static ipnet_status set_from_list_legacy(struct lent *lent)
-{
-    static const char people[] = "010.0.0.0/23 # ours\nfd00::/32\n";
-    uint8_t image[128];
-    ipnet_status status = ipnet_set_from_list_legacy(people, strlen(people), image, sizeof image, &lent->number);
-    lent->yes = status == IPNET_OK ? lent->number == list_set.len && memcmp(image, list_set.bytes, list_set.len) == 0
-                                   : lent->yes;
-    return status;
-}
-
-static ipnet_status set_from_text_legacy(struct lent *lent)
-{
-    static const char text[] = "10.0.00.0/23\nfd00::/32\n";
-    uint8_t image[128];
-    ipnet_status status = ipnet_set_from_text_legacy(text, strlen(text), image, sizeof image, &lent->number);
-    lent->yes = status == IPNET_OK ? lent->number == list_set.len && memcmp(image, list_set.bytes, list_set.len) == 0
-                                   : lent->yes;
-    return status;
-}
-
 static ipnet_status set_counts(struct lent *lent)
 {
     uint64_t counts[4];
@@ -204,7 +184,6 @@ static const struct {
     {"set_to_text", set_to_text, whole},    {"set_union", set_union, NULL},
     {"set_complement", set_complement, NULL}, {"set_is_subset", set_is_subset, NULL},
     {"set_from_list", set_from_list, NULL}, {"set_counts", set_counts, NULL},
-    {"set_from_list_legacy", set_from_list_legacy, NULL}, {"set_from_text_legacy", set_from_text_legacy, NULL},
 };
 
 static int is_answered(const struct lent *lent, const char *answer)

@@ -175,31 +175,6 @@ static void try_many(void)
     free(set.at);
 }
 
-/* Many networks: the answers are those of ipnet_set_covers, one by one. */
-static void try_many_networks(void)
-{
-    struct bytes set = image_of("10.0.0.0/30\nfd00::/32");
-    struct bytes six = copied((uint8_t[]){0, 10, 0, 0, 2, 31, 0, 10, 0, 0, 0, 29, 0, 10, 0, 0, 0, 33, 1, 10, 0, 0, 0, 32}, 24);
-    struct bytes eighteen = copied((uint8_t[36]){1, 0xfd, [17] = 32, [18] = 1, [19] = 0xfd, [35] = 31}, 36);
-    struct bytes answers = copied((uint8_t[]){UNTOUCHED, UNTOUCHED, UNTOUCHED, UNTOUCHED}, 4);
-    expect(ipnet_set_covers_all(set.at, set.len, six.at, 24, 6, answers.at, 4) == IPNET_OK
-           && memcmp(answers.at, "\1\0\10\6", 4) == 0, "four of IPv4");
-    for (size_t i = 0; i < 4; i++) {
-        expect(ipnet_set_covers(set.at, set.len, six.at + 6 * i, 6) == answers.at[i], "one by one");
-    }
-    expect(ipnet_set_covers_all(set.at, set.len, eighteen.at, 36, 18, answers.at, 2) == IPNET_OK
-           && memcmp(answers.at, "\1\0\10\6", 4) == 0, "two of IPv6");
-    expect(ipnet_set_covers_all(set.at, set.len, NULL, 0, 6, NULL, 0) == IPNET_OK, "no network");
-    expect(ipnet_set_covers_all(set.at, set.len, six.at, 24, 6, answers.at, 3) == IPNET_WRONG_LENGTH, "three answers");
-    expect(ipnet_set_covers_all(set.at, set.len, six.at, 24, 12, answers.at, 2) == IPNET_WRONG_LENGTH, "a width of 12");
-    expect(ipnet_set_covers_all(set.at, set.len - 1, six.at, 24, 6, answers.at, 4) == IPNET_NOT_A_SET, "no image");
-    expect(memcmp(answers.at, "\1\0\10\6", 4) == 0, "refused calls change no answer");
-    free(answers.at);
-    free(eighteen.at);
-    free(six.at);
-    free(set.at);
-}
-
 static void try_statuses(void)
 {
     struct bytes set = image_of("10.0.0.0/30"), all = image_of("0.0.0.0/0\n::/0"), none = image_of("");
@@ -272,26 +247,6 @@ static void try_lists(void)
     }
 }
 
-/* Lists in the legacy grammar: the same set as a strict list; the strict calls refuse them. */
-static void try_legacy(void)
-{
-    const char networks[] = "10.0.0.0/31\n10.0.00.2/31\n1:2:3:4:5:6:7::8/127\n", people[] = "010.0.0.0-10.0.0.03 # ours\n";
-    struct bytes set = image_of("10.0.0.0/30\n1:2:3:4:5:6:7:8/127"), four = image_of("10.0.0.0/30");
-    uint8_t buffer[256];
-    size_t count = 0;
-    expect(ipnet_set_from_text_legacy(networks, strlen(networks), buffer, sizeof buffer, &count) == IPNET_OK
-           && count == set.len && memcmp(buffer, set.at, count) == 0, networks);
-    expect(ipnet_set_from_text(networks, strlen(networks), buffer, sizeof buffer, &count) == IPNET_BAD_LINE && count == 2,
-           networks);
-    expect(ipnet_set_from_list_legacy(people, strlen(people), buffer, sizeof buffer, &count) == IPNET_OK
-           && count == four.len && memcmp(buffer, four.at, count) == 0, people);
-    expect(ipnet_set_from_list(people, strlen(people), buffer, sizeof buffer, &count) == IPNET_BAD_LINE && count == 1, people);
-    expect(ipnet_set_from_list_legacy("10.0.0.1\nx", 10, buffer, sizeof buffer, &count) == IPNET_BAD_LINE && count == 2, "x");
-    expect(ipnet_set_from_text_legacy("\377", 1, buffer, sizeof buffer, &count) == IPNET_NOT_UTF8, "not UTF-8");
-    free(four.at);
-    free(set.at);
-}
-
 /* A list, and the numbers of its addresses. */
 static const struct {
     const char *list;
@@ -351,10 +306,8 @@ int main(void)
     try_operations();
     try_questions();
     try_many();
-    try_many_networks();
     try_statuses();
     try_lists();
-    try_legacy();
     try_counts();
     try_hostile();
     printf("%u answers, %u faults\n", calls, faults);

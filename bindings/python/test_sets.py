@@ -94,32 +94,6 @@ class Sets(unittest.TestCase):
                 IpSet.from_list(text)
             self.assertEqual((caught.exception.line, caught.exception.text), (line, part))
 
-    def test_legacy(self):
-        self.assertEqual(IpSet("010.0.0.0/30", legacy=True), IpSet("10.0.0.0/30"))
-        self.assertEqual(IpSet(["10.0.00.1", "fd00::1"], legacy=True), IpSet(["10.0.0.1", "fd00::1"]))
-        self.assertEqual(IpSet.from_list("010.0.0.1-10.0.0.02", legacy=True), IpSet(["10.0.0.1", "10.0.0.2"]))
-        for made in (lambda: IpSet("010.0.0.0/30"), lambda: IpSet.from_list("010.0.0.1"),
-                     lambda: IpSet("x", legacy=True), lambda: IpSet.from_list("x", legacy=True)):
-            with self.assertRaises(ipnet_proved.BadLine):
-                made()
-
-    def test_covers(self):
-        draw = random.Random(8)
-        for _ in range(100):
-            (first, cells), (asked, _) = drawn(draw), drawn(draw)
-            made, networks = IpSet(first), [ipaddress.ip_network(text) for text in asked]
-            covered = [all(cell in cells for cell in CELLS if cell.version == network.version and cell in network)
-                       for network in networks]
-            self.assertEqual(made.covers_all(asked), covered)
-            self.assertEqual([network in made for network in networks], covered)
-        self.assertEqual(IpSet("10.0.0.0/8").covers_packed(b"", 18), b"")
-        for octets, width in ((b"123", 6), (b"123456", 18), (b"1234", 4), (b"", 0)):
-            with self.assertRaises(ValueError):
-                IpSet().covers_packed(octets, width)
-        for wrong in ("10.0.0.0/33", "x"):
-            with self.assertRaises(NotANetwork):
-                IpSet().covers_all(["10.0.0.0", wrong])
-
     def test_counts(self):
         draw = random.Random(6)
         for _ in range(100):

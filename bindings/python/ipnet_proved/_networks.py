@@ -100,14 +100,14 @@ def cause_of(data: bytes, legacy: bool) -> str:
     return "the prefix length has leading zeros"
 
 
-def cause_of_entry(line: bytes, legacy: bool = False) -> str:
+def cause_of_entry(line: bytes) -> str:
     """Why a line of a list of entries is none."""
     entry = re.split(rb"#|(?<![^ \t]);", line)[0].strip()
     if entry and b";" in line and (b"/" in entry or entry.count(b".") == 3 or b":" in entry):
         return "the comment after ';' begins with an entry, or ';' follows it without a blank"
     if b"-" in entry:
         return "not a range of addresses, FIRST-LAST"
-    return cause_of(entry, legacy)
+    return cause_of(entry, False)
 
 
 def first_not_utf8(data: bytes) -> bytes:

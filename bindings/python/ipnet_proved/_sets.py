@@ -2,7 +2,7 @@
 import ctypes
 import struct
 from ipaddress import IPv4Address, IPv6Address, ip_network
-from typing import Any, Callable, Iterator, List, Optional, Sequence, Tuple, Union
+from typing import Any, Iterator, List, Optional, Sequence, Tuple, Union
 
 from . import _library as library
 from ._networks import (Address, BadLine, Network, Networks, OneNetwork, Text, answered, as_bytes, bytes_of,
@@ -17,12 +17,10 @@ except ImportError:
 
 HEADER = struct.Struct("<8sQQQ")
 WIDTHS = (4, 16)
-NETWORK_WIDTHS = (6, 18)
 
 _contains = library.question("ipnet_set_contains")
 _covers = library.question("ipnet_set_covers")
 _contains_all = library.question("ipnet_set_contains_all")
-_covers_all = library.question("ipnet_set_covers_all")
 _counts = library.question("ipnet_set_counts")
 _is_subset = library.question("ipnet_set_is_subset")
 _check = library.question("ipnet_set_check")
@@ -44,8 +42,8 @@ class NotASet(ValueError):
 class IpSet:
     """A set of IPv4 and IPv6 addresses. It never changes, so it can be the key of a dictionary.
 
-    It is made of a list of networks, in each form that the functions of this package take; without one it is empty. If
-    `legacy` is true, numbers may have leading zeros. Raises BadLine and NotANetwork as these do. Sets are equal if and only if they have the same addresses.
+    It is made of a list of networks, in each form that the functions of this package take; without one it is empty.
+    Raises BadLine and NotANetwork as these do. Sets are equal if and only if they have the same addresses.
 
     >>> office = IpSet(["10.0.0.0/24", "fd00::/32"])
     >>> "10.0.0.7" in office, "10.0.0.0/23" in office
@@ -59,18 +57,16 @@ class IpSet:
     __slots__ = ("_image",)
     _image: bytes
 
-    def __init__(self, networks: Networks = (), legacy: bool = False) -> None:
+    def __init__(self, networks: Networks = ()) -> None:
         data = text_of(networks)
         room = 32 + 16 * (data.count(b"\n") + 1)
-        name = "ipnet_set_from_text_legacy" if legacy else "ipnet_set_from_text"
-        self._image = answered(library.writer(name, room), [data], legacy=legacy)
+        self._image = answered(library.writer("ipnet_set_from_text", room), [data])
 
     @classmethod
-    def from_list(cls, text: Text, legacy: bool = False) -> "IpSet":
+    def from_list(cls, text: Text) -> "IpSet":
         """The set of a list as people keep it, read as the program netset reads its files. A line is a network, also
         with a netmask, an address, a range FIRST-LAST of addresses, or empty; it may have blanks around it, end with a
-        carriage return, and have a comment after # or ;. If `legacy` is true, numbers may have leading zeros. Raises
-        BadLine at the first line that is none of these.
+        carriage return, and have a comment after # or ;. Raises BadLine at the first line that is none of these.
 
         >>> IpSet.from_list("# ours\\n10.0.0.0-10.0.0.3   # four\\r\\n") == IpSet("10.0.0.0/30")
         True
@@ -78,15 +74,12 @@ class IpSet:
         Traceback (most recent call last):
             ...
         ipnet_proved.BadLine: line 2: '10.0.0.9-10.0.0.2': not a range of addresses, FIRST-LAST
-        >>> IpSet.from_list("010.0.0.1", legacy=True) == IpSet("10.0.0.1")
-        True
         """
         data = as_bytes(text)
-        name = "ipnet_set_from_list_legacy" if legacy else "ipnet_set_from_list"
-        status, number, image = library.writer(name, len(data) + HEADER.size)(data)
+        status, number, image = library.writer("ipnet_set_from_list", len(data) + HEADER.size)(data)
         if status == library.BAD_LINE:
             line = data.split(b"\n")[number - 1].strip()
-            raise BadLine(number, shown(line), cause_of_entry(line, legacy))
+            raise BadLine(number, shown(line), cause_of_entry(line))
         if status == library.OUT_OF_MEMORY:
             raise MemoryError("libipnet: out of memory")
         return cls._of(image)
@@ -142,42 +135,6 @@ class IpSet:
         """
         return [address in self for address in addresses]
 
-    def covers_all(self, networks: Sequence[OneNetwork]) -> List[bool]:
-        """Whether the set contains every address of each of the networks, in order.
-
-        >>> IpSet(["10.0.0.0/24", "fd00::/32"]).covers_all(["10.0.0.128/25", ipaddress.ip_network("fd00::/31"), "::1"])
-        [True, False, False]
-        """
-        rows = [bytes_of(network) for network in networks]
-        covered = [False] * len(rows)
-        for width in (6, 18):
-            places = [place for place, row in enumerate(rows) if len(row) == width]
-            answers = self.covers_packed(b"".join(rows[place] for place in places), width)
-            for place, answer in zip(places, answers):
-                covered[place] = answer == 1
-        return covered
-
-    def covers_packed(self, networks: Union[bytes, bytearray, memoryview], width: int) -> bytes:
-        """Whether the set contains every address of each of many networks, of which `networks` has `width` bytes each:
-        a byte for the family, 0 or 1, 4 or 16 octets, and a byte for the prefix length, so 6 or 18 bytes. Returns one
-        byte for each network: 1, 0, or a number above 1 if its bytes are not a network. Raises ValueError if `width` is
-        another number, or the bytes are not a multiple of it.
-
-        >>> IpSet("10.0.0.0/31").covers_packed(bytes([0, 10, 0, 0, 0, 31, 0, 10, 0, 0, 0, 30, 0, 10, 0, 0, 0, 33]), 6)
-        b'\\x01\\x00\\x08'
-        """
-        data = bytes(networks)
-        if width not in NETWORK_WIDTHS or len(data) % width:
-            raise ValueError(f"{len(data)} bytes are not networks of {width} bytes; the width is 6 or 18")
-        return self._bytes_from(_covers_all, data, width)
-
-    def _bytes_from(self, call: Callable[..., int], data: bytes, width: int) -> bytes:
-        """The answers of the call, one byte for each `width` bytes."""
-        count = len(data) // width
-        answers = ctypes.create_string_buffer(max(count, 1))
-        call(self._image, len(self._image), data, len(data), width, answers, count)
-        return ctypes.string_at(answers, count)
-
     def contains_packed(self, octets: Union[bytes, bytearray, memoryview], width: int) -> bytes:
         """Whether the set contains each of many addresses, of which `octets` has `width` bytes each: 4 for IPv4, or 16
         for IPv6. Returns one byte for each address, 1 or 0. Raises ValueError if `width` is another number, or the
@@ -189,7 +146,10 @@ class IpSet:
         data = bytes(octets)
         if width not in WIDTHS or len(data) % width:
             raise ValueError(f"{len(data)} bytes are not addresses of {width} bytes; the width is 4 or 16")
-        return self._bytes_from(_contains_all, data, width)
+        answers = ctypes.create_string_buffer(max(len(data) // width, 1))
+        count = len(data) // width
+        _contains_all(self._image, len(self._image), data, len(data), width, answers, count)
+        return ctypes.string_at(answers, count)
 
     def _combined(self, name: str, other: object) -> "IpSet":
         if not isinstance(other, IpSet):

@@ -109,20 +109,6 @@ extern "C" {
         buffer_len: usize,
         count: *mut usize,
     ) -> u32;
-    pub fn ipnet_set_from_text_legacy(
-        text: *const u8,
-        text_len: usize,
-        buffer: *mut u8,
-        buffer_len: usize,
-        count: *mut usize,
-    ) -> u32;
-    pub fn ipnet_set_from_list_legacy(
-        text: *const u8,
-        text_len: usize,
-        buffer: *mut u8,
-        buffer_len: usize,
-        count: *mut usize,
-    ) -> u32;
     pub fn ipnet_set_from_list(
         text: *const u8,
         text_len: usize,
@@ -188,15 +174,6 @@ extern "C" {
         set_len: usize,
         addresses: *const u8,
         addresses_len: usize,
-        width: usize,
-        answers: *mut u8,
-        answers_len: usize,
-    ) -> u32;
-    fn ipnet_set_covers_all(
-        set: *const u8,
-        set_len: usize,
-        networks: *const u8,
-        networks_len: usize,
         width: usize,
         answers: *mut u8,
         answers_len: usize,
@@ -432,22 +409,6 @@ pub fn set_contains_all(set: &[u8], addresses: &[u8], width: usize, answers: &mu
             set.len(),
             addresses.as_ptr(),
             addresses.len(),
-            width,
-            answers.as_mut_ptr(),
-            answers.len(),
-        );
-    }
-}
-
-/// Writes 1 or 0 for each network in byte form of `width` bytes. The lengths fit, and the bytes are networks.
-pub fn set_covers_all(set: &[u8], networks: &[u8], width: usize, answers: &mut [u8]) {
-    // SAFETY: as in `call`.
-    unsafe {
-        ipnet_set_covers_all(
-            set.as_ptr(),
-            set.len(),
-            networks.as_ptr(),
-            networks.len(),
             width,
             answers.as_mut_ptr(),
             answers.len(),

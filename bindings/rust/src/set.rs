@@ -35,19 +35,6 @@ impl IpSet {
         Ok(IpSet { image })
     }
 
-    /// Like [`IpSet::from_text`], for a text in the legacy grammar.
-    ///
-    /// ```
-    /// use ipnet_proved::{Error, IpSet};
-    ///
-    /// assert_eq!(IpSet::from_text_legacy("010.0.0.0/30")?, IpSet::from_text("10.0.0.0/30")?);
-    /// # Ok::<(), Error>(())
-    /// ```
-    pub fn from_text_legacy(text: &str) -> Result<IpSet, Error> {
-        let image = raw::bytes_from(text.as_bytes(), text.len().saturating_add(32), raw::ipnet_set_from_text_legacy)?;
-        Ok(IpSet { image })
-    }
-
     /// The set of the addresses of a list as people keep it, read as the program `netset` reads its files. A line is a
     /// network, also with a netmask, an address, a range `FIRST-LAST`, or empty; it may have blanks around it, end with
     /// `\r\n`, and have a comment after `#` or `;`. Fails with [`Error::BadLine`] if a line is none of these.
@@ -63,19 +50,6 @@ impl IpSet {
     pub fn from_list(text: impl AsRef<[u8]>) -> Result<IpSet, Error> {
         let text = text.as_ref();
         Ok(IpSet { image: raw::bytes_from(text, text.len().saturating_add(32), raw::ipnet_set_from_list)? })
-    }
-
-    /// Like [`IpSet::from_list`], with numbers in the legacy grammar, as `netset --legacy` reads its files.
-    ///
-    /// ```
-    /// use ipnet_proved::{Error, IpSet};
-    ///
-    /// assert_eq!(IpSet::from_list_legacy("010.0.0.0-10.0.0.03 # ours")?, IpSet::from_text("10.0.0.0/30")?);
-    /// # Ok::<(), Error>(())
-    /// ```
-    pub fn from_list_legacy(text: impl AsRef<[u8]>) -> Result<IpSet, Error> {
-        let text = text.as_ref();
-        Ok(IpSet { image: raw::bytes_from(text, text.len().saturating_add(32), raw::ipnet_set_from_list_legacy)? })
     }
 
     /// The set of the addresses of the networks.
@@ -161,36 +135,6 @@ impl IpSet {
     /// ```
     pub fn covers(&self, network: impl Into<Network>) -> bool {
         raw::set_covers(&self.image, network.into().to_bytes().as_slice())
-    }
-
-    /// Whether the set contains every address of each of the networks, in order.
-    ///
-    /// ```
-    /// use ipnet_proved::{Error, IpSet};
-    ///
-    /// let set: IpSet = "10.0.0.0/24\nfd00::/32".parse()?;
-    /// let asked = ["10.0.0.128/25".parse()?, "fd00::/31".parse()?, "10.0.0.0/23".parse()?];
-    /// assert_eq!(set.covers_all(&asked), [true, false, false]);
-    /// # Ok::<(), Error>(())
-    /// ```
-    pub fn covers_all(&self, networks: &[Network]) -> Vec<bool> {
-        let mut covered = vec![false; networks.len()];
-        for width in [6, 18] {
-            let (mut places, mut rows) = (Vec::new(), Vec::new());
-            for (place, network) in networks.iter().enumerate() {
-                let bytes = network.to_bytes();
-                if bytes.as_slice().len() == width {
-                    places.push(place);
-                    rows.extend_from_slice(bytes.as_slice());
-                }
-            }
-            let mut answers = vec![0; places.len()];
-            raw::set_covers_all(&self.image, &rows, width, &mut answers);
-            for (place, answer) in places.into_iter().zip(answers) {
-                covered[place] = answer == 1;
-            }
-        }
-        covered
     }
 
     fn combined(&self, other: &IpSet, combine: raw::BothIntoBuffer) -> Result<IpSet, Error> {

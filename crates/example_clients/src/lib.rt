@@ -8,5 +8,4 @@
 pub mod lists;
 pub mod networks;
 pub mod plans;
-pub mod routes;
 pub mod texts;

@@ -1,7 +1,7 @@
 -- The first refused line of a list, and lists without one.
 use Rattle.std.proofs.Common.{◌≡◌, ℕ, ◌<◌, ◌⊎◌, List, [], ◌∷◌, length, map, take, get_or, inl, inr, refl, ap, sym, ◌∙◌}
 use Rattle.std.proofs.Common.{subst, arith}
-use Rattle.ipnet.specs.declared.parser.Grammar.{Grammar}
+use Rattle.ipnet.specs.declared.parser.Grammar.TheVariants.{Strict}
 use Rattle.ipnet_sets.specs.declared.set.IpSet.{IpSet}
 use Rattle.ipnet_sets.specs.Images.{IsImageOf}
 use Rattle.netset_lib.specs.declared.refused.RefusedLine.{RefusedLine}
@@ -30,34 +30,32 @@ first_refused (r ∷ shown) (first ∷ refusals) line e some is =
     (first, refusals, refl, ap (λ z. z.line) (sym same) ∙ ap (λ z. z.line) (sym is))
 
 -- a list with a refused line
-pub list_refused : (grammar : Grammar) (text buffer : List ℕ) (count_old : ℕ) (set : IpSet) (refused : RefusedLines)
-    (line : RefusedLine)
-    → IsReadList grammar text set refused → 0 < length refused.shown.items → line ≡ get_or refused.shown.items 0 line
-    → IsListReply grammar text buffer buffer count_old line.line 1
-list_refused grammar text buffer count_old set refused line h some is =
+pub list_refused : (text buffer : List ℕ) (count_old : ℕ) (set : IpSet) (refused : RefusedLines) (line : RefusedLine)
+    → IsReadList Strict text set refused → 0 < length refused.shown.items → line ≡ get_or refused.shown.items 0 line
+    → IsListReply text buffer buffer count_old line.line 1
+list_refused text buffer count_old set refused line h some is =
     let (first, others, cut, number) = first_refused refused.shown.items h.refusals line h.kept.shown some is in
     record {
       known = inr (inr (inl refl));
       ok = λ e. absurd (differ 1 0 refl e);
       too_short = λ e. absurd (differ 1 4 refl e);
-      bad_line = λ e. (h.entries, first, others, subst (IsListRead grammar 0 text h.entries) cut h.read, number);
+      bad_line = λ e. (h.entries, first, others, subst (IsListRead Strict 0 text h.entries) cut h.read, number);
       buffer_kept = λ e. refl;
       count_kept = λ e. absurd (differ 1 3 refl e);
     }
 
 -- a list without one
-pub list_compiled : (grammar : Grammar) (text image old new : List ℕ) (count_old count status : ℕ) (set : IpSet)
-    (refused : RefusedLines)
-    → IsReadList grammar text set refused → length refused.shown.items ≡ 0 → IsImageOf image set
+pub list_compiled : (text image old new : List ℕ) (count_old count status : ℕ) (set : IpSet) (refused : RefusedLines)
+    → IsReadList Strict text set refused → length refused.shown.items ≡ 0 → IsImageOf image set
     → (status ≡ 0) ⊎ (status ≡ 4) → (status ≡ 0 → IsWritten image old new count)
-    → (status ≡ 4 → IsTooLong image old new count) → IsListReply grammar text old new count_old count status
-list_compiled grammar text image old new count_old count status set refused h none is known ok short =
-    let made : IsImageWith (HasAddressesOfList grammar text) image = record {
+    → (status ≡ 4 → IsTooLong image old new count) → IsListReply text old new count_old count status
+list_compiled text image old new count_old count status set refused h none is known ok short =
+    let made : IsImageWith (HasAddressesOfList text) image = record {
       set = set;
       image_of = is;
       holds = (
         h.entries,
-        subst (IsListRead grammar 0 text h.entries) (none_refused refused.shown.items h.refusals h.kept.shown none)
+        subst (IsListRead Strict 0 text h.entries) (none_refused refused.shown.items h.refusals h.kept.shown none)
             h.read,
         h.addresses,
       );

@@ -1,16 +1,15 @@
 -- Replies with the image of a text's addresses.
 use Rattle.std.proofs.Common.{◌≡◌, ℕ, ◌⊎◌, List, inl, inr, refl, IsUtf8}
-use Rattle.ipnet.specs.declared.parser.Grammar.{Grammar}
 use Rattle.ipnet_c.specs.Buffers.{IsWritten, IsTooLong}
 use Rattle.ipnet_c.specs.SetReplies.{IsCompileReply, IsImageWith, HasAddressesOfText}
 use Rattle.ipnet_c.proofs.StatusLaws.{not_other}
 
 -- the image of a text's addresses, which is written if there is room
-pub compiled : (grammar : Grammar) (text image old new : List ℕ) (count_old count status : ℕ) → IsUtf8 text
-    → IsImageWith (HasAddressesOfText grammar text) image → (status ≡ 0) ⊎ (status ≡ 4)
+pub compiled : (text image old new : List ℕ) (count_old count status : ℕ) → IsUtf8 text
+    → IsImageWith (HasAddressesOfText text) image → (status ≡ 0) ⊎ (status ≡ 4)
     → (status ≡ 0 → IsWritten image old new count) → (status ≡ 4 → IsTooLong image old new count)
-    → IsCompileReply grammar text old new count_old count status
-compiled grammar text image old new count_old count status utf8 is known ok short = record {
+    → IsCompileReply text old new count_old count status
+compiled text image old new count_old count status utf8 is known ok short = record {
   known = elim known [ inl e ↦ inl e | inr e ↦ inr (inl e) ];
   ok = λ e. (image, is, ok e);
   too_short = λ e. (image, is, short e);

@@ -14,7 +14,7 @@ use Rattle.ipnet_sets.specs.Images.{HasHeader, IsImage, IsImageOf}
 use Rattle.ipnet_sets.specs.Members.{IsMember, IsSubset}
 use Rattle.ipnet_c.specs.Replies.{AreBytesOf, IsYesExactlyAt}
 use Rattle.ipnet_c.specs.SetReplies.{IsCoversReply, IsContainsAllReply, IsSubsetReply, AreOctetsOf}
-use Rattle.ipnet_c.specs.SetReplies.{AreCountsOf, IsCountsReply, IsCoversAllReply}
+use Rattle.ipnet_c.specs.SetReplies.{AreCountsOf, IsCountsReply}
 use Rattle.ipnet_c.proofs.ListReplies.{TellsFaults}
 use Rattle.ipnet_c.proofs.StatusLaws.{differ, yes_exactly}
 
@@ -116,44 +116,6 @@ pub answered_all : (set addresses : List ℕ) (width index : ℕ) (old answers :
     → AreAnsweredTo set addresses width index old answers → length old ≤ index
     → IsContainsAllReply set addresses width old answers 0
 answered_all set addresses width index old answers header as_told h all = record {
-  known = inl refl;
-  ok = λ e i less. h.done i (omega (arith, less, all));
-  as_many = h.as_many;
-  wrong_length = (λ e. absurd (differ 0 6 refl e), λ wrong. absurd (wrong as_told));
-  not_a_set = (λ e. absurd (differ 0 11 refl e), λ both. absurd (both.1 header));
-  kept = λ e. absurd (e refl);
-}
-
--- Each byte before the index is the answer for the network with the same index.
-pub record AreCoversOf (set networks : List ℕ) (width index : ℕ) (old answers : List ℕ) : Type 0 where
-  pub as_many : length answers ≡ length old
-  pub done : (i : ℕ) → i < index → IsCoversReply set (take width (drop (i * width) networks)) (get_or answers i 0)
-
--- one answer more
-pub covers_more : (set networks : List ℕ) (width index : ℕ) (old answers : List ℕ) (value : ℕ)
-    → AreCoversOf set networks width index old answers → index < length answers
-    → IsCoversReply set (take ((index + 1) * width - index * width) (drop (index * width) networks)) value
-    → AreCoversOf set networks width (index + 1) old (slice_set answers index value)
-covers_more set networks width index old answers value h within answer = record {
-  as_many = length-set answers index value ∙ h.as_many;
-  done = λ i less. elim (cases_lt i index) [
-    | inl before ↦ subst (IsCoversReply set (take width (drop (i * width) networks)))
-        (sym (get_or-set_other answers index i value 0 (λ same. let wrong : ⊥ = omega (arith, same, before) in wrong)))
-        (h.done i before)
-    | inr not ↦ let same : i ≡ index = omega (arith, less, not) in
-        subst (IsCoversReply set (take width (drop (i * width) networks)))
-        (sym (get_or-set_at answers index i value 0 same within))
-        (subst (λ j. IsCoversReply set (take width (drop (j * width) networks)) value) (sym same)
-        (subst (λ k. IsCoversReply set (take k (drop (index * width) networks)) value) (one_width index width) answer))
-  ];
-}
-
--- every network has its answer
-pub covers_all : (set networks : List ℕ) (width index : ℕ) (old answers : List ℕ) → HasHeader set
-    → ((width ≡ 6) ⊎ (width ≡ 18)) × (length networks ≡ length old * width)
-    → AreCoversOf set networks width index old answers → length old ≤ index
-    → IsCoversAllReply set networks width old answers 0
-covers_all set networks width index old answers header as_told h all = record {
   known = inl refl;
   ok = λ e i less. h.done i (omega (arith, less, all));
   as_many = h.as_many;

@@ -56,8 +56,7 @@ nothing_of_nothing SymmetricDifference A B none none_other (inr b) = none_other 
 
 -- so of two texts without an address the answer is empty
 pub empty_of_empty : (operation : Operation) (text other : List ℕ) (first second : IpSet)
-    → HasAddressesOfText Strict text first → HasAddressesOfText Strict other second → HasNoAddress first
-    → HasNoAddress second
+    → HasAddressesOfText text first → HasAddressesOfText other second → HasNoAddress first → HasNoAddress second
     → IsSetText operation text other []
 empty_of_empty operation text other first second h k none none_other = record {
   networks = h.networks;
@@ -74,8 +73,7 @@ empty_of_empty operation text other first second h k none none_other = record {
 
 -- and of other texts it is that of the set that the operation makes
 pub text_of_both : (operation : Operation) (text other answer : List ℕ) (first second set : IpSet)
-    → HasAddressesOfText Strict text first → HasAddressesOfText Strict other second
-    → IsResultOf operation set first second
+    → HasAddressesOfText text first → HasAddressesOfText other second → IsResultOf operation set first second
     → IsTextOfSet set answer → IsSetText operation text other answer
 text_of_both operation text other answer first second set h k made t = record {
   networks = h.networks;

@@ -7,7 +7,7 @@ use Rattle.ipnet.specs.Address.{Address}
 use Rattle.ipnet.specs.Network.{Network, InBlock}
 use Rattle.ipnet.specs.Blocks.{IsCoveredBy}
 use Rattle.ipnet.specs.Lines.{lines_of, AreNetworksOf}
-use Rattle.ipnet.specs.declared.parser.Grammar.{Grammar}
+use Rattle.ipnet.specs.declared.parser.Grammar.TheVariants.{Strict}
 use Rattle.ipnet_base.proofs.CoverLaws.{cover_nil, cover_push}
 use Rattle.ipnet_sets.specs.declared.set.IpSet.{IpSet}
 use Rattle.ipnet_sets.specs.declared.set.builder.IpSetBuilder.{IpSetBuilder}
@@ -43,20 +43,18 @@ one_taken old new is_empty networks n pushed h = record {
 }
 
 -- the set of the networks that were taken, and of none
-pub set_of_taken : (grammar : Grammar) (text : List ℕ) (networks : List Network) (builder : IpSetBuilder)
-    (is_empty : Bool) (set : IpSet) → AreNetworksOf grammar (lines_of text) networks
-    → AreTaken builder is_empty networks → ((x : Address) → IsMember set x ↔ IsPushed builder x)
-    → HasAddressesOfText grammar text set
-set_of_taken grammar text networks builder is_empty set written h made = record {
+pub set_of_taken : (text : List ℕ) (networks : List Network) (builder : IpSetBuilder) (is_empty : Bool) (set : IpSet)
+    → AreNetworksOf Strict (lines_of text) networks → AreTaken builder is_empty networks
+    → ((x : Address) → IsMember set x ↔ IsPushed builder x) → HasAddressesOfText text set
+set_of_taken text networks builder is_empty set written h made = record {
   networks = networks;
   written = written;
   addresses = λ x. (λ m. (h.addresses x).0 ((made x).0 m), λ c. (made x).1 ((h.addresses x).1 c));
 }
 
-pub set_of_none : (grammar : Grammar) (text : List ℕ) (networks : List Network) (set : IpSet)
-    → AreNetworksOf grammar (lines_of text) networks → networks ≡ [] → HasNoAddress set
-    → HasAddressesOfText grammar text set
-set_of_none grammar text networks set written empty nothing = record {
+pub set_of_none : (text : List ℕ) (networks : List Network) (set : IpSet)
+    → AreNetworksOf Strict (lines_of text) networks → networks ≡ [] → HasNoAddress set → HasAddressesOfText text set
+set_of_none text networks set written empty nothing = record {
   networks = networks;
   written = written;
   addresses = λ x. (
@@ -66,18 +64,17 @@ set_of_none grammar text networks set written empty nothing = record {
 }
 
 -- empty lines write no network, so their set is empty
-none_of_none : (grammar : Grammar) (lines : List (List ℕ)) (networks : List Network)
-    → AreNetworksOf grammar lines networks
+none_of_none : (lines : List (List ℕ)) (networks : List Network) → AreNetworksOf Strict lines networks
     → All (λ line. line ≡ []) lines → networks ≡ []
-none_of_none grammar [] networks written h = written
-none_of_none grammar ([] ∷ lines) networks written h =
-    none_of_none grammar lines networks written (All-tail (λ line. line ≡ []) [] lines h)
-none_of_none grammar ((b ∷ line) ∷ lines) networks written h =
+none_of_none [] networks written h = written
+none_of_none ([] ∷ lines) networks written h =
+    none_of_none lines networks written (All-tail (λ line. line ≡ []) [] lines h)
+none_of_none ((b ∷ line) ∷ lines) networks written h =
     let none : b ∷ line ≡ [] = All-head (λ line. line ≡ []) (b ∷ line) lines h in
     absurd cc
 
-pub empty_set : (grammar : Grammar) (text : List ℕ) (set : IpSet) → HasAddressesOfText grammar text set
+pub empty_set : (text : List ℕ) (set : IpSet) → HasAddressesOfText text set
     → All (λ line. line ≡ []) (lines_of text) → HasNoAddress set
-empty_set grammar text set h none x m =
-    cover_nil x (subst (λ z. IsCoveredBy z x) (none_of_none grammar (lines_of text) h.networks h.written none)
+empty_set text set h none x m =
+    cover_nil x (subst (λ z. IsCoveredBy z x) (none_of_none (lines_of text) h.networks h.written none)
     ((h.addresses x).0 m))

@@ -7,7 +7,7 @@ use Rattle.ipnet.specs.Network.{Network, InBlock}
 use Rattle.ipnet.specs.Blocks.{AreMaximalBlocks}
 use Rattle.ipnet.specs.Bytes.{HasWrongTaggedLen, HasUnknownVariant, HasLongTaggedPrefix}
 use Rattle.ipnet.specs.CanonicalTexts.{address_octets}
-use Rattle.ipnet.specs.declared.parser.Grammar.{Grammar}
+use Rattle.ipnet.specs.declared.parser.Grammar.TheVariants.{Strict}
 use Rattle.ipnet.specs.Lines.{lines_of, AreNetworksOf, IsFirstBadLine}
 use Rattle.ipnet_sets.specs.declared.set.IpSet.{IpSet}
 use Rattle.ipnet_sets.specs.Images.{HasHeader, IsImage, IsImageOf}
@@ -27,24 +27,23 @@ pub record IsImageWith (Holds : IpSet → Type 0) (image : List ℕ) : Type 0 wh
   pub image_of : IsImageOf image set
   pub holds : Holds set
 
--- The set has exactly the addresses of the networks of the text's lines, in the grammar.
-pub record HasAddressesOfText (grammar : Grammar) (text : List ℕ) (s : IpSet) : Type 0 where
+-- The set has exactly the addresses of the networks of the text's lines.
+pub record HasAddressesOfText (text : List ℕ) (s : IpSet) : Type 0 where
   pub networks : List Network
-  pub written : AreNetworksOf grammar (lines_of text) networks
+  pub written : AreNetworksOf Strict (lines_of text) networks
   pub addresses : HasAddressesOf s networks
 
 -- Compiling a text: `count` is the length of the image, or the number of the first bad line.
 -- Example: `"10.0.0.0/30\n"` with a buffer of 40 bytes or more gives `ok`, the image of 10.0.0.0/30 and 40;
--- `"10.0.0.0/24\n\nx\n"` gives `bad_line` and 3; `"10.0.01.0/24"` gives `bad_line` and 1 in the strict grammar, and
--- `ok` in the legacy grammar.
-pub record IsCompileReply (grammar : Grammar) (text old new : List ℕ) (count_old count status : ℕ) : Type 0 where
+-- `"10.0.0.0/24\n\nx\n"` gives `bad_line` and 3.
+pub record IsCompileReply (text old new : List ℕ) (count_old count status : ℕ) : Type 0 where
   pub known : (status ≡ statuses.ok) ⊎ ((status ≡ statuses.buffer_too_short) ⊎ ((status ≡ statuses.bad_line)
       ⊎ ((status ≡ statuses.not_utf8) ⊎ (status ≡ statuses.out_of_memory))))
   pub ok : status ≡ statuses.ok
-      → (image : List ℕ) × IsImageWith (HasAddressesOfText grammar text) image × IsWritten image old new count
+      → (image : List ℕ) × IsImageWith (HasAddressesOfText text) image × IsWritten image old new count
   pub too_short : status ≡ statuses.buffer_too_short
-      → (image : List ℕ) × IsImageWith (HasAddressesOfText grammar text) image × IsTooLong image old new count
-  pub bad_line : status ≡ statuses.bad_line → IsFirstBadLine grammar (lines_of text) count
+      → (image : List ℕ) × IsImageWith (HasAddressesOfText text) image × IsTooLong image old new count
+  pub bad_line : status ≡ statuses.bad_line → IsFirstBadLine Strict (lines_of text) count
   pub not_utf8 : (status ≡ statuses.not_utf8) ↔ ¬ (IsUtf8 text)
   pub buffer_kept : status ≢ statuses.ok → new ≡ old
   pub count_kept : (status ≡ statuses.not_utf8) ⊎ (status ≡ statuses.out_of_memory) → count ≡ count_old
@@ -141,24 +140,6 @@ pub record IsContainsAllReply (set addresses : List ℕ) (width : ℕ) (old new 
   pub as_many : length new ≡ length old
   pub wrong_length : (status ≡ statuses.wrong_length) ↔ ¬ (AreAddresses addresses width (length old))
   pub not_a_set : (status ≡ statuses.not_a_set) ↔ (AreAddresses addresses width (length old) × ¬ (HasHeader set))
-  pub kept : status ≢ statuses.ok → new ≡ old
-
--- The bytes are `count` networks in byte form of `width` bytes each, 6 or 18.
-abbrev pub AreNetworksInBytes : List ℕ → ℕ → ℕ → Type 0
-AreNetworksInBytes bytes width count = ((width ≡ 6) ⊎ (width ≡ 18)) × (length bytes ≡ count * width)
-
--- Whether the set contains every address of each of many networks: `networks` has `width` bytes for each, one after the
--- other, and the byte of the network in `new` is what the question about this network returns.
--- Example: of the image of 10.0.0.0/30, with the width 6, 0, 10, 0, 0, 2, 31, 0, 10, 0, 0, 0, 29, 0, 10, 0, 0, 0, 33
--- gives 1, 0 and `prefix_too_long`.
-pub record IsCoversAllReply (set networks : List ℕ) (width : ℕ) (old new : List ℕ) (status : ℕ) : Type 0 where
-  pub known : (status ≡ statuses.ok) ⊎ ((status ≡ statuses.wrong_length) ⊎ (status ≡ statuses.not_a_set))
-  pub ok : status ≡ statuses.ok → (i : ℕ) → i < length old
-      → IsCoversReply set (take width (drop (i * width) networks)) (slice_index new i)
-  pub as_many : length new ≡ length old
-  pub wrong_length : (status ≡ statuses.wrong_length) ↔ ¬ (AreNetworksInBytes networks width (length old))
-  pub not_a_set : (status ≡ statuses.not_a_set)
-      ↔ (AreNetworksInBytes networks width (length old) × ¬ (HasHeader set))
   pub kept : status ≢ statuses.ok → new ≡ old
 
 -- Whether the first set is a subset of the second.

@@ -5,7 +5,7 @@ use crate::lists::read_set;
 use crate::statuses::{
     BAD_LINE, BAD_LINE_IN_OTHER, NOT_UTF8, OK, OTHER_NOT_UTF8, OUT_OF_MEMORY, status_of,
 };
-use ipnet::{Grammar, IpNet};
+use ipnet::IpNet;
 use ipnet_tool::ToolError;
 use std::alloc::Global;
 use std::str;
@@ -41,7 +41,7 @@ pub extern "C" fn ipnet_same_addresses(
     let Ok(other) = str::from_utf8(other) else {
         return OTHER_NOT_UTF8;
     };
-    let set = match read_set(alloc, text, Grammar::Strict) {
+    let set = match read_set(alloc, text) {
         Ok(set) => set,
         Err(ToolError::Line(number)) => {
             *line = number;
@@ -49,7 +49,7 @@ pub extern "C" fn ipnet_same_addresses(
         }
         Err(ToolError::Memory) => return OUT_OF_MEMORY,
     };
-    let others = match read_set(alloc, other, Grammar::Strict) {
+    let others = match read_set(alloc, other) {
         Ok(others) => others,
         Err(ToolError::Line(number)) => {
             *line = number;
@@ -94,7 +94,7 @@ pub extern "C" fn ipnet_is_covered(
     let Ok(text) = str::from_utf8(text) else {
         return NOT_UTF8;
     };
-    let set = match read_set(alloc, text, Grammar::Strict) {
+    let set = match read_set(alloc, text) {
         Ok(set) => set,
         Err(ToolError::Line(number)) => {
             *line = number;

@@ -31,12 +31,13 @@ impl NetworkSink for Addresses {
     }
 }
 
-/// Returns the set of the addresses of the lines' networks, in the grammar. Without a network it allocates nothing.
-pub(crate) fn read_set(alloc: Global, text: &str, grammar: Grammar) -> Result<IpSet, ToolError>
-    ensures addresses { IfOk result (λ set. HasAddressesOfText grammar text.now set) }
+/// Returns the set of the addresses of the lines' networks, in the strict grammar. Without a network it allocates
+/// nothing.
+pub(crate) fn read_set(alloc: Global, text: &str) -> Result<IpSet, ToolError>
+    ensures addresses { IfOk result (λ set. HasAddressesOfText text.now set) }
     ensures bad_line { (number : ℕ) → result ≡ Err (ToolError.Line number)
-        → IsFirstBadLine grammar (lines_of text.now) number }
-    ensures bad_at_once { (number : ℕ) → StartsWithBadLine grammar (lines_of text.now) number
+        → IsFirstBadLine Strict (lines_of text.now) number }
+    ensures bad_at_once { (number : ℕ) → StartsWithBadLine Strict (lines_of text.now) number
         → result ≡ Err (ToolError.Line number) }
     ensures empty { All (λ line. line ≡ []) (lines_of text.now) → IsOk result }
 {
@@ -44,7 +45,7 @@ pub(crate) fn read_set(alloc: Global, text: &str, grammar: Grammar) -> Result<Ip
         builder: IpSetBuilder::new(alloc),
         is_empty: true,
     };
-    push_lines(&mut taken, 0, text, grammar)?;
+    push_lines(&mut taken, 0, text, Grammar::Strict)?;
     if taken.is_empty {
         return Ok(IpSet::new(alloc));
     }

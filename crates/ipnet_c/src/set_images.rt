@@ -1,6 +1,5 @@
 //! Sets of addresses as images: the bytes of a set, which the caller keeps, and what is made of them.
 ghost use Rattle.std.specs.Prelude.{IfOk, string_bytes};
-ghost use Rattle.ipnet.specs.declared.parser.Grammar.TheVariants.{Strict, Legacy};
 ghost use Rattle.ipnet_c.specs.SetReplies.{IsCompileReply, IsCombineReply, IsImageReply, IsImageWith};
 ghost use Rattle.ipnet_c.specs.SetReplies.{IsComplementOfImage, IsTextOfImage, IsMadeOfImages};
 ghost use Rattle.ipnet_sets.specs.declared.operation.Operation.TheVariants as Of;
@@ -9,38 +8,10 @@ use crate::buffers::write_answer;
 use crate::lists::read_set;
 use crate::sets::text_of_set;
 use crate::statuses::{BAD_LINE, NOT_A_SET, NOT_UTF8, OTHER_NOT_A_SET, OUT_OF_MEMORY};
-use ipnet::Grammar;
 use ipnet_sets::{IpSetRef, Operation};
 use ipnet_tool::ToolError;
 use std::alloc::{AllocError, Global};
 use std::str;
-
-/// Writes the image of the addresses of a text in this grammar into the buffer, and its length into `count`.
-fn compile(
-    alloc: Global,
-    text: &[u8],
-    grammar: Grammar,
-    buffer: &mut [u8],
-    count: &mut usize,
-) -> u32
-    ensures { IsCompileReply grammar text.now buffer.old buffer.new count.old count.new result }
-{
-    let Ok(text) = str::from_utf8(text) else {
-        return NOT_UTF8;
-    };
-    let set = match read_set(alloc, text, grammar) {
-        Ok(set) => set,
-        Err(ToolError::Line(number)) => {
-            *count = number;
-            return BAD_LINE;
-        }
-        Err(ToolError::Memory) => return OUT_OF_MEMORY,
-    };
-    let Ok(image) = set.to_bytes(alloc) else {
-        return OUT_OF_MEMORY;
-    };
-    write_answer(image.as_slice(), buffer, count)
-}
 
 /// Writes the image of the addresses of a list into the buffer, and its length in bytes into `count`.
 ///
@@ -63,27 +34,23 @@ pub extern "C" fn ipnet_set_from_text(
     buffer: &mut [u8],
     count: &mut usize,
 ) -> u32
-    ensures { IsCompileReply Strict text.now buffer.old buffer.new count.old count.new result }
+    ensures { IsCompileReply text.now buffer.old buffer.new count.old count.new result }
 {
-    compile(alloc, text, Grammar::Strict, buffer, count)
-}
-
-/// Like `ipnet_set_from_text`, for a text of the legacy grammar: octets and lengths may have leading zeros, and "::"
-/// may replace no group.
-///
-/// ```text
-/// "10.0.0.0/31\n10.0.00.2/31\n"    0, and the image of 10.0.0.0/30, of 40 bytes
-/// ```
-#[unsafe(no_mangle)]
-pub extern "C" fn ipnet_set_from_text_legacy(
-    alloc: Global,
-    text: &[u8],
-    buffer: &mut [u8],
-    count: &mut usize,
-) -> u32
-    ensures { IsCompileReply Legacy text.now buffer.old buffer.new count.old count.new result }
-{
-    compile(alloc, text, Grammar::Legacy, buffer, count)
+    let Ok(text) = str::from_utf8(text) else {
+        return NOT_UTF8;
+    };
+    let set = match read_set(alloc, text) {
+        Ok(set) => set,
+        Err(ToolError::Line(number)) => {
+            *count = number;
+            return BAD_LINE;
+        }
+        Err(ToolError::Memory) => return OUT_OF_MEMORY,
+    };
+    let Ok(image) = set.to_bytes(alloc) else {
+        return OUT_OF_MEMORY;
+    };
+    write_answer(image.as_slice(), buffer, count)
 }
 
 /// Returns the image of the result of the operation on the sets of two images.

@@ -1,5 +1,4 @@
 //! Sets of addresses made of lists as people keep them.
-ghost use Rattle.ipnet.specs.declared.parser.Grammar.TheVariants.{Strict, Legacy};
 ghost use Rattle.ipnet_c.specs.ListReplies.{IsListReply};
 
 use crate::buffers::write_answer;
@@ -7,31 +6,6 @@ use crate::statuses::{BAD_LINE, OUT_OF_MEMORY};
 use ipnet::Grammar;
 use netset_lib::read_list_text;
 use std::alloc::Global;
-
-/// Writes the image of the addresses of a list as people keep it, in this grammar, into the buffer, and its length into
-/// `count`.
-fn compile_list(
-    alloc: Global,
-    text: &[u8],
-    grammar: Grammar,
-    buffer: &mut [u8],
-    count: &mut usize,
-) -> u32
-    ensures { IsListReply grammar text.now buffer.old buffer.new count.old count.new result }
-{
-    let Ok(list) = read_list_text(alloc, text, grammar) else {
-        return OUT_OF_MEMORY;
-    };
-    let refused = list.refused.shown.as_slice();
-    if !refused.is_empty() {
-        *count = refused[0].line;
-        return BAD_LINE;
-    }
-    let Ok(image) = list.set.to_bytes(alloc) else {
-        return OUT_OF_MEMORY;
-    };
-    write_answer(image.as_slice(), buffer, count)
-}
 
 /// Writes the image of the addresses of a list as people keep it into the buffer, and its length in bytes into `count`.
 ///
@@ -54,25 +28,18 @@ pub extern "C" fn ipnet_set_from_list(
     buffer: &mut [u8],
     count: &mut usize,
 ) -> u32
-    ensures { IsListReply Strict text.now buffer.old buffer.new count.old count.new result }
+    ensures { IsListReply text.now buffer.old buffer.new count.old count.new result }
 {
-    compile_list(alloc, text, Grammar::Strict, buffer, count)
-}
-
-/// Like `ipnet_set_from_list`, for a list of the legacy grammar, as `netset --legacy` reads its files: octets and
-/// lengths may have leading zeros, and "::" may replace no group.
-///
-/// ```text
-/// "010.0.0.0-10.0.0.03 # ours\n"    0, and the image of 10.0.0.0/30, of 40 bytes
-/// ```
-#[unsafe(no_mangle)]
-pub extern "C" fn ipnet_set_from_list_legacy(
-    alloc: Global,
-    text: &[u8],
-    buffer: &mut [u8],
-    count: &mut usize,
-) -> u32
-    ensures { IsListReply Legacy text.now buffer.old buffer.new count.old count.new result }
-{
-    compile_list(alloc, text, Grammar::Legacy, buffer, count)
+    let Ok(list) = read_list_text(alloc, text, Grammar::Strict) else {
+        return OUT_OF_MEMORY;
+    };
+    let refused = list.refused.shown.as_slice();
+    if !refused.is_empty() {
+        *count = refused[0].line;
+        return BAD_LINE;
+    }
+    let Ok(image) = list.set.to_bytes(alloc) else {
+        return OUT_OF_MEMORY;
+    };
+    write_answer(image.as_slice(), buffer, count)
 }

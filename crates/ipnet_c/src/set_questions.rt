@@ -5,15 +5,11 @@ ghost use Rattle.ipnet_sets.specs.Images.{IsImageOf};
 ghost use Rattle.ipnet_sets.specs.Members.{IsMember, IsSubset};
 ghost use Rattle.ipnet_sets.specs.declared.set.IpSet.{IpSet as SetValue};
 ghost use Rattle.ipnet_c.specs.SetReplies.{IsContainsReply, IsCoversReply, IsContainsAllReply, IsSubsetReply};
-ghost use Rattle.ipnet_c.specs.SetReplies.{IsCoversAllReply};
 ghost use Rattle.ipnet_c.specs.SetReplies.{IsCheckReply, AreOctetsOf, HasAddressLen, AreCountsOf, IsCountsReply};
 ghost use Rattle.ipnet_c.specs.Replies.{IsYesExactlyAt};
 
-use crate::statuses::{
-    NOT_A_SET, OK, OTHER_NOT_A_SET, OUT_OF_MEMORY, PREFIX_TOO_LONG, UNKNOWN_FAMILY, WRONG_LENGTH,
-    status_of,
-};
-use ipnet::{CompactError, IpAddr, IpNet, Ipv4Addr, Ipv6Addr};
+use crate::statuses::{NOT_A_SET, OK, OTHER_NOT_A_SET, OUT_OF_MEMORY, WRONG_LENGTH, status_of};
+use ipnet::{IpAddr, IpNet, Ipv4Addr, Ipv6Addr};
 use ipnet_sets::{IpSetImage, IpSetRef};
 use std::alloc::{AllocError, Global};
 
@@ -138,63 +134,6 @@ pub extern "C" fn ipnet_set_covers(set: &[u8], network: &[u8]) -> u32
         return NOT_A_SET;
     };
     u32::from(image.covers(&network))
-}
-
-/// Returns whether `size` bytes are `count` networks in byte form of `width` bytes each, 6 or 18.
-fn are_networks(size: usize, width: usize, count: usize) -> bool
-    ensures { IsTrue result ↔ (((width ≡ 6) ⊎ (width ≡ 18)) × (size ≡ count * width)) }
-{
-    match width {
-        6 => size % 6 == 0 && size / 6 == count,
-        18 => size % 18 == 0 && size / 18 == count,
-        _ => false,
-    }
-}
-
-/// Returns what `ipnet_set_covers` returns for the image and the network in these bytes.
-fn cover_answer(image: &IpSetImage<'_>, network: &[u8]) -> u8
-    ensures { IsCoversReply image.now.bytes.now network.now result }
-{
-    match IpNet::from_bytes(network) {
-        Ok(network) => u8::from(image.covers(&network)),
-        Err(CompactError::Length) => WRONG_LENGTH as u8,
-        Err(CompactError::Variant) => UNKNOWN_FAMILY as u8,
-        Err(CompactError::Prefix) => PREFIX_TOO_LONG as u8,
-    }
-}
-
-/// Writes for each of many networks what `ipnet_set_covers` returns for it: 1 if the set, given by its image, contains
-/// every address of the network, 0 if it does not, and 6, 7 or 8 if the bytes of the network have this fault.
-///
-/// `networks` has `width` bytes for each network in byte form, 6 for IPv4 or 18 for IPv6, one after the other;
-/// `answers` gets one byte for each. Only the header of the image is tested.
-///
-/// Returns 0; 6 if the width is neither 6 nor 18, or if the number of bytes is not the width for each byte of
-/// `answers`; else 11 if the bytes of the set do not begin with the header of an image, or have another length than it
-/// states. `answers` changes only at 0.
-///
-/// ```text
-/// the image of 10.0.0.0/30, the width 6, and 0, 10, 0, 0, 2, 31, 0, 10, 0, 0, 0, 29    0, and 1, 0
-/// ```
-#[unsafe(no_mangle)]
-pub extern "C" fn ipnet_set_covers_all(
-    set: &[u8],
-    networks: &[u8],
-    width: usize,
-    answers: &mut [u8],
-) -> u32
-    ensures { IsCoversAllReply set.now networks.now width answers.old answers.new result }
-{
-    if !are_networks(networks.len(), width, answers.len()) {
-        return WRONG_LENGTH;
-    }
-    let Ok(image) = IpSetImage::from_header(set) else {
-        return NOT_A_SET;
-    };
-    for index in 0..answers.len() {
-        answers[index] = cover_answer(&image, &networks[index * width..(index + 1) * width]);
-    }
-    OK
 }
 
 /// Returns 0 if the bytes are the image of a set, and 11 if they are not. Reads all of them once.

@@ -10,7 +10,7 @@ ghost use Rattle.ipnet_text.specs.LineTexts.{text_of_lines};
 use crate::buffers::write_answer;
 use crate::lists::read_set;
 use crate::statuses::{BAD_LINE, BAD_LINE_IN_OTHER, NOT_UTF8, OTHER_NOT_UTF8, OUT_OF_MEMORY};
-use ipnet::{Grammar, IpNet};
+use ipnet::IpNet;
 use ipnet_sets::{IpSet, Operation};
 use ipnet_text::push_line;
 use ipnet_tool::ToolError;
@@ -74,7 +74,7 @@ fn combine(
     let Ok(other) = str::from_utf8(other) else {
         return OTHER_NOT_UTF8;
     };
-    let set = match read_set(alloc, text, Grammar::Strict) {
+    let set = match read_set(alloc, text) {
         Ok(set) => set,
         Err(ToolError::Line(number)) => {
             *count = number;
@@ -82,7 +82,7 @@ fn combine(
         }
         Err(ToolError::Memory) => return OUT_OF_MEMORY,
     };
-    let others = match read_set(alloc, other, Grammar::Strict) {
+    let others = match read_set(alloc, other) {
         Ok(others) => others,
         Err(ToolError::Line(number)) => {
             *count = number;

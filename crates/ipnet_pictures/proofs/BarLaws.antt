@@ -3,12 +3,13 @@ use Rattle.std.proofs.Common.{◌≡◌, ℕ, ◌+◌, ◌<◌, ◌≤◌, List,
 use Rattle.std.proofs.Common.{refl, sym, ap, ◌∙◌, subst, arith, append_assoc, append-nil}
 use Rattle.std.proofs.lemmas.List.{map_push, take_more, get_or-map, length-map}
 use Rattle.std.proofs.lemmas.List.Elements.{All-map, All-more, All-weaker}
-use Rattle.ipnet_base.specs.Address.{width}
+use Rattle.ipnet_base.specs.Address.{Address, width}
 use Rattle.ipnet_base.specs.Network.{Network}
 use Rattle.ipnet_base.proofs.BlockLaws.{own, own_in}
 use Rattle.ipnet_base.proofs.ListLaws.{all_from_members}
 use Rattle.ipnet.specs.NetworkParts.{AreSubnetsOfLength}
-use Rattle.ipnet_pictures.specs.Bars.{AreRows}
+use Rattle.ipnet_pictures.specs.declared.marks.Marks.{Marks}
+use Rattle.ipnet_pictures.specs.Bars.{IsRow, AreRows}
 
 -- a text after another, in several parts
 pub three_joined : (old t1 t2 t3 a b c : List ℕ) → t1 ≡ old ++ a → t2 ≡ t1 ++ b → t3 ≡ t2 ++ c
@@ -19,16 +20,6 @@ pub four_joined : (old t1 t2 t3 t4 a b c d : List ℕ) → t1 ≡ old ++ a → t
     → t4 ≡ old ++ (a ++ b ++ c ++ d)
 four_joined old t1 t2 t3 t4 a b c d e f g h =
     h ∙ ap (λ z. z ++ d) (g ∙ ap (λ z. z ++ c) (f ∙ ap (λ z. z ++ b) e)) ∙ simp append_assoc
-
-pub five_joined : (old t1 t2 t3 t4 t5 a b c d e : List ℕ) → t1 ≡ old ++ a → t2 ≡ t1 ++ b → t3 ≡ t2 ++ c
-    → t4 ≡ t3 ++ d → t5 ≡ t4 ++ e → t5 ≡ old ++ (a ++ b ++ c ++ d ++ e)
-five_joined old t1 t2 t3 t4 t5 a b c d e h1 h2 h3 h4 h5 =
-    h5 ∙ ap (λ z. z ++ e) (four_joined old t1 t2 t3 t4 a b c d h1 h2 h3 h4) ∙ simp append_assoc
-
-pub six_joined : (old t1 t2 t3 t4 t5 t6 a b c d e f : List ℕ) → t1 ≡ old ++ a → t2 ≡ t1 ++ b → t3 ≡ t2 ++ c
-    → t4 ≡ t3 ++ d → t5 ≡ t4 ++ e → t6 ≡ t5 ++ f → t6 ≡ old ++ (a ++ b ++ c ++ d ++ e ++ f)
-six_joined old t1 t2 t3 t4 t5 t6 a b c d e f h1 h2 h3 h4 h5 h6 =
-    h6 ∙ ap (λ z. z ++ f) (five_joined old t1 t2 t3 t4 t5 a b c d e h1 h2 h3 h4 h5) ∙ simp append_assoc
 
 pub row_joined : (old t1 t2 t3 head marks bar share end : List ℕ) → t1 ≡ old ++ head → t2 ≡ t1 ++ marks
     → t3 ≡ t2 ++ (bar ++ share ++ end) → t3 ≡ old ++ (head ++ marks ++ bar ++ share ++ end)
@@ -45,27 +36,30 @@ longest_more f xs i item old new less is so_far grown fits =
     (subst (λ z. f z ≤ new) is fits)
 
 -- the rows so far, and one more
-rows_push : (Row : Network → List ℕ → Type 0) (ns : List Network) (n : Network) (lines line : List ℕ)
-    → AreRows Row ns lines → Row n line → AreRows Row (ns ++ n ∷ []) (lines ++ line)
-rows_push Row [] n lines line h r = (line, [], r, refl, ap (λ z. z ++ line) h ∙ sym (append-nil line))
-rows_push Row (k ∷ ns) n lines line h r = (
+rows_push : (InSet : Address → Type 0) (marks : Marks) (len column : ℕ) (ns : List Network) (n : Network)
+    (lines line : List ℕ) → AreRows InSet marks len column ns lines → IsRow InSet marks len column n line
+    → AreRows InSet marks len column (ns ++ n ∷ []) (lines ++ line)
+rows_push InSet marks len column [] n lines line h r =
+    (line, [], r, refl, ap (λ z. z ++ line) h ∙ sym (append-nil line))
+rows_push InSet marks len column (k ∷ ns) n lines line h r = (
   h.0,
   h.1 ++ line,
   h.2,
-  rows_push Row ns n h.1 line h.3 r,
+  rows_push InSet marks len column ns n h.1 line h.3 r,
   ap (λ z. z ++ line) h.4 ∙ append_assoc h.0 h.1 line,
 )
 
-pub one_row_more : {X : Type 0} (network_of : X → Network) (Row : Network → List ℕ → Type 0) (rows : List X) (i : ℕ)
-    (row : X) (lines line : List ℕ) → i < length rows → row ≡ get_or rows i row
-    → AreRows Row (map network_of (take i rows)) lines → Row (network_of row) line
-    → AreRows Row (map network_of (take (i + 1) rows)) (lines ++ line)
-one_row_more network_of Row rows i row lines line less is so_far one =
+pub one_row_more : {X : Type 0} (network_of : X → Network) (InSet : Address → Type 0) (marks : Marks) (len column : ℕ)
+    (rows : List X) (i : ℕ) (row : X) (lines line : List ℕ) → i < length rows → row ≡ get_or rows i row
+    → AreRows InSet marks len column (map network_of (take i rows)) lines
+    → IsRow InSet marks len column (network_of row) line
+    → AreRows InSet marks len column (map network_of (take (i + 1) rows)) (lines ++ line)
+one_row_more network_of InSet marks len column rows i row lines line less is so_far one =
     let more : map network_of (take (i + 1) rows) ≡ map network_of (take i rows) ++ network_of row ∷ []
     = ap (map network_of) (take_more rows i row less ∙ ap (λ z. take i rows ++ z ∷ []) (sym is))
     ∙ map_push network_of (take i rows) row in
-    subst (λ z. AreRows Row z (lines ++ line)) (sym more)
-    (rows_push Row (map network_of (take i rows)) (network_of row) lines line so_far one)
+    subst (λ z. AreRows InSet marks len column z (lines ++ line)) (sym more)
+    (rows_push InSet marks len column (map network_of (take i rows)) (network_of row) lines line so_far one)
 
 -- the rows are no longer than a mark, which is no longer than an address
 contains_map : {X Y : Type 0} (f : X → Y) (xs : List X) (x : X) → Contains xs x → Contains (map f xs) (f x)

@@ -4,7 +4,4 @@ pub mod MarkLaws
 pub mod PartLaws
 pub mod SummaryLaws
 pub mod BarLaws
-pub mod OutsideLaws
-pub mod ChangeLaws
-pub mod ComparisonLaws
 pub mod FrameLaws

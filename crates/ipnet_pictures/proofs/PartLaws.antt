@@ -27,7 +27,7 @@ use Rattle.ipnet_pictures.specs.Parts.{IsInPart, HasNone, HasAll, IsLevelOf, blo
 use Rattle.ipnet_pictures.specs.Shares.{IsShare, tenths}
 
 -- two sets with the same addresses have the same count
-pub same_count : (A B : Address → Type 0) (n : ℕ) → ((x : Address) → A x ↔ B x) → IsCountOf A n → IsCountOf B n
+same_count : (A B : Address → Type 0) (n : ℕ) → ((x : Address) → A x ↔ B x) → IsCountOf A n → IsCountOf B n
 same_count A B n same h = record {
   addresses = h.addresses;
   once = h.once;
@@ -172,26 +172,14 @@ all_ipv6 s all =
     = (all_of_family s IPv6 boundaries refl s.ipv6_boundaries).1 all in
     subst (IsCountOf (IsMemberOf IPv6 s)) whole (count_of_family s IPv6 boundaries refl s.ipv6_boundaries)
 
-pub ipv6_counted : (s : IpSet) (count : Option ℕ)
-    → IsNone count ↔ ((x : Address) → IsAddress x → x.family ≡ IPv6 → IsMember s x)
-    → IfSome count (IsCountOf (IsMemberOf IPv6 s)) → IsCountOf (IsMemberOf IPv6 s) (counted count)
-ipv6_counted s None none some = all_ipv6 s (none.0 refl)
-ipv6_counted s (Some count) none some = some
-
 pub ipv6_part_counted : (s part : IpSet) (n : Network) (count : Option ℕ) → n.family ≡ IPv6
     → ((x : Address) → IsMember part x ↔ IsInPart (IsMember s) n x)
     → IsNone count ↔ ((x : Address) → IsAddress x → x.family ≡ IPv6 → IsMember part x)
     → IfSome count (IsCountOf (IsMemberOf IPv6 part)) → IsCountOf (IsInPart (IsMember s) n) (counted count)
-ipv6_part_counted s part n count of_family is_part none some =
-    part_counted s part n IPv6 (counted count) of_family is_part (ipv6_counted part count none some)
-
--- the parts of two sets with the same addresses have the same count
-pub same_part_count : (A B : Address → Type 0) (n : Network) (count : ℕ) → ((x : Address) → A x ↔ B x)
-    → IsCountOf (IsInPart A n) count → IsCountOf (IsInPart B n) count
-same_part_count A B n count same h = same_count (IsInPart A n) (IsInPart B n) count (λ x. (
-  λ i. record { in_block = i.in_block; in_set = (same x).0 i.in_set },
-  λ i. record { in_block = i.in_block; in_set = (same x).1 i.in_set },
-)) h
+ipv6_part_counted s part n None of_family is_part none some =
+    part_counted s part n IPv6 (2 ^ 128) of_family is_part (all_ipv6 part (none.0 refl))
+ipv6_part_counted s part n (Some count) of_family is_part none some =
+    part_counted s part n IPv6 count of_family is_part some
 
 -- a count of 2^128 is the size of the block
 most_bits : (f : Family) → width f ≤ 128
@@ -272,12 +260,12 @@ zip_push R [] (v ∷ vs) x y h r = absurd h
 zip_push R (u ∷ us) [] x y h r = absurd h
 zip_push R (u ∷ us) (v ∷ vs) x y h r = (h.0, zip_push R us vs x y h.1 r)
 
--- the levels of cells so far, or other values, and one more
-pub one_value_more : {X Y : Type 0} (R : Network → Y → Type 0) (network_of : X → Network) (cells : List X) (i : ℕ)
-    (cell : X) (level : Y) (levels new : List Y) → i < length cells → cell ≡ get_or cells i cell
+-- the levels so far, and one more
+pub one_level_more : {X : Type 0} (R : Network → Level → Type 0) (network_of : X → Network) (cells : List X) (i : ℕ)
+    (cell : X) (level : Level) (levels new : List Level) → i < length cells → cell ≡ get_or cells i cell
     → AllZip R (map network_of (take i cells)) levels → R (network_of cell) level → new ≡ levels ++ level ∷ []
     → AllZip R (map network_of (take (i + 1) cells)) new
-one_value_more R network_of cells i cell level levels new less is so_far one pushed =
+one_level_more R network_of cells i cell level levels new less is so_far one pushed =
     let more : map network_of (take (i + 1) cells) ≡ map network_of (take i cells) ++ network_of cell ∷ []
     = ap (map network_of) (take_more cells i cell less ∙ ap (λ z. take i cells ++ z ∷ []) (sym is))
     ∙ map_push network_of (take i cells) cell in

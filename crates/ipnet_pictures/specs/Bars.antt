@@ -9,26 +9,16 @@ use Rattle.ipnet_pictures.specs.declared.marks.Marks.{Marks}
 use Rattle.ipnet_pictures.specs.declared.share.Level.{Level}
 use Rattle.ipnet_pictures.specs.declared.marks.RowWidth.{RowWidth}
 use Rattle.ipnet_pictures.specs.MarkTexts.{mark_len, row_len, marks_text, percent_text}
-use Rattle.ipnet_pictures.specs.Outsides.{IsOutsideText}
 use Rattle.ipnet_pictures.specs.Parts.{IsInPart, AreLevelsOf, block_size}
 use Rattle.ipnet_pictures.specs.Shares.{tenths}
 use Rattle.ipnet_pictures.specs.Summaries.{IsSummary}
-
--- The rows of a bar are the subnets of the network with the length of a row, in order. Their texts are no longer than
--- the column.
-pub record AreBarRows (n : Network) (row_width : RowWidth) (rows : List Network) (column : ℕ) : Type 0 where
-  pub subnets : AreSubnetsOfLength n (row_len n row_width) rows
-  pub wide : All (λ k. length (canonical_text k) ≤ column) rows
-
--- The network, and blanks up to this column. Example: `10.20.0.0/28 |`.
-abbrev pub row_head : ℕ → Network → List ℕ
-row_head column n = canonical_text n ++ replicate (column - length (canonical_text n)) 32 ++ codes " |"
 
 -- The network, blanks up to this column, the marks between bars, and the share.
 -- Example: `10.20.0.0/28 |##..| 50.0 %`.
 abbrev pub row_text : ℕ → Network → List ℕ → ℕ → List ℕ
 row_text column n marks share =
-    row_head column n ++ marks ++ codes "| " ++ percent_text share ++ 10 ∷ []
+    canonical_text n ++ replicate (column - length (canonical_text n)) 32 ++ codes " |" ++ marks ++ codes "| "
+    ++ percent_text share ++ 10 ∷ []
 
 -- The row of this block: a mark for each of its subnets with the length of a mark, in order, by their levels; and the
 -- share of its addresses that are in the set.
@@ -40,27 +30,27 @@ pub record IsRow (InSet : Address → Type 0) (marks : Marks) (len column : ℕ)
     pub is_count : IsCountOf (IsInPart InSet n) count
     pub spelled : text ≡ row_text column n (marks_text marks levels) (tenths count (block_size n))
 
--- The rows of these blocks, in order. `Row n line` says that the line is the row of the block `n`.
-abbrev pub AreRows : (Network → List ℕ → Type 0) → List Network → List ℕ → Type 0
-AreRows Row [] text = text ≡ []
-AreRows Row (n ∷ ns) text =
-    (first : List ℕ) × (others : List ℕ) × Row n first × AreRows Row ns others × (text ≡ first ++ others)
+-- The rows of these blocks, in order.
+abbrev pub AreRows : (Address → Type 0) → Marks → ℕ → ℕ → List Network → List ℕ → Type 0
+AreRows InSet marks len column [] text = text ≡ []
+AreRows InSet marks len column (n ∷ ns) text =
+    (first : List ℕ) × (others : List ℕ) × IsRow InSet marks len column n first
+    × AreRows InSet marks len column ns others × (text ≡ first ++ others)
 
 -- The first line. Example: `10.20.0.0/16, a mark is one /25`.
 abbrev pub first_line : Network → ℕ → List ℕ
 first_line n len = canonical_text n ++ codes ", a mark is one /" ++ decimal len ++ 10 ∷ []
 
 -- The bar of a network: its first line; a row for each of its subnets with the length of a row, in order, with the
--- marks of all rows in the same columns; the lines below; and how many addresses of the set it does not show.
+-- marks of all rows in the same columns; and the lines below.
 pub record IsBar (InSet : Address → Type 0) (n : Network) (row_width : RowWidth) (marks : Marks) (text : List ℕ)
     : Type 0 where
   pub rows : List Network
+  pub are_rows : AreSubnetsOfLength n (row_len n row_width) rows
   pub column : ℕ
-  pub are_rows : AreBarRows n row_width rows column
+  pub wide : All (λ k. length (canonical_text k) ≤ column) rows
   pub lines : List ℕ
-  pub are_lines : AreRows (IsRow InSet marks (mark_len n row_width) column) rows lines
+  pub are_lines : AreRows InSet marks (mark_len n row_width) column rows lines
   pub below : List ℕ
   pub is_summary : IsSummary InSet n below
-  pub rest : List ℕ
-  pub is_rest : IsOutsideText InSet n [] rest
-  pub spelled : text ≡ first_line n (mark_len n row_width) ++ lines ++ below ++ rest
+  pub spelled : text ≡ first_line n (mark_len n row_width) ++ lines ++ below

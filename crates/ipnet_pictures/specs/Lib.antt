@@ -3,8 +3,5 @@ pub mod Shares
 pub mod MarkTexts
 pub mod Parts
 pub mod Frames
-pub mod Outsides
 pub mod Summaries
 pub mod Bars
-pub mod Changes
-pub mod ComparisonBars

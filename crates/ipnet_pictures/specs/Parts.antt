@@ -18,10 +18,6 @@ pub record IsInPart (InSet : Address → Type 0) (n : Network) (x : Address) : T
 abbrev pub HasNone : (Address → Type 0) → Network → Type 0
 HasNone InSet n = (x : Address) → InBlock n x → ¬ (InSet x)
 
--- The block has an address of the set. Example: 10.0.0.8/29 has 10.0.0.9 of 10.0.0.0 to 10.0.0.9.
-abbrev pub HasSome : (Address → Type 0) → Network → Type 0
-HasSome InSet n = (x : Address) × IsInPart InSet n x
-
 -- All addresses of the block are in the set. Example: all of 10.0.0.8/31 are in 10.0.0.0 to 10.0.0.9.
 abbrev pub HasAll : (Address → Type 0) → Network → Type 0
 HasAll InSet n = (x : Address) → InBlock n x → InSet x

@@ -5,15 +5,14 @@ ghost use Rattle.ipnet_base.specs.Address.{width};
 ghost use Rattle.ipnet.specs.NetworkOf.{ip_network};
 ghost use Rattle.ipnet.specs.CanonicalTexts.{canonical_text};
 ghost use Rattle.ipnet_sets.specs.Members.{IsMember, IsCountOf};
-ghost use Rattle.ipnet_pictures.specs.Bars.{AreBarRows, IsRow, AreRows, row_head, first_line, IsBar};
-ghost use Rattle.ipnet_pictures.specs.MarkTexts.{mark_len, percent_text};
+ghost use Rattle.ipnet_pictures.specs.Bars.{IsRow, AreRows, first_line, IsBar};
+ghost use Rattle.ipnet_pictures.specs.MarkTexts.{percent_text};
 ghost use Rattle.ipnet_pictures.specs.Parts.{IsInPart, block_size, counted};
 ghost use Rattle.ipnet_pictures.specs.Shares.{tenths};
 
 use crate::marks::{
     Marks, RowWidth, mark_len_of, push_blanks, push_marks, push_number, push_percent, row_len_of,
 };
-use crate::outside::push_outside;
 use crate::part::{count_in, host_bits_of, levels_in, subnets_of};
 use crate::share::tenths_of;
 use crate::summary::push_summary;
@@ -32,17 +31,10 @@ pub struct BarForm {
 
 /// The form that all rows of a bar share.
 #[derive(Clone, Copy)]
-pub(crate) struct RowForm {
-    pub(crate) mark_len: u8,
-    pub(crate) column: usize,
-    pub(crate) marks: Marks,
-}
-
-/// The rows of a bar, and their form.
-#[derive(Drop)]
-pub(crate) struct BarRows {
-    pub(crate) networks: Vec<IpNet>,
-    pub(crate) form: RowForm,
+struct RowForm {
+    mark_len: u8,
+    column: usize,
+    marks: Marks,
 }
 
 /// The share of a block of this size that a count is, in tenths of a per cent.
@@ -57,8 +49,10 @@ pub(crate) fn share_of(count: Option<u128>, network: &IpNet) -> u16
 }
 
 /// Appends the network and blanks up to the column.
-pub(crate) fn push_head(text: &mut String, network: &IpNet, column: usize) -> Result<(), AllocError>
-    ensures { OnOk result (string_bytes text.new ≡ string_bytes text.old ++ row_head column (ip_network network.now)) }
+fn push_head(text: &mut String, network: &IpNet, column: usize) -> Result<(), AllocError>
+    ensures { let name = canonical_text (ip_network network.now) in
+        OnOk result (string_bytes text.new
+        ≡ string_bytes text.old ++ (name ++ replicate (column - length name) 32 ++ codes " |")) }
 {
     let name = network.to_text();
     text.push_str(name.as_str())?;
@@ -128,7 +122,7 @@ fn push_rows(
     requires { All (λ n. ((ip_network n).prefix_len ≤ form.mark_len)
         × (form.mark_len ≤ width (ip_network n).family)) rows.now }
     ensures { OnOk result ((lines : List ℕ)
-        × AreRows (IsRow (IsMember set.now) form.marks form.mark_len form.column) (map ip_network rows.now) lines
+        × AreRows (IsMember set.now) form.marks form.mark_len form.column (map ip_network rows.now) lines
         × (string_bytes text.new ≡ string_bytes text.old ++ lines)) }
 {
     for row in rows {
@@ -137,32 +131,8 @@ fn push_rows(
     Ok(())
 }
 
-/// The rows of a bar of the network.
-pub(crate) fn rows_of(alloc: Global, network: &IpNet, form: BarForm) -> Result<BarRows, AllocError>
-    ensures rows { IfOk result (λ rows.
-        AreBarRows (ip_network network.now) form.row_width (map ip_network rows.networks.items) rows.form.column) }
-    ensures fit { IfOk result (λ rows. All (λ n. ((ip_network n).prefix_len ≤ rows.form.mark_len)
-        × (rows.form.mark_len ≤ width (ip_network n).family)) rows.networks.items) }
-    ensures len { IfOk result (λ rows. rows.form.mark_len ≡ mark_len (ip_network network.now) form.row_width) }
-    ensures marks { IfOk result (λ rows. rows.form.marks ≡ form.marks) }
-{
-    let mark_len = mark_len_of(network, form.row_width);
-    let networks = subnets_of(alloc, network, row_len_of(network, form.row_width))?;
-    let column = longest(networks.as_slice());
-    let form = RowForm {
-        mark_len,
-        column,
-        marks: form.marks,
-    };
-    Ok(BarRows { networks, form })
-}
-
 /// Appends the first line.
-pub(crate) fn push_first_line(
-    text: &mut String,
-    network: &IpNet,
-    mark_len: u8,
-) -> Result<(), AllocError>
+fn push_first_line(text: &mut String, network: &IpNet, mark_len: u8) -> Result<(), AllocError>
     ensures { OnOk result (string_bytes text.new
         ≡ string_bytes text.old ++ first_line (ip_network network.now) mark_len) }
 {
@@ -177,10 +147,10 @@ pub(crate) fn push_first_line(
 ///
 /// There are at most 16 rows. Each is a network, each mark is a network of one prefix length, and the share of a row is
 /// at its end. Below are the number of used addresses, the number of free blocks of each prefix length, and the first
-/// of the largest free blocks. If the set has addresses outside the network, a last line has their number.
+/// of the largest free blocks. Addresses of the set outside the network do not count.
 ///
 /// ```text
-/// of 10.0.0.0-10.0.0.9 and ::1 in 10.0.0.0/28, with 4 ASCII marks in a row:
+/// of 10.0.0.0-10.0.0.9 in 10.0.0.0/28, with 4 ASCII marks in a row:
 /// 10.0.0.0/28, a mark is one /32
 /// 10.0.0.0/30  |####| 100.0 %
 /// 10.0.0.4/30  |####| 100.0 %
@@ -189,7 +159,6 @@ pub(crate) fn push_first_line(
 /// used 10 of 16, 62.5 %
 /// free blocks: 2, 1 of /30, 1 of /31
 /// largest free: 10.0.0.12/30
-/// outside: IPv4 0, IPv6 1
 /// ```
 pub fn bar_text(
     alloc: Global,
@@ -200,11 +169,17 @@ pub fn bar_text(
     ensures { IfOk result (λ text.
         IsBar (IsMember set.now) (ip_network network.now) form.row_width form.marks (string_bytes text)) }
 {
-    let rows = rows_of(alloc, network, form)?;
+    let mark_len = mark_len_of(network, form.row_width);
+    let rows = subnets_of(alloc, network, row_len_of(network, form.row_width))?;
+    let column = longest(rows.as_slice());
+    let row_form = RowForm {
+        mark_len,
+        column,
+        marks: form.marks,
+    };
     let mut text = String::new(alloc);
-    push_first_line(&mut text, network, rows.form.mark_len)?;
-    push_rows(alloc, &mut text, set, rows.networks.as_slice(), rows.form)?;
+    push_first_line(&mut text, network, mark_len)?;
+    push_rows(alloc, &mut text, set, rows.as_slice(), row_form)?;
     push_summary(alloc, &mut text, set, network)?;
-    push_outside(alloc, &mut text, "", set, network)?;
     Ok(text)
 }

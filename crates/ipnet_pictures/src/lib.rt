@@ -2,21 +2,15 @@
 #![tactic(auto)]
 
 pub mod bar;
-pub mod change;
-pub mod comparison_bar;
 pub mod frame;
 pub mod marks;
-pub mod outside;
 pub mod part;
 pub mod share;
 pub mod summary;
 
 pub use bar::{BarForm, bar_text};
-pub use change::{Change, change_in, changes_in};
-pub use comparison_bar::comparison_bar_text;
-pub use frame::{Frame, frame_in, frame_of};
+pub use frame::frame_in;
 pub use marks::{Marks, RowWidth, mark_len_of, row_len_of};
-pub use outside::outside_of;
 pub use part::{count_in, host_bits_of, level_in, levels_in, part_in};
 pub use share::{Level, level_of, tenths_of};
 pub use summary::{free_in, largest_of};

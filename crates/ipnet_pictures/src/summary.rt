@@ -20,7 +20,7 @@ use std::alloc::{AllocError, Global};
 const ALL_IPV6: &str = "340282366920938463463374607431768211456";
 
 /// Appends the count.
-pub(crate) fn push_count(text: &mut String, count: Option<u128>) -> Result<(), AllocError>
+fn push_count(text: &mut String, count: Option<u128>) -> Result<(), AllocError>
     ensures { OnOk result (string_bytes text.new ≡ string_bytes text.old ++ decimal (counted count)) }
 {
     match count {

@@ -8,7 +8,6 @@ pub mod JoinLaws
 pub mod PushedLaws
 pub mod ManyLaws
 pub mod SetRangeLaws
-pub mod NetworkListLaws
 pub mod SetEqualLaws
 pub mod FewestRanges
 pub mod RangeEndLaws

@@ -6,8 +6,6 @@ use Rattle.std.proofs.Common.{add-one, ap₂}
 use Rattle.std.specs.List.{flat_map, insert, remove}
 use Rattle.std.proofs.lemmas.Bool.{cases_lt}
 use Rattle.std.proofs.lemmas.List.{length-append, length-map, get_or-map, map-append, take-append-drop, get_or-drop}
-use Rattle.std.proofs.lemmas.List.{get_or_default}
-use Rattle.std.specs.Vec.{with_item}
 use Rattle.std.proofs.lemmas.List.{length-set, length-drop, get_or-take, take-map, drop-map}
 use Rattle.std.proofs.lemmas.List.{length-take-le, drop_more, drop_all, set_split}
 use Rattle.std.proofs.lemmas.List.Elements.{All-append, All-cons, All-drop, All-take, All-set, All-same}
@@ -35,7 +33,7 @@ use Rattle.ipnet_sets.proofs.RouteLaws.{same_networks}
 use Rattle.ipnet_sets.proofs.RouteOrderLaws.{element_at}
 use Rattle.ipnet.specs.NetLaws.{ip_valid}
 use Rattle.ipnet_sets.proofs.ChunkLaws.{pairs_left, pairs_right, pairs_across, all_left, all_right, member_of_either}
-use Rattle.ipnet_sets.proofs.ChunkLaws.{chunk_split, read_in_chunk, set_in_chunk}
+use Rattle.ipnet_sets.proofs.ChunkLaws.{chunk_split, read_in_chunk}
 
 -- the routes of a chunk
 abbrev pub items : {V : Type 0} → Chunk V → List (IpNet × V)
@@ -663,7 +661,7 @@ same_table {V} list routes t is =
     })
 
 -- a chunk exchanged for two that have routes
-abbrev pub Filled : {V : Type 0} → Chunk V → Type 0
+abbrev Filled : {V : Type 0} → Chunk V → Type 0
 Filled chunk = 0 < length chunk.items
 
 pub filled_with : {V : Type 0} (cs new : List (Chunk V)) (i j : ℕ) (a b : Chunk V) → new ≡ insert (set cs i a) j b
@@ -686,14 +684,3 @@ pub out_cut : {V : Type 0} (list : List (IpNet × V)) (t n : Network) → IsTrun
     → (Contains (ip_networks list) t → ⊥) → Contains (networks_of (ip_routes list)) (truncation n) → ⊥
 out_cut list t n is out has =
     out (subst₂ (λ ns k. Contains ns k) (same_networks list) (sym (truncation_from_relation t n is)) has)
-
--- a value exchanged in its chunk is exchanged in the list of all routes
-pub value_set : {V : Type 0} (cs : List (Chunk V)) (i j : ℕ) (c : Chunk V) (y : IpNet × V) (w : V) → i < length cs
-    → get_or cs i c ≡ c → j < length c.items → y ≡ get_or c.items j y → (d : IpNet × V)
-    → all_of (set cs i (with_item c j (y.0, w)))
-    ≡ set (all_of cs) (position_of cs i j) ((get_or (all_of cs) (position_of cs i j) d).0, w)
-value_set cs i j c y w l at inside is d =
-    let read : y ≡ get_or (all_of cs) (position_of cs i j) d
-    = is ∙ get_or_default c.items j y d inside ∙ sym (read_in_chunk items cs i c l at j d inside) in
-    set_in_chunk items cs i c l at (with_item c j (y.0, w)) j ((get_or (all_of cs) (position_of cs i j) d).0, w) inside
-    (ap (λ z. set c.items j (z.0, w)) read)

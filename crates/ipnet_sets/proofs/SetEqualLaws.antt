@@ -96,6 +96,27 @@ same_words a b same = (
       (same_boundaries_of a b IPv6 a.ipv6_boundaries b.ipv6_boundaries same),
 )
 
+-- a set without address has none
+pub no_words : (s : IpSet) → ((x : Address) → ¬ (IsMember s x)) → (s.ipv4.items ≡ []) × (s.ipv6.items ≡ [])
+no_words s none = (
+  same_numbers s.ipv4.items [] (same_boundaries IPv4 (boundaries_of s IPv4) [] s.ipv4_boundaries (empty IPv4)
+      (outside IPv4)),
+  same_numbers s.ipv6.items [] (same_boundaries IPv6 (boundaries_of s IPv6) [] s.ipv6_boundaries (empty IPv6)
+      (outside IPv6)),
+)
+  where
+    empty : (f : Family) → AreBoundaries f []
+    empty f = record {
+      ascending = λ i j d lt l. absurd (omega (arith, l));
+      fits = λ k d l. absurd (omega (arith, l));
+    }
+
+    outside : (f : Family) (n : ℕ) → n ≤ greatest_number f → is_inside (boundaries_of s f) n ≡ false
+    outside f n le = elim (cases_Bool (is_inside (boundaries_of s f) n)) [
+      | inl e ↦ absurd (none (record { family = f; number = n }) (record { fits = fits_below f n le; inside = e }))
+      | inr e ↦ e
+    ]
+
 pub same_addresses : (a b : IpSet) → a.ipv4.items ≡ b.ipv4.items → a.ipv6.items ≡ b.ipv6.items → HaveSameAddresses a b
 same_addresses a b e g x = (
   λ m. record { fits = m.fits; inside = sym (both x.family x.number) ∙ m.inside },

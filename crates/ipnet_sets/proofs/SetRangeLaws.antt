@@ -1,20 +1,25 @@
 -- The ranges of a set that is stored by its boundaries, and their networks. `ts` are the boundaries of the family `f`;
 -- the first two of them are `s`, the first number of a range, and `u`, the number after its last one.
-use Rattle.std.proofs.Common.{◌≡◌, ℕ, suc, ◌-◌, ◌<◌, ◌≤◌, ◌⊎◌, ◌↔◌, true, false, not}
+use Rattle.std.proofs.Common.{◌≡◌, ℕ, suc, ◌+◌, ◌-◌, ◌<◌, ◌≤◌, ◌⊎◌, ◌↔◌, true, false, not}
 use Rattle.std.proofs.Common.{List, [], ◌∷◌, ◌++◌, drop, map, Contains, All, AllPairs, Any}
-use Rattle.std.proofs.Common.{refl, sym, ap, ◌∙◌, subst, arith, inl, inr, le-leb}
+use Rattle.std.proofs.Common.{refl, sym, ap, ◌∙◌, subst, arith, inl, inr, le-leb, append_assoc}
 use Rattle.std.proofs.lemmas.Bool.{cases_lt, lt-leb}
-use Rattle.std.proofs.lemmas.List.{drop-map}
+use Rattle.std.proofs.lemmas.List.{append-nil, drop-map}
 use Rattle.std.proofs.lemmas.List.Elements.{Contains-append_left, Contains-append_right, Contains-append_cases}
 use Rattle.ipnet_base.specs.Address.{Family, IPv4, IPv6, Address, greatest_number, family_index}
+use Rattle.ipnet_base.specs.Network.{Network}
+use Rattle.ipnet_base.specs.Blocks.{AreMaximalBlocks, IsInEither, AreSeparated}
 use Rattle.ipnet_base.specs.Ranges.{AddressRange}
-use Rattle.ipnet_base.proofs.ListLaws.{contains_nil, contains_here, contains_cases, any_from_contains}
-use Rattle.ipnet_base.proofs.ListLaws.{pairs_cons, all_from_members, pairs_append}
+use Rattle.ipnet_base.proofs.ListLaws.{contains_nil, contains_here, contains_cases, any_from_contains, pairs_head}
+use Rattle.ipnet_base.proofs.ListLaws.{pairs_tail, pairs_cons, all_from_members, pairs_append}
+use Rattle.ipnet_base.proofs.SeparationLaws.{AreMaximalBlocks-append}
+use Rattle.ipnet_base.proofs.UniqueLaws.{AreMaximalBlocks-same_set, AreMaximalBlocks-nil}
 use Rattle.ipnet_sets.specs.declared.set.IpSet.{IpSet}
 use Rattle.ipnet_sets.specs.Boundaries.{is_inside, AreBoundaries}
 use Rattle.ipnet_sets.specs.Members.{boundaries_of, IsMember}
 use Rattle.ipnet_sets.specs.SetRanges.{range_of, IsInRange, LiesApart, AreRangesOf}
 use Rattle.ipnet_sets.specs.BoundaryRanges.{IsInBoundaries, ranges_of}
+use Rattle.ipnet_sets.specs.BoundaryRanges.{AreBlocksOfRanges, HasBlocksAdded}
 use Rattle.ipnet_sets.proofs.InsideLaws.{not_twice, inside_before}
 use Rattle.ipnet_sets.proofs.MemberLaws.{fits_below, fits_to}
 
@@ -240,6 +245,104 @@ drop_boundaries : (f : Family) (ts : List ℕ) → AreBoundaries f ts → AreBou
 drop_boundaries f [] h = h
 drop_boundaries f (t ∷ []) h = tail_boundaries f t [] h
 drop_boundaries f (t ∷ u ∷ ts) h = tail_boundaries f u ts (tail_boundaries f t (u ∷ ts) h)
+
+-- the maximal blocks of separated ranges are the blocks of the first, then the blocks of the next, and so on
+blocks_by_ranges : (ranges : List AddressRange) (networks : List Network) → AllPairs LiesApart ranges
+    → AreBlocksOfRanges ranges networks → AreMaximalBlocks (IsInRanges ranges) 0 networks
+blocks_by_ranges [] networks apart e = subst (AreMaximalBlocks (IsInRanges []) 0) (sym e)
+    (AreMaximalBlocks-nil (IsInRanges []) 0 (λ x a. contains_nil a.1 (a.0, a.2, a.3)))
+blocks_by_ranges (r ∷ rs) networks apart (front, rest, h, k, e) =
+    subst (AreMaximalBlocks (IsInRanges (r ∷ rs)) 0) (sym e)
+    (AreMaximalBlocks-same_set (IsInEither (IsInRange r) (IsInRanges rs)) (IsInRanges (r ∷ rs)) 0 (front ++ rest)
+    (λ x. (
+      elim [ inl b ↦ any_here (λ q. IsInRange q x) r rs b | inr a ↦ any_there (λ q. IsInRange q x) r rs a ],
+      any_cases (λ q. IsInRange q x) r rs,
+    ))
+    (AreMaximalBlocks-append (IsInRange r) (IsInRanges rs) 0 separated front rest h
+    (blocks_by_ranges rs rest (pairs_tail LiesApart r rs apart) k)))
+  where
+    after : (x : Address) (a : IsInRanges rs x) → LiesApart r a.1
+    after x a = pairs_head LiesApart r rs apart a.1 (a.0, a.2, a.3)
+
+    separated : AreSeparated (IsInRange r) (IsInRanges rs)
+    separated = record {
+      before = λ x y b a. elim (after y a) [
+        | inl lt ↦ inl (omega (arith, lt, ap family_index b.of_family, ap family_index a.4.of_family))
+        | inr lt ↦ inr (b.of_family ∙ lt.0 ∙ sym a.4.of_family, omega (arith, lt.1, b.to_end, a.4.from_start))
+      ];
+      gap = λ x y b a same. (
+        record { family = x.family; number = r.end + 1 },
+        refl,
+        omega (arith, b.to_end),
+        elim (after y a) [
+          | inl lt ↦ absurd (omega (
+            arith,
+            lt,
+            ap family_index b.of_family,
+            ap family_index a.4.of_family,
+            ap family_index same,
+          ))
+          | inr lt ↦ omega (arith, lt.1, a.4.from_start)
+        ],
+        elim [
+          | inl c ↦ omega (arith, c.to_end)
+          | inr c ↦ elim (after (record { family = x.family; number = r.end + 1 }) c) [
+            | inl lt ↦ omega (arith, lt, ap family_index b.of_family, ap family_index c.4.of_family)
+            | inr lt ↦ omega (arith, lt.1, c.4.from_start)
+          ]
+        ],
+      );
+    }
+
+blocks_append : (first second : List AddressRange) (xs ys : List Network) → AreBlocksOfRanges first xs
+    → AreBlocksOfRanges second ys → AreBlocksOfRanges (first ++ second) (xs ++ ys)
+blocks_append [] second xs ys e k = subst (λ z. AreBlocksOfRanges second (z ++ ys)) (sym e) k
+blocks_append (r ∷ rs) second xs ys (front, rest, h, g, e) k =
+    (front, rest ++ ys, h, blocks_append rs second rest ys g k, ap (λ z. z ++ ys) e ∙ append_assoc front rest ys)
+
+-- the networks of a set are the networks of its ranges
+blocks_of_set : (s : IpSet) (ranges : List AddressRange) (networks : List Network)
+    → AreRangesOf (IsMember s) ranges → AreBlocksOfRanges ranges networks → AreMaximalBlocks (IsMember s) 0 networks
+blocks_of_set s ranges networks h k =
+    AreMaximalBlocks-same_set (IsInRanges ranges) (IsMember s) 0 networks (λ x. ((h.members x).1, (h.members x).0))
+    (blocks_by_ranges ranges networks h.apart k)
+
+-- The networks pushed so far, followed by the networks of the ranges that are left, are the networks of all ranges.
+pub record IsPushing (all left : List AddressRange) (old now : List Network) : Type 0 where
+  pub front : List Network
+  pub now_is : now ≡ old ++ front
+  pub done : (rest : List Network) → AreBlocksOfRanges left rest → AreBlocksOfRanges all (front ++ rest)
+
+pub pushing_more : (all left later : List AddressRange) (r : AddressRange) (old now new blocks : List Network)
+    → left ≡ r ∷ later → AreMaximalBlocks (IsInRange r) 0 blocks → new ≡ now ++ blocks → IsPushing all left old now
+    → IsPushing all later old new
+pushing_more all left later r old now new blocks e m pushed p = record {
+  front = p.front ++ blocks;
+  now_is = pushed ∙ ap (λ z. z ++ blocks) p.now_is ∙ append_assoc old p.front blocks;
+  done = λ rest h. subst (AreBlocksOfRanges all) (sym (append_assoc p.front blocks rest))
+      (p.done (blocks ++ rest) (subst (λ z. AreBlocksOfRanges z (blocks ++ rest)) (sym e)
+      (blocks, rest, m, h, refl)));
+}
+
+pub pushing_end : (all left : List AddressRange) (old now : List Network) → left ≡ [] → IsPushing all left old now
+    → HasBlocksAdded all old now
+pushing_end all left old now e p = (
+  p.front,
+  subst (AreBlocksOfRanges all) (append-nil p.front)
+      (p.done [] (subst (λ z. AreBlocksOfRanges z []) (sym e) refl)),
+  p.now_is,
+)
+
+-- the networks of one family, followed by the networks of the other
+pub networks_of_set : (s : IpSet) (ipv4 ipv6 : List ℕ) (start middle end : List Network) → boundaries_of s IPv4 ≡ ipv4
+    → boundaries_of s IPv6 ≡ ipv6 → AreBoundaries IPv4 ipv4 → AreBoundaries IPv6 ipv6 → start ≡ []
+    → HasBlocksAdded (ranges_of IPv4 ipv4) start middle → HasBlocksAdded (ranges_of IPv6 ipv6) middle end
+    → AreMaximalBlocks (IsMember s) 0 end
+networks_of_set s ipv4 ipv6 start middle end e g h k none (xs, first, is_first) (ys, second, is_second) =
+    subst (AreMaximalBlocks (IsMember s) 0)
+    (sym (is_second ∙ ap (λ z. z ++ ys) (is_first ∙ ap (λ z. z ++ xs) none)))
+    (blocks_of_set s (ranges_of IPv4 ipv4 ++ ranges_of IPv6 ipv6) (xs ++ ys) (ranges_of_set s ipv4 ipv6 e g h k)
+    (blocks_append (ranges_of IPv4 ipv4) (ranges_of IPv6 ipv6) xs ys first second))
 
 -- the boundaries after the first range, as they are read from words
 pub boundaries_after : {X : Type 0} (number : X → ℕ) (f : Family) (xs left : List X) → left ≡ drop 2 xs

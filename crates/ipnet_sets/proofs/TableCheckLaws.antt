@@ -1,13 +1,14 @@
 -- The test of an image of a table: one stored route more, and what a refused route shows.
 use Rattle.std.proofs.Common.{◌≡◌, ℕ, zero, suc, ◌+◌, ◌-◌, ◌*◌, ◌<◌, ◌≤◌, List, [], ◌∷◌, ◌++◌, length, get_or, Contains}
 use Rattle.std.proofs.Common.{All, Option, Some, None, refl, sym, ap, ◌∙◌, subst, subst₂, arith, inl, inr}
-use Rattle.std.proofs.lemmas.Bool.{cases_lt}
+use Rattle.std.proofs.lemmas.Bool.{cases_lt, cases_order}
 use Rattle.std.proofs.lemmas.List.{length_push, get_or_push, get_or_append_left, map-append, length-map}
 use Rattle.std.proofs.lemmas.List.Elements.{All-push}
 use Rattle.std.proofs.lemmas.List.Quantifiers.{all_pairs_push}
 use Rattle.ipnet_base.specs.Address.{Family, IPv4, IPv6, family_index, width}
 use Rattle.ipnet_base.specs.Blocks.{IsAscending}
 use Rattle.ipnet_base.specs.Network.{Network, IsNetwork, IsTruncated, IsBefore}
+use Rattle.ipnet_base.specs.Stack.{IsBeforeOrEqual}
 use Rattle.ipnet_base.proofs.ListLaws.{contains_nil, contains_at, pair_at, one_place, at_place}
 use Rattle.ipnet_base.proofs.NetworkLaws.{same_network}
 use Rattle.ipnet_base.proofs.OrderLaws.{IsBefore-transitive}
@@ -18,7 +19,7 @@ use Rattle.ipnet_sets.specs.Images.{number_from}
 use Rattle.ipnet_sets.specs.Routes.{Route, networks_of}
 use Rattle.ipnet_sets.specs.RouteSteps.{IsNearest}
 use Rattle.ipnet_sets.specs.TableImages.{IsNetworkAt, IsRouteAt, AreRoutesIn}
-use Rattle.ipnet_sets.proofs.TableImageLaws.{IsFound, stored_route, same_some}
+use Rattle.ipnet_sets.proofs.TableImageLaws.{IsStored, IsFound, stored_route, same_some}
 
 -- one kind is of one family and length
 kind_once : (f g : Family) (l m kind : ℕ) → l ≤ width f → m ≤ width g → kind ≡ family_index f * 256 + l

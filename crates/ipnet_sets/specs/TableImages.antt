@@ -12,7 +12,7 @@
 --
 -- The link is one more than the index of the smallest network that encloses the network, or 0. The index shortens a
 -- search, and no answer depends on it.
-use Rattle.std.specs.Prelude.{◌≡◌, ℕ, ◌+◌, ◌*◌, ◌≤◌, List, ◌++◌, length, get_or, Contains, All}
+use Rattle.std.specs.Prelude.{◌≡◌, ℕ, ◌+◌, ◌*◌, ◌<◌, ◌≤◌, List, ◌++◌, length, get_or, Contains, All}
 use Rattle.ipnet_base.specs.Address.{family_index}
 use Rattle.ipnet_base.specs.Network.{Network, IsNetwork, IsTruncated}
 use Rattle.ipnet_base.specs.Blocks.{IsAscending}

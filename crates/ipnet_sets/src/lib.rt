@@ -9,7 +9,6 @@ pub mod operation;
 pub mod route_map;
 pub mod routes;
 pub mod set;
-pub mod set_networks;
 pub mod set_ranges;
 
 pub use image::{ImageError, IpSetImage, IpSetRef};
@@ -19,5 +18,4 @@ pub use routes::RouteTable;
 pub use routes::image::{RouteTableImage, RouteTableRef};
 pub use set::IpSet;
 pub use set::builder::IpSetBuilder;
-pub use set_networks::IpSetNetworks;
 pub use set_ranges::IpSetRanges;

@@ -2,10 +2,15 @@
 ghost use Rattle.std.specs.Prelude.{◌≡◌, ℕ, ◌+◌, ◌<◌, ◌≤◌, ◌↔◌, IsTrue, IsPermutation};
 ghost use Rattle.std.specs.List.Sorted.{IsNonDecreasingBy};
 ghost use Rattle.ipnet_base.specs.Address.{Family, IPv4, IPv6, greatest_number, ip_address};
+ghost use Rattle.ipnet_base.specs.Blocks.{AreMaximalBlocks};
 ghost use Rattle.ipnet_base.specs.RangeOf.{ip_range};
-ghost use Rattle.ipnet_sets.specs.SetRanges.{range_of};
+ghost use Rattle.ipnet.specs.SubnetsLeft.{ip_subnets_left};
+ghost use Rattle.ipnet_sets.specs.SetRanges.{range_of, IsInRange};
 
-use ipnet::{IpAddr, IpAddrRange, Ipv4Addr, Ipv4AddrRange, Ipv6Addr, Ipv6AddrRange};
+use ipnet::{
+    IpAddr, IpAddrRange, IpSubnets, Ipv4Addr, Ipv4AddrRange, Ipv4Subnets, Ipv6Addr, Ipv6AddrRange,
+    Ipv6Subnets,
+};
 
 /// The numbers from a first to a last one.
 #[derive(Clone, Copy)]
@@ -61,6 +66,11 @@ pub(crate) trait Number: Copy {
     fn range_to(self, last: Self) -> IpAddrRange
         ensures { ip_range result ≡ range_of family (number self) (number last) };
 
+    /// The walk over that range, by the fewest networks.
+    fn walk_to(self, last: Self) -> IpSubnets
+        ensures { AreMaximalBlocks (IsInRange (range_of family (number self) (number last))) 0
+            (ip_subnets_left result) };
+
     /// Sorts the ranges by their first numbers.
     fn sort(ranges: &mut Vec<NumberRange<Self>>)
         ensures same { IsPermutation ranges.old.items ranges.new.items }
@@ -108,6 +118,12 @@ impl Number for u32 {
         IpAddrRange::V4(Ipv4AddrRange::new(start, end))
     }
 
+    fn walk_to(self, last: u32) -> IpSubnets {
+        let start = Ipv4Addr::from_bits(self);
+        let end = Ipv4Addr::from_bits(last);
+        IpSubnets::V4(Ipv4Subnets::new(start, end, 0))
+    }
+
     fn sort(ranges: &mut Vec<NumberRange<u32>>) {
         ranges.sort_unstable_by_key(|range| range.first);
     }
@@ -152,6 +168,12 @@ impl Number for u128 {
         let start = Ipv6Addr::from_bits(self);
         let end = Ipv6Addr::from_bits(last);
         IpAddrRange::V6(Ipv6AddrRange::new(start, end))
+    }
+
+    fn walk_to(self, last: u128) -> IpSubnets {
+        let start = Ipv6Addr::from_bits(self);
+        let end = Ipv6Addr::from_bits(last);
+        IpSubnets::V6(Ipv6Subnets::new(start, end, 0))
     }
 
     fn sort(ranges: &mut Vec<NumberRange<u128>>) {

@@ -1,7 +1,6 @@
 //! Maps of routes: tables that can be changed, with the longest match for an address.
 ghost use Rattle.std.specs.Prelude.{◌≡◌, ◌<◌, ◌↔◌, length, [], IsTrue, IsOk, IfOk, OnOk, OnErr, IsNone, IfSome, All};
 ghost use Rattle.std.specs.Prelude.{Contains};
-ghost use Rattle.std.specs.Borrow.{sem};
 ghost use Rattle.ipnet_base.specs.Address.{ip_address};
 ghost use Rattle.ipnet_base.specs.Network.{Network, IsSubnetOf, IsTruncated, truncation};
 ghost use Rattle.ipnet_base.specs.Blocks.{IsCoveredBy, IsAscending};
@@ -83,7 +82,6 @@ impl<V> RouteMap<V> {
     ghost use Rattle.ipnet_sets.specs.RoutesOf.{routes_of};
     ghost use Rattle.ipnet_sets.specs.RouteMapsOf.{map_routes};
     ghost use Rattle.ipnet_sets.specs.RouteMapsLeft.{routes_left, map_matches_left};
-    ghost use Rattle.ipnet_sets.specs.RouteLends.{LendsMapValue};
 
     /// Returns the map without routes. Allocates nothing.
     pub fn new(alloc: Global) -> RouteMap<V>
@@ -232,31 +230,6 @@ impl<V> RouteMap<V> {
             return None;
         }
         Some(&route.1)
-    }
-
-    /// Returns a reference to the value of the network, to change it; `None` if the map does not have the network.
-    /// Host bits do not matter, and nothing but this value can change. Allocates nothing, and takes as long as `get`.
-    ///
-    /// ```text
-    /// of 10.0.0.0/8 with 1 and 11.0.0.0/8 with 2, if 3 is written for 10.0.0.7/8: 10.0.0.0/8 with 3 and 11.0.0.0/8
-    /// with 2
-    /// ```
-    pub fn get_mut(&mut self, network: &IpNet) -> Option<&mut V>
-        ensures* writes_back { sem 𝓛 (LendsMapValue V.row self.entry (ip_network network.now) result) }
-        ensures none { IsNone result
-            ↔ ¬ (Contains (networks_of (map_routes self.old)) (truncation (ip_network network.now))) }
-        ensures some { IfSome result (λ value.
-            Contains (map_routes self.old) (truncation (ip_network network.now), value.now)) }
-    {
-        let network = network.trunc();
-        let chunks = self.chunks.as_slice();
-        let bucket = self.index.bucket(&network, chunks.len());
-        let place = chunks::place_after_all(chunks, bucket, &network);
-        if !chunks::is_behind(chunks, place, &network) {
-            return None;
-        }
-        let place = place.before();
-        Some(&mut self.chunks[place.chunk][place.index].1)
     }
 
     /// The route of the longest network that holds the address, or `None` if no network of the map holds it.

@@ -1,7 +1,6 @@
 //! Route tables: networks with a value each, and the longest network that contains an address.
 ghost use Rattle.std.specs.Prelude.{◌≡◌, ℕ, ◌<◌, ◌≤◌, ◌↔◌, IsTrue, [], length, IsOk, IfOk, OnOk, IsNone, IfSome};
 ghost use Rattle.std.specs.Prelude.{All, Any, Contains, IsPermutation, take, drop, ◌-◌, ◌^◌};
-ghost use Rattle.std.specs.Borrow.{sem};
 ghost use Rattle.std.specs.Slice.Iter.{iter_rest};
 ghost use Rattle.std.specs.Iterator.Adapters.{IterYieldsInOrder};
 ghost use Rattle.ipnet_base.specs.Address.{ip_address};
@@ -217,7 +216,6 @@ fn change_values<V: Drop, W: Drop, F: Fn(V) -> W + Drop>(
 impl<V> RouteTable<V> {
     ghost use Rattle.ipnet_sets.specs.RoutesOf.{routes_of};
     ghost use Rattle.ipnet_sets.specs.MatchesLeft.{matches_left};
-    ghost use Rattle.ipnet_sets.specs.RouteLends.{LendsValue};
 
     /// Returns the table of the routes, in any order. Networks are equal if they are equal without their host bits; if
     /// one is given twice, the last value counts, and the others are dropped. Fails only if memory runs out; an empty
@@ -264,7 +262,7 @@ impl<V> RouteTable<V> {
 
     /// Returns the routes of the table, as `routes` lists them, with their values. Allocates nothing.
     ///
-    /// `get_mut` changes a value in its place. To change the networks, take the routes out, and make a new table.
+    /// To change a table, take its routes out, change them, and make a new table of them.
     ///
     /// ```text
     /// the table of 10.1.0.0/16 with 2 and 10.0.0.0/8 with 1: 10.0.0.0/8 with 1, 10.1.0.0/16 with 2
@@ -319,32 +317,6 @@ impl<V> RouteTable<V> {
             return None;
         }
         Some(&route.1)
-    }
-
-    /// Returns a reference to the value of the network, to change it; `None` if the table does not have the network.
-    /// Host bits do not matter, and nothing but this value can change. Allocates nothing, and takes as long as `get`.
-    ///
-    /// ```text
-    /// of 10.0.0.0/8 with 1 and 11.0.0.0/8 with 2, if 3 is written for 10.0.0.7/8: 10.0.0.0/8 with 3 and 11.0.0.0/8
-    /// with 2
-    /// ```
-    pub fn get_mut(&mut self, network: &IpNet) -> Option<&mut V>
-        ensures* writes_back { sem 𝓛 (LendsValue V.row self.entry (ip_network network.now) result) }
-        ensures none { IsNone result
-            ↔ ¬ (Contains (networks_of (routes_of self.old)) (truncation (ip_network network.now))) }
-        ensures some { IfSome result (λ value.
-            Contains (routes_of self.old) (truncation (ip_network network.now), value.now)) }
-    {
-        let network = network.trunc();
-        let bucket = self.index.bucket(&network, self.routes.len());
-        let place = place_after(self.routes.as_slice(), bucket, &network);
-        if place == 0 {
-            return None;
-        }
-        if !is_same(&self.routes[place - 1].0, &network) {
-            return None;
-        }
-        Some(&mut self.routes[place - 1].1)
     }
 
     /// Returns the route of the longest network that contains the address, or `None` if no network of the table does.

@@ -4,15 +4,16 @@ ghost use Rattle.ipnet_base.specs.Address.{IPv4, IPv6, Address, IsAddress, ip_ad
 ghost use Rattle.ipnet_base.specs.Network.{InBlock};
 ghost use Rattle.ipnet_base.specs.Blocks.{AreMaximalBlocks};
 ghost use Rattle.ipnet.specs.NetworkOf.{ip_network};
+ghost use Rattle.ipnet.specs.SubnetsLeft.{ip_subnets_left};
 ghost use Rattle.ipnet_sets.specs.SetRanges.{AreRangesOf, AreFewestRangesOf};
+ghost use Rattle.ipnet_sets.specs.BoundaryRanges.{ranges_of, HasBlocksAdded};
 ghost use Rattle.ipnet_sets.specs.Boundaries.{AreBoundaries, combined};
 
 use crate::number::Number;
 use crate::operation::Operation;
-use crate::set_networks::{IpSetNetworks, empty_walk};
 use crate::set_ranges::IpSetRanges;
 use crate::{boundaries, gather};
-use ipnet::{IpAddr, IpAddrRange, IpNet};
+use ipnet::{IpAddr, IpAddrRange, IpNet, IpSubnets};
 use std::alloc::{AllocError, Global};
 use std::fmt;
 
@@ -38,8 +39,33 @@ pub struct IpSet {
     ghost ipv6_boundaries: { AreBoundaries IPv6 (map (λ n. n) ipv6.items) },
 }
 
+/// Appends the networks of the ranges between the boundaries to the list.
+fn push_networks<T: Number>(networks: &mut Vec<IpNet>, boundaries: &[T]) -> Result<(), AllocError>
+    requires { AreBoundaries T.family (map T.number boundaries.now) }
+    ensures empty { boundaries.now ≡ [] → IsOk result }
+    ensures blocks { OnOk result (HasBlocksAdded (ranges_of T.family (map T.number boundaries.now))
+        (map ip_network networks.old.items) (map ip_network networks.new.items)) }
+{
+    let mut left = boundaries;
+    while let Some(range) = boundaries::first_range(left) {
+        push_walk(networks, range.first.walk_to(range.last))?;
+        left = boundaries::after_first_range(left);
+    }
+    Ok(())
+}
+
+/// Appends the networks of the walk to the list.
+fn push_walk(networks: &mut Vec<IpNet>, walk: IpSubnets) -> Result<(), AllocError>
+    ensures { OnOk result (map ip_network networks.new.items
+        ≡ map ip_network networks.old.items ++ ip_subnets_left walk) }
+{
+    for network in walk {
+        networks.push(network)?;
+    }
+    Ok(())
+}
+
 impl IpSet {
-    ghost use Rattle.ipnet_sets.specs.NetworksLeft.{networks_left};
     ghost use Rattle.ipnet_sets.specs.RangesLeft.{ranges_left};
     ghost use Rattle.ipnet_sets.specs.Members.{is_member, IsMember, IsMemberOf, IsCountOf, HasFamily};
     ghost use Rattle.ipnet_sets.specs.Members.{HasNoMoreRanges, HasOneMoreRange};
@@ -325,22 +351,6 @@ impl IpSet {
         }
     }
 
-    /// Returns the fewest networks that contain exactly the addresses of the set, one after the other, without host
-    /// bits, IPv4 before IPv6 and ascending. They are the networks of `networks`. Allocates nothing.
-    ///
-    /// ```text
-    /// of 10.0.0.0 to 10.0.0.5: 10.0.0.0/30, then 10.0.0.4/31
-    /// ```
-    pub fn iter_networks(&self) -> IpSetNetworks<'_>
-        ensures { AreMaximalBlocks (IsMember self.now) 0 (networks_left result) }
-    {
-        let ranges = self.ranges();
-        IpSetNetworks {
-            walk: empty_walk(),
-            ranges,
-        }
-    }
-
     /// Returns the fewest networks that contain exactly the addresses of the set, without host bits, in order. They are
     /// the maximal blocks of the set. Sets with the same addresses have the same networks, and the networks of a set
     /// made from a list are the aggregate of the list. Fails only if memory runs out, and never for the empty set.
@@ -353,9 +363,8 @@ impl IpSet {
         ensures blocks { IfOk result (λ list. AreMaximalBlocks (IsMember self.now) 0 (map ip_network list.items)) }
     {
         let mut networks = Vec::new(alloc);
-        for network in self.iter_networks() {
-            networks.push(network)?;
-        }
+        push_networks(&mut networks, self.ipv4.as_slice())?;
+        push_networks(&mut networks, self.ipv6.as_slice())?;
         Ok(networks)
     }
 
@@ -440,7 +449,6 @@ impl<'a> IntoIterator for &'a IpSet {
 
     type IntoIter = IpSetRanges<'a>;
 
-    ghost use Rattle.ipnet_sets.specs.NetworksLeft.{networks_left};
     ghost use Rattle.ipnet_sets.specs.RangesLeft.{ranges_left};
     ghost use Rattle.ipnet_sets.specs.Members.{IsMember};
 

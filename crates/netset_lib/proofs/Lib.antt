@@ -8,6 +8,7 @@ pub mod ListLines
 pub mod FrontEntries
 pub mod PlainLines
 pub mod CauseTexts
+pub mod CauseOrder
 pub mod LengthTexts
 pub mod PlanLaws
 pub mod ChangeLaws
@@ -28,6 +29,7 @@ pub mod EntryAnswerLaws
 pub mod AnsweringLaws
 pub mod SessionLaws
 pub mod StreamLaws
+pub mod StreamParts
 pub mod CommentLaws
 pub mod RuleLaws
 pub mod RuleAnswerLaws

@@ -5,7 +5,7 @@ ghost use Rattle.std.specs.Io.KnownBytes.{Appends, Keeps};
 ghost use Rattle.netset_lib.specs.Replies.{IsOutcome};
 ghost use Rattle.netset_lib.specs.Runs.{IsAnswered, IsCutShort};
 ghost use Rattle.netset_lib.specs.Sessions.{WereRead};
-ghost use Rattle.netset_lib.specs.Streams.{IsWorkStreamed};
+ghost use Rattle.netset_lib.specs.Streams.{IsWorkStreamed, IsWorkStreamedInPart};
 ghost use Rattle.netset_lib.specs.declared.command.Work.{Work};
 
 use crate::answer::{Answer, Failure};
@@ -102,6 +102,10 @@ pub fn run_stream<R: Read, W: Write, X: Write>(
         → ((s : Streamed) × (s.refused ≡ 0) × (s.succeeded ≡ (result == 0))
         × IsWorkStreamed work lists (R.remaining input.old) (R.remaining input.new)
         (W.contents out.old) (W.contents out.new) s) }
+    ensures cut_short { result ≡ 2 → (work : Work) → (lists : List (List ℕ)) → WereRead work lists session
+        → Keeps (W.contents out.old) (W.contents out.new)
+        ⊎ IsWorkStreamedInPart work lists (R.remaining input.old) (W.contents out.old) (W.contents out.new) }
+    ensures faultless { result ≤ 1 → Keeps (X.contents faults.old) (X.contents faults.new) }
 {
     match session.stream(names, input, out, faults) {
         Ok(streamed) => stream_status(streamed),
@@ -172,14 +176,19 @@ fn report_lines<X: Write>(faults: &mut X, names: &[&str], lines: &RefusedLines) 
 }
 
 /// Reports the refused lines as `report_lines` does. `before` is how many of them are reported already, first of those
-/// that are kept, and then of all.
+/// that are kept, and then of all. Nothing is printed if these are all.
 pub(crate) fn report_since<X: Write>(
     faults: &mut X,
     names: &[&str],
     lines: &RefusedLines,
     before: (usize, usize),
-) -> io::Result<()> {
+) -> io::Result<()>
+    ensures { lines.now.count ≡ before.1 → Keeps (X.contents faults.old) (X.contents faults.new) }
+{
     let (shown, count) = before;
+    if lines.count == count {
+        return Ok(());
+    }
     for index in shown..lines.shown.len() {
         report_line(faults, names, &lines.shown[index])?;
     }

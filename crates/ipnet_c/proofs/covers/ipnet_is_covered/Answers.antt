@@ -39,8 +39,8 @@ returns c =
     let faults : TellsFaults c.args.network.now (Ok c.in-Ok.network) =
     record { length = read.length; variant = read.variant; prefix = read.prefix } in
     let set = c.in-Ok-read_set.set in
-    let h : HasAddressesOfText Strict c.args.text.now set =
-    subst (λ t. HasAddressesOfText Strict t set) same c.in-Ok-read_set.ensures.addresses in
+    let h : HasAddressesOfText c.args.text.now set =
+    subst (λ t. HasAddressesOfText t set) same c.in-Ok-read_set.ensures.addresses in
     told_whether_covered c.args.text.now c.args.network.now c.args.covered.now c.from.result c.args.line.now h.networks
     net c.covers.result faults
     (record { network = ip_valid net; bytes_are = (read.ok net).0 refl }) utf8 h.written (

@@ -36,8 +36,8 @@ pub returns-in-Err-Line-read_set : goal.returns-in-Err-Line-read_set
 returns-in-Err-Line-read_set c =
     let (same, utf8) = c.in-Ok.ensures.cases in
     let (same_other, utf8_other) = c.in-Ok-from_utf8.ensures.cases in
-    let h : HasAddressesOfText Strict c.args.text.now c.in-Ok-read_set.set =
-    subst (λ t. HasAddressesOfText Strict t c.in-Ok-read_set.set) same c.in-Ok-read_set.ensures.addresses in
+    let h : HasAddressesOfText c.args.text.now c.in-Ok-read_set.set =
+    subst (λ t. HasAddressesOfText t c.in-Ok-read_set.set) same c.in-Ok-read_set.ensures.addresses in
     let told = c.in-Err-Line-read_set in
     subst (λ number. IsSameAddressesReply c.args.text.now c.args.other.now c.args.same.now c.args.same.now
     c.args.line.now number 9) (sym told.number-is)
@@ -50,8 +50,8 @@ pub returns-in-Err-Memory-read_set : goal.returns-in-Err-Memory-read_set
 returns-in-Err-Memory-read_set c =
     let (same, utf8) = c.in-Ok.ensures.cases in
     let (same_other, utf8_other) = c.in-Ok-from_utf8.ensures.cases in
-    let h : HasAddressesOfText Strict c.args.text.now c.in-Ok-read_set.set =
-    subst (λ t. HasAddressesOfText Strict t c.in-Ok-read_set.set) same c.in-Ok-read_set.ensures.addresses in
+    let h : HasAddressesOfText c.args.text.now c.in-Ok-read_set.set =
+    subst (λ t. HasAddressesOfText t c.in-Ok-read_set.set) same c.in-Ok-read_set.ensures.addresses in
     let good : IsGoodAtOnce Strict c.in-Ok-from_utf8.other.now =
     λ number at. let clash = c.in-Err-Memory-read_set.ensures.bad_at_once number at in absurd cc in
     not_compared c.args.text.now c.args.other.now c.args.same.now c.args.line.now utf8 utf8_other
@@ -64,11 +64,10 @@ pub returns : goal.returns
 returns c =
     let (same, utf8) = c.in-Ok.ensures.cases in
     let (same_other, utf8_other) = c.in-Ok-from_utf8.ensures.cases in
-    let h : HasAddressesOfText Strict c.args.text.now c.in-Ok-read_set.set =
-    subst (λ t. HasAddressesOfText Strict t c.in-Ok-read_set.set) same c.in-Ok-read_set.ensures.addresses in
-    let k : HasAddressesOfText Strict c.args.other.now c.in-Ok-read_set-2.others =
-    subst (λ t. HasAddressesOfText Strict t c.in-Ok-read_set-2.others) same_other
-    c.in-Ok-read_set-2.ensures.addresses in
+    let h : HasAddressesOfText c.args.text.now c.in-Ok-read_set.set =
+    subst (λ t. HasAddressesOfText t c.in-Ok-read_set.set) same c.in-Ok-read_set.ensures.addresses in
+    let k : HasAddressesOfText c.args.other.now c.in-Ok-read_set-2.others =
+    subst (λ t. HasAddressesOfText t c.in-Ok-read_set-2.others) same_other c.in-Ok-read_set-2.ensures.addresses in
     let set = c.in-Ok-read_set.set in
     let others = c.in-Ok-read_set-2.others in
     let equal : IsTrue c.eq.result ↔ HaveSameAddresses set others =

@@ -16,7 +16,7 @@ pub returns-then-taken-clause-addresses : goal.returns-then-taken-clause-address
 returns-then-taken-clause-addresses c =
     let (networks, written, made) = c.in_ok-push_lines.ensures.networks in
     let taken = made [] (none_taken c.new.result true c.new.ensures) in
-    set_of_none c.args.grammar c.args.text.now networks c.new-then-taken.result written (taken.none c.if-taken.true)
+    set_of_none c.args.text.now networks c.new-then-taken.result written (taken.none c.if-taken.true)
     c.new-then-taken.ensures
 
 pub returns-then-taken-clause-bad_at_once : goal.returns-then-taken-clause-bad_at_once
@@ -32,8 +32,7 @@ returns-clause-addresses c =
     let (networks, written, made) = c.in_ok-push_lines.ensures.networks in
     let taken = made [] (none_taken c.new.result true c.new.ensures) in
     let sink = c.push_lines.new.sink in
-    set_of_taken c.args.grammar c.args.text.now networks sink.builder sink.is_empty c.in-Ok.set written taken
-    c.in-Ok.ensures
+    set_of_taken c.args.text.now networks sink.builder sink.is_empty c.in-Ok.set written taken c.in-Ok.ensures
 
 pub returns-clause-bad_at_once : goal.returns-clause-bad_at_once
 returns-clause-bad_at_once c = λ number h.

@@ -21,11 +21,10 @@ pub returns-then-are_empty : goal.returns-then-are_empty
 returns-then-are_empty c =
     let (same, utf8) = c.in-Ok.ensures.cases in
     let (same_other, utf8_other) = c.in-Ok-from_utf8.ensures.cases in
-    let h : HasAddressesOfText Strict c.args.text.now c.in-Ok-read_set.set =
-    subst (λ t. HasAddressesOfText Strict t c.in-Ok-read_set.set) same c.in-Ok-read_set.ensures.addresses in
-    let k : HasAddressesOfText Strict c.args.other.now c.in-Ok-read_set-2.others =
-    subst (λ t. HasAddressesOfText Strict t c.in-Ok-read_set-2.others) same_other
-    c.in-Ok-read_set-2.ensures.addresses in
+    let h : HasAddressesOfText c.args.text.now c.in-Ok-read_set.set =
+    subst (λ t. HasAddressesOfText t c.in-Ok-read_set.set) same c.in-Ok-read_set.ensures.addresses in
+    let k : HasAddressesOfText c.args.other.now c.in-Ok-read_set-2.others =
+    subst (λ t. HasAddressesOfText t c.in-Ok-read_set-2.others) same_other c.in-Ok-read_set-2.ensures.addresses in
     let (none, none_other) = c.are_empty.ensures.0 c.if-are_empty.true in
     let made = c.write_answer in
     combined c.args.operation c.args.text.now c.args.other.now [] c.args.buffer.now made.new.buffer c.args.count.now
@@ -49,8 +48,8 @@ pub returns-in-Err-Line-read_set : goal.returns-in-Err-Line-read_set
 returns-in-Err-Line-read_set c =
     let (same, utf8) = c.in-Ok.ensures.cases in
     let (same_other, utf8_other) = c.in-Ok-from_utf8.ensures.cases in
-    let h : HasAddressesOfText Strict c.args.text.now c.in-Ok-read_set.set =
-    subst (λ t. HasAddressesOfText Strict t c.in-Ok-read_set.set) same c.in-Ok-read_set.ensures.addresses in
+    let h : HasAddressesOfText c.args.text.now c.in-Ok-read_set.set =
+    subst (λ t. HasAddressesOfText t c.in-Ok-read_set.set) same c.in-Ok-read_set.ensures.addresses in
     let told = c.in-Err-Line-read_set in
     subst (λ number. IsSetReply c.args.operation c.args.text.now c.args.other.now c.args.buffer.now
     c.args.buffer.now c.args.count.now number 9) (sym told.number-is)
@@ -62,8 +61,8 @@ pub returns-in-Err-Memory-read_set : goal.returns-in-Err-Memory-read_set
 returns-in-Err-Memory-read_set c =
     let (same, utf8) = c.in-Ok.ensures.cases in
     let (same_other, utf8_other) = c.in-Ok-from_utf8.ensures.cases in
-    let h : HasAddressesOfText Strict c.args.text.now c.in-Ok-read_set.set =
-    subst (λ t. HasAddressesOfText Strict t c.in-Ok-read_set.set) same c.in-Ok-read_set.ensures.addresses in
+    let h : HasAddressesOfText c.args.text.now c.in-Ok-read_set.set =
+    subst (λ t. HasAddressesOfText t c.in-Ok-read_set.set) same c.in-Ok-read_set.ensures.addresses in
     let good : IsGoodAtOnce Strict c.in-Ok-from_utf8.other.now =
     λ number at. let clash = c.in-Err-Memory-read_set.ensures.bad_at_once number at in absurd cc in
     not_combined c.args.operation c.args.text.now c.args.other.now c.args.buffer.now c.args.count.now utf8 utf8_other
@@ -76,15 +75,14 @@ pub returns-in_default-combined_text : goal.returns-in_default-combined_text
 returns-in_default-combined_text c =
     let (same, utf8) = c.in-Ok.ensures.cases in
     let (same_other, utf8_other) = c.in-Ok-from_utf8.ensures.cases in
-    let h : HasAddressesOfText Strict c.args.text.now c.in-Ok-read_set.set =
-    subst (λ t. HasAddressesOfText Strict t c.in-Ok-read_set.set) same c.in-Ok-read_set.ensures.addresses in
-    let k : HasAddressesOfText Strict c.args.other.now c.in-Ok-read_set-2.others =
-    subst (λ t. HasAddressesOfText Strict t c.in-Ok-read_set-2.others) same_other
-    c.in-Ok-read_set-2.ensures.addresses in
+    let h : HasAddressesOfText c.args.text.now c.in-Ok-read_set.set =
+    subst (λ t. HasAddressesOfText t c.in-Ok-read_set.set) same c.in-Ok-read_set.ensures.addresses in
+    let k : HasAddressesOfText c.args.other.now c.in-Ok-read_set-2.others =
+    subst (λ t. HasAddressesOfText t c.in-Ok-read_set-2.others) same_other c.in-Ok-read_set-2.ensures.addresses in
     not_combined c.args.operation c.args.text.now c.args.other.now c.args.buffer.now c.args.count.now utf8 utf8_other
     (λ none none_other. false≢true (sym c.if-are_empty.false ∙ c.are_empty.ensures.1 (
-      empty_set Strict c.args.text.now c.in-Ok-read_set.set h none,
-      empty_set Strict c.args.other.now c.in-Ok-read_set-2.others k none_other,
+      empty_set c.args.text.now c.in-Ok-read_set.set h none,
+      empty_set c.args.other.now c.in-Ok-read_set-2.others k none_other,
     )))
     (good_at_once Strict c.args.text.now h.networks h.written)
     (λ none. good_at_once Strict c.args.other.now k.networks k.written)
@@ -93,11 +91,10 @@ pub returns : goal.returns
 returns c =
     let (same, utf8) = c.in-Ok.ensures.cases in
     let (same_other, utf8_other) = c.in-Ok-from_utf8.ensures.cases in
-    let h : HasAddressesOfText Strict c.args.text.now c.in-Ok-read_set.set =
-    subst (λ t. HasAddressesOfText Strict t c.in-Ok-read_set.set) same c.in-Ok-read_set.ensures.addresses in
-    let k : HasAddressesOfText Strict c.args.other.now c.in-Ok-read_set-2.others =
-    subst (λ t. HasAddressesOfText Strict t c.in-Ok-read_set-2.others) same_other
-    c.in-Ok-read_set-2.ensures.addresses in
+    let h : HasAddressesOfText c.args.text.now c.in-Ok-read_set.set =
+    subst (λ t. HasAddressesOfText t c.in-Ok-read_set.set) same c.in-Ok-read_set.ensures.addresses in
+    let k : HasAddressesOfText c.args.other.now c.in-Ok-read_set-2.others =
+    subst (λ t. HasAddressesOfText t c.in-Ok-read_set-2.others) same_other c.in-Ok-read_set-2.ensures.addresses in
     let made = c.write_answer-2 in
     let (set, is, text) = c.in-Ok-combined_text.ensures in
     combined c.args.operation c.args.text.now c.args.other.now c.as_bytes.result.now c.args.buffer.now made.new.buffer

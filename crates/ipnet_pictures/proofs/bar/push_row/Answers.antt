@@ -1,6 +1,7 @@
-use Rattle.std.proofs.Common.{◌++◌, ◌∷◌, [], ◌∙◌, codes, ap, refl, string_bytes}
+use Rattle.std.proofs.Common.{◌-◌, ◌++◌, ◌∷◌, [], ◌∙◌, length, replicate, codes, ap, refl, string_bytes}
+use Rattle.ipnet.specs.CanonicalTexts.{canonical_text}
 use Rattle.ipnet.specs.NetworkOf.{ip_network}
-use Rattle.ipnet_pictures.specs.Bars.{row_head, row_text}
+use Rattle.ipnet_pictures.specs.Bars.{row_text}
 use Rattle.ipnet_pictures.specs.MarkTexts.{marks_text, percent_text}
 use Rattle.ipnet_pictures.specs.Parts.{block_size, counted}
 use Rattle.ipnet_pictures.specs.Shares.{tenths}
@@ -23,7 +24,7 @@ returns c =
       },
       row_joined (string_bytes c.args.text.now) (string_bytes c.push_head.new.text)
           (string_bytes c.push_marks.new.text) (string_bytes c.push_tail.new.text)
-          (row_head column n)
+          (canonical_text n ++ replicate (column - length (canonical_text n)) 32 ++ codes " |")
           (marks_text c.args.form.marks levels) (codes "| ") (percent_text share) (10 ∷ []) c.in_ok-push_head.ensures
           (c.in_ok-push_marks.ensures
           ∙ ap (λ z. string_bytes c.push_head.new.text ++ marks_text c.args.form.marks z) c.as_slice.ensures.value)

@@ -1,5 +1,5 @@
 -- A network is truncated if it is its own truncation.
-use Rattle.std.proofs.Common.{◌≡◌, Bool, true, false, Some, None, refl, sym, ◌∙◌, subst}
+use Rattle.std.proofs.Common.{◌≡◌, Bool, true, false, IsTrue, Some, None, refl, sym, ◌∙◌, subst}
 use Rattle.ipnet_base.specs.Network.{IsTruncated, IsBefore}
 use Rattle.ipnet_base.proofs.NetworkLaws.{truncation_from_relation, truncation_of_truncated, IsTruncated-truncation}
 use Rattle.ipnet_base.proofs.ResultLaws.{true_gives, false_gives}

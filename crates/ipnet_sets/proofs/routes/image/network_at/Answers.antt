@@ -1,7 +1,10 @@
 -- The length and the family follow from the kind, and the number is the one that was read.
 use Rattle.std.proofs.Common.{◌≡◌, ◌+◌, ◌*◌, ap, sym, refl, ◌∙◌, subst, arith}
+use Rattle.ipnet_base.specs.Address.{IPv4, IPv6, width, family_index}
+use Rattle.ipnet_base.specs.Network.{Network}
 use Rattle.ipnet_base.proofs.AddressLaws.{bits_from_number, ipv6_bits_from_number}
 use Rattle.ipnet_base.proofs.NetworkLaws.{same_network}
+use Rattle.ipnet.specs.NetworkOf.{ipv4_network, ipv6_network}
 use Rattle.ipnet_sets.specs.Images.{number_from}
 use Rattle.ipnet_sets.specs.TableImages.{IsNetworkAt}
 use Rattle.ipnet_sets.proofs.TableImageLaws.{kind_ipv4, kind_ipv6}

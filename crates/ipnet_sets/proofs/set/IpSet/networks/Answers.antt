@@ -1,18 +1,30 @@
--- A network that is to be pushed has an address of its own, so the set is not empty.
-use Rattle.std.proofs.Common.{Contains, map, sym, subst}
-use Rattle.std.proofs.lemmas.List.Elements.{Contains-append_right}
-use Rattle.ipnet_base.proofs.BlockLaws.{own, own_in}
-use Rattle.ipnet_base.proofs.ListLaws.{contains_here}
+-- An empty set has no boundaries, and then nothing is pushed. The networks of the IPv4 ranges are pushed, then the
+-- networks of the IPv6 ranges, and these are the maximal blocks of the set.
+use Rattle.std.proofs.Common.{map, sym, ap, ◌∙◌, subst}
+use Rattle.ipnet_base.specs.Address.{IPv4, IPv6}
 use Rattle.ipnet.specs.NetworkOf.{ip_network}
-use Rattle.ipnet_sets.specs.NetworksLeft.{networks_left}
+use Rattle.ipnet_sets.specs.Boundaries.{AreBoundaries}
+use Rattle.ipnet_sets.proofs.SetEqualLaws.{no_words}
+use Rattle.ipnet_sets.proofs.SetRangeLaws.{networks_of_set}
 use Rattle.ipnet_sets.proofs.set.IpSet.networks.Goals as goal
 
-pub returns-in_err-push-clause-empty : goal.returns-in_err-push-clause-empty
-returns-in_err-push-clause-empty c none =
-    let n = ip_network c.in-Some.network in
-    let left = networks_left c.loop-network.network-iterator in
-    let here : Contains left n = subst (λ z. Contains z n) (sym c.in-Some.ensures.steps)
-    (contains_here n (networks_left c.next.new.self)) in
-    let maximal = (c.loop-network.invariant.members n).0
-    (Contains-append_right (map ip_network c.loop-network.networks.items) left n here) in
-    absurd (none (own n) (maximal.inside.within (own n) (own_in n)))
+pub returns-in_err-push_networks-clause-empty : goal.returns-in_err-push_networks-clause-empty
+returns-in_err-push_networks-clause-empty c none =
+    let ok = c.in_err-push_networks.ensures.empty
+    (c.as_slice.ensures.value ∙ (no_words c.args.self.now none).0) in absurd (cc)
+
+pub returns-in_err-push_networks-2-clause-empty : goal.returns-in_err-push_networks-2-clause-empty
+returns-in_err-push_networks-2-clause-empty c none =
+    let ok = c.in_err-push_networks-2.ensures.empty
+    (c.as_slice-2.ensures.value ∙ (no_words c.args.self.now none).1) in absurd (cc)
+
+pub returns-clause-blocks : goal.returns-clause-blocks
+returns-clause-blocks c =
+    networks_of_set c.args.self.now (map (λ n. n) c.as_slice.result.now) (map (λ n. n) c.as_slice-2.result.now)
+    (map ip_network c.new-networks.result.items) (map ip_network c.push_networks.new.networks.items)
+    (map ip_network c.push_networks-2.new.networks.items)
+    (ap (map (λ n. n)) (sym c.as_slice.ensures.value)) (ap (map (λ n. n)) (sym c.as_slice-2.ensures.value))
+    (subst (λ z. AreBoundaries IPv4 (map (λ n. n) z)) (sym c.as_slice.ensures.value) c.args.self.now.ipv4_boundaries)
+    (subst (λ z. AreBoundaries IPv6 (map (λ n. n) z)) (sym c.as_slice-2.ensures.value) c.args.self.now.ipv6_boundaries)
+    (ap (map ip_network) c.new-networks.ensures.items) c.in_ok-push_networks.ensures.blocks
+    c.in_ok-push_networks-2.ensures.blocks

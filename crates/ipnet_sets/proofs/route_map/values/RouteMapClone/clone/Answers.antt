@@ -1,5 +1,5 @@
 -- The clone has as many chunks of as many routes, with the same networks.
-use Rattle.std.proofs.Common.{sym, ◌∙◌, subst}
+use Rattle.std.proofs.Common.{◌≡◌, sym, ◌∙◌, subst}
 use Rattle.std.proofs.lemmas.Slice.Zip.{AllZip-long}
 use Rattle.ipnet_sets.specs.RouteSteps.{IsTable}
 use Rattle.ipnet_sets.specs.RouteMapSteps.{all_of}

@@ -1,5 +1,5 @@
 -- A route that passes is one more of the table; a route that does not is in no table.
-use Rattle.std.proofs.Common.{◌≡◌, ◌+◌, ◌*◌, ◌<◌, [], ◌∷◌, ◌++◌, Contains, true, false, refl, sym, ◌∙◌, subst}
+use Rattle.std.proofs.Common.{◌≡◌, ℕ, ◌+◌, ◌*◌, ◌<◌, List, [], ◌∷◌, ◌++◌, Contains, true, false, refl, sym, ◌∙◌, subst}
 use Rattle.std.proofs.Common.{arith, inr}
 use Rattle.ipnet_base.specs.Network.{Network, IsTruncated, IsBefore}
 use Rattle.ipnet_base.specs.Stack.{IsBeforeOrEqual}
@@ -7,7 +7,7 @@ use Rattle.ipnet_base.proofs.ListLaws.{all_at, pair_at}
 use Rattle.ipnet_base.proofs.ResultLaws.{true_gives, false_gives}
 use Rattle.ipnet.specs.NetworkOf.{ip_network}
 use Rattle.ipnet_sets.specs.Images.{number_from}
-use Rattle.ipnet_sets.specs.Routes.{networks_of}
+use Rattle.ipnet_sets.specs.Routes.{Route, networks_of}
 use Rattle.ipnet_sets.specs.RouteSteps.{IsNearest}
 use Rattle.ipnet_sets.specs.TableImages.{stated_routes, AreRoutesIn}
 use Rattle.ipnet_sets.proofs.TableImageLaws.{as_networks, found_at, none_read, image_link}

@@ -1,5 +1,5 @@
 -- The network that was read is the network of the table at this place, and its link is the link of the table.
-use Rattle.std.proofs.Common.{◌-◌, arith}
+use Rattle.std.proofs.Common.{◌-◌, refl, sym, ◌∙◌, arith}
 use Rattle.ipnet_base.proofs.ResultLaws.{true_gives, false_gives}
 use Rattle.ipnet.specs.NetworkOf.{ip_network}
 use Rattle.ipnet_sets.specs.Routes.{networks_of}

@@ -1,4 +1,4 @@
-use Rattle.std.proofs.Common.{◌∙◌}
+use Rattle.std.proofs.Common.{◌≡◌, ◌∙◌}
 use Rattle.ipnet_sets.proofs.RouteValueLaws.{same_routes}
 use Rattle.ipnet_sets.proofs.routes.values.RouteTablePartialEq.eq.Goals as goal
 
