@@ -32,5 +32,7 @@ pub mod RouteMapParts
 pub mod RouteMapMatches
 pub mod ImageLaws
 pub mod ImageSetLaws
+pub mod BucketLaws
+pub mod TableRowLaws
 pub mod TableImageLaws
 pub mod TableCheckLaws
