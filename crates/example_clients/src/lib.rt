@@ -7,5 +7,6 @@
 
 pub mod lists;
 pub mod networks;
+pub mod pictures;
 pub mod plans;
 pub mod texts;

@@ -1,4 +1,5 @@
 //! The command line: the lists to read, and what to do with them.
+use crate::bar::bar_command;
 use crate::changes::changes_command;
 use crate::listing::with_listings;
 use crate::lists::{Empties, Reports};
@@ -124,7 +125,7 @@ fn one_file<'a>(alloc: Global) -> Arg<'a> {
 }
 
 /// Any number of lists; standard input, if all are omitted.
-fn any_files<'a>(alloc: Global) -> Arg<'a> {
+pub fn any_files<'a>(alloc: Global) -> Arg<'a> {
     one_file(alloc).num_args(1..).action(ArgAction::Append)
 }
 
@@ -261,7 +262,8 @@ fn with_queries<'a>(alloc: Global, command: Command<'a>) -> Result<Command<'a>, 
                 .arg(first(alloc, "TABLE", "The list of networks to choose from"))?
                 .arg(other(alloc, asked).required(false))?,
         )?
-        .subcommand(plan_command(alloc)?)
+        .subcommand(plan_command(alloc)?)?
+        .subcommand(bar_command(alloc)?)
 }
 
 /// The command line of the program.

@@ -46,9 +46,8 @@ pub fn with_listings<'a>(alloc: Global, command: Command<'a>) -> Result<Command<
 }
 
 /// Reads the network. If the word is not one, it is reported, and the result is `None`.
-fn network_of(rt: &HostRuntime, matches: &ArgMatches) -> Option<IpNet> {
-    let word = matches.get_str(FIRST).unwrap_or("");
-    let grammar = if matches.get_flag("legacy") {
+pub fn read_network(rt: &HostRuntime, word: &str, legacy: bool) -> Option<IpNet> {
+    let grammar = if legacy {
         Grammar::Legacy
     } else {
         Grammar::Strict
@@ -59,6 +58,12 @@ fn network_of(rt: &HostRuntime, matches: &ArgMatches) -> Option<IpNet> {
         let _ = writeln!(rt.stderr(), "netset: not a network: {word}");
     }
     network
+}
+
+/// Reads the network that is listed.
+fn network_of(rt: &HostRuntime, matches: &ArgMatches) -> Option<IpNet> {
+    let word = matches.get_str(FIRST).unwrap_or("");
+    read_network(rt, word, matches.get_flag("legacy"))
 }
 
 /// Reads the arguments of `split`, and prints the subnets.

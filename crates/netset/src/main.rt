@@ -2,6 +2,7 @@
 #![tactic(auto)]
 
 mod arguments;
+mod bar;
 mod changes;
 mod leftovers;
 mod listing;
@@ -14,6 +15,7 @@ mod stream;
 mod version;
 
 use crate::arguments::{ArgumentFailure, Call, call_of, matches_of, output_of, reports_of, words};
+use crate::bar::{BAR, drawn};
 use crate::changes::{CHANGES, changed};
 use crate::listing::run_if_listing;
 use crate::lists::{read_lists, report_unread};
@@ -113,6 +115,7 @@ fn ran(rt: &HostRuntime, matches: &ArgMatches, streams: &mut Streams<'_>) -> u8 
     match matches.subcommand() {
         Some((name, matches)) if name == PLAN => planned(rt, matches, streams),
         Some((name, matches)) if name == CHANGES => changed(rt, matches, streams),
+        Some((name, matches)) if name == BAR => drawn(rt, matches, streams),
         _ => answered(rt, matches, streams),
     }
 }

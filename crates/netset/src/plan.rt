@@ -1,8 +1,10 @@
 //! The command `plan`: its arguments, and its run.
 use crate::arguments::{ArgumentFailure, FIRST, command_of, first, flag, flags_of};
+use crate::bar::{BAR, form_of, with_form};
 use crate::output::Streams;
 use crate::{refused, session_of};
 use clap::{Arg, ArgAction, ArgMatches, Command};
+use ipnet_pictures::BarForm;
 use netset_lib::{PlanRequest, families, read_length, run_plan};
 use std::alloc::{AllocError, Global};
 use std::io::Write;
@@ -30,7 +32,9 @@ pub fn plan_command<'a>(alloc: Global) -> Result<Command<'a>, AllocError> {
         .num_args(1..)
         .action(ArgAction::Append)
         .help("The prefix lengths, such as 24 or /24, one for each network");
-    command_of(alloc, PLAN, about)?
+    let bar = "Print a bar in place of the networks: what is free after the plan, and what is not";
+    with_form(alloc, command_of(alloc, PLAN, about)?, &[BAR])?
+        .arg(flag(alloc, BAR, bar))?
         .arg(flag(alloc, "ipv4", ipv4))?
         .arg(flag(alloc, "ipv6", ipv6))?
         .arg(free)?
@@ -53,11 +57,25 @@ fn lengths_of(rt: &HostRuntime, words: &[&str]) -> Result<Vec<u8>, u8> {
     Ok(lengths)
 }
 
+/// Reads the form of the bar, if one is asked for. If it cannot be read, it is reported, and the error is the status.
+fn bar_of(
+    rt: &HostRuntime,
+    matches: &ArgMatches,
+    streams: &Streams<'_>,
+) -> Result<Option<BarForm>, u8> {
+    let form = form_of(rt, matches, streams)?;
+    Ok(matches.get_flag(BAR).then_some(form))
+}
+
 /// Reads the arguments and the list, prints the plan, and returns the exit status.
 pub fn planned(rt: &HostRuntime, matches: &ArgMatches, streams: &mut Streams<'_>) -> u8 {
     let words = matches.get_strs(LENGTHS).unwrap_or(&[]);
     let lengths = match lengths_of(rt, words) {
         Ok(lengths) => lengths,
+        Err(status) => return status,
+    };
+    let bar = match bar_of(rt, matches, streams) {
+        Ok(bar) => bar,
         Err(status) => return status,
     };
     let work = netset_lib::Command::Union.work(flags_of(matches));
@@ -69,6 +87,7 @@ pub fn planned(rt: &HostRuntime, matches: &ArgMatches, streams: &mut Streams<'_>
     let request = PlanRequest {
         families: families(matches.get_flag("ipv4"), matches.get_flag("ipv6")),
         lengths: lengths.as_slice(),
+        bar,
     };
     run_plan(
         session,

@@ -25,6 +25,8 @@ pub mod Replies
 pub mod PlanAnswers
 pub mod Planning
 pub mod PairSets
+pub mod BarAnswers
+pub mod Locales
 pub mod Changes
 pub mod ChangeSteps
 pub mod Listings

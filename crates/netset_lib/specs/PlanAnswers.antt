@@ -1,11 +1,17 @@
 -- Plans of networks in the addresses of lists: their text, and why there is none.
-use Rattle.std.specs.Prelude.{◌≡◌, ◌≢◌, ◌↔◌, ◌<◌, ◌≤◌, ◌⊎◌, ◌++◌, ◌∷◌, ℕ, List, [], Any, All, length, codes, Option}
+use Rattle.std.specs.Prelude.{◌≡◌, ◌≢◌, ◌↔◌, ◌<◌, ◌≤◌, ◌⊎◌, ◌++◌, ◌∷◌, ℕ, List, [], Any, All, length, codes}
+use Rattle.std.specs.Prelude.{Option, Some, None}
 use Rattle.std.specs.Io.{StartsWith}
 use Rattle.std.specs.Io.KnownBytes.{Appends}
 use Rattle.ipnet_base.specs.Address.{Family, IPv4, IPv6, width, Address}
-use Rattle.ipnet_base.specs.Network.{Network}
+use Rattle.ipnet_base.specs.Blocks.{IsCoveredBy}
+use Rattle.ipnet_base.specs.Network.{Network, InBlock}
 use Rattle.ipnet.specs.Numerals.{IsDecimal}
 use Rattle.ipnet.specs.declared.parser.Grammar.TheVariants.{Strict}
+use Rattle.ipnet_pictures.specs.declared.bar.BarForm.{BarForm}
+use Rattle.ipnet_pictures.specs.Bars.{IsBar}
+use Rattle.ipnet_pictures.specs.Frames.{all_of, IsFrameOf}
+use Rattle.ipnet_pictures.specs.Parts.{HasNone}
 use Rattle.ipnet_pools.specs.Placements.{CanPlace}
 use Rattle.ipnet_pools.specs.Plans.{requests_of, IsPlan}
 use Rattle.ipnet_sets.specs.declared.set.IpSet.{IpSet}
@@ -40,15 +46,38 @@ IsPlanFamily Ipv4 InSet family = family ≡ IPv4
 IsPlanFamily Ipv6 InSet family = family ≡ IPv6
 IsPlanFamily Both InSet family = ⊥
 
--- The text is the lines of networks in the set: one for each prefix length, in the order of the lengths. No two of the
--- networks share an address.
--- Example: `10.0.0.0/26`, `10.0.0.128/25` for the lengths 26 and 25 in 10.0.0.0/24.
-pub record IsPlanText (InSet : Address → Type 0) (families : Families) (lengths : List ℕ) (text : List ℕ) : Type 0 where
+-- The address is in the frame, and is not free after the plan: it is not in the set, or a planned network covers it.
+-- Example: 10.0.0.0 to 10.0.0.63 in 10.0.0.0/24, if the set is 10.0.0.0/24 and 10.0.0.0/26 is planned.
+pub record IsTaken (InSet : Address → Type 0) (networks : List Network) (frame : Network) (x : Address) : Type 0 where
+  pub in_frame : InBlock frame x
+  pub taken : ¬ (InSet x × ¬ (IsCoveredBy networks x))
+
+-- The text is the bar of the addresses that are not free after the plan, in the smallest network around the free ones
+-- before it.
+pub record IsPlanBar (InSet : Address → Type 0) (family : Family) (networks : List Network) (form : BarForm)
+    (text : List ℕ) : Type 0 where
+  pub frame : Network
+  pub is_frame : IsFrameOf family InSet frame
+  pub taken : IpSet
+  pub are_taken : (x : Address) → IsMember taken x ↔ IsTaken InSet networks frame x
+  pub bar : IsBar (IsMember taken) frame form.row_width form.marks text
+
+-- The text of the planned networks: their lines; or a bar in this form, which is empty if no address is free.
+abbrev pub IsPlanShown : (Address → Type 0) → Family → List Network → Option BarForm → List ℕ → Type 0
+IsPlanShown InSet family networks None text = text ≡ text_of_lines networks
+IsPlanShown InSet family networks (Some form) text =
+    (HasNone InSet (all_of family) × (text ≡ [])) ⊎ IsPlanBar InSet family networks form text
+
+-- The text shows networks in the set: one for each prefix length, in the order of the lengths. No two of the networks
+-- share an address.
+-- Example: `10.0.0.0/26`, `10.0.0.128/25` for the lengths 26 and 25 in 10.0.0.0/24, without a bar.
+pub record IsPlanText (InSet : Address → Type 0) (families : Families) (lengths : List ℕ) (form : Option BarForm)
+    (text : List ℕ) : Type 0 where
   pub family : Family
   pub chosen : IsPlanFamily families InSet family
   pub networks : List Network
   pub plan : IsPlan InSet family lengths networks
-  pub spelled : text ≡ text_of_lines networks
+  pub shown : IsPlanShown InSet family networks form text
 
 -- No networks of these prefix lengths can be placed in the set. Example: the lengths 25, 25 and 27 in 10.0.0.0/24.
 pub record HasNoPlacement (InSet : Address → Type 0) (families : Families) (lengths : List ℕ) : Type 0 where
@@ -90,17 +119,17 @@ pub record HoldsOfResult (request : Request) (lists : List (List ℕ)) (Holds : 
     pub right : Holds (IsInResult IsInEntries request.operation entries)
 
 -- There is a plan in the addresses of the lists, and all of its text was written.
-pub record IsPlanned (request : Request) (families : Families) (lengths : List ℕ) (lists : List (List ℕ))
-    (held held_after : Option (List ℕ)) : Type 0 where
+pub record IsPlanned (request : Request) (families : Families) (lengths : List ℕ) (form : Option BarForm)
+    (lists : List (List ℕ)) (held held_after : Option (List ℕ)) : Type 0 where
   pub text : List ℕ
-  pub right : HoldsOfResult request lists (λ InSet. IsPlanText InSet families lengths text)
+  pub right : HoldsOfResult request lists (λ InSet. IsPlanText InSet families lengths form text)
   pub written : Appends held held_after text
 
 -- There is a plan in the addresses of the lists, and a front of its text was written, perhaps all of it.
-pub record IsPlanCutShort (request : Request) (families : Families) (lengths : List ℕ) (lists : List (List ℕ))
-    (held held_after : Option (List ℕ)) : Type 0 where
+pub record IsPlanCutShort (request : Request) (families : Families) (lengths : List ℕ) (form : Option BarForm)
+    (lists : List (List ℕ)) (held held_after : Option (List ℕ)) : Type 0 where
   pub text : List ℕ
-  pub right : HoldsOfResult request lists (λ InSet. IsPlanText InSet families lengths text)
+  pub right : HoldsOfResult request lists (λ InSet. IsPlanText InSet families lengths form text)
   pub front : List ℕ
   pub begins : StartsWith text front
   pub written : Appends held held_after front

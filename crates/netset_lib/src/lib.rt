@@ -3,6 +3,8 @@
 
 pub mod answer;
 mod answerer;
+pub mod bar;
+pub mod bar_program;
 pub mod cause;
 mod cause_bytes;
 mod cause_parts;
@@ -19,6 +21,7 @@ mod list;
 pub mod list_text;
 mod listing;
 pub mod listing_program;
+pub mod locale;
 pub mod operation;
 pub mod output;
 pub mod plan;
@@ -37,6 +40,8 @@ pub mod session;
 mod word;
 
 pub use answer::{Answer, Failure, Form, Request};
+pub use bar::{BarFailure, BarRequest, framed_bar_text, framed_comparison_text, read_row_width};
+pub use bar_program::{run_bar, run_comparison_bar};
 pub use cause::Cause;
 pub use cause_parts::is_entry_text;
 pub use changes::changes_text;
@@ -47,6 +52,7 @@ pub use filter::Side;
 pub use length::read_length;
 pub use list_text::{ListText, read_list_text};
 pub use listing_program::{run_hosts, run_split};
+pub use locale::{MarkChoice, chosen_marks, is_utf8_locale};
 pub use operation::{Families, Operation};
 pub use output::{Output, finish, is_unfinished_name, unfinished_name};
 pub use plan::{PlanFailure, PlanRequest, plan_text};

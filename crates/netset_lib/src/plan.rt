@@ -1,19 +1,22 @@
 //! Plans: networks of given prefix lengths in the addresses of a set, as text.
-ghost use Rattle.std.specs.Prelude.{◌≡◌, ◌↔◌, ◌<◌, ◌≤◌, Any, All, IfOk, IsOk, IfErr, Err, IfSome, IfNone};
+ghost use Rattle.std.specs.Prelude.{◌≡◌, ◌↔◌, ◌<◌, ◌≤◌, Any, All, IfOk, IsOk, IfErr, Err, Some, IfSome, IfNone};
 ghost use Rattle.std.specs.Prelude.{map, string_bytes};
-ghost use Rattle.ipnet_base.specs.Address.{Family, width};
+ghost use Rattle.ipnet_base.specs.Address.{Address, Family, width};
 ghost use Rattle.ipnet.specs.NetworkOf.{ip_network};
 ghost use Rattle.ipnet_sets.specs.Members.{IsMember};
+ghost use Rattle.ipnet_pictures.specs.Frames.{all_of};
 ghost use Rattle.ipnet_pools.specs.Placements.{CanPlace};
 ghost use Rattle.ipnet_pools.specs.Plans.{requests_of, IsPlan};
 ghost use Rattle.ipnet_pools.specs.declared.error.PoolError.TheVariants.{Exhausted};
 ghost use Rattle.netset_lib.specs.PlanAnswers.{HasOnly, IsPlanFamily, IsPlanText, HasNoPlacement, IsPlanFailure};
+ghost use Rattle.netset_lib.specs.PlanAnswers.{IsTaken, IsPlanShown};
 ghost use Rattle.netset_lib.specs.Planning.{family_of};
 ghost use Rattle.netset_lib.specs.declared.plan.PlanFailure.TheVariants.{NoPlacement, Memory};
 
 use crate::answer::lines_of_networks;
 use crate::operation::Families;
-use ipnet::IpNet;
+use ipnet::{IpNet, Ipv6Net};
+use ipnet_pictures::{BarForm, bar_text, frame_in};
 use ipnet_pools::PoolError;
 use ipnet_pools::plan::{plan_ipv4, plan_ipv6};
 use ipnet_sets::IpSet;
@@ -66,6 +69,8 @@ pub struct PlanRequest<'a> {
     pub families: Families,
     /// The prefix lengths, one for each network.
     pub lengths: &'a [u8],
+    /// The form of a bar that is drawn in place of the networks.
+    pub bar: Option<BarForm>,
 }
 
 /// The family of the planned networks.
@@ -144,8 +149,72 @@ fn plan_of(
     }
 }
 
+/// The network of all addresses of the family.
+fn all_of_family(family: PlanFamily) -> IpNet
+    ensures { ip_network result ≡ all_of (family_of family) }
+{
+    match family {
+        PlanFamily::Ipv4 => IpNet::default(),
+        PlanFamily::Ipv6 => IpNet::V6(Ipv6Net::default()),
+    }
+}
+
+/// The addresses of the frame that are not in the set, or in one of the networks.
+fn taken_in(
+    alloc: Global,
+    set: &IpSet,
+    networks: &[IpNet],
+    frame: &IpNet,
+) -> Result<IpSet, AllocError>
+    ensures { IfOk result (λ taken. (x : Address) → IsMember taken x
+        ↔ IsTaken (IsMember set.now) (map ip_network networks.now) (ip_network frame.now) x) }
+{
+    let planned = IpSet::from_networks(alloc, networks)?;
+    let free = set.difference(alloc, &planned)?;
+    let block = IpSet::from_network(alloc, frame)?;
+    block.difference(alloc, &free)
+}
+
+/// The bar of the planned networks, or the empty text if the set has no address of the family.
+fn plan_bar(
+    alloc: Global,
+    set: &IpSet,
+    family: PlanFamily,
+    networks: &[IpNet],
+    form: BarForm,
+) -> Result<String, AllocError>
+    ensures { IfOk result (λ text. IsPlanShown (IsMember set.now) (family_of family) (map ip_network networks.now)
+        (Some form) (string_bytes text)) }
+{
+    let Some(frame) = frame_in(alloc, set, &all_of_family(family))? else {
+        return Ok(String::new(alloc));
+    };
+    let taken = taken_in(alloc, set, networks, &frame)?;
+    bar_text(alloc, &taken, &frame, form)
+}
+
+/// The lines of the planned networks, or their bar.
+fn shown(
+    alloc: Global,
+    set: &IpSet,
+    family: PlanFamily,
+    networks: &[IpNet],
+    form: Option<BarForm>,
+) -> Result<String, AllocError>
+    ensures { IfOk result (λ text. IsPlanShown (IsMember set.now) (family_of family) (map ip_network networks.now)
+        form (string_bytes text)) }
+{
+    match form {
+        None => lines_of_networks(alloc, networks),
+        Some(form) => plan_bar(alloc, set, family, networks, form),
+    }
+}
+
 /// Returns networks in the set as text, one a line: a network for each prefix length, in the order of the lengths. No
 /// two of them share an address.
+///
+/// If a bar is asked for, the text is the bar of the addresses that are not free after the plan, in the smallest
+/// network around the addresses of the set.
 ///
 /// The error is `Family` if the family is not chosen. Otherwise it is `PrefixLen` if a length is too long for the
 /// family, with the first such length and the greatest length of the family. Otherwise it is `NoPlacement` exactly if
@@ -161,7 +230,7 @@ pub fn plan_text(
     request: PlanRequest<'_>,
 ) -> Result<String, PlanFailure>
     ensures plan { let r = request.entry in
-        IfOk result (λ text. IsPlanText (IsMember set.now) r.families r.lengths.now (string_bytes text)) }
+        IfOk result (λ text. IsPlanText (IsMember set.now) r.families r.lengths.now r.bar (string_bytes text)) }
     ensures placed { let r = request.entry in
         IsOk result → ¬ (HasNoPlacement (IsMember set.now) r.families r.lengths.now) }
     ensures failure { let r = request.entry in
@@ -174,7 +243,10 @@ pub fn plan_text(
         return Err(PlanFailure::PrefixLen(long, family.width()));
     }
     match plan_of(alloc, set, family, request.lengths) {
-        Ok(networks) => Ok(lines_of_networks(alloc, networks.as_slice())?),
+        Ok(networks) => {
+            let networks = networks.as_slice();
+            Ok(shown(alloc, set, family, networks, request.bar)?)
+        }
         Err(PoolError::Exhausted) => Err(PlanFailure::NoPlacement),
         Err(_) => Err(PlanFailure::Memory),
     }

@@ -11,8 +11,8 @@ use crate::program::{report, written};
 use crate::session::Session;
 use std::io::Write;
 
-/// Writes networks in the addresses of the session's lists to `out`, as `plan_text` makes them, and returns the exit
-/// status.
+/// Writes networks in the addresses of the session's lists to `out`, or their bar, as `plan_text` makes them, and
+/// returns the exit status.
 ///
 /// `names` are the names of the lists, in order, for the reports on `faults`. If a report cannot be written, the status
 /// is the same.
@@ -41,7 +41,7 @@ pub fn run_plan<W: Write, X: Write>(
     ensures status { result ≤ 2 }
     ensures planned { let p = request.entry in
         result ≡ 0 → (r : Request) → (lists : List (List ℕ)) → WereRead (Combine r) lists session
-        → IsPlanned r p.families p.lengths.now lists (W.contents out.old) (W.contents out.new) }
+        → IsPlanned r p.families p.lengths.now p.bar lists (W.contents out.old) (W.contents out.new) }
     ensures placed { let p = request.entry in
         result ≡ 0 → (r : Request) → (lists : List (List ℕ)) → WereRead (Combine r) lists session
         → HoldsOfResult r lists (λ InSet. ¬ (HasNoPlacement InSet p.families p.lengths.now)) }
@@ -52,7 +52,7 @@ pub fn run_plan<W: Write, X: Write>(
     ensures cut_short { let p = request.entry in
         result ≡ 2 → (r : Request) → (lists : List (List ℕ)) → WereRead (Combine r) lists session
         → Keeps (W.contents out.old) (W.contents out.new)
-        ⊎ IsPlanCutShort r p.families p.lengths.now lists (W.contents out.old) (W.contents out.new) }
+        ⊎ IsPlanCutShort r p.families p.lengths.now p.bar lists (W.contents out.old) (W.contents out.new) }
     ensures faultless { result ≡ 0 → Keeps (X.contents faults.old) (X.contents faults.new) }
 {
     let alloc = session.alloc();

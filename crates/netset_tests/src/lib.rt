@@ -3,6 +3,7 @@
 #![tactic(auto)]
 
 #[cfg(test)]
+mod bars;
 mod changes;
 #[cfg(test)]
 mod entries;

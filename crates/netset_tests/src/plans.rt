@@ -169,7 +169,11 @@ fn plans(rt: HostRuntime) -> Result<(), Fail> {
     for (label, list, families, lengths, (status, answer, report)) in rows {
         let mut out = ArrayWriter::whole();
         let mut faults = ArrayWriter::whole();
-        let request = PlanRequest { families, lengths };
+        let request = PlanRequest {
+            families,
+            lengths,
+            bar: None,
+        };
         let found = run_one(rt.alloc(), list, request, &mut out, &mut faults);
         assert!(&rt; found == Some(status), "plans: {label}: status");
         assert!(&rt; out.held() == answer, "plans: {label}: standard output");
@@ -239,6 +243,7 @@ fn writers(rt: HostRuntime) -> Result<(), Fail> {
     let request = PlanRequest {
         families: Families::Named,
         lengths: &[25, 25],
+        bar: None,
     };
     for (label, most, fails_at, wanted) in rows {
         let mut out = ArrayWriter::new(most, fails_at);
@@ -256,6 +261,7 @@ fn writers(rt: HostRuntime) -> Result<(), Fail> {
     let request = PlanRequest {
         families: Families::Named,
         lengths: &[23],
+        bar: None,
     };
     let status = run_one(rt.alloc(), "10.0.0.0/24", request, &mut out, &mut faults);
     assert!(&rt;
@@ -276,6 +282,7 @@ fn outcome(alloc: Global, lengths: &[u8], wanted: Ends) -> Outcome {
     let request = PlanRequest {
         families: Families::Named,
         lengths,
+        bar: None,
     };
     let Some(status) = run_one(alloc, "10.0.0.0/24", request, &mut out, &mut faults) else {
         return Outcome::Refused;

@@ -20,7 +20,7 @@ returns-then-not-written-clause-cut_short g c = λ two r lists h.
     let (front, begins, written) = c.written.ensures.front in
     inr record {
       text = text;
-      right = plan_of_lists r lists c.in-Ok.set p.families p.lengths.now (c.in-Ok.ensures.set r lists h) text
+      right = plan_of_lists r lists c.in-Ok.set p.families p.lengths.now (c.in-Ok.ensures.set r lists h) p.bar text
           c.in-Ok-plan_text.ensures.plan;
       front = front;
       begins = subst (λ z. StartsWith z front) c.as_bytes.ensures.value begins;
@@ -32,7 +32,7 @@ returns-clause-planned g c = λ zero r lists h.
     let p = c.args.request in
     let text = string_bytes c.in-Ok-plan_text.text in record {
       text = text;
-      right = plan_of_lists r lists c.in-Ok.set p.families p.lengths.now (c.in-Ok.ensures.set r lists h) text
+      right = plan_of_lists r lists c.in-Ok.set p.families p.lengths.now (c.in-Ok.ensures.set r lists h) p.bar text
           c.in-Ok-plan_text.ensures.plan;
       written = subst (Appends (g.W.Write.contents c.args.out.now) (g.W.Write.contents c.written.new.out))
           c.as_bytes.ensures.value (c.if-not-written.ensures.whole refl);
