@@ -1,4 +1,4 @@
--- What a table or a map of routes is, once the reference to one of its values has ended.
+-- The routes of a table or a map after the reference to one of its values has ended.
 use Rattle.std.specs.Prelude.{◌≡◌, Option, OnSome}
 use Rattle.std.specs.Borrow.{Fml, RattleType, MutBor, LendsSo}
 use Rattle.ipnet_base.specs.Network.{Network, truncation}
@@ -10,10 +10,10 @@ use Rattle.ipnet_sets.specs.RouteMapsOf.{map_routes}
 use Rattle.ipnet_sets.specs.declared.route_map.RouteMap.{RouteMap}
 use Rattle.ipnet_sets.specs.contracts.route_map.RouteMap as map
 
--- The table has the routes that it had, and the last value behind the reference for the network `n`; without a
+-- The table has the routes that it had, and the last value of the reference for the network `n`; without a
 -- reference its routes are as before.
--- Example: of 10.0.0.0/8 with 1 and 11.0.0.0/8 with 2, for 10.0.0.0/8, with 3 behind the reference: 10.0.0.0/8 with 3
--- and 11.0.0.0/8 with 2.
+-- Example: of 10.0.0.0/8 with 1 and 11.0.0.0/8 with 2, for 10.0.0.0/8, with 3 written to the reference: 10.0.0.0/8
+-- with 3 and 11.0.0.0/8 with 2.
 abbrev pub LendsValue : (V : RattleType) → MutBor (RouteTable V.Denot) → Network → Option (MutBor V.Denot) → Fml
 LendsValue V t n value =
     LendsSo (table.the_row V) V t value

@@ -1,8 +1,12 @@
 //! The command line: the lists to read, and what to do with them.
+use crate::apply::apply_command;
 use crate::changes::changes_command;
+use crate::extract::extract_command;
+use crate::forms::with_forms;
 use crate::listing::with_listings;
 use crate::lists::{Empties, Reports};
 use crate::plan::plan_command;
+use crate::prefixes::prefix_command;
 use crate::rules::with_rules;
 use crate::version::VERSION;
 use clap::{Arg, ArgAction, ArgMatches, Command, Error};
@@ -124,7 +128,7 @@ fn one_file<'a>(alloc: Global) -> Arg<'a> {
 }
 
 /// Any number of lists; standard input, if all are omitted.
-fn any_files<'a>(alloc: Global) -> Arg<'a> {
+pub fn any_files<'a>(alloc: Global) -> Arg<'a> {
     one_file(alloc).num_args(1..).action(ArgAction::Append)
 }
 
@@ -174,8 +178,7 @@ pub fn operation_command<'a>(
     name: &'a str,
     about: &'a str,
 ) -> Result<Command<'a>, AllocError> {
-    let ranges = "Print the fewest ranges, such as 10.0.0.0-10.0.0.5, instead of networks";
-    command_of(alloc, name, about)?.arg(flag(alloc, "ranges", ranges))
+    with_forms(alloc, command_of(alloc, name, about)?)
 }
 
 /// The command of an operation on at least two lists.
@@ -254,6 +257,8 @@ fn with_queries<'a>(alloc: Global, command: Command<'a>) -> Result<Command<'a>, 
                 .arg(other(alloc, "The other list"))?,
         )?
         .subcommand(changes_command(alloc)?)?
+        .subcommand(apply_command(alloc)?)?
+        .subcommand(extract_command(alloc)?)?
         .subcommand(filter_command(alloc)?)?
         .subcommand(
             command_of(alloc, "route", route)?
@@ -272,7 +277,7 @@ fn command<'a>(alloc: Global) -> Result<Command<'a>, AllocError> {
         .subcommand_required(true)
         .arg_required_else_help(true);
     let command = with_queries(alloc, with_operations(alloc, command)?)?;
-    with_rules(alloc, with_listings(alloc, command)?)
+    with_rules(alloc, with_listings(alloc, command)?)?.subcommand(prefix_command(alloc)?)
 }
 
 /// Parses the command line. The error is the text to print: help, the version, or what is wrong.

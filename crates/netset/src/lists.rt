@@ -1,7 +1,8 @@
 //! The lists, read from files and from standard input.
 use crate::arguments::STANDARD_INPUT;
 use ipnet::Grammar;
-use netset_lib::{ReadFailure, RuleList, Session, is_entry_text};
+use netset_lib::{ReadFailure, RuleList, Session, has_lines, is_entry_text, read_bytes};
+use netset_words::Extraction;
 use std::fs::File;
 use std::io;
 use std::io::{ErrorKind, IsTerminal, Read, Write};
@@ -50,10 +51,50 @@ impl<R: Read + Drop> Read for Counted<R> {
     }
 }
 
+/// What reads lists one after another.
+pub trait ListReader {
+    /// Reads the next list up to its end.
+    fn read_next<R: Read>(&mut self, input: &mut R) -> Result<(), ReadFailure>;
+
+    /// The number of refused lines of all lists that were read.
+    fn count_refused(&self) -> usize;
+
+    /// Whether the list that was read last has an entry.
+    fn has_entries(&self) -> bool;
+}
+
+impl ListReader for Session {
+    fn read_next<R: Read>(&mut self, input: &mut R) -> Result<(), ReadFailure> {
+        self.read(input)
+    }
+
+    fn count_refused(&self) -> usize {
+        self.refused_count()
+    }
+
+    fn has_entries(&self) -> bool {
+        self.has_entry()
+    }
+}
+
+impl ListReader for Extraction {
+    fn read_next<R: Read>(&mut self, input: &mut R) -> Result<(), ReadFailure> {
+        self.read(input)
+    }
+
+    fn count_refused(&self) -> usize {
+        self.refused_count()
+    }
+
+    fn has_entries(&self) -> bool {
+        self.has_entry()
+    }
+}
+
 /// Reads a list, and returns the number of its bytes.
-fn read_from<R: Read + Drop>(session: &mut Session, input: R) -> Result<usize, Unread> {
+fn read_from<R: Read + Drop, L: ListReader>(lists: &mut L, input: R) -> Result<usize, Unread> {
     let mut counted = start_count(input);
-    match session.read(&mut counted) {
+    match lists.read_next(&mut counted) {
         Ok(()) => Ok(counted.count),
         Err(failure) => Err(Unread {
             failure,
@@ -76,12 +117,12 @@ pub fn unopened(error: &io::Error) -> Unread {
 }
 
 /// Reads the list of this name: from standard input if it is "-", and otherwise from a file.
-fn read_list(rt: &HostRuntime, session: &mut Session, name: &str) -> Result<usize, Unread> {
+fn read_list<L: ListReader>(rt: &HostRuntime, lists: &mut L, name: &str) -> Result<usize, Unread> {
     if name == STANDARD_INPUT {
-        return read_from(session, rt.stdin());
+        return read_from(lists, rt.stdin());
     }
     match File::open(rt, name) {
-        Ok(file) => read_from(session, file),
+        Ok(file) => read_from(lists, file),
         Err(error) => Err(unopened(&error)),
     }
 }
@@ -152,22 +193,22 @@ fn tell_count(rt: &HostRuntime, name: &str, count: usize, always: bool) {
 ///
 /// If the progress is to be reported, or if the bytes are many and standard error is a terminal, the number of bytes of
 /// each list is reported there. If that cannot be written, the lists are read all the same.
-pub fn read_lists<'a>(
+pub fn read_lists<'a, L: ListReader>(
     rt: &HostRuntime,
-    session: &mut Session,
+    lists: &mut L,
     names: &[&'a str],
     reports: Reports,
 ) -> Result<bool, (&'a str, Unread)> {
     let mut total: usize = 0;
     let mut allowed = true;
     for name in names {
-        let refused = session.refused_count();
-        let count = read_list(rt, session, name).map_err(|unread| (*name, unread))?;
+        let refused = lists.count_refused();
+        let count = read_list(rt, lists, name).map_err(|unread| (*name, unread))?;
         total = total.saturating_add(count);
         if reports.progress || total >= MUCH {
             tell_count(rt, name, count, reports.progress);
         }
-        let is_empty = !session.has_entry() && session.refused_count() == refused;
+        let is_empty = !lists.has_entries() && lists.count_refused() == refused;
         if is_empty && !reports.allow_empty(rt, name, "entries") {
             allowed = false;
         }
@@ -219,4 +260,52 @@ pub fn read_rules(
         return Ok(None);
     }
     Ok(Some(list))
+}
+
+/// Reads all bytes of the input.
+fn bytes_from<R: Read + Drop>(rt: &HostRuntime, input: R) -> Result<Vec<u8>, Unread> {
+    let mut counted = start_count(input);
+    match read_bytes(rt.alloc(), &mut counted) {
+        Ok(bytes) => Ok(bytes),
+        Err(failure) => Err(Unread {
+            failure,
+            code: counted.code,
+        }),
+    }
+}
+
+/// Reads all bytes of the list of this name, from standard input if it is "-", and otherwise from a file. Reports their
+/// number as `read_lists` does. The list may have no line.
+pub fn read_whole(rt: &HostRuntime, name: &str, reports: Reports) -> Result<Vec<u8>, Unread> {
+    let bytes = if name == STANDARD_INPUT {
+        bytes_from(rt, rt.stdin())?
+    } else {
+        match File::open(rt, name) {
+            Ok(file) => bytes_from(rt, file)?,
+            Err(error) => return Err(unopened(&error)),
+        }
+    };
+    if reports.progress || bytes.len() >= MUCH {
+        tell_count(rt, name, bytes.len(), reports.progress);
+    }
+    Ok(bytes)
+}
+
+/// Reads the list of this name as `read_whole` does. `None` if a file has no line, and that is to be refused; `what`
+/// says what its lines are.
+pub fn read_filled(
+    rt: &HostRuntime,
+    name: &str,
+    what: &str,
+    reports: Reports,
+) -> Result<Option<Vec<u8>>, Unread> {
+    let bytes = read_whole(rt, name, reports)?;
+    let is_empty = match has_lines(rt.alloc(), bytes.as_slice(), Grammar::Strict) {
+        Ok(has) => !has,
+        Err(_) => false,
+    };
+    if is_empty && !reports.allow_empty(rt, name, what) {
+        return Ok(None);
+    }
+    Ok(Some(bytes))
 }

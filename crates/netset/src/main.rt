@@ -1,27 +1,36 @@
 //! Combines and compares lists of networks, addresses and ranges, as people keep them.
 #![tactic(auto)]
 
+mod apply;
 mod arguments;
 mod changes;
+mod extract;
+mod forms;
 mod leftovers;
 mod listing;
 mod lists;
 mod output;
 mod plan;
+mod prefixes;
 mod replacement;
 mod rules;
 mod stream;
 mod version;
 
+use crate::apply::{APPLY, applied};
 use crate::arguments::{ArgumentFailure, Call, call_of, matches_of, output_of, reports_of, words};
 use crate::changes::{CHANGES, changed};
+use crate::extract::{EXTRACT, extracted};
+use crate::forms::form_of;
 use crate::listing::run_if_listing;
 use crate::lists::{read_lists, report_unread};
 use crate::output::{CLOSED, Streams};
 use crate::plan::{PLAN, planned};
+use crate::prefixes::{PREFIX_LIST, matched};
 use crate::rules::run_if_rules;
 use crate::stream::stream_list;
 use clap::ArgMatches;
+use netset_forms::run_form;
 use netset_lib::{Session, Work, run};
 use std::cell::Cell;
 use std::io::{ErrorKind, Write};
@@ -113,6 +122,9 @@ fn ran(rt: &HostRuntime, matches: &ArgMatches, streams: &mut Streams<'_>) -> u8 
     match matches.subcommand() {
         Some((name, matches)) if name == PLAN => planned(rt, matches, streams),
         Some((name, matches)) if name == CHANGES => changed(rt, matches, streams),
+        Some((name, matches)) if name == APPLY => applied(rt, matches, streams),
+        Some((name, matches)) if name == PREFIX_LIST => matched(rt, matches, streams),
+        Some((name, matches)) if name == EXTRACT => extracted(rt, matches, streams),
         _ => answered(rt, matches, streams),
     }
 }
@@ -128,13 +140,27 @@ fn answered(rt: &HostRuntime, matches: &ArgMatches, streams: &mut Streams<'_>) -
         Err(failure) => return refused(rt, failure),
     };
     let names = names.as_slice();
+    let form = match matches.subcommand() {
+        Some((_, matches)) => form_of(rt, matches),
+        None => Ok(None),
+    };
+    let form = match form {
+        Ok(form) => form,
+        Err(status) => return status,
+    };
     match names {
         [_, name] if is_streamed => match session_of(rt, work, &names[..1], streams) {
             Ok(session) => stream_list(rt, session, names, name, streams),
             Err(status) => status,
         },
         _ => match session_of(rt, work, names, streams) {
-            Ok(session) => run(session, names, &mut streams.answer, &mut streams.faults),
+            Ok(session) => {
+                let (out, faults) = (&mut streams.answer, &mut streams.faults);
+                match form {
+                    Some(request) => run_form(session, request, names, out, faults),
+                    None => run(session, names, out, faults),
+                }
+            }
             Err(status) => status,
         },
     }

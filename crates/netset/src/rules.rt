@@ -1,10 +1,12 @@
 //! The commands that read a list of rules.
 use crate::arguments::{FIRST, STANDARD_INPUT, command_of, first, operation_command};
+use crate::forms::form_of;
 use crate::lists::{read_rules, report_unread};
 use crate::output::Streams;
 use clap::{Arg, ArgMatches, Command};
 use ipnet::Grammar;
 use ipnet_rules::Action;
+use netset_forms::{PermittedRequest, run_permitted};
 use netset_lib::{Form, RuleQuery, run_rules};
 use std::alloc::{AllocError, Global};
 
@@ -72,6 +74,10 @@ pub fn run_if_rules(
 ) -> Option<u8> {
     let (name, matches) = matches.subcommand()?;
     let query = query_of(name, matches)?;
+    let form = match form_of(rt, matches) {
+        Ok(form) => form,
+        Err(status) => return Some(status),
+    };
     let file = matches.get_str(FIRST).unwrap_or(STANDARD_INPUT);
     let grammar = if matches.get_flag("legacy") {
         Grammar::Legacy
@@ -86,5 +92,12 @@ pub fn run_if_rules(
             return Some(2);
         }
     };
-    Some(run_rules(list, query, file, &mut streams.answer, &mut streams.faults))
+    let (out, faults) = (&mut streams.answer, &mut streams.faults);
+    match (query, form) {
+        (RuleQuery::Permitted(default, _), Some(form)) => {
+            let request = PermittedRequest { default, form };
+            Some(run_permitted(list, request, file, out, faults))
+        }
+        _ => Some(run_rules(list, query, file, out, faults)),
+    }
 }

@@ -20,12 +20,14 @@ pub record IsPlainByte (b : ℕ) : Type 0 where
   pub no_hash : b ≢ 35
   pub no_semicolon : b ≢ 59
 
--- a plain byte of ASCII that is neither "-" nor "/"
+-- a plain byte of ASCII that is not "-", "/", a quotation mark or a comma
 pub record IsAddressByte (b : ℕ) : Type 0 where
   pub plain : IsPlainByte b
   pub ascii : b < 128
   pub no_dash : b ≢ 45
   pub no_slash : b ≢ 47
+  pub no_quote : b ≢ 34
+  pub no_comma : b ≢ 44
 
 -- the digit value of a blank, and of "#" and ";", is 36
 hex_plain : (b : ℕ) → digit_value b < 16 → IsPlainByte b
@@ -45,6 +47,8 @@ hex_byte b h = record {
   ascii = grind (arith, nat_tests, h);
   no_dash = λ e. grind (arith, nat_tests, h, e);
   no_slash = λ e. grind (arith, nat_tests, h, e);
+  no_quote = λ e. grind (arith, nat_tests, h, e);
+  no_comma = λ e. grind (arith, nat_tests, h, e);
 }
 
 hex_bytes : (ds : List ℕ) → AllDigits 16 ds → All IsAddressByte ds
@@ -66,6 +70,8 @@ dot = record {
   ascii = omega arith;
   no_dash = λ e. omega (arith, e);
   no_slash = λ e. omega (arith, e);
+  no_quote = λ e. omega (arith, e);
+  no_comma = λ e. omega (arith, e);
 }
 
 colon : IsAddressByte 58
@@ -74,6 +80,8 @@ colon = record {
   ascii = omega arith;
   no_dash = λ e. omega (arith, e);
   no_slash = λ e. omega (arith, e);
+  no_quote = λ e. omega (arith, e);
+  no_comma = λ e. omega (arith, e);
 }
 
 -- a part, one byte and the rest

@@ -78,12 +78,16 @@ pub first_fails : (p : ℕ → Bool) (xs : List ℕ) → (0 < length xs → p (g
 first_fails p [] h = refl
 first_fails p (x ∷ xs) h = let fails : p x ≡ false = h (omega arith) in rw fails
 
-pub last_fails : (p : ℕ → Bool) (xs : List ℕ) → ((i : ℕ) → i < length xs → p (get_or xs i 0) ≡ false)
+pub last_one_fails : (p : ℕ → Bool) (xs : List ℕ) → (0 < length xs → p (get_or xs (length xs - 1 - 0) 0) ≡ false)
     → suffix_len p xs ≡ 0
-last_fails p xs h =
+last_one_fails p xs h =
     first_fails p (reverse xs)
     (λ some. let within : 0 < length xs = omega (arith, some, length-reverse xs) in
-    ap p (get_or-reverse xs 0 0 within) ∙ h (length xs - 1 - 0) (omega (arith, within)))
+    ap p (get_or-reverse xs 0 0 within) ∙ h within)
+
+pub last_fails : (p : ℕ → Bool) (xs : List ℕ) → ((i : ℕ) → i < length xs → p (get_or xs i 0) ≡ false)
+    → suffix_len p xs ≡ 0
+last_fails p xs h = last_one_fails p xs (λ within. h (length xs - 1 - 0) (omega (arith, within)))
 
 no_blank_at : (text : List ℕ) → All IsAddressByte text → (i : ℕ) → i < length text
     → is_ascii_whitespace (get_or text i 0) ≡ false

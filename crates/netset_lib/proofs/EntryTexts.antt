@@ -97,12 +97,16 @@ front_before_slash text front digits h e =
       ascii = omega arith;
       no_dash = λ e. omega (arith, e);
       no_slash = λ e. omega (arith, e);
+      no_quote = λ e. omega (arith, e);
+      no_comma = λ e. omega (arith, e);
     } in
     let two : IsAddressByte 50 = record {
       plain = record { no_blank = refl; no_hash = λ e. omega (arith, e); no_semicolon = λ e. omega (arith, e) };
       ascii = omega arith;
       no_dash = λ e. omega (arith, e);
       no_slash = λ e. omega (arith, e);
+      no_quote = λ e. omega (arith, e);
+      no_comma = λ e. omega (arith, e);
     } in
     (one_back IsAddressByte 47 (λ k. k.no_slash refl) text (51 ∷ 50 ∷ []) front digits
     (e ∙ append_assoc front (47 ∷ []) digits)
@@ -183,7 +187,7 @@ network_cut grammar text n (inl (inr h)) = record {
 no_dashes : (text : List ℕ) → All IsAddressByte text → All (λ b. b ≢ 45) text
 no_dashes text h = All-weaker IsAddressByte (λ b. b ≢ 45) (λ b is. is.no_dash) text h
 
-plain_no_dash : (grammar : Grammar) (text : List ℕ) (range : AddressRange) → IsPlainEntry grammar text range
+pub plain_no_dash : (grammar : Grammar) (text : List ℕ) (range : AddressRange) → IsPlainEntry grammar text range
     → All (λ b. b ≢ 45) text
 plain_no_dash grammar text range (inl h) =
     let cut = network_cut grammar text h.network h.writes in

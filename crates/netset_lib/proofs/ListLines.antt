@@ -56,7 +56,7 @@ ascii_cut front b back low h k =
     All-append (λ b. b < 128) front (b ∷ back) (ascii_bytes front h)
     (All-cons (λ b. b < 128) b back low (ascii_bytes back k))
 
-ascii_entry : (grammar : Grammar) (text : List ℕ) (range : AddressRange) → IsEntryText grammar text range
+pub ascii_entry : (grammar : Grammar) (text : List ℕ) (range : AddressRange) → IsEntryText grammar text range
     → All (λ b. b < 128) text
 ascii_entry grammar text range (inl (inl h)) =
     let cut = network_cut grammar text h.network h.writes in

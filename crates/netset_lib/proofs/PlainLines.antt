@@ -1,5 +1,6 @@
 -- A line that is an entry and nothing else.
-use Rattle.std.proofs.Common.{◌≡◌, ℕ, ◌+◌, ◌-◌, ◌<◌, Bool, true, false, List, [], ◌∷◌, ◌++◌, All, length, get_or, take}
+use Rattle.std.proofs.Common.{◌≡◌, ◌≢◌, ℕ, ◌+◌, ◌-◌, ◌<◌, Bool, true, false, List, [], ◌∷◌, ◌++◌, All, length, get_or}
+use Rattle.std.proofs.Common.{take}
 use Rattle.std.proofs.Common.{drop, refl, sym, ap, ◌∙◌, subst, arith, inl, inr, append_assoc, take_all, add-one}
 use Rattle.std.proofs.Common.{length-drop, length-take-le, get_or-take, reverse}
 use Rattle.std.specs.Char.{is_ascii_whitespace}
@@ -63,7 +64,7 @@ word_is_entry grammar text range (inr h) =
 
 -- ---- nothing is around them
 
-untrimmed : (p : ℕ → Bool) (text : List ℕ) → prefix_len p text ≡ 0 → suffix_len p text ≡ 0
+pub untrimmed : (p : ℕ → Bool) (text : List ℕ) → prefix_len p text ≡ 0 → suffix_len p text ≡ 0
     → take (length (drop (prefix_len p text) text) - suffix_len p (drop (prefix_len p text) text))
     (drop (prefix_len p text) text) ≡ text
 untrimmed p text none nor =
@@ -79,13 +80,19 @@ no_blanks text h =
     untrimmed is_ascii_whitespace text (first_fails is_ascii_whitespace text (none 0))
     (last_fails is_ascii_whitespace text none)
 
-opens_none : (text : List ℕ) → All IsPlainByte text → (k : ℕ) → k < length text → ¬ (Opens text k)
-opens_none text h k less (inl hash) = (All-get_or IsPlainByte text k 0 less h).no_hash hash
-opens_none text h k less (inr (semicolon, after)) = (All-get_or IsPlainByte text k 0 less h).no_semicolon semicolon
+-- a byte that begins no comment
+pub record IsSober (b : ℕ) : Type 0 where
+  pub no_hash : b ≢ 35
+  pub no_semicolon : b ≢ 59
 
--- such a line contains all that it is
-pub plain_contents : (grammar : Grammar) (text : List ℕ) → All IsPlainByte text → IsContents grammar text text
-plain_contents grammar text h =
+opens_none : (text : List ℕ) → All IsSober text → (k : ℕ) → k < length text → ¬ (Opens text k)
+opens_none text h k less (inl hash) = (All-get_or IsSober text k 0 less h).no_hash hash
+opens_none text h k less (inr (semicolon, after)) = (All-get_or IsSober text k 0 less h).no_semicolon semicolon
+
+-- a line without a comment and without blanks at its ends contains all that it is
+pub sober_contents : (grammar : Grammar) (text : List ℕ) → All IsSober text → without_blanks text ≡ text
+    → IsContents grammar text text
+sober_contents grammar text h bare =
     let whole : take (length text) text ≡ text = take_all (length text) text (omega arith) in
     let behind : drop (length text) text ≡ [] =
     empty_text (drop (length text) text) (omega (arith, length-drop (length text) text)) in
@@ -96,8 +103,15 @@ plain_contents grammar text h =
         opens = λ less. absurd (omega (arith, less));
         first = opens_none text h;
       };
-      is = inl (sym (ap without_blanks whole ∙ no_blanks text h), inr (λ hides. hides.1 behind));
+      is = inl (sym (ap without_blanks whole ∙ bare), inr (λ hides. hides.1 behind));
     }
+
+-- so does one without blanks
+pub plain_contents : (grammar : Grammar) (text : List ℕ) → All IsPlainByte text → IsContents grammar text text
+plain_contents grammar text h =
+    sober_contents grammar text
+    (All-weaker IsPlainByte IsSober (λ b is. record { no_hash = is.no_hash; no_semicolon = is.no_semicolon }) text h)
+    (no_blanks text h)
 
 -- ---- the line at the front of bytes
 

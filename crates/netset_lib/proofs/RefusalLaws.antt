@@ -9,7 +9,7 @@ use Rattle.netset_lib.specs.Reading.{HasMore}
 use Rattle.netset_lib.specs.RefusedLines.{AreRefused, shown_refusals, refusal_of}
 
 -- the front of a front, with more behind it
-take-take-append : {X : Type 0} (n : ℕ) (xs ys : List X) → take n (take n xs ++ ys) ≡ take n (xs ++ ys)
+pub take-take-append : {X : Type 0} (n : ℕ) (xs ys : List X) → take n (take n xs ++ ys) ≡ take n (xs ++ ys)
 take-take-append zero xs ys = refl
 take-take-append (suc n) [] ys = refl
 take-take-append {X = X} (suc n) (x ∷ xs) ys = ap (λ (l : List X). x ∷ l) (take-take-append n xs ys)
@@ -42,11 +42,11 @@ more_refused old new a b h k = record {
 }
 
 -- one line more, which is kept where there is room
-pub one_more : (old new : List Refusal) (r : Refusal) → length old < 10 → new ≡ old ++ r ∷ []
+pub one_more : {X : Type 0} (old new : List X) (r : X) → length old < 10 → new ≡ old ++ r ∷ []
     → new ≡ take 10 (old ++ r ∷ [])
 one_more old new r room e =
     e ∙ sym (take_all 10 (old ++ r ∷ []) (omega (arith, length-append old (r ∷ []), room)))
 
-pub no_room : (old : List Refusal) (r : Refusal) → length old ≡ 10 → old ≡ take 10 (old ++ r ∷ [])
+pub no_room : {X : Type 0} (old : List X) (r : X) → length old ≡ 10 → old ≡ take 10 (old ++ r ∷ [])
 no_room old r full =
     sym (take-append-le 10 old (r ∷ []) (omega (arith, full)) ∙ take_all 10 old (omega (arith, full)))

@@ -226,7 +226,7 @@ pair_right grammar lists s front one other h none two is =
         record { first = a; second = b; read = read; of_first = both.0; of_second = both.1 }
     go (a ∷ b ∷ c ∷ entries) count read state = absurd (omega (arith, count))
 
-pub not_not : (b : Bool) → not (not b) ≡ b
+not_not : (b : Bool) → not (not b) ≡ b
 not_not true = refl
 not_not false = refl
 

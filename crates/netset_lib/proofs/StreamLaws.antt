@@ -5,6 +5,7 @@ use Rattle.std.proofs.Common.{sym, ap, ◌∙◌, subst, arith, append-nil, stri
 use Rattle.std.specs.Io.KnownBytes.{Appends}
 use Rattle.std.proofs.KnownBytes.{Appends-nil, Appends-trans}
 use Rattle.ipnet.specs.declared.parser.Grammar.{Grammar}
+use Rattle.ipnet.specs.Lines.{lines_of}
 use Rattle.netset_lib.specs.declared.answerer.Answerer.{Answerer}
 use Rattle.netset_lib.specs.declared.command.Work.{Work}
 use Rattle.netset_lib.specs.declared.command.Work.TheVariants.{Ask}
@@ -12,12 +13,13 @@ use Rattle.netset_lib.specs.declared.query.Query.{Query}
 use Rattle.netset_lib.specs.declared.session.Session.{Session}
 use Rattle.netset_lib.specs.declared.session.stream.Streamed.{Streamed}
 use Rattle.netset_lib.specs.declared.answerer.Answers.{Answers}
+use Rattle.netset_lib.specs.declared.reader.LineReader.{LineReader}
 use Rattle.netset_lib.specs.declared.reading.Reading.{Reading}
 use Rattle.netset_lib.specs.Answering.{IsAnswererFor, IsAnswerBy, IsFoundBy, AreAnswersBy}
 use Rattle.netset_lib.specs.Answers.{AreListsRead}
 use Rattle.netset_lib.specs.EntryAnswers.{IsFoundIn}
 use Rattle.netset_lib.specs.Lists.{ListEntry, Refusal, IsListRead}
-use Rattle.netset_lib.specs.Reading.{Adds, TakesLines, WasMadeOf}
+use Rattle.netset_lib.specs.Reading.{Adds, ReadsLines, TakesLines, WasMadeOf}
 use Rattle.netset_lib.specs.RefusedLines.{AreRefused}
 use Rattle.netset_lib.specs.Replies.{IsFoundFor}
 use Rattle.netset_lib.specs.Sessions.{WereRead, IsState, IsAskState}
@@ -27,30 +29,35 @@ use Rattle.netset_lib.proofs.EntryAnswerLaws.{answers_append, found_append, foun
 use Rattle.netset_lib.proofs.ListsReading.{lists_count, lists_push, none_of_length}
 use Rattle.netset_lib.proofs.RouteLaws.{entries_some, HasSome}
 
+-- lines that were read, with something else made of their entries
+pub reads_weaker : (old new : LineReader) (lines : List (List ℕ)) (A B C D : List ListEntry → Type 0)
+    → ReadsLines old new lines A B → ((entries : List ListEntry) → Adds A B entries → Adds C D entries)
+    → ReadsLines old new lines C D
+reads_weaker old new lines A B C D (texts, are, adds) weaker = (
+  texts,
+  are,
+  record {
+    same_grammar = adds.same_grammar;
+    same_list = adds.same_list;
+    entries = adds.entries;
+    refusals = adds.refusals;
+    read = adds.read;
+    added = adds.added;
+    made = weaker adds.entries adds.made;
+    notes = adds.notes;
+  },
+)
+
 -- lines that were taken, with something else made of their entries
-takes_weaker : (more : Bool) (old new : Reading) (A B C D : List ListEntry → Type 0) → TakesLines more old new A B
+pub takes_weaker : (more : Bool) (old new : Reading) (A B C D : List ListEntry → Type 0) → TakesLines more old new A B
     → ((entries : List ListEntry) → Adds A B entries → Adds C D entries) → TakesLines more old new C D
-takes_weaker more old new A B C D t weaker =
-    let (texts, are, adds) = t.lines in record {
-      front = t.front;
-      is = t.is;
-      closed = t.closed;
-      all = t.all;
-      lines = (
-        texts,
-        are,
-        record {
-          same_grammar = adds.same_grammar;
-          same_list = adds.same_list;
-          entries = adds.entries;
-          refusals = adds.refusals;
-          read = adds.read;
-          added = adds.added;
-          made = weaker adds.entries adds.made;
-          notes = adds.notes;
-        },
-      );
-    }
+takes_weaker more old new A B C D t weaker = record {
+  front = t.front;
+  is = t.is;
+  closed = t.closed;
+  all = t.all;
+  lines = reads_weaker old.lines new.lines (lines_of t.front) A B C D t.lines weaker;
+}
 
 -- nothing is written of no entry
 pub written_none : (answerer : Answerer) (held : Option (List ℕ)) → IsWritten answerer held held false []

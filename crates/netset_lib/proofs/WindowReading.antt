@@ -5,48 +5,17 @@ use Rattle.std.proofs.Common.{drop, refl, sym, ap, ◌∙◌, arith, inl, inr, s
 use Rattle.std.proofs.Common.{if◌then◌else◌}
 use Rattle.std.proofs.Math.ListN.{drop_of_length-le}
 use Rattle.std.specs.Io.KnownBytes.{Consumes, IsAtEnd}
-use Rattle.std.specs.List.{starts_with}
 use Rattle.std.proofs.KnownBytes.{Consumes-nil, Consumes-trans}
-use Rattle.std.proofs.lemmas.Bool.Decides.{Decides-eqb}
 use Rattle.std.proofs.lemmas.List.{map-append, take-append-drop, length-take}
-use Rattle.std.proofs.lemmas.Slice.Eq.{starts_is}
 use Rattle.ipnet.specs.Lines.{lines_of}
 use Rattle.ipnet_text.specs.Window.{held}
 use Rattle.ipnet_text.proofs.ClosedLines.{IsClosed, closed_append}
 use Rattle.netset_lib.specs.declared.reader.LineReader.{LineReader}
 use Rattle.netset_lib.specs.declared.reading.Reading.{Reading}
-use Rattle.netset_lib.specs.Lists.{after_mark, byte_order_mark, ListEntry, AreRead, AreContents}
-use Rattle.netset_lib.specs.Reading.{Adds, ReadsLines, pending, IsPastMark, IsBegun, TakesLines, WasMadeOf}
+use Rattle.netset_lib.specs.Lists.{after_mark, ListEntry, AreRead, AreContents}
+use Rattle.netset_lib.specs.Reading.{Adds, ReadsLines, pending, IsBegun, TakesLines, WasMadeOf}
 use Rattle.netset_lib.specs.Reading.{HasMore, at_first_line}
 use Rattle.netset_lib.proofs.ListReading.{reads_none, reads_more}
-
--- ---- a byte order mark
-
--- bytes that begin with a byte order mark are it and the others
-pub mark_cut : (bytes : List ℕ) → true ≡ starts_with nat_eq bytes byte_order_mark
-    → bytes ≡ byte_order_mark ++ drop 3 bytes
-mark_cut bytes is = (starts_is Decides-eqb bytes byte_order_mark true is).0 refl
-
--- what follows a byte order mark
-pub past_mark : (rest : List ℕ) → after_mark (byte_order_mark ++ rest) ≡ rest
-past_mark rest = refl
-
--- bytes that do not begin with one, with others behind them if they are long enough
-pub past_none : (bytes rest : List ℕ) (more : Bool) → false ≡ starts_with nat_eq bytes byte_order_mark
-    → (3 ≤ length bytes) ⊎ (more ≡ false) → (more ≡ false → rest ≡ []) → after_mark (bytes ++ rest) ≡ bytes ++ rest
-past_none [] rest more none (inl long) end = absurd (omega arith)
-past_none (x ∷ []) rest more none (inl long) end = absurd (omega arith)
-past_none (x ∷ y ∷ []) rest more none (inl long) end = absurd (omega arith)
-past_none (x ∷ y ∷ z ∷ bytes) rest more none (inl long) end =
-    ap (λ t. if t then bytes ++ rest else (x ∷ y ∷ z ∷ bytes ++ rest)) (sym none)
-past_none bytes rest more none (inr over) end =
-    subst (λ z. after_mark z ≡ z) (sym (ap (λ z. bytes ++ z) (end over) ∙ append-nil bytes))
-    (ap (λ t. if t then drop 3 bytes else bytes) (sym none))
-
-pub long_or_over : (bytes shown : List ℕ) (more : Bool) → shown ≡ bytes
-    → (3 ≤ length shown) ⊎ ((length shown < 3) × (more ≡ false)) → (3 ≤ length bytes) ⊎ (more ≡ false)
-long_or_over bytes shown more is (inl long) = inl (omega (arith, long, ap length is))
-long_or_over bytes shown more is (inr (short, over)) = inr over
 
 -- ---- what is pending
 
@@ -90,30 +59,21 @@ pub record IsListUpTo (more : Bool) (left left_now : Option (List ℕ)) (start :
   pub end : more ≡ false → IsAtEnd left_now
   pub lines : ReadsLines start now.lines (lines_of front) IsMade IsMadeNow
 
--- nothing was read but a byte order mark
-up_to_mark : (more : Bool) (left left_now : Option (List ℕ)) (old now : Reading)
-    (IsMade : List ListEntry → Type 0) → old.carry.items ≡ [] → IsPastMark more left left_now old now
-    → IsListUpTo more left left_now old.lines now IsMade IsMade
-up_to_mark more left left_now old now IsMade none h =
-    let is : pending now ≡ held now.window =
-    ap (λ z. z ++ held now.window) (ap (λ z. z.items) h.same_carry ∙ none) in
-    record {
-      mark = h.mark;
-      front = [];
-      read = rw is h.read;
-      closed = λ rest. refl;
-      past = λ rest over. rw is (h.past rest over);
-      end = h.end;
-      lines = rw h.same_lines (reads_none old.lines IsMade);
-    }
-
 -- a list that was begun
 pub up_to_begin : (more : Bool) (left left_now : Option (List ℕ)) (old now : Reading)
     (IsMade : List ListEntry → Type 0) → IsBegun more left left_now old now
     → IsListUpTo more left left_now (at_first_line old.lines) now IsMade IsMade
 up_to_begin more left left_now old now IsMade h =
-    subst (λ r. IsListUpTo more left left_now r now IsMade IsMade) h.lines
-    (up_to_mark more left left_now h.start now IsMade h.none h.past)
+    let is : pending now ≡ held now.window = ap (λ z. z ++ held now.window) h.none in
+    record {
+      mark = h.past.mark;
+      front = [];
+      read = rw is h.past.read;
+      closed = λ rest. refl;
+      past = λ rest over. rw is (h.past.past rest over);
+      end = h.past.end;
+      lines = rw h.lines (reads_none (at_first_line old.lines) IsMade);
+    }
 
 -- and more lines, while more bytes may come
 pub up_to_lines : (left left_now : Option (List ℕ)) (start : LineReader) (now next : Reading)

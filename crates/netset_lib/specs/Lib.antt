@@ -8,6 +8,7 @@ pub mod CauseSteps
 pub mod Lists
 pub mod RefusedLines
 pub mod FoundEntry
+pub mod Marks
 pub mod Reading
 pub mod Operations
 pub mod Outputs
@@ -37,3 +38,14 @@ pub mod RuleLines
 pub mod RuleContentsOf
 pub mod RuleSteps
 pub mod RuleAnswers
+pub mod ContentLines
+pub mod ContentLineOf
+pub mod NetworkEntries
+pub mod NetworkSteps
+pub mod ChangeLists
+pub mod ApplySteps
+pub mod Scripts
+pub mod PrefixLines
+pub mod PrefixSteps
+pub mod PrefixAnswers
+pub mod PrefixReading

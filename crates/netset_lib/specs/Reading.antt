@@ -10,7 +10,8 @@ use Rattle.ipnet_text.specs.Window.{held}
 use Rattle.netset_lib.specs.declared.reader.LineReader.{LineReader}
 use Rattle.netset_lib.specs.declared.reading.Reading.{Reading}
 use Rattle.netset_lib.specs.declared.refused.RefusedLines.{RefusedLines}
-use Rattle.netset_lib.specs.Lists.{ListEntry, Refusal, AreRead, IsListRead, AreContents, after_mark}
+use Rattle.netset_lib.specs.Lists.{ListEntry, Refusal, AreRead, IsListRead, AreContents}
+use Rattle.netset_lib.specs.Marks.{IsPastMark}
 use Rattle.netset_lib.specs.RefusedLines.{shown_refusals, most_shown}
 
 -- The refused lines `more` are added: the first ten of all are kept, and all are counted.
@@ -65,16 +66,6 @@ pub record ReadsFirst (old new : LineReader) (bytes rest : List ℕ) (IsMade IsM
 abbrev pub pending : Reading → List ℕ
 pending r = r.carry.items ++ held r.window
 
--- The start of a list was read, up to a byte order mark if it has one. If `more` is false, that is the whole list.
-pub record IsPastMark (more : Bool) (left left_after : Option (List ℕ)) (old new : Reading) : Type 0 where
-  pub same_lines : new.lines ≡ old.lines
-  pub same_carry : new.carry ≡ old.carry
-  pub mark : List ℕ
-  pub read : Consumes left left_after (mark ++ held new.window)
-  pub past : (rest : List ℕ) → (more ≡ false → rest ≡ []) → after_mark (mark ++ (held new.window ++ rest))
-      ≡ held new.window ++ rest
-  pub end : more ≡ false → IsAtEnd left_after
-
 -- A reader of lines, before the first line of a list.
 abbrev pub at_first_line : LineReader → LineReader
 at_first_line r = record {
@@ -89,10 +80,9 @@ at_first_line r = record {
 
 -- A list was begun: no line of it was read, and its first bytes are pending, past a byte order mark.
 pub record IsBegun (more : Bool) (left left_after : Option (List ℕ)) (old new : Reading) : Type 0 where
-  pub start : Reading
-  pub none : start.carry.items ≡ []
-  pub lines : start.lines ≡ at_first_line old.lines
-  pub past : IsPastMark more left left_after start new
+  pub none : new.carry.items ≡ []
+  pub lines : new.lines ≡ at_first_line old.lines
+  pub past : IsPastMark more left left_after new.window
 
 -- More bytes are pending, and none of their lines was read.
 pub record GoesOn (more : Bool) (left left_after : Option (List ℕ)) (old new : Reading) : Type 0 where

@@ -1,5 +1,5 @@
 -- The queries on a list of rules, and the answers.
-use Rattle.std.specs.Prelude.{◌≡◌, ◌≢◌, ℕ, zero, suc, List, [], ◌∷◌, ◌++◌, codes, decimal, map, Option}
+use Rattle.std.specs.Prelude.{◌≡◌, ◌≢◌, ◌↔◌, ℕ, zero, suc, List, [], ◌∷◌, ◌++◌, codes, decimal, map, Option}
 use Rattle.std.specs.Io.{StartsWith}
 use Rattle.std.specs.Io.KnownBytes.{Appends}
 use Rattle.ipnet_base.specs.Address.{Address, IsAddress}
@@ -9,6 +9,8 @@ use Rattle.ipnet_rules.specs.declared.rules.Action.TheVariants.{Permit}
 use Rattle.ipnet_rules.specs.declared.rules.Rule.{Rule}
 use Rattle.ipnet_rules.specs.declared.unreached.Unreached.{Unreached}
 use Rattle.ipnet_rules.specs.Rules.{HasRuleVerdict}
+use Rattle.ipnet_sets.specs.declared.set.IpSet.{IpSet}
+use Rattle.ipnet_sets.specs.Members.{IsMember}
 use Rattle.ipnet_rules.specs.UnreachedRules.{IsUnreached, AreUnreached}
 use Rattle.netset_lib.specs.declared.rule_answer.RuleFailure.{RuleFailure}
 use Rattle.netset_lib.specs.declared.rule_answer.RuleFailure.TheVariants as Failures
@@ -64,6 +66,13 @@ pub record IsRuleAnswer (query : RuleQuery) (grammar : Grammar) (bytes text : Li
   pub read : IsRuleList grammar bytes contents
   pub none : contents.refused ≡ []
   pub right : IsRuleReply query contents text
+
+-- No line of the list is refused, and the set has the addresses that the rules permit.
+pub record IsPermittedSet (default : Action) (grammar : Grammar) (bytes : List ℕ) (set : IpSet) : Type 0 where
+  pub contents : RuleContents
+  pub read : IsRuleList grammar bytes contents
+  pub none : contents.refused ≡ []
+  pub right : (x : Address) → IsMember set x ↔ IsPermittedBy contents.rules default x
 
 -- Some lines are refused, and these are all of them.
 pub record HasRefusedRules (grammar : Grammar) (bytes : List ℕ) (lines : List RefusedRule) : Type 0 where

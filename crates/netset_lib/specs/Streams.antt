@@ -1,19 +1,37 @@
 -- The answers of a filter or a route that are written while the second list is read.
-use Rattle.std.specs.Prelude.{◌≡◌, Bool, not, ℕ, List, [], ◌∷◌, ◌++◌, length, Option}
-use Rattle.std.specs.Io.KnownBytes.{Appends}
+use Rattle.std.specs.Prelude.{◌≡◌, Bool, not, ℕ, List, [], ◌∷◌, ◌++◌, length, Option, IfSome}
+use Rattle.std.specs.Io.{StartsWith}
+use Rattle.std.specs.Io.KnownBytes.{Appends, Keeps}
 use Rattle.ipnet.specs.declared.parser.Grammar.{Grammar}
+use Rattle.ipnet.specs.Lines.{lines_of}
 use Rattle.ipnet_text.specs.Inputs.{GaveWhole}
+use Rattle.netset_lib.specs.declared.answer.Failure.{Failure}
+use Rattle.netset_lib.specs.declared.answer.Failure.TheVariants as Failures
 use Rattle.netset_lib.specs.declared.answerer.Answerer.{Answerer}
 use Rattle.netset_lib.specs.declared.command.Work.{Work}
 use Rattle.netset_lib.specs.declared.command.Work.TheVariants.{Combine, Ask}
 use Rattle.netset_lib.specs.declared.query.Query.{Query}
 use Rattle.netset_lib.specs.declared.query.Query.TheVariants.{Count, Compare, Filter, Route}
+use Rattle.netset_lib.specs.declared.session.stream.StreamFailure.{StreamFailure}
+use Rattle.netset_lib.specs.declared.session.stream.StreamFailure.TheVariants as StreamFailures
 use Rattle.netset_lib.specs.declared.session.stream.Streamed.{Streamed}
 use Rattle.netset_lib.specs.Answering.{IsAnswerBy, IsFoundBy}
-use Rattle.netset_lib.specs.Answers.{AreListsRead}
+use Rattle.netset_lib.specs.Answers.{AreListsRead, HasRefused}
 use Rattle.netset_lib.specs.EntryAnswers.{AreAnswers, IsFoundIn}
-use Rattle.netset_lib.specs.Lists.{ListEntry, Refusal}
-use Rattle.netset_lib.specs.Replies.{AreReplies, IsFoundFor}
+use Rattle.netset_lib.specs.Lists.{ListEntry, Refusal, AreContents, AreRead, after_mark}
+use Rattle.netset_lib.specs.Replies.{AreReplies, IsFoundFor, work_grammar}
+
+-- A filter and a route can be streamed.
+abbrev pub HasStream : Query → Type 0
+HasStream Count = ⊥
+HasStream Compare = ⊥
+HasStream (Filter side) = Unit {0}
+HasStream Route = Unit {0}
+
+-- The work is a filter or a route, and one list was read.
+abbrev pub CanStream : Work → ℕ → Type 0
+CanStream (Combine request) n = ⊥
+CanStream (Ask query grammar) n = HasStream query × (n ≡ 1)
 
 -- Whether the stream succeeded: a filter found an entry, or a route found none without a route.
 abbrev pub found_by_stream : Query → Bool → Bool
@@ -47,6 +65,83 @@ abbrev pub IsWorkStreamed : Work → List (List ℕ) → Option (List ℕ) → O
 IsWorkStreamed (Combine request) lists left left_after held held_after streamed = ⊥
 IsWorkStreamed (Ask query grammar) lists left left_after held held_after streamed =
     IsStreamed query grammar lists left left_after held held_after streamed
+
+-- The first lines of a list have these entries and refused lines. `left` has the bytes of the list.
+-- Example: `10.0.0.1` is the entry of the first line of `10.0.0.1\n::1\n`.
+pub record IsFrontRead (grammar : Grammar) (list : ℕ) (left : Option (List ℕ)) (entries : List ListEntry)
+    (refusals : List Refusal) : Type 0 where
+  pub lines : List (List ℕ)
+  pub others : List (List ℕ)
+  pub front : IfSome left (λ bytes. lines_of (after_mark bytes) ≡ lines ++ others)
+  pub texts : List (List ℕ)
+  pub contents : AreContents grammar lines texts
+  pub read : AreRead grammar list 1 texts entries refusals
+
+-- The reader had the bytes `left` of the second list. A first part of the answers to the entries of its first lines was
+-- written; the first list has no refused line.
+-- Example: the reader of `10.0.0.1`, `::1`, `10.0.0.2` fails after two lines. A filter with `10.0.0.0/8` first has
+-- written `10.0.0.1`, and may have written less.
+pub record IsStreamedInPart (query : Query) (grammar : Grammar) (lists : List (List ℕ)) (left : Option (List ℕ))
+    (held held_after : Option (List ℕ)) : Type 0 where
+  pub first : List ListEntry
+  pub first_read : AreListsRead grammar 0 lists (first ∷ []) []
+  pub entries : List ListEntry
+  pub refusals : List Refusal
+  pub read : IsFrontRead grammar (length lists) left entries refusals
+  pub text : List ℕ
+  pub right : AreReplies query first entries text
+  pub front : List ℕ
+  pub begins : StartsWith text front
+  pub written : Appends held held_after front
+
+-- The work is a filter or a route, and a first part of its lines was streamed.
+abbrev pub IsWorkStreamedInPart : Work → List (List ℕ) → Option (List ℕ) → Option (List ℕ) → Option (List ℕ) → Type 0
+IsWorkStreamedInPart (Combine request) lists left held held_after = ⊥
+IsWorkStreamedInPart (Ask query grammar) lists left held held_after =
+    IsStreamedInPart query grammar lists left held held_after
+
+-- Why a stream cannot begin: other work or another number of lists, or refused lines in the first list.
+abbrev pub IsNoStart : Work → List (List ℕ) → Failure → Type 0
+IsNoStart work lists Failures.Count = ¬ (CanStream work (length lists))
+IsNoStart work lists (Failures.Refused lines) = HasRefused (work_grammar work) lists lines
+IsNoStart work lists Failures.NoFamily = ⊥
+IsNoStart work lists Failures.Memory = ⊥
+
+-- Why a stream ended, and what was written then. When a read, a write or memory fails is not specified.
+abbrev pub IsStreamFailure : Work → List (List ℕ) → Option (List ℕ) → Option (List ℕ) → Option (List ℕ)
+    → StreamFailure → Type 0
+IsStreamFailure work lists left held held_after (StreamFailures.Start failure) =
+    IsNoStart work lists failure × Keeps held held_after
+IsStreamFailure work lists left held held_after (StreamFailures.Read failure) =
+    IsWorkStreamedInPart work lists left held held_after
+IsStreamFailure work lists left held held_after StreamFailures.Unwritable =
+    IsWorkStreamedInPart work lists left held held_after
+
+-- The stream had begun when it failed.
+-- Only private contracts use this.
+abbrev pub IsBroken : StreamFailure → Type 0
+IsBroken (StreamFailures.Start failure) = ⊥
+IsBroken (StreamFailures.Read failure) = Unit {0}
+IsBroken StreamFailures.Unwritable = Unit {0}
+
+-- A first part of the answers to the entries was written.
+-- Only private contracts use this.
+pub record IsPartWritten (answerer : Answerer) (held held_after : Option (List ℕ)) (entries : List ListEntry)
+    : Type 0 where
+  pub text : List ℕ
+  pub answers : AreAnswers (IsAnswerBy answerer) entries text
+  pub front : List ℕ
+  pub begins : StartsWith text front
+  pub written : Appends held held_after front
+
+-- A first part of the answers to the entries of the first lines of the list was written.
+-- Only private contracts use this.
+pub record IsWrittenInPart (answerer : Answerer) (grammar : Grammar) (list : ℕ)
+    (left held held_after : Option (List ℕ)) : Type 0 where
+  pub entries : List ListEntry
+  pub refusals : List Refusal
+  pub read : IsFrontRead grammar list left entries refusals
+  pub written : IsPartWritten answerer held held_after entries
 
 -- The answers to the entries were written, and `found` says whether one was found.
 -- Only private contracts use this.

@@ -1,5 +1,5 @@
 //! Why a text is not an entry, if a cause can be named.
-ghost use Rattle.std.specs.Prelude.{◌≡◌, ◌↔◌, IsTrue, IfOk, IfSome, Some};
+ghost use Rattle.std.specs.Prelude.{◌≡◌, ◌↔◌, IsTrue, IfOk, IfSome, Some, None};
 ghost use Rattle.std.specs.Str.{IsUtf8};
 ghost use Rattle.netset_lib.specs.Entries.{IsNoEntry};
 ghost use Rattle.netset_lib.specs.Causes.{Explains, IsCauseTold, IsFirstOf, causes};
@@ -117,6 +117,13 @@ const CAUSES: &[Cause] = &[
     Cause::HostName,
 ];
 
+/// All causes, in their order.
+fn all_causes() -> &'static [Cause]
+    ensures { result.now ≡ causes }
+{
+    CAUSES
+}
+
 /// Whether the sentence of the cause is true of the text.
 fn explains(room: &mut String, text: &str, cause: Cause) -> Result<bool, AllocError>
     requires { IsUtf8 text.now }
@@ -171,7 +178,7 @@ fn cause_in_text(
 {
     match read_entry(room, text, grammar)? {
         Some(_) => Ok(None),
-        None => first_cause(room, text, CAUSES),
+        None => first_cause(room, text, all_causes()),
     }
 }
 
@@ -206,6 +213,8 @@ pub fn cause_of(
 ) -> Result<Option<Cause>, AllocError>
     ensures told { IfOk result (IsCauseTold grammar text.now) }
     ensures no_entry { IfOk result (λ told. IfSome told (λ _. IsNoEntry grammar text.now)) }
+    ensures none { IfOk result (λ told. told ≡ None → IsNoEntry grammar text.now
+        → (cause : Cause) → ¬ (Explains text.now cause)) }
 {
     match str::from_utf8(text) {
         Ok(text) => cause_in_text(room, text, grammar),

@@ -8,7 +8,11 @@ use crate::cause_parts::is_ipv4;
 use std::alloc::AllocError;
 
 /// Whether one of the bytes is this one.
-pub(crate) fn has_byte(text: &[u8], wanted: u8) -> bool
+///
+/// ```text
+/// b"10.0.0.1" and b'.': true
+/// ```
+pub fn has_byte(text: &[u8], wanted: u8) -> bool
     ensures { result ≡ list_any (λ b. b == wanted) text.now }
 {
     text.iter().any(|byte| *byte == wanted)

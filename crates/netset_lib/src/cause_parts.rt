@@ -87,7 +87,11 @@ fn is_ipv6(room: &mut String, text: &str) -> Result<bool, AllocError>
 }
 
 /// Whether all bytes are decimal digits.
-pub(crate) fn are_digits(text: &[u8]) -> bool
+///
+/// ```text
+/// b"080" and b"": true; b"8a": false
+/// ```
+pub fn are_digits(text: &[u8]) -> bool
     ensures { result ≡ list_all is_ascii_digit text.now }
 {
     text.iter().all(|byte| byte.is_ascii_digit())

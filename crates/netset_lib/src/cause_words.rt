@@ -32,8 +32,13 @@ fn is_ipv4_word(room: &mut String, word: &[u8]) -> Result<bool, AllocError>
     }
 }
 
-/// Whether the address is a netmask.
-fn is_netmask(mask: Ipv4Addr) -> bool
+/// Whether the address is a netmask: ones followed by zeros.
+///
+/// ```text
+/// 255.0.0.0, 0.0.0.0, 255.255.255.255:  true
+/// 0.255.255.255, 255.0.255.0:           false
+/// ```
+pub fn is_netmask(mask: Ipv4Addr) -> bool
     ensures { IsTrue result ↔ IsNetmaskNumber (ipv4_bits mask) }
 {
     match ipv4_mask_to_prefix(mask) {

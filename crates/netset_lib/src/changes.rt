@@ -16,7 +16,7 @@ use std::alloc::{AllocError, Global};
 
 /// A change of a list of networks.
 #[derive(Clone, Copy)]
-enum Change {
+pub(crate) enum Change {
     Added(IpNet),
     Removed(IpNet),
 }

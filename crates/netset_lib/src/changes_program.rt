@@ -11,7 +11,7 @@ ghost use Rattle.netset_lib.specs.declared.query.Query.TheVariants.{Compare};
 
 use crate::answer::Failure;
 use crate::changes::changes_text;
-use crate::program::{report, written};
+use crate::program::{report_failure, written};
 use crate::session::Session;
 use std::io::Write;
 
@@ -57,12 +57,12 @@ pub fn run_changes<W: Write, X: Write>(
     let (before, after) = match session.into_pair() {
         Ok(pair) => pair,
         Err(failure) => {
-            let _ = report(faults, names, &failure);
+            let _ = report_failure(faults, names, &failure);
             return 2;
         }
     };
     let Ok(text) = changes_text(alloc, &before, &after) else {
-        let _ = report(faults, names, &Failure::Memory);
+        let _ = report_failure(faults, names, &Failure::Memory);
         return 2;
     };
     if !written(out, text.as_bytes()) {

@@ -62,9 +62,16 @@ fn read_network(text: &str, grammar: Grammar) -> Option<IpNet>
     IpNet::parse_as(text, grammar).ok()
 }
 
-/// The address that the text writes. With "/32" after it, the text of an address of either family is that of a
-/// network; this is written into `room`, whatever it held before.
-pub(crate) fn read_address(
+/// The address that the whole text is in this grammar, or `None` if it is none.
+///
+/// With "/32" after it, the text of an address of either family is that of a network; this is written into `room`,
+/// whatever it held before. Fails if memory runs out.
+///
+/// ```text
+/// 10.0.0.1:     10.0.0.1
+/// 10.0.0.1/32:  None
+/// ```
+pub fn read_address(
     room: &mut String,
     text: &str,
     grammar: Grammar,

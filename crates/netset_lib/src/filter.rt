@@ -37,7 +37,12 @@ fn address_fits(address: IpAddr)
 }
 
 /// Whether every address of the entry is in the set.
-pub(crate) fn covers_entry(set: &IpSet, entry: Entry) -> bool
+///
+/// ```text
+/// the set 10.0.0.0/8, and 10.0.0.9/24:          true
+/// the set 10.0.0.0/8, and 10.0.0.1-11.0.0.1:    false
+/// ```
+pub fn covers_entry(set: &IpSet, entry: Entry) -> bool
     ensures covers { IsTrue result ↔ ((x : Address) → IsInRange (entry_range entry) x → IsMember set.now x) }
     ensures fits { HasAddresses (entry_range entry) }
 {
@@ -46,8 +51,14 @@ pub(crate) fn covers_entry(set: &IpSet, entry: Entry) -> bool
     set.covers_range(first, last)
 }
 
-/// The set in which the entries that are kept lie.
-pub(crate) fn side_set(alloc: Global, side: Side, set: IpSet) -> Result<IpSet, AllocError>
+/// Returns the set in which the entries that are kept lie: the set, or all addresses that are not in it. Fails if
+/// memory runs out.
+///
+/// ```text
+/// Inside, and 0.0.0.0/1:   0.0.0.0/1
+/// Outside, and 0.0.0.0/1:  128.0.0.0/1 and ::/0
+/// ```
+pub fn side_set(alloc: Global, side: Side, set: IpSet) -> Result<IpSet, AllocError>
     ensures { IfOk result (λ s. (x : Address) → IsAddress x → IsMember s x ↔ IsOnSide side (IsMember set) x) }
 {
     match side {

@@ -10,7 +10,7 @@ use crate::cause_parts::are_digits;
 const GREATEST: u8 = 128;
 
 /// The number of at most 128 that the decimal digits are.
-fn read_decimal(digits: &str) -> Option<u8>
+pub(crate) fn read_decimal(digits: &str) -> Option<u8>
     ensures { (n : ℕ) → (result ≡ Some n) ↔ IsDecimal Strict 3 128 digits.now n }
 {
     let bytes = digits.as_bytes();

@@ -1,4 +1,4 @@
-//! What is made of the sets of lists.
+//! The operations on the sets of lists.
 ghost use Rattle.std.specs.Prelude.{◌≡◌, ◌↔◌, ◌∷◌, [], IfOk, IsTrue, length};
 ghost use Rattle.ipnet_base.specs.Address.{IPv4, IPv6, Address, IsAddress, ip_address};
 ghost use Rattle.ipnet_sets.specs.Members.{IsMember, IsFromTo};
@@ -23,7 +23,7 @@ pub enum Families {
     Both,
 }
 
-/// What is made of lists.
+/// An operation on lists.
 ///
 /// ```text
 /// of 10.0.0.0-10.0.0.5 and 10.0.0.4-10.0.0.9
@@ -50,7 +50,7 @@ pub enum Operation {
 impl Operation {
     ghost use Rattle.netset_lib.specs.Operations.{IsCountFor};
 
-    /// Whether the operation takes so many lists.
+    /// Whether the operation takes this number of lists.
     ///
     /// ```text
     /// Union takes 1 and more, Intersection and Difference 2 and more, SymmetricDifference 2, Complement 1

@@ -16,7 +16,8 @@ pub trait Output: Write {
 
     /// Lets the bytes that were written take effect.
     fn publish(&mut self) -> io::Result<()>
-        ensures { IsOk result ↔ is_published self.new };
+        ensures published { IsOk result ↔ is_published self.new }
+        ensures contents { Keeps (Self.contents self.old) (Self.contents self.new) };
 }
 
 /// Ends a run with this exit status: publishes its output if the status is 0 or 1, and returns the exit status.
@@ -33,6 +34,7 @@ pub fn finish<O: Output, X: Write>(status: u8, out: &mut O, faults: &mut X) -> u
     ensures same { result ≤ 1 → result ≡ status }
     ensures failed { status ≤ 1 → result ≤ 2 }
     ensures unpublished { 2 ≤ status → (result ≡ status) × (out.new ≡ out.old) }
+    ensures contents { Keeps (O.contents out.old) (O.contents out.new) }
     ensures faultless { result ≤ 1 → Keeps (X.contents faults.old) (X.contents faults.new) }
 {
     if status > 1 {

@@ -7,7 +7,7 @@ ghost use Rattle.netset_lib.specs.declared.answer.Request.{Request};
 ghost use Rattle.netset_lib.specs.declared.command.Work.TheVariants.{Combine};
 
 use crate::plan::{PlanRequest, plan_text};
-use crate::program::{report, written};
+use crate::program::{report_failure, written};
 use crate::session::Session;
 use std::io::Write;
 
@@ -59,7 +59,7 @@ pub fn run_plan<W: Write, X: Write>(
     let set = match session.into_set() {
         Ok(set) => set,
         Err(failure) => {
-            let _ = report(faults, names, &failure);
+            let _ = report_failure(faults, names, &failure);
             return 2;
         }
     };

@@ -5,7 +5,7 @@ ghost use Rattle.std.specs.Io.KnownBytes.{Appends, Keeps};
 ghost use Rattle.netset_lib.specs.Replies.{IsOutcome};
 ghost use Rattle.netset_lib.specs.Runs.{IsAnswered, IsCutShort};
 ghost use Rattle.netset_lib.specs.Sessions.{WereRead};
-ghost use Rattle.netset_lib.specs.Streams.{IsWorkStreamed};
+ghost use Rattle.netset_lib.specs.Streams.{IsWorkStreamed, IsWorkStreamedInPart};
 ghost use Rattle.netset_lib.specs.declared.command.Work.{Work};
 
 use crate::answer::{Answer, Failure};
@@ -64,7 +64,7 @@ pub fn run<W: Write, X: Write>(session: Session, names: &[&str], out: &mut W, fa
     let Answer { text, succeeded } = match session.answer(names) {
         Ok(answer) => answer,
         Err(failure) => {
-            let _ = report(faults, names, &failure);
+            let _ = report_failure(faults, names, &failure);
             return 2;
         }
     };
@@ -102,6 +102,10 @@ pub fn run_stream<R: Read, W: Write, X: Write>(
         → ((s : Streamed) × (s.refused ≡ 0) × (s.succeeded ≡ (result == 0))
         × IsWorkStreamed work lists (R.remaining input.old) (R.remaining input.new)
         (W.contents out.old) (W.contents out.new) s) }
+    ensures cut_short { result ≡ 2 → (work : Work) → (lists : List (List ℕ)) → WereRead work lists session
+        → Keeps (W.contents out.old) (W.contents out.new)
+        ⊎ IsWorkStreamedInPart work lists (R.remaining input.old) (W.contents out.old) (W.contents out.new) }
+    ensures faultless { result ≤ 1 → Keeps (X.contents faults.old) (X.contents faults.new) }
 {
     match session.stream(names, input, out, faults) {
         Ok(streamed) => stream_status(streamed),
@@ -134,7 +138,7 @@ fn report_stream<X: Write>(
     failure: &StreamFailure,
 ) -> io::Result<()> {
     match failure {
-        StreamFailure::Start(failure) => report(faults, names, failure),
+        StreamFailure::Start(failure) => report_failure(faults, names, failure),
         StreamFailure::Read(failure) => {
             let name = names.get(1).copied().unwrap_or("list");
             writeln!(faults, "netset: {name}: {failure}")
@@ -143,8 +147,13 @@ fn report_stream<X: Write>(
     }
 }
 
-/// Writes the bytes and flushes the writer, and returns whether both succeeded.
-pub(crate) fn written<W: Write>(out: &mut W, bytes: &[u8]) -> bool
+/// Writes the bytes and flushes the writer, and returns whether both succeeded. If not, a front of the bytes may be
+/// written.
+///
+/// ```text
+/// "10.0.0.0/8\n" to a writer that fails after four bytes: false, and "10.0" is written
+/// ```
+pub fn written<W: Write>(out: &mut W, bytes: &[u8]) -> bool
     ensures whole { IsTrue result → Appends (W.contents out.old) (W.contents out.new) bytes.now }
     ensures front { (front : List ℕ) × StartsWith bytes.now front
         × Appends (W.contents out.old) (W.contents out.new) front }
@@ -152,8 +161,12 @@ pub(crate) fn written<W: Write>(out: &mut W, bytes: &[u8]) -> bool
     write_whole(out, bytes).is_ok() && out.flush().is_ok()
 }
 
-/// Reports the failure.
-pub(crate) fn report<X: Write>(
+/// Reports the failure of a session on `faults`, as `run` does. `names` are the names of the lists.
+///
+/// ```text
+/// Memory: "netset: out of memory"
+/// ```
+pub fn report_failure<X: Write>(
     faults: &mut X,
     names: &[&str],
     failure: &Failure,
@@ -172,14 +185,19 @@ fn report_lines<X: Write>(faults: &mut X, names: &[&str], lines: &RefusedLines) 
 }
 
 /// Reports the refused lines as `report_lines` does. `before` is how many of them are reported already, first of those
-/// that are kept, and then of all.
+/// that are kept, and then of all. Nothing is printed if these are all.
 pub(crate) fn report_since<X: Write>(
     faults: &mut X,
     names: &[&str],
     lines: &RefusedLines,
     before: (usize, usize),
-) -> io::Result<()> {
+) -> io::Result<()>
+    ensures { lines.now.count ≡ before.1 → Keeps (X.contents faults.old) (X.contents faults.new) }
+{
     let (shown, count) = before;
+    if lines.count == count {
+        return Ok(());
+    }
     for index in shown..lines.shown.len() {
         report_line(faults, names, &lines.shown[index])?;
     }
@@ -194,7 +212,11 @@ pub(crate) fn report_since<X: Write>(
 /// Reports a refused text of this line, and what it is not. Bytes of the name and the text that are not printable ASCII
 /// are escaped. Of a long text only the beginning is reported, so that a file that is not a list does not fill the
 /// screen.
-pub(crate) fn report_text<X: Write>(
+///
+/// ```text
+/// the name a, line 2, what "not a rule", the text "x\ty": "a:2: not a rule: x\\ty"
+/// ```
+pub fn report_text<X: Write>(
     faults: &mut X,
     name: &str,
     number: usize,

@@ -3,7 +3,7 @@ ghost use Rattle.std.specs.Prelude.{◌≡◌, ◌<◌, ◌∷◌, ◌↔◌, Li
 ghost use Rattle.ipnet.specs.Lines.{lines_of};
 ghost use Rattle.ipnet.specs.declared.parser.Grammar.TheVariants.{Strict};
 ghost use Rattle.netset_lib.specs.Entries.{IsEntryText, IsEntryWord, ReadsAs};
-ghost use Rattle.netset_lib.specs.EntryOf.{entry_range};
+ghost use Rattle.netset_lib.specs.EntryOf.{entry_range, IsWrittenAs};
 ghost use Rattle.netset_lib.specs.Lists.{ListEntry, Opens, IsCommentAt, first_word, HidesEntry};
 ghost use Rattle.netset_lib.specs.Lists.{IsContents};
 ghost use Rattle.netset_lib.specs.FoundEntry.{entry_of, found_range};
@@ -30,8 +30,13 @@ pub(crate) trait Collector<M> {
             (Adds (is_made self.now made.old) (is_made self.now made.new) (entry_of text.now entry ∷ [])) };
 }
 
-/// The first line of bytes that are not empty, and the bytes after its end.
-pub(crate) fn first_line(bytes: &[u8]) -> (&[u8], &[u8])
+/// Returns the first line of bytes that are not empty, and the bytes after its end.
+///
+/// ```text
+/// "10.0.0.1\n\nx":  "10.0.0.1" and "\nx"
+/// "x":              "x" and ""
+/// ```
+pub fn first_line(bytes: &[u8]) -> (&[u8], &[u8])
     requires { 0 < length bytes.now }
     ensures lines { lines_of bytes.now ≡ result.0.now ∷ lines_of result.1.now }
     ensures shorter { length result.1.now < length bytes.now }
@@ -42,21 +47,30 @@ pub(crate) fn first_line(bytes: &[u8]) -> (&[u8], &[u8])
     }
 }
 
-/// An entry of a list, and its text.
+/// An entry that was read, and its text.
 #[derive(Clone, Copy)]
-pub(crate) struct FoundEntry<'a> {
-    pub(crate) text: &'a str,
-    pub(crate) entry: Entry,
+pub struct FoundEntry<'a> {
+    /// The text of the entry.
+    pub text: &'a str,
+    /// The entry.
+    pub entry: Entry,
 }
 
-/// Returns the entry that the bytes are, or `None` if they are not one.
-pub(crate) fn read_text<'a>(
+/// Returns the entry that the bytes are, or `None` if they are not one, as `read_entry` does. Bytes that are not UTF-8
+/// are not an entry. Fails if memory runs out.
+///
+/// ```text
+/// b"10.0.0.9/8":  the text "10.0.0.9/8", and Network(10.0.0.9/8)
+/// b"\xff":        None
+/// ```
+pub fn read_text<'a>(
     room: &mut String,
     text: &'a [u8],
     grammar: Grammar,
 ) -> Result<Option<FoundEntry<'a>>, AllocError>
     ensures reads { IfOk result (ReadsAs found_range (IsEntryText grammar) text.now) }
     ensures spelled { IfOk result (λ found. IfSome found (λ f. f.text.now ≡ text.now)) }
+    ensures kind { IfOk result (λ found. IfSome found (λ f. IsWrittenAs grammar text.now f.entry)) }
 {
     let text = match str::from_utf8(text) {
         Ok(text) => text,

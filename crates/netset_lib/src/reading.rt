@@ -1,20 +1,16 @@
 //! Lists, read through a window, so that their bytes are not kept.
 ghost use Rattle.std.specs.Prelude.{◌≡◌, ◌+◌, ◌<◌, [], length, OnOk, IfOk};
+ghost use Rattle.ipnet_text.specs.Inputs.{GaveWhole};
 ghost use Rattle.ipnet_text.specs.Window.{held};
 
+use crate::mark::{MOST_READS, begin_input};
 use crate::reader::{Collector, LineReader};
 use ipnet::Grammar;
 use ipnet_text::window::SIZE;
 use ipnet_text::{ReadError, Window, lines_len};
 use std::alloc::{AllocError, Global};
-use std::io::Read;
+use std::io::{ErrorKind, Read};
 use thiserror::Error;
-
-/// Bounds the loops, so that they provably end.
-pub(crate) const MOST_READS: u64 = u64::MAX;
-
-/// The byte order mark in UTF-8.
-pub(crate) const BYTE_ORDER_MARK: [u8; 3] = [0xEF, 0xBB, 0xBF];
 
 /// Why a list was not read.
 #[derive(Clone, Copy, Debug, PartialEq, Eq, Drop, Error)]
@@ -39,6 +35,24 @@ impl From<ReadError> for ReadFailure {
     }
 }
 
+/// Reads all bytes up to the end of the input.
+///
+/// The error is `Unreadable` if a read fails, and `Memory` if memory runs out.
+///
+/// ```text
+/// a file of "permit 10.0.0.0/8\n": these 18 bytes
+/// ```
+pub fn read_bytes<R: Read>(alloc: Global, input: &mut R) -> Result<Vec<u8>, ReadFailure>
+    ensures { IfOk result (λ bytes. GaveWhole (R.remaining input.old) (R.remaining input.new) bytes.items) }
+{
+    let mut bytes = Vec::new(alloc);
+    match input.read_to_end(&mut bytes) {
+        Ok(_) => Ok(bytes),
+        Err(error) if error.kind() == ErrorKind::OutOfMemory => Err(ReadFailure::Memory),
+        Err(_) => Err(ReadFailure::Unreadable),
+    }
+}
+
 /// Reads lists one after another. A line that is longer than the window is kept in `carry` until it ends.
 #[derive(Drop)]
 pub(crate) struct Reading {
@@ -49,7 +63,7 @@ pub(crate) struct Reading {
 
 impl Reading {
     ghost use Rattle.netset_lib.specs.RefusedLines.{AreRefused};
-    ghost use Rattle.netset_lib.specs.Reading.{Adds, IsPastMark, IsBegun, GoesOn, TakesLines, WasMadeOf, pending};
+    ghost use Rattle.netset_lib.specs.Reading.{Adds, IsBegun, GoesOn, TakesLines, WasMadeOf, pending};
 
     /// Returns what reads the first list. Fails if memory runs out.
     pub(crate) fn new(alloc: Global, grammar: Grammar) -> Result<Reading, AllocError>
@@ -62,27 +76,6 @@ impl Reading {
             carry: Vec::new(alloc),
             lines: LineReader::new(alloc, grammar),
         })
-    }
-
-    /// Fills the window until it has the length of a byte order mark or the input has ended, and returns whether more
-    /// bytes may come. If the bytes begin with a byte order mark, that is taken.
-    fn skip_mark<R: Read>(&mut self, input: &mut R) -> Result<bool, ReadError>
-        requires { held self.old.window ≡ [] }
-        ensures { IfOk result (λ more. IsPastMark more
-            (R.remaining input.old) (R.remaining input.new) self.old self.new) }
-    {
-        let mut more = true;
-        for _ in 0..MOST_READS {
-            let held = self.window.held();
-            if BYTE_ORDER_MARK.len() <= held.len() || !more {
-                if held.starts_with(&BYTE_ORDER_MARK) {
-                    self.window.take(BYTE_ORDER_MARK.len());
-                }
-                return Ok(more);
-            }
-            more = self.window.fill(input)?;
-        }
-        Err(ReadError)
     }
 
     /// Reads the lines that are complete. If `more` is false, all lines are.
@@ -135,7 +128,7 @@ impl Reading {
         self.window.take(left);
         self.lines.line = 0;
         self.lines.has_entry = false;
-        let more = self.skip_mark(input)?;
+        let more = begin_input(&mut self.window, input)?;
         Ok(more)
     }
 

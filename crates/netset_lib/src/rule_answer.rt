@@ -1,15 +1,19 @@
 //! The queries on a list of rules: the addresses that it permits, and the rules that decide on no address.
-ghost use Rattle.std.specs.Prelude.{◌≡◌, ◌++◌, List, ℕ, IfOk, IfErr, OnOk, map};
+ghost use Rattle.std.specs.Prelude.{◌≡◌, ◌↔◌, ◌++◌, List, ℕ, IfOk, IfErr, OnOk, map};
+ghost use Rattle.ipnet_base.specs.Address.{Address};
 ghost use Rattle.ipnet.specs.declared.parser.Grammar.{Grammar};
+ghost use Rattle.ipnet_sets.specs.Members.{IsMember};
 ghost use Rattle.netset_lib.specs.Answers.{IsSetText};
 ghost use Rattle.netset_lib.specs.RuleAnswers.{IsPermittedBy, line_text, line_at, covering_lines, IsRuleReply};
 ghost use Rattle.netset_lib.specs.RuleAnswers.{IsRuleAnswer, IsRuleFailure, unreached_lines, AreUnreachedLines};
+ghost use Rattle.netset_lib.specs.RuleAnswers.{IsPermittedSet};
 ghost use Rattle.netset_lib.specs.RuleContentsOf.{contents_of, line_of_rule};
 ghost use Rattle.netset_lib.specs.RuleLines.{IsRuleList};
 
 use crate::answer::{Form, set_text};
 use crate::rule_list::{RefusedRule, RuleLine, RuleList};
 use ipnet_rules::{Action, Rule, Rules, Unreached};
+use ipnet_sets::IpSet;
 use std::alloc::{AllocError, Global};
 
 /// A query on a list of rules.
@@ -30,6 +34,17 @@ pub enum RuleFailure {
     Memory,
 }
 
+/// Returns the set of the addresses that the rules permit.
+fn permitted_set(alloc: Global, rules: Vec<Rule>, default: Action) -> Result<IpSet, AllocError>
+    ensures { IfOk result (λ set. (x : Address) → IsMember set x ↔ IsPermittedBy rules.items default x) }
+{
+    let rules = Rules {
+        list: rules,
+        default,
+    };
+    rules.permitted(alloc)
+}
+
 /// Returns the text of the set of the addresses that the rules permit.
 fn permitted_text(
     alloc: Global,
@@ -39,11 +54,7 @@ fn permitted_text(
 ) -> Result<Vec<u8>, AllocError>
     ensures { IfOk result (λ text. IsSetText form (IsPermittedBy rules.items default) text.items) }
 {
-    let rules = Rules {
-        list: rules,
-        default,
-    };
-    let set = rules.permitted(alloc)?;
+    let set = permitted_set(alloc, rules, default)?;
     let text = set_text(alloc, form, &set)?;
     Ok(text.into_bytes())
 }
@@ -142,6 +153,39 @@ fn reply(list: RuleList, query: RuleQuery) -> Result<Vec<u8>, AllocError>
 }
 
 impl RuleList {
+    /// The allocator of the list.
+    pub fn alloc(&self) -> Global {
+        self.alloc
+    }
+
+    /// Returns the set of the addresses that the rules permit. `default` is for the addresses that no rule matches.
+    ///
+    /// The error is `Refused` if lines are not rules, with all of them; and `Memory` if memory runs out.
+    ///
+    /// ```text
+    /// Deny of "deny 10.0.0.0/9\npermit 10.0.0.0/8\n": 10.128.0.0/9
+    /// ```
+    pub fn permitted(self, default: Action) -> Result<IpSet, RuleFailure>
+        ensures set { IfOk result (λ set. (grammar : Grammar) → (bytes : List ℕ)
+            → IsRuleList grammar bytes (contents_of self) → IsPermittedSet default grammar bytes set) }
+        ensures failure { IfErr result (λ failure. (grammar : Grammar) → (bytes : List ℕ)
+            → IsRuleList grammar bytes (contents_of self) → IsRuleFailure grammar bytes failure) }
+    {
+        let RuleList {
+            alloc,
+            rules,
+            refused,
+            ..
+        } = self;
+        if !refused.is_empty() {
+            return Err(RuleFailure::Refused(refused));
+        }
+        match permitted_set(alloc, rules, default) {
+            Ok(set) => Ok(set),
+            Err(_) => Err(RuleFailure::Memory),
+        }
+    }
+
     /// Returns the answer over the list of rules.
     ///
     /// The error is `Refused` if lines are not rules, with all of them; and `Memory` if memory runs out.

@@ -41,7 +41,7 @@ pub enum RuleCause {
 }
 
 /// Returns the index of the first blank, or the length of the text if it has none.
-fn first_blank(text: &[u8]) -> usize
+pub(crate) fn first_blank(text: &[u8]) -> usize
     ensures index { result ≡ position_or_len is_ascii_whitespace text.now }
     ensures within { result ≤ length text.now }
 {
@@ -54,7 +54,7 @@ fn first_blank(text: &[u8]) -> usize
 }
 
 /// Cuts the text into its first word and the rest, without the blanks between.
-fn cut_word(text: &[u8]) -> (&[u8], &[u8])
+pub(crate) fn cut_word(text: &[u8]) -> (&[u8], &[u8])
     ensures word { result.0.now ≡ leading_word text.now }
     ensures rest { result.1.now ≡ after_word text.now }
 {
@@ -63,7 +63,7 @@ fn cut_word(text: &[u8]) -> (&[u8], &[u8])
 }
 
 /// Returns the action of this word, or `None` if it has none.
-fn action_of(word: &[u8]) -> Option<Action>
+pub(crate) fn action_of(word: &[u8]) -> Option<Action>
     ensures { (action : Action) → (result ≡ Some action) ↔ (word.now ≡ word_of action) }
 {
     if word == b"permit".as_slice() {

@@ -5,13 +5,14 @@ ghost use Rattle.netset_lib.specs.Lists.{after_mark};
 ghost use Rattle.netset_lib.specs.RuleContentsOf.{contents_of, line_of_rule, rule_refusal};
 ghost use Rattle.netset_lib.specs.RuleLines.{IsRuleList, no_rules};
 
+use crate::mark::BYTE_ORDER_MARK;
 use crate::reader::{contents_of, first_line};
-use crate::reading::{BYTE_ORDER_MARK, ReadFailure};
+use crate::reading::{ReadFailure, read_bytes};
 use crate::rule_line::{RuleCause, read_rule};
 use ipnet::Grammar;
 use ipnet_rules::Rule;
 use std::alloc::{AllocError, Global};
-use std::io::{ErrorKind, Read};
+use std::io::Read;
 
 /// The line of a rule.
 ///
@@ -210,11 +211,7 @@ impl RuleList {
             × GaveWhole (R.remaining input.old) (R.remaining input.new) bytes
             × IsRuleList grammar bytes (contents_of list)) }
     {
-        let mut bytes = Vec::new(alloc);
-        match input.read_to_end(&mut bytes) {
-            Ok(_) => Ok(RuleList::from_bytes(alloc, bytes.as_slice(), grammar)?),
-            Err(error) if error.kind() == ErrorKind::OutOfMemory => Err(ReadFailure::Memory),
-            Err(_) => Err(ReadFailure::Unreadable),
-        }
+        let bytes = read_bytes(alloc, input)?;
+        Ok(RuleList::from_bytes(alloc, bytes.as_slice(), grammar)?)
     }
 }

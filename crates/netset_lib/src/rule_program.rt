@@ -15,7 +15,7 @@ use std::io;
 use std::io::Write;
 
 /// At most this many refused lines are reported.
-const MOST_LINES: usize = 10;
+pub(crate) const MOST_LINES: usize = 10;
 
 /// Writes the answer over the list of rules to `out`, and returns the exit status.
 ///
@@ -60,7 +60,7 @@ pub fn run_rules<W: Write, X: Write>(
     let text = match list.answer(query) {
         Ok(text) => text,
         Err(failure) => {
-            let _ = report(faults, name, &failure);
+            let _ = report_rule_failure(faults, name, &failure);
             return 2;
         }
     };
@@ -82,8 +82,12 @@ fn status_of(query: RuleQuery, text: &[u8]) -> u8
     }
 }
 
-/// Reports the failure.
-fn report<X: Write>(faults: &mut X, name: &str, failure: &RuleFailure) -> io::Result<()> {
+/// Reports why a list of rules has no answer, as `run_rules` does.
+pub fn report_rule_failure<X: Write>(
+    faults: &mut X,
+    name: &str,
+    failure: &RuleFailure,
+) -> io::Result<()> {
     match failure {
         RuleFailure::Memory => writeln!(faults, "netset: out of memory"),
         RuleFailure::Refused(lines) => report_lines(faults, name, lines.as_slice()),

@@ -1,7 +1,9 @@
-//! Tests of `netset_lib` that call the library: the kinds of entries, the numbers of lists, plans, changes,
-//! outputs, readers and writers that fail, lists of rules, and refused memory.
+//! Tests of `netset_lib` that call the library: the kinds of entries, the numbers of lists, plans, changes, prefix
+//! lists, outputs, readers and writers that fail, lists of rules, and refused memory.
 #![tactic(auto)]
 
+#[cfg(test)]
+mod applied;
 #[cfg(test)]
 mod changes;
 #[cfg(test)]

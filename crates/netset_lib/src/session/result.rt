@@ -1,5 +1,5 @@
 //! The addresses that an operation makes of the lists of a session.
-ghost use Rattle.std.specs.Prelude.{◌≡◌, List, ℕ, IfOk, IfErr, Err, length};
+ghost use Rattle.std.specs.Prelude.{◌≡◌, List, ℕ, IfOk, IfErr, Err, Some, length};
 ghost use Rattle.netset_lib.specs.PlanAnswers.{IsResultSet};
 ghost use Rattle.netset_lib.specs.Replies.{IsWorkFailure, TakesCount};
 ghost use Rattle.ipnet.specs.declared.parser.Grammar.{Grammar};
@@ -8,7 +8,7 @@ ghost use Rattle.netset_lib.specs.declared.answer.Request.{Request};
 ghost use Rattle.netset_lib.specs.declared.command.Work.TheVariants.{Combine, Ask};
 
 use super::{Session, has_no_family};
-use crate::answer::Failure;
+use crate::answer::{Failure, Request};
 use crate::command::Work;
 use crate::operation::combined;
 use ipnet_sets::IpSet;
@@ -18,8 +18,18 @@ impl Session {
     ghost use Rattle.netset_lib.specs.Sessions.{WereRead};
 
     /// The allocator of the session.
-    pub(crate) fn alloc(&self) -> Global {
+    pub fn alloc(&self) -> Global {
         self.reading.lines.alloc
+    }
+
+    /// Returns the request of the session's operation, or `None` if the session asks a query.
+    pub(crate) fn request(&self) -> Option<Request>
+        ensures { (request : Request) → self.now.work ≡ Combine request → result ≡ Some request }
+    {
+        match self.work {
+            Work::Combine(request) => Some(request),
+            Work::Ask(_, _) => None,
+        }
     }
 
     /// Returns the addresses that the operation makes of the lists that were read.

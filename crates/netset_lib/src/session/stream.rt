@@ -1,16 +1,23 @@
 //! The answers of a filter or a route, written while the second list is read.
-ghost use Rattle.std.specs.Prelude.{◌≡◌, ◌||◌, List, ℕ, [], IfOk, OnOk, false, string_bytes};
-ghost use Rattle.std.specs.Io.KnownBytes.{Appends};
+ghost use Rattle.std.specs.Prelude.{◌≡◌, ◌||◌, ◌↔◌, List, ℕ, [], length, IfOk, IfErr, OnOk, Err, IsTrue};
+ghost use Rattle.std.specs.Prelude.{false, string_bytes};
+ghost use Rattle.std.specs.Io.{StartsWith};
+ghost use Rattle.std.specs.Io.KnownBytes.{Appends, Keeps};
 ghost use Rattle.netset_lib.specs.Reading.{WasMadeOf};
-ghost use Rattle.netset_lib.specs.Streams.{IsWorkStreamed, IsWritten};
+ghost use Rattle.netset_lib.specs.Streams.{IsWorkStreamed, IsWritten, IsWrittenInPart, HasStream, CanStream};
+ghost use Rattle.netset_lib.specs.Streams.{IsStreamFailure, IsBroken, found_by_stream};
+ghost use Rattle.netset_lib.specs.declared.answer.Failure.TheVariants as Failures;
+ghost use Rattle.netset_lib.specs.declared.reading.ReadFailure.TheVariants.{Unreadable, Memory};
+ghost use Rattle.netset_lib.specs.declared.session.stream.StreamFailure.TheVariants as StreamFailures;
 
 use super::Session;
 use crate::answer::Failure;
 use crate::answerer::{Answerer, Answers};
 use crate::command::Work;
+use crate::mark::MOST_READS;
 use crate::program::{report_since, written};
 use crate::query::Query;
-use crate::reading::{MOST_READS, ReadFailure, Reading};
+use crate::reading::{ReadFailure, Reading};
 use ipnet_text::ReadError;
 use std::alloc::AllocError;
 use std::io::{Read, Write};
@@ -37,18 +44,24 @@ pub enum StreamFailure {
 }
 
 impl From<ReadFailure> for StreamFailure {
+    ghost from_gives = { λ failure result. result ≡ StreamFailures.Read failure };
+
     fn from(failure: ReadFailure) -> StreamFailure {
         StreamFailure::Read(failure)
     }
 }
 
 impl From<ReadError> for StreamFailure {
+    ghost from_gives = { λ _ result. result ≡ StreamFailures.Read Unreadable };
+
     fn from(_: ReadError) -> StreamFailure {
         StreamFailure::Read(ReadFailure::Unreadable)
     }
 }
 
 impl From<AllocError> for StreamFailure {
+    ghost from_gives = { λ _ result. result ≡ StreamFailures.Read Memory };
+
     fn from(_: AllocError) -> StreamFailure {
         StreamFailure::Read(ReadFailure::Memory)
     }
@@ -67,6 +80,9 @@ fn put<W: Write>(answers: &mut Answers, out: &mut W) -> Result<(), StreamFailure
         (Appends (W.contents out.old) (W.contents out.new) (string_bytes answers.old.text)) }
     ensures text { OnOk result (string_bytes answers.new.text ≡ []) }
     ensures found { OnOk result (answers.new.found ≡ false) }
+    ensures front { (front : List ℕ) × StartsWith (string_bytes answers.old.text) front
+        × Appends (W.contents out.old) (W.contents out.new) front }
+    ensures cause { IfErr result IsBroken }
 {
     if !written(out, answers.text.as_bytes()) {
         return Err(StreamFailure::Unwritable);
@@ -83,6 +99,23 @@ fn is_any(before: bool, now: bool) -> bool
     before || now
 }
 
+/// Whether the query can be streamed.
+fn has_stream(query: Query) -> bool
+    ensures { IsTrue result ↔ HasStream query }
+{
+    matches!(query, Query::Filter(_) | Query::Route)
+}
+
+/// Whether a stream of the query succeeded. `found` is whether a filter printed an entry, or an entry has no route.
+fn is_success(query: Query, found: bool) -> bool
+    ensures { found_by_stream query result ≡ found }
+{
+    match query {
+        Query::Route => !found,
+        Query::Filter(_) | Query::Count | Query::Compare => found,
+    }
+}
+
 /// Reads one list up to its end. The answers to the entries that were read are written before each read of more bytes,
 /// and the lines that are not entries are reported. Returns what has read the list, and whether an entry was found.
 fn stream_entries<R: Read, W: Write, X: Write>(
@@ -92,8 +125,13 @@ fn stream_entries<R: Read, W: Write, X: Write>(
     out: &mut W,
     faults: &mut X,
 ) -> Result<(Reading, bool), StreamFailure>
-    ensures { IfOk result (λ r. WasMadeOf (R.remaining input.old) (R.remaining input.new) stream.reading r.0
+    ensures whole { IfOk result (λ r. WasMadeOf (R.remaining input.old) (R.remaining input.new) stream.reading r.0
         (IsWritten stream.answerer (W.contents out.old) (W.contents out.new) r.1)) }
+    ensures quiet { IfOk result (λ r. r.0.lines.refused.count ≡ stream.reading.lines.refused.count
+        → Keeps (X.contents faults.old) (X.contents faults.new)) }
+    ensures part { IfErr result (λ _. IsWrittenInPart stream.answerer stream.reading.lines.grammar
+        stream.reading.lines.list (R.remaining input.old) (W.contents out.old) (W.contents out.new)) }
+    ensures cause { IfErr result IsBroken }
 {
     let mut reading = stream.reading;
     let answerer = &stream.answerer;
@@ -137,9 +175,15 @@ impl Session {
         out: &mut W,
         faults: &mut X,
     ) -> Result<Streamed, StreamFailure>
-        ensures { IfOk result (λ streamed. (work : Work) → (lists : List (List ℕ)) → WereRead work lists self
+        ensures streamed { IfOk result (λ streamed. (work : Work) → (lists : List (List ℕ)) → WereRead work lists self
             → IsWorkStreamed work lists (R.remaining input.old) (R.remaining input.new)
             (W.contents out.old) (W.contents out.new) streamed) }
+        ensures quiet { IfOk result (λ streamed. streamed.refused ≡ 0
+            → Keeps (X.contents faults.old) (X.contents faults.new)) }
+        ensures failure { IfErr result (λ failure. (work : Work) → (lists : List (List ℕ)) → WereRead work lists self
+            → IsStreamFailure work lists (R.remaining input.old) (W.contents out.old) (W.contents out.new) failure) }
+        ensures count { (work : Work) → (lists : List (List ℕ)) → WereRead work lists self
+            → ¬ (CanStream work (length lists)) → result ≡ Err (StreamFailures.Start Failures.Count) }
     {
         let Session {
             work,
@@ -150,12 +194,15 @@ impl Session {
         let Work::Ask(query, _) = work else {
             return Err(StreamFailure::Start(Failure::Count));
         };
-        let Some(answerer) = answerer else {
+        if !has_stream(query) {
             return Err(StreamFailure::Start(Failure::Count));
-        };
+        }
         if reading.lines.list != 1 {
             return Err(StreamFailure::Start(Failure::Count));
         }
+        let Some(answerer) = answerer else {
+            return Err(StreamFailure::Start(Failure::Count));
+        };
         if reading.lines.refused.count != 0 {
             let lines = reading.lines;
             let refused = lines.refused;
@@ -163,17 +210,9 @@ impl Session {
         }
         let stream = Stream { reading, answerer };
         let (reading, found) = stream_entries(stream, names, input, out, faults)?;
-        let refused = reading.lines.refused.count;
-        match query {
-            Query::Filter(_) => Ok(Streamed {
-                refused,
-                succeeded: found,
-            }),
-            Query::Route => Ok(Streamed {
-                refused,
-                succeeded: !found,
-            }),
-            Query::Count | Query::Compare => Err(StreamFailure::Start(Failure::Count)),
-        }
+        Ok(Streamed {
+            refused: reading.lines.refused.count,
+            succeeded: is_success(query, found),
+        })
     }
 }

@@ -1,4 +1,4 @@
-use Rattle.std.proofs.Common.{inr, sym, ◌∙◌}
+use Rattle.std.proofs.Common.{inr, sym, ◌∙◌, subst, IfOk}
 use Rattle.netset_lib.specs.Causes.{IsCauseTold, IsFirstOf, causes}
 use Rattle.netset_lib.specs.Entries.{IsEntryText}
 use Rattle.netset_lib.specs.EntryOf.{entry_range}
@@ -12,4 +12,4 @@ returns-in-None c =
     let none = none_of entry_range (IsEntryText grammar) text c.in_ok-read_entry.field-0
     c.in_ok-read_entry.ensures.reads (λ v e. let clash = sym e ∙ c.in-None.is in absurd cc) in
     ok_map (IsFirstOf causes text) (IsCauseTold grammar text) c.first_cause.result (λ told h. inr (none, h))
-    c.first_cause.ensures
+    (subst (λ list. IfOk c.first_cause.result (IsFirstOf list text)) c.all_causes.ensures c.first_cause.ensures)

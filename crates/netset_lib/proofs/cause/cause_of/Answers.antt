@@ -1,7 +1,9 @@
-use Rattle.std.proofs.Common.{◌≡◌, IfSome, inr, rules, subst}
-use Rattle.netset_lib.specs.Causes.{IsCauseTold}
+use Rattle.std.proofs.Common.{◌≡◌, IfSome, None, inr, rules, subst}
+use Rattle.netset_lib.specs.declared.cause.Cause.{Cause}
+use Rattle.netset_lib.specs.Causes.{IsCauseTold, Explains}
 use Rattle.netset_lib.specs.Entries.{IsNoEntry}
 use Rattle.netset_lib.proofs.EntryTexts.{ok_map}
+use Rattle.netset_lib.proofs.CauseOrder.{told_none}
 use Rattle.netset_lib.proofs.CauseTexts.{told_no_entry}
 use Rattle.netset_lib.proofs.ListLines.{entry_utf8}
 use Rattle.netset_lib.proofs.cause.cause_of.Goals as goal
@@ -13,6 +15,16 @@ returns-in-Ok-clause-no_entry c =
     ok_map (IsCauseTold grammar c.in-Ok.text.now) (λ told. IfSome told (λ _. IsNoEntry grammar c.args.text.now))
     c.cause_in_text.result
     (λ told h. told_no_entry grammar c.args.text.now told (subst (λ t. IsCauseTold grammar t told) same h))
+    c.cause_in_text.ensures
+
+pub returns-in-Ok-clause-none : goal.returns-in-Ok-clause-none
+returns-in-Ok-clause-none c =
+    let grammar = c.args.grammar in
+    let same : c.in-Ok.text.now ≡ c.args.text.now = search rules in
+    ok_map (IsCauseTold grammar c.in-Ok.text.now)
+    (λ told. told ≡ None → IsNoEntry grammar c.args.text.now → (cause : Cause) → ¬ (Explains c.args.text.now cause))
+    c.cause_in_text.result
+    (λ told h. told_none grammar c.args.text.now told (subst (λ t. IsCauseTold grammar t told) same h))
     c.cause_in_text.ensures
 
 -- bytes that are not UTF-8 are no entry

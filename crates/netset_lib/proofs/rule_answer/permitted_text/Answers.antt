@@ -11,7 +11,4 @@ returns c =
     (sym c.into_bytes.ensures.value)
     (text_of_same c.args.form (IsMember c.in_ok-set.set) (IsPermittedBy c.args.rules.items c.args.default)
     (string_bytes c.in_ok-text.text)
-    (λ x. (
-      λ m. (m.fits, (c.in_ok-set.ensures x m.fits).0 m),
-      λ p. (c.in_ok-set.ensures x p.0).1 p.1,
-    )) c.in_ok-text.ensures)
+    c.in_ok-set.ensures c.in_ok-text.ensures)

@@ -1,34 +1,33 @@
-use Rattle.std.proofs.Common.{◌≡◌, not, refl, sym, subst}
-use Rattle.netset_lib.specs.declared.command.Work.TheVariants.{Ask}
-use Rattle.netset_lib.specs.Sessions.{IsState, IsAskState}
-use Rattle.netset_lib.specs.Streams.{found_by_stream}
-use Rattle.netset_lib.proofs.SessionLaws.{not_not}
+use Rattle.std.proofs.Common.{refl}
+use Rattle.std.proofs.KnownBytes.{Keeps-refl}
+use Rattle.std.proofs.lemmas.Result.{err_from_is_err_and}
 use Rattle.netset_lib.proofs.StreamLaws.{work_streamed}
+use Rattle.netset_lib.proofs.StreamParts.{work_failed, no_answerer, ask_state}
 use Rattle.netset_lib.proofs.session.Session.stream.Goals as goal
 
-pub returns-in-Filter : goal.returns-in-Filter
-returns-in-Filter g c = λ work lists h.
-    let k = c.in_ok-reading.ensures in
+pub returns-clause-streamed : goal.returns-clause-streamed
+returns-clause-streamed g c = λ work lists h.
     work_streamed work c.in-Ask.query c.in-Ask.field-1 lists c.args.self
     c.in_ok-reading.reading c.in-Some.answerer
     (g.R.Read.remaining c.args.input.now) (g.R.Read.remaining c.stream_entries.new.input)
     (g.W.Write.contents c.args.out.now) (g.W.Write.contents c.stream_entries.new.out)
     c.in_ok-reading.found _ h c.in-Ask.is
-    (λ grammar entries state. subst (λ q. IsAskState q c.args.self entries) (sym c.in-Filter.is)
-    (subst (λ q. IsState (Ask q grammar) c.args.self entries) c.in-Filter.is state))
-    c.if-reading-ne1.false c.in-Some.is c.if-reading-ne0.false k refl
-    (subst (λ q. found_by_stream q c.in_ok-reading.found ≡ c.in_ok-reading.found) (sym c.in-Filter.is) refl)
+    (λ grammar entries. ask_state c.in-Ask.query grammar c.args.self entries
+    (c.if-not-has_stream.ensures.0 refl))
+    c.if-reading-ne1.false c.in-Some.is c.if-reading-ne0.false c.in_ok-reading.ensures.whole refl c.is_success.ensures
 
-pub returns-in-Route : goal.returns-in-Route
-returns-in-Route g c = λ work lists h.
-    let k = c.in_ok-reading.ensures in
-    work_streamed work c.in-Ask.query c.in-Ask.field-1 lists c.args.self
-    c.in_ok-reading.reading c.in-Some.answerer
-    (g.R.Read.remaining c.args.input.now) (g.R.Read.remaining c.stream_entries.new.input)
-    (g.W.Write.contents c.args.out.now) (g.W.Write.contents c.stream_entries.new.out)
-    c.in_ok-reading.found _ h c.in-Ask.is
-    (λ grammar entries state. subst (λ q. IsAskState q c.args.self entries) (sym c.in-Route.is)
-    (subst (λ q. IsState (Ask q grammar) c.args.self entries) c.in-Route.is state))
-    c.if-reading-ne1.false c.in-Some.is c.if-reading-ne0.false k refl
-    (subst (λ q. found_by_stream q (not c.in_ok-reading.found) ≡ c.in_ok-reading.found) (sym c.in-Route.is)
-    (not_not c.in_ok-reading.found))
+pub returns-in_default-answerer-clause-failure : goal.returns-in_default-answerer-clause-failure
+returns-in_default-answerer-clause-failure g c = λ work lists h. (
+  no_answerer work lists c.args.self h c.in_default-answerer.not-Some,
+  Keeps-refl (g.W.Write.contents c.args.out.now),
+)
+
+pub returns-in_err-reading-clause-failure : goal.returns-in_err-reading-clause-failure
+returns-in_err-reading-clause-failure g c =
+    let p = err_from_is_err_and c.from_residual.result c.from_residual.ensures.1 in
+    rw (p.1, p.2) (λ work lists h.
+    work_failed work c.in-Ask.query c.in-Ask.field-1 lists c.args.self c.in-Some.answerer
+    (g.R.Read.remaining c.args.input.now) (g.W.Write.contents c.args.out.now)
+    (g.W.Write.contents c.stream_entries.new.out) _ h c.in-Ask.is (c.if-not-has_stream.ensures.0 refl)
+    c.if-reading-ne1.false c.in-Some.is c.if-reading-ne0.false c.in_err-reading.ensures.part
+    c.in_err-reading.ensures.cause)

@@ -1,10 +1,12 @@
-use Rattle.std.proofs.Common.{refl, sym, ◌∙◌, subst, false}
+use Rattle.std.proofs.Common.{refl, sym, ap, ◌∙◌, subst, false, string_bytes}
+use Rattle.std.proofs.KnownBytes.{Keeps-refl}
 use Rattle.netset_lib.specs.Answering.{AreAnswersBy}
 use Rattle.netset_lib.specs.Reading.{TakesLines, at_first_line}
 use Rattle.netset_lib.specs.Streams.{IsWritten}
 use Rattle.netset_lib.proofs.AnsweringLaws.{none_made}
 use Rattle.netset_lib.proofs.ListsReading.{made_of}
 use Rattle.netset_lib.proofs.StreamLaws.{written_none, taken_written}
+use Rattle.netset_lib.proofs.StreamParts.{none_part, up_to_part, taken_part, starts_with_all, still_quiet, on_err}
 use Rattle.netset_lib.proofs.WindowReading.{IsListUpTo, up_to_begin, up_to_lines, up_to_bytes, up_to_whole}
 use Rattle.netset_lib.proofs.session.stream.stream_entries.Goals as goal
 
@@ -36,6 +38,11 @@ loop-preserved g c =
           (AreAnswersBy a answers)) c.if-not-more.false c.in_ok-take_lines.ensures)
           c.in_ok-put.ensures.written c.is_any-found.ensures))
           on.is on.same_lines on.read on.end;
+      quiet = λ same. still_quiet c.loop.more c.loop.more (left c.args.input.now) (left c.loop.input) start
+          c.loop.reading c.take_lines.new.self before then (AreAnswersBy a c.loop.answers) (AreAnswersBy a answers)
+          (g.X.Write.contents c.args.faults.now) (g.X.Write.contents c.loop.faults)
+          (g.X.Write.contents c.report_since.new.faults) inv.list c.in_ok-take_lines.ensures
+          (ap (λ l. l.refused.count) (sym on.same_lines) ∙ same) inv.quiet c.report_since.ensures;
     }
 
 pub loop-init : goal.loop-init
@@ -47,10 +54,11 @@ loop-init g c =
       found = c.new-answers.ensures.found;
       list = up_to_begin c.in_ok-more.more (left c.args.input.now) (left c.begin.new.input) c.args.stream.reading
           c.begin.new.self (IsWritten c.args.stream.answerer held held false) c.in_ok-more.ensures;
+      quiet = λ _. Keeps-refl (g.X.Write.contents c.args.faults.now);
     }
 
-pub returns-then-not-more : goal.returns-then-not-more
-returns-then-not-more g c =
+pub returns-then-not-more-clause-whole : goal.returns-then-not-more-clause-whole
+returns-then-not-more-clause-whole g c =
     let left = g.R.Read.remaining in
     let held = g.W.Write.contents c.args.out.now in
     let a = c.args.stream.answerer in
@@ -74,3 +82,73 @@ returns-then-not-more g c =
     c.in_ok-end_list.ensures.next c.end_list.ensures.same_grammar c.end_list.ensures.same_refused refl
     c.end_list.ensures.same_entry)
     (written_none a held)
+
+pub returns-then-not-more-clause-quiet : goal.returns-then-not-more-clause-quiet
+returns-then-not-more-clause-quiet g c = λ same.
+    let left = g.R.Read.remaining in
+    let held = g.W.Write.contents c.args.out.now in
+    let a = c.args.stream.answerer in
+    let start = at_first_line c.args.stream.reading.lines in
+    let inv = c.loop.invariant in
+    still_quiet c.loop.more c.loop.more (left c.args.input.now) (left c.loop.input) start c.loop.reading
+    c.take_lines.new.self (IsWritten a held held false)
+    (IsWritten a held (g.W.Write.contents c.loop.out) c.loop.found) (AreAnswersBy a c.loop.answers)
+    (AreAnswersBy a c.take_lines.new.made) (g.X.Write.contents c.args.faults.now) (g.X.Write.contents c.loop.faults)
+    (g.X.Write.contents c.report_since.new.faults) inv.list c.in_ok-take_lines.ensures
+    (ap (λ r. r.count) (sym c.end_list.ensures.same_refused) ∙ same) inv.quiet c.report_since.ensures
+
+pub returns-in_err-more-clause-part : goal.returns-in_err-more-clause-part
+returns-in_err-more-clause-part g c =
+    on_err c.from_residual.result _
+    (none_part c.args.stream.answerer c.args.stream.reading.lines.grammar c.args.stream.reading.lines.list
+    (g.R.Read.remaining c.args.input.now) (g.W.Write.contents c.args.out.now))
+
+pub returns-in_err-take_lines-clause-part : goal.returns-in_err-take_lines-clause-part
+returns-in_err-take_lines-clause-part g c =
+    on_err c.from_residual-in_err-take_lines.result _
+    (up_to_part c.args.stream.answerer c.loop.more (g.R.Read.remaining c.args.input.now)
+    (g.R.Read.remaining c.loop.input) (g.W.Write.contents c.args.out.now) (g.W.Write.contents c.loop.out)
+    (at_first_line c.args.stream.reading.lines) c.loop.reading c.loop.found refl c.loop.invariant.list)
+
+pub returns-in_err-put-clause-part : goal.returns-in_err-put-clause-part
+returns-in_err-put-clause-part g c =
+    let a = c.args.stream.answerer in
+    let inv = c.loop.invariant in
+    let (front, begins, put) = c.put.ensures.front in
+    on_err c.from_residual-in_err-put.result _
+    (taken_part a c.loop.more (g.R.Read.remaining c.args.input.now) (g.R.Read.remaining c.loop.input)
+    (g.W.Write.contents c.args.out.now) (g.W.Write.contents c.loop.out) (g.W.Write.contents c.put.new.out)
+    (at_first_line c.args.stream.reading.lines) c.loop.reading c.take_lines.new.self c.loop.found c.loop.answers
+    c.take_lines.new.made front refl inv.list (none_made a c.loop.answers inv.text inv.found)
+    c.in_ok-take_lines.ensures begins put)
+
+pub returns-in_err-end_list-clause-part : goal.returns-in_err-end_list-clause-part
+returns-in_err-end_list-clause-part g c =
+    let a = c.args.stream.answerer in
+    let inv = c.loop.invariant in
+    let text = string_bytes c.take_lines.new.made.text in
+    on_err c.from_residual-in_err-end_list.result _
+    (taken_part a c.loop.more (g.R.Read.remaining c.args.input.now) (g.R.Read.remaining c.loop.input)
+    (g.W.Write.contents c.args.out.now) (g.W.Write.contents c.loop.out) (g.W.Write.contents c.put.new.out)
+    (at_first_line c.args.stream.reading.lines) c.loop.reading c.take_lines.new.self c.loop.found c.loop.answers
+    c.take_lines.new.made text refl inv.list (none_made a c.loop.answers inv.text inv.found)
+    c.in_ok-take_lines.ensures (starts_with_all text) c.in_ok-put.ensures.written)
+
+pub returns-in_err-more-2-clause-part : goal.returns-in_err-more-2-clause-part
+returns-in_err-more-2-clause-part g c =
+    let a = c.args.stream.answerer in
+    let inv = c.loop.invariant in
+    let text = string_bytes c.take_lines.new.made.text in
+    on_err c.from_residual-in_err-more-2.result _
+    (taken_part a c.loop.more (g.R.Read.remaining c.args.input.now) (g.R.Read.remaining c.loop.input)
+    (g.W.Write.contents c.args.out.now) (g.W.Write.contents c.loop.out) (g.W.Write.contents c.put.new.out)
+    (at_first_line c.args.stream.reading.lines) c.loop.reading c.take_lines.new.self c.loop.found c.loop.answers
+    c.take_lines.new.made text refl inv.list (none_made a c.loop.answers inv.text inv.found)
+    c.in_ok-take_lines.ensures (starts_with_all text) c.in_ok-put.ensures.written)
+
+-- after more reads than any run makes
+pub returns-clause-part : goal.returns-clause-part
+returns-clause-part g c =
+    up_to_part c.args.stream.answerer c.loop.more (g.R.Read.remaining c.args.input.now)
+    (g.R.Read.remaining c.loop.input) (g.W.Write.contents c.args.out.now) (g.W.Write.contents c.loop.out)
+    (at_first_line c.args.stream.reading.lines) c.loop.reading c.loop.found refl c.loop.invariant.list

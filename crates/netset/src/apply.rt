@@ -1,0 +1,57 @@
+//! The command `apply`: its arguments, and its run.
+use crate::arguments::{
+    ArgumentFailure, FIRST, OTHERS, STANDARD_INPUT, command_of, first, flag, flags_of, other,
+    reads_input_twice,
+};
+use crate::lists::{read_whole, report_unread};
+use crate::output::Streams;
+use crate::{refused, session_of};
+use clap::{ArgMatches, Command};
+use netset_lib::run_apply;
+use std::alloc::{AllocError, Global};
+
+/// The name of the command.
+pub const APPLY: &str = "apply";
+
+/// The command `apply`.
+pub fn apply_command<'a>(alloc: Global) -> Result<Command<'a>, AllocError> {
+    let about = "The addresses of OLD after the changes of CHANGES, which netset changes prints";
+    let old = first(alloc, "OLD", "The list before, - for standard input");
+    let help = "The changes, one a line: + or - and a network; standard input if it is omitted";
+    let changes = other(alloc, help).value_name("CHANGES").required(false);
+    let ranges = "Print the fewest ranges, such as 10.0.0.0-10.0.0.5, instead of networks";
+    command_of(alloc, APPLY, about)?
+        .arg(flag(alloc, "ranges", ranges))?
+        .arg(old)?
+        .arg(changes)
+}
+
+/// Reads the arguments, the list and the changes, prints the answer, and returns the exit status.
+pub fn applied(rt: &HostRuntime, matches: &ArgMatches, streams: &mut Streams<'_>) -> u8 {
+    let Some(old) = matches.get_str(FIRST) else {
+        return refused(rt, ArgumentFailure::NoCommand);
+    };
+    let changes = matches.get_str(OTHERS).unwrap_or(STANDARD_INPUT);
+    if reads_input_twice(&[old, changes]) {
+        return refused(rt, ArgumentFailure::InputTwice);
+    }
+    let work = netset_lib::Command::Union.work(flags_of(matches));
+    let names = [old];
+    let session = match session_of(rt, work, &names, streams) {
+        Ok(session) => session,
+        Err(status) => return status,
+    };
+    match read_whole(rt, changes, streams.reports) {
+        Ok(bytes) => run_apply(
+            session,
+            (changes, bytes.as_slice()),
+            &names,
+            &mut streams.answer,
+            &mut streams.faults,
+        ),
+        Err(unread) => {
+            report_unread(rt, changes, &unread);
+            2
+        }
+    }
+}

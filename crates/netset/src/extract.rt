@@ -1,0 +1,70 @@
+//! The command `extract`: its arguments, and its run.
+use crate::arguments::{
+    ArgumentFailure, FIRST, STANDARD_INPUT, any_files, command_of, flag, reads_input_twice,
+};
+use crate::lists::{read_lists, report_unread};
+use crate::output::Streams;
+use crate::refused;
+use clap::{Arg, ArgAction, ArgMatches, Command};
+use ipnet::Grammar;
+use netset_words::{ExtractRequest, Extraction, run_extract};
+use std::alloc::{AllocError, Global};
+
+/// The name of the command.
+pub const EXTRACT: &str = "extract";
+
+/// The id of the flag `--first`. The id `first` belongs to the first list.
+const FIRST_ENTRY: &str = "first-entry";
+
+/// The name of its other flag.
+const RANGES: &str = "ranges";
+
+/// The command `extract`.
+pub fn extract_command<'a>(alloc: Global) -> Result<Command<'a>, AllocError> {
+    let about =
+        "The entries in any text, one a line, as written; a word such as 255.0.0.0 is refused";
+    let first = "Print only the first entry of each line";
+    let ranges =
+        "Read two addresses around a - with blanks as a range; without it, as two addresses";
+    let first = Arg::new(alloc, FIRST_ENTRY)
+        .long("first")
+        .action(ArgAction::SetTrue)
+        .help(first);
+    command_of(alloc, EXTRACT, about)?
+        .arg(first)?
+        .arg(flag(alloc, RANGES, ranges))?
+        .arg(any_files(alloc))
+}
+
+/// Reads the arguments and the texts, prints the entries, and returns the exit status.
+pub fn extracted(rt: &HostRuntime, matches: &ArgMatches, streams: &mut Streams<'_>) -> u8 {
+    let names = matches.get_strs(FIRST).unwrap_or(&[STANDARD_INPUT]);
+    if reads_input_twice(names) {
+        return refused(rt, ArgumentFailure::InputTwice);
+    }
+    let request = ExtractRequest {
+        grammar: grammar_of(matches),
+        first: matches.get_flag(FIRST_ENTRY),
+        ranges: matches.get_flag(RANGES),
+    };
+    let Ok(mut extraction) = Extraction::new(rt.alloc(), request) else {
+        return refused(rt, ArgumentFailure::Memory);
+    };
+    match read_lists(rt, &mut extraction, names, streams.reports) {
+        Ok(true) => run_extract(extraction, names, &mut streams.answer, &mut streams.faults),
+        Ok(false) => 2,
+        Err((name, unread)) => {
+            report_unread(rt, name, &unread);
+            2
+        }
+    }
+}
+
+/// The grammar of the entries.
+fn grammar_of(matches: &ArgMatches) -> Grammar {
+    if matches.get_flag("legacy") {
+        Grammar::Legacy
+    } else {
+        Grammar::Strict
+    }
+}

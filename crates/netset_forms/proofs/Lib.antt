@@ -1,0 +1,8 @@
+-- Lemmas of this crate.
+pub mod BlockItems
+pub mod CommandLaws
+pub mod FormLaws
+pub mod PartLaws
+pub mod PieceLaws
+pub mod RangeItems
+pub mod WriteLaws

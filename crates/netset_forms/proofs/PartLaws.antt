@@ -1,0 +1,93 @@
+-- The parts of an answer: their sets, and their texts.
+use Rattle.std.proofs.Common.{◌≡◌, ℕ, ◌≤◌, ◌<◌, ◌^◌, ◌↔◌, List, [], ◌++◌, Option, Some, None, refl, sym, ap, ◌∙◌, subst}
+use Rattle.std.proofs.Common.{arith, append-nil, max}
+use Rattle.std.specs.Borrow.{Bor}
+use Rattle.ipnet_base.specs.Address.{Family, IPv4, IPv6, Address, IsAddress, address_at, width, greatest_number}
+use Rattle.ipnet_base.proofs.UniqueLaws.{AreMaximalBlocks-same_set}
+use Rattle.ipnet.specs.CanonicalTexts.{canonical_text}
+use Rattle.ipnet_sets.specs.Members.{IsFromTo, IsMember}
+use Rattle.netset_forms.specs.declared.form.SetNames.{SetNames}
+use Rattle.netset_forms.specs.declared.parts.Part.{Part}
+use Rattle.netset_forms.specs.declared.parts.Parts.{Parts}
+use Rattle.netset_forms.specs.Forms.{FitsFamilies, IsOfFamily, HasOne, IsFamilyText, AreFamilyTexts, AreBlocksIn}
+use Rattle.netset_forms.specs.FormSteps.{IsNamedText, MakesPart, MakeParts, ArePartTexts, IsPartText}
+use Rattle.netset_forms.specs.Layouts.{Layout}
+
+-- ---- the addresses of a family
+
+whole_family : (f : Family) (start end : ℕ) (x : Address) → start ≡ 0 → end ≡ greatest_number f → IsAddress x
+    → x.family ≡ f → IsFromTo (address_at f start) (address_at f end) x
+whole_family IPv4 start end x s e fits is =
+    let low : x.number < 2 ^ 32 = subst (λ f. x.number < 2 ^ width f) is fits in record {
+      family_of_start = is;
+      family_of_end = is;
+      from_start = omega (arith, s);
+      to_end = omega (arith, e, low);
+    }
+whole_family IPv6 start end x s e fits is =
+    let low : x.number < 2 ^ 128 = subst (λ f. x.number < 2 ^ width f) is fits in record {
+      family_of_start = is;
+      family_of_end = is;
+      from_start = omega (arith, s);
+      to_end = omega (arith, e, low);
+    }
+
+pub of_family : (InSet : Address → Type 0) (f : Family) (start end : ℕ) → start ≡ 0 → end ≡ greatest_number f
+    → ((x : Address) → InSet x → IsAddress x) → (x : Address)
+    → (InSet x × IsFromTo (address_at f start) (address_at f end) x) ↔ IsOfFamily InSet f x
+of_family InSet f start end s e valid x = (
+  λ h. (h.0, h.1.family_of_start),
+  λ h. (h.0, whole_family f start end x s e (valid x h.0) h.1),
+)
+
+-- ---- one part
+
+pub one_text : (p : Part) (text : List ℕ) → ArePartTexts (record { first = Some p; second = None }) text
+    → IsPartText p text
+one_text p text (first, second, h, none, e) =
+    subst (IsPartText p) (sym (e ∙ ap (λ z. first ++ z) none ∙ append-nil first)) h
+
+-- ---- a part for each family
+
+module _ (layout_of : List ℕ → Layout) (InSet Sub : Address → Type 0) (family : Family) (least : ℕ)
+    (same : (x : Address) → Sub x ↔ IsOfFamily InSet family x) where
+  pub family_text : (name : Option (Bor (List ℕ))) (text : List ℕ) → (name ≡ None → ¬ (HasOne InSet family))
+      → IsNamedText layout_of name least Sub text → IsFamilyText layout_of name family least InSet text
+  family_text None text empty h = (λ x i. empty refl (x, i), h)
+  family_text (Some name) text empty h = record {
+    fits = λ x i. h.fits x ((same x).1 i);
+    blocks = h.blocks;
+    maximal = AreMaximalBlocks-same_set Sub (IsOfFamily InSet family) least h.blocks same h.maximal;
+    spelled = h.spelled;
+  }
+
+  pub family_fits : FitsFamilies InSet least → FitsFamilies Sub least
+  family_fits fits x m = fits x ((same x).0 m).0
+
+pub both_parts : (layout4 layout6 : List ℕ → Layout) (InSet Four Six : Address → Type 0) (names : SetNames)
+    (least : ℕ) (parts : Parts) → FitsFamilies InSet least
+    → ((x : Address) → Four x ↔ IsOfFamily InSet IPv4 x) → ((x : Address) → Six x ↔ IsOfFamily InSet IPv6 x)
+    → (names.ipv4 ≡ None → ¬ (HasOne InSet IPv4)) → (names.ipv6 ≡ None → ¬ (HasOne InSet IPv6))
+    → MakesPart (IsNamedText layout4 names.ipv4 least Four) least Four parts.first
+    → MakesPart (IsNamedText layout6 names.ipv6 least Six) least Six parts.second
+    → MakeParts (AreFamilyTexts layout4 layout6 names least InSet) parts
+both_parts layout4 layout6 InSet Four Six names least parts fits four six empty4 empty6 first second = record {
+  text_is = λ text h. record {
+    fits = fits;
+    ipv4 = h.0;
+    ipv6 = h.1;
+    ipv4_part = family_text layout4 InSet Four IPv4 least four names.ipv4 h.0 empty4 (first.text_is h.0 h.2);
+    ipv6_part = family_text layout6 InSet Six IPv6 least six names.ipv6 h.1 empty6 (second.text_is h.1 h.3);
+    spelled = h.4;
+  };
+  fits_first = first.fits (family_fits layout4 InSet Four IPv4 least four fits);
+  fits_second = second.fits (family_fits layout6 InSet Six IPv6 least six fits);
+}
+
+-- the networks of every family can have the prefix length 1
+pub fits_one : (InSet : Address → Type 0) (least : ℕ) → FitsFamilies InSet least → FitsFamilies InSet (max least 1)
+fits_one InSet least fits x m = one x.family (fits x m)
+  where
+    one : (f : Family) → least ≤ width f → max least 1 ≤ width f
+    one IPv4 h = omega (arith, h)
+    one IPv6 h = omega (arith, h)

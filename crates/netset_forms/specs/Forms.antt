@@ -1,0 +1,112 @@
+-- The text of a set of addresses in each form.
+use Rattle.std.specs.Prelude.{◌≡◌, ◌<◌, ◌≤◌, ℕ, List, [], ◌++◌, codes, map, Option, Some, None, max}
+use Rattle.std.specs.Borrow.{Bor}
+use Rattle.ipnet_base.specs.Address.{Family, IPv4, IPv6, width, Address}
+use Rattle.ipnet_base.specs.Network.{Network, first_of, last_of}
+use Rattle.ipnet_base.specs.Blocks.{AreMaximalBlocks}
+use Rattle.ipnet_base.specs.Ranges.{AddressRange}
+use Rattle.ipnet.specs.CanonicalTexts.{address_text, canonical_text}
+use Rattle.ipnet_sets.specs.SetRanges.{AreRangesOf}
+use Rattle.netset_forms.specs.declared.form.AnswerForm.{AnswerForm}
+use Rattle.netset_forms.specs.declared.form.AnswerForm.TheVariants as Forms
+use Rattle.netset_forms.specs.declared.form.FormFailure.{FormFailure}
+use Rattle.netset_forms.specs.declared.form.FormFailure.TheVariants as Failures
+use Rattle.netset_forms.specs.declared.form.SetNames.{SetNames}
+use Rattle.netset_forms.specs.Layouts.{Layout, text_in, line_layout, json_layout, csv_layout, nft_layout, ipset_layout}
+use Rattle.netset_lib.specs.Answers.{range_text}
+
+-- The row of a network: its canonical text, its first and its last address, with commas between.
+-- Example: `10.0.0.0/31,10.0.0.0,10.0.0.1`.
+abbrev pub network_row : Network → List ℕ
+network_row n = canonical_text n ++ codes ","
+    ++ (address_text n.family (first_of n) ++ codes "," ++ address_text n.family (last_of n))
+
+-- Networks of each family of the set can have this prefix length. Example: 33 if the set has no IPv4 address.
+abbrev pub FitsFamilies : (Address → Type 0) → ℕ → Type 0
+FitsFamilies InSet min_length = (x : Address) → InSet x → min_length ≤ width x.family
+
+-- The items are the maximal blocks of the set that have at least this prefix length: a maximal block that is shorter is
+-- in its place its subnets of this length. Each address of the set lies in one of them.
+-- Example: for 10.0.0.0 to 10.0.0.5 and 31, the networks 10.0.0.0/31, 10.0.0.2/31 and 10.0.0.4/31.
+pub record AreBlocksIn (layout : Layout) (item_of : Network → List ℕ) (min_length : ℕ) (InSet : Address → Type 0)
+    (text : List ℕ) : Type 0 where
+  pub fits : FitsFamilies InSet min_length
+  pub blocks : List Network
+  pub maximal : AreMaximalBlocks InSet min_length blocks
+  pub spelled : text ≡ text_in layout (map item_of blocks)
+
+-- The items are the fewest ranges of the set.
+pub record AreRangesIn (layout : Layout) (InSet : Address → Type 0) (text : List ℕ) : Type 0 where
+  pub ranges : List AddressRange
+  pub fewest : AreRangesOf InSet ranges
+  pub spelled : text ≡ text_in layout (map range_text ranges)
+
+-- The addresses of this family in the set.
+abbrev pub IsOfFamily : (Address → Type 0) → Family → Address → Type 0
+IsOfFamily InSet family x = InSet x × (x.family ≡ family)
+
+-- The part of one family: the networks in the layout that the name gives; without a name, the set has no such address.
+abbrev pub IsFamilyText : (List ℕ → Layout) → Option (Bor (List ℕ)) → Family → ℕ → (Address → Type 0) → List ℕ → Type 0
+IsFamilyText layout_of None family min_length InSet text = ((x : Address) → ¬ (IsOfFamily InSet family x)) × (text ≡ [])
+IsFamilyText layout_of (Some name) family min_length InSet text =
+    AreBlocksIn (layout_of name.now) canonical_text min_length (IsOfFamily InSet family) text
+
+-- The part of IPv4, and then the part of IPv6.
+pub record AreFamilyTexts (layout4 layout6 : List ℕ → Layout) (names : SetNames) (min_length : ℕ)
+    (InSet : Address → Type 0) (text : List ℕ) : Type 0 where
+  pub fits : FitsFamilies InSet min_length
+  pub ipv4 : List ℕ
+  pub ipv6 : List ℕ
+  pub ipv4_part : IsFamilyText layout4 names.ipv4 IPv4 min_length InSet ipv4
+  pub ipv6_part : IsFamilyText layout6 names.ipv6 IPv6 min_length InSet ipv6
+  pub spelled : text ≡ ipv4 ++ ipv6
+
+-- The kind of a set of `ipset`. Without `maxelem` it holds at most 65536 networks.
+abbrev pub ipset_kind : Family → List ℕ
+ipset_kind IPv4 = codes "hash:net family inet maxelem 4294967295"
+ipset_kind IPv6 = codes "hash:net family inet6 maxelem 4294967295"
+
+-- The text of the set in the form, by networks of at least this prefix length. `ipset` refuses a network of prefix
+-- length 0, so there the least length is 1.
+-- Example: for 10.0.0.0 to 10.0.0.2 and `Networks` with the prefix `permit `, the lines `permit 10.0.0.0/31` and
+-- `permit 10.0.0.2/32`.
+abbrev pub IsFormText : AnswerForm → ℕ → (Address → Type 0) → List ℕ → Type 0
+IsFormText (Forms.Networks prefix) min_length = AreBlocksIn (line_layout prefix.now) canonical_text min_length
+IsFormText (Forms.Ranges prefix) min_length = AreRangesIn (line_layout prefix.now)
+IsFormText Forms.Json min_length = AreBlocksIn json_layout canonical_text min_length
+IsFormText Forms.Csv min_length = AreBlocksIn csv_layout network_row min_length
+IsFormText (Forms.Nft names) min_length = AreFamilyTexts nft_layout nft_layout names min_length
+IsFormText (Forms.Ipset names) min_length =
+    AreFamilyTexts (ipset_layout (ipset_kind IPv4)) (ipset_layout (ipset_kind IPv6)) names (max min_length 1)
+
+-- The set has an address of this family.
+abbrev pub HasOne : (Address → Type 0) → Family → Type 0
+HasOne InSet family = (x : Address) × IsOfFamily InSet family x
+
+-- The names of the sets, if the form has sets.
+abbrev pub names_in : AnswerForm → Option SetNames
+names_in (Forms.Networks prefix) = None
+names_in (Forms.Ranges prefix) = None
+names_in Forms.Json = None
+names_in Forms.Csv = None
+names_in (Forms.Nft names) = Some names
+names_in (Forms.Ipset names) = Some names
+
+-- Networks of a family of the set cannot have this prefix length: it is above the family's greatest.
+abbrev pub IsTooLong : (Address → Type 0) → ℕ → ℕ → Type 0
+IsTooLong InSet min_length greatest =
+    (family : Family) × HasOne InSet family × (greatest ≡ width family) × (greatest < min_length)
+
+-- The form has sets, and no set is named for the addresses of the family.
+abbrev pub HasUnnamed : AnswerForm → (SetNames → Option (Bor (List ℕ))) → (Address → Type 0) → Family → Type 0
+HasUnnamed form name_of InSet family =
+    (names : SetNames) × (names_in form ≡ Some names) × (name_of names ≡ None) × HasOne InSet family
+
+-- Why the set was not written in the form. When memory runs out and when a write fails is not specified.
+abbrev pub IsFormFailure : AnswerForm → ℕ → (Address → Type 0) → FormFailure → Type 0
+IsFormFailure form min_length InSet (Failures.MinLength least greatest) =
+    (least ≡ min_length) × IsTooLong InSet min_length greatest
+IsFormFailure form min_length InSet Failures.NoIpv4Set = HasUnnamed form (λ names. names.ipv4) InSet IPv4
+IsFormFailure form min_length InSet Failures.NoIpv6Set = HasUnnamed form (λ names. names.ipv6) InSet IPv6
+IsFormFailure form min_length InSet Failures.Memory = Unit {0}
+IsFormFailure form min_length InSet Failures.Unwritable = Unit {0}

@@ -1,0 +1,90 @@
+-- Texts of items, such as the networks of an answer: what is written before, between and after the items.
+use Rattle.std.specs.Prelude.{◌≡◌, ℕ, List, [], ◌∷◌, ◌++◌, codes, Bool, true, false}
+
+-- The texts around items: before, between and after them. `none` is the whole text if there is no item.
+pub record Layout : Type 0 where
+  pub before : List ℕ
+  pub between : List ℕ
+  pub after : List ℕ
+  pub none : List ℕ
+
+-- The items after the first, each after `between`; and the end.
+abbrev pub later_items : Layout → List (List ℕ) → List ℕ
+later_items l [] = l.after
+later_items l (item ∷ items) = l.between ++ (item ++ later_items l items)
+
+-- The text of the items in this layout.
+-- Example: `[1, 2]` for the items `1`, `2` and the layout `[`, `, `, `]`, `[]`; for no item it is `[]`.
+abbrev pub text_in : Layout → List (List ℕ) → List ℕ
+text_in l [] = l.none
+text_in l (item ∷ items) = l.before ++ (item ++ later_items l items)
+
+-- Items one a line, each after the prefix. "\n" is the byte 10.
+-- Example: `deny 10.0.0.0/8` and `deny fd00::/8` for two items and the prefix `deny `.
+abbrev pub line_layout : List ℕ → Layout
+line_layout prefix = record { before = prefix; between = 10 ∷ prefix; after = 10 ∷ []; none = [] }
+
+-- A JSON array of strings (RFC 8259), one a line, as `jq .` prints it. The byte 34 is a quotation mark.
+abbrev pub json_layout : Layout
+json_layout = record {
+  before = codes "[" ++ 10 ∷ codes "  " ++ 34 ∷ [];
+  between = 34 ∷ codes "," ++ 10 ∷ codes "  " ++ 34 ∷ [];
+  after = 34 ∷ 10 ∷ codes "]" ++ 10 ∷ [];
+  none = codes "[]" ++ 10 ∷ [];
+}
+
+-- The names of the columns of a table, and the end of their line.
+abbrev pub csv_header : List ℕ
+csv_header = codes "network,first,last" ++ 10 ∷ []
+
+-- Rows of comma-separated values (RFC 4180, with "\n" at the end of a line) below their header.
+abbrev pub csv_layout : Layout
+csv_layout = record { before = csv_header; between = 10 ∷ []; after = 10 ∷ []; none = csv_header }
+
+-- The command of `nft` that takes all elements from a set. Example: `flush set inet filter allowed`.
+abbrev pub nft_flush : List ℕ → List ℕ
+nft_flush name = codes "flush set " ++ name ++ 10 ∷ []
+
+-- Commands of `nft`: the set with this name has the items as its elements, and no others.
+-- Example: for `inet filter allowed` and 10.0.0.0/8 the lines `flush set inet filter allowed`,
+-- `add element inet filter allowed {`, `    10.0.0.0/8` and `}`.
+abbrev pub nft_layout : List ℕ → Layout
+nft_layout name = record {
+  before = nft_flush name ++ codes "add element " ++ name ++ codes " {" ++ 10 ∷ codes "    ";
+  between = codes "," ++ 10 ∷ codes "    ";
+  after = 10 ∷ codes "}" ++ 10 ∷ [];
+  none = nft_flush name;
+}
+
+-- The command of `ipset` that creates a set of this kind, unless it exists.
+abbrev pub ipset_create : List ℕ → List ℕ → List ℕ
+ipset_create kind name = codes "create " ++ name ++ codes " " ++ kind ++ codes " -exist" ++ 10 ∷ []
+
+-- The name of the new set, which then takes the place of the set with this name. Example: `allowed.new`.
+abbrev pub new_name : List ℕ → List ℕ
+new_name name = name ++ codes ".new"
+
+-- The commands of `ipset` before the first item: both sets exist, and the new set is empty.
+abbrev pub ipset_start : List ℕ → List ℕ → List ℕ
+ipset_start kind name =
+    ipset_create kind name ++ ipset_create kind (new_name name) ++ codes "flush " ++ new_name name ++ 10 ∷ []
+
+-- The command of `ipset` that adds an item, up to the item.
+abbrev pub ipset_add : List ℕ → List ℕ
+ipset_add name = codes "add " ++ new_name name ++ codes " "
+
+-- The commands of `ipset` after the last item: the two sets change places, and the old one is removed.
+abbrev pub ipset_end : List ℕ → List ℕ
+ipset_end name =
+    codes "swap " ++ new_name name ++ codes " " ++ name ++ 10 ∷ codes "destroy " ++ new_name name ++ 10 ∷ []
+
+-- Commands of `ipset`: the set with this name has the items as its elements, and no others.
+-- Example: for `allowed` and 10.0.0.0/8, between lines that create and remove the new set, the line
+-- `add allowed.new 10.0.0.0/8`.
+abbrev pub ipset_layout : List ℕ → List ℕ → Layout
+ipset_layout kind name = record {
+  before = ipset_start kind name ++ ipset_add name;
+  between = 10 ∷ ipset_add name;
+  after = 10 ∷ ipset_end name;
+  none = ipset_start kind name ++ ipset_end name;
+}

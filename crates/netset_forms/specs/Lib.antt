@@ -1,0 +1,5 @@
+pub mod FormAnswers
+pub mod FormSteps
+pub mod Forms
+pub mod Layouts
+pub mod SetWords

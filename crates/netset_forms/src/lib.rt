@@ -1,0 +1,16 @@
+//! The forms of the answers of netset: lines with a text before each, JSON, CSV, and commands of nft and ipset.
+#![tactic(auto)]
+
+mod blocks;
+pub mod form;
+mod frame;
+pub mod names;
+mod parts;
+mod pieces;
+pub mod program;
+pub mod write;
+
+pub use form::{AnswerForm, FormFailure, FormRequest, SetNames};
+pub use names::{is_ipset_name, is_nft_name};
+pub use program::{PermittedRequest, run_form, run_permitted};
+pub use write::write_form;

@@ -1,0 +1,112 @@
+//! Texts, addresses and rows, written piece by piece, so that an answer of any length takes little memory.
+ghost use Rattle.std.specs.Prelude.{◌++◌, codes, OnOk, OnErr};
+ghost use Rattle.ipnet_base.specs.Address.{ip_address};
+ghost use Rattle.ipnet.specs.CanonicalTexts.{address_text, canonical_text};
+ghost use Rattle.ipnet.specs.NetworkOf.{ip_network};
+ghost use Rattle.ipnet_text.specs.Pieces.{IsInPieces};
+ghost use Rattle.netset_forms.specs.Forms.{network_row};
+ghost use Rattle.netset_forms.specs.FormSteps.{IsCut};
+
+use arrayvec::ArrayString;
+use ipnet::text_laws::{ipv4_address_text_is_of_octets, ipv6_address_text_is_of_groups};
+use ipnet::{IpAddr, IpNet, ipv4_addr_text, ipv6_addr_text};
+use ipnet_text::pieces::PIECE;
+use ipnet_text::write_whole;
+use std::io;
+use std::io::Write;
+
+/// Appends the text to the piece. If it does not fit, the piece is written first.
+pub(crate) fn put<W: Write>(
+    out: &mut W,
+    piece: &mut ArrayString<PIECE>,
+    text: &str,
+) -> io::Result<()>
+    ensures ok { OnOk result (IsInPieces (W.contents out.old) (W.contents out.new) piece.new.bytes
+        (piece.old.bytes ++ text.now)) }
+    ensures cut { OnErr result (IsCut (W.contents out.old) (W.contents out.new) piece.old.bytes text.now) }
+{
+    if text.len() <= piece.remaining_capacity() {
+        piece.push_str(text);
+        return Ok(());
+    }
+    write_whole(out, piece.as_str().as_bytes())?;
+    piece.clear();
+    if text.len() <= PIECE {
+        piece.push_str(text);
+        return Ok(());
+    }
+    write_whole(out, text.as_bytes())
+}
+
+/// Appends the address's text to the piece.
+fn put_address<W: Write>(
+    out: &mut W,
+    piece: &mut ArrayString<PIECE>,
+    address: IpAddr,
+) -> io::Result<()>
+    ensures ok { let a = ip_address address in OnOk result (IsInPieces (W.contents out.old) (W.contents out.new)
+        piece.new.bytes (piece.old.bytes ++ address_text a.family a.number)) }
+    ensures cut { let a = ip_address address in OnErr result (IsCut (W.contents out.old) (W.contents out.new)
+        piece.old.bytes (address_text a.family a.number)) }
+{
+    match address {
+        IpAddr::V4(address) => {
+            ipv4_address_text_is_of_octets(address);
+            put(out, piece, ipv4_addr_text(address).as_str())
+        }
+        IpAddr::V6(address) => {
+            ipv6_address_text_is_of_groups(address);
+            put(out, piece, ipv6_addr_text(address).as_str())
+        }
+    }
+}
+
+/// Appends the texts of two addresses to the piece, and this text between them.
+pub(crate) fn put_pair<W: Write>(
+    out: &mut W,
+    piece: &mut ArrayString<PIECE>,
+    first: IpAddr,
+    between: &str,
+    last: IpAddr,
+) -> io::Result<()>
+    ensures ok { let a = ip_address first in let b = ip_address last in
+        OnOk result (IsInPieces (W.contents out.old) (W.contents out.new) piece.new.bytes (piece.old.bytes
+        ++ (address_text a.family a.number ++ between.now ++ address_text b.family b.number))) }
+    ensures cut { let a = ip_address first in let b = ip_address last in
+        OnErr result (IsCut (W.contents out.old) (W.contents out.new) piece.old.bytes
+        (address_text a.family a.number ++ between.now ++ address_text b.family b.number)) }
+{
+    put_address(out, piece, first)?;
+    put(out, piece, between)?;
+    put_address(out, piece, last)
+}
+
+/// Appends the network's text to the piece.
+pub(crate) fn put_network<W: Write>(
+    out: &mut W,
+    piece: &mut ArrayString<PIECE>,
+    network: IpNet,
+) -> io::Result<()>
+    ensures ok { OnOk result (IsInPieces (W.contents out.old) (W.contents out.new) piece.new.bytes
+        (piece.old.bytes ++ canonical_text (ip_network network))) }
+    ensures cut { OnErr result (IsCut (W.contents out.old) (W.contents out.new) piece.old.bytes
+        (canonical_text (ip_network network))) }
+{
+    put(out, piece, network.to_text().as_str())
+}
+
+/// Appends the row of a network to the piece: the network, its first and its last address, with commas between.
+pub(crate) fn put_row<W: Write>(
+    out: &mut W,
+    piece: &mut ArrayString<PIECE>,
+    network: IpNet,
+) -> io::Result<()>
+    ensures ok { OnOk result (IsInPieces (W.contents out.old) (W.contents out.new) piece.new.bytes
+        (piece.old.bytes ++ network_row (ip_network network))) }
+    ensures cut { OnErr result (IsCut (W.contents out.old) (W.contents out.new) piece.old.bytes
+        (network_row (ip_network network))) }
+{
+    put_network(out, piece, network)?;
+    put(out, piece, ",")?;
+    put_pair(out, piece, network.network(), ",", network.broadcast())
+}

@@ -1,0 +1,388 @@
+-- The part of the answers that was written, if a list was not read to its end.
+use Rattle.std.proofs.Common.{◌≡◌, ℕ, ◌+◌, Bool, true, false, List, [], ◌∷◌, ◌++◌, length, drop, Option, Some, None}
+use Rattle.std.proofs.Common.{IfSome, IfErr, Result, Ok, Err, ◌⊎◌, inl, inr, refl, sym, ap, ◌∙◌, subst, arith}
+use Rattle.std.proofs.Common.{append_assoc, append-nil, string_bytes}
+use Rattle.std.proofs.Math.Seq.{take-append_seam}
+use Rattle.std.specs.Io.{StartsWith}
+use Rattle.std.specs.Io.KnownBytes.{Appends, Keeps, Consumes}
+use Rattle.std.proofs.KnownBytes.{Appends-trans, Consumes-whole, Keeps-trans, starts_with_rest}
+use Rattle.ipnet.specs.declared.parser.Grammar.{Grammar}
+use Rattle.ipnet.specs.Lines.{lines_of}
+use Rattle.ipnet_text.specs.Inputs.{GaveWhole}
+use Rattle.netset_lib.specs.declared.answerer.Answerer.{Answerer}
+use Rattle.netset_lib.specs.declared.answerer.Answers.{Answers}
+use Rattle.netset_lib.specs.declared.command.Work.{Work}
+use Rattle.netset_lib.specs.declared.command.Work.TheVariants.{Combine, Ask}
+use Rattle.netset_lib.specs.declared.query.Query.{Query}
+use Rattle.netset_lib.specs.declared.query.Query.TheVariants.{Count, Compare, Filter, Route}
+use Rattle.netset_lib.specs.declared.reader.LineReader.{LineReader}
+use Rattle.netset_lib.specs.declared.reading.Reading.{Reading}
+use Rattle.netset_lib.specs.declared.session.Session.{Session}
+use Rattle.netset_lib.specs.declared.session.stream.StreamFailure.{StreamFailure}
+use Rattle.netset_lib.specs.declared.session.stream.StreamFailure.TheVariants as StreamFailures
+use Rattle.netset_lib.specs.declared.session.stream.Streamed.{Streamed}
+use Rattle.netset_lib.specs.Answering.{IsAnswererFor, IsAnswerBy, AreAnswersBy}
+use Rattle.netset_lib.specs.Answers.{AreListsRead}
+use Rattle.netset_lib.specs.Lists.{ListEntry, Refusal, AreRead, IsListRead, after_mark}
+use Rattle.netset_lib.specs.Reading.{Adds, AreTexts, ReadsLines, TakesLines, pending}
+use Rattle.netset_lib.specs.Sessions.{WereRead, IsState, IsAskState}
+use Rattle.netset_lib.specs.Streams.{IsWritten, IsPartWritten, IsWrittenInPart, IsFrontRead, IsStreamedInPart}
+use Rattle.netset_lib.specs.Streams.{IsWorkStreamed, IsWorkStreamedInPart, HasStream, CanStream, IsBroken}
+use Rattle.netset_lib.specs.Streams.{IsStreamFailure}
+use Rattle.netset_lib.proofs.AnsweringLaws.{replies_right}
+use Rattle.netset_lib.proofs.EntryAnswerLaws.{answers_append}
+use Rattle.netset_lib.proofs.ListReading.{reads_more}
+use Rattle.netset_lib.proofs.ListsReading.{lists_count, none_of_length}
+use Rattle.netset_lib.proofs.RouteLaws.{entries_some}
+use Rattle.netset_lib.proofs.StreamLaws.{reads_weaker, takes_weaker, written_none}
+use Rattle.netset_lib.proofs.WindowReading.{IsListUpTo, up_to_lines}
+
+-- ---- what was written
+
+pub starts_with_all : (text : List ℕ) → StartsWith text text
+starts_with_all text = subst (λ z. StartsWith z text) (append-nil text) (take-append_seam text [])
+
+starts_behind : (text more front : List ℕ) → StartsWith more front → StartsWith (text ++ more) (text ++ front)
+starts_behind text more front h =
+    let rest = drop (length front) more in
+    subst (λ z. StartsWith z (text ++ front))
+    (append_assoc text front rest ∙ ap (λ z. text ++ z) (sym (starts_with_rest more front h)))
+    (take-append_seam (text ++ front) rest)
+
+-- all answers are a part of them
+pub all_written : (answerer : Answerer) (held then : Option (List ℕ)) (found : Bool) (entries : List ListEntry)
+    → IsWritten answerer held then found entries → IsPartWritten answerer held then entries
+all_written answerer held then found entries h = record {
+  text = h.text;
+  answers = h.answers;
+  front = h.text;
+  begins = starts_with_all h.text;
+  written = h.written;
+}
+
+-- a part of the answers to more entries was written
+part_more : (answerer : Answerer) (held then held_after : Option (List ℕ)) (found : Bool) (none new : Answers)
+    (front : List ℕ) (entries : List ListEntry) → AreAnswersBy answerer none []
+    → StartsWith (string_bytes new.text) front → Appends then held_after front
+    → Adds (AreAnswersBy answerer none) (AreAnswersBy answerer new) entries
+    → Adds (IsWritten answerer held then found) (IsPartWritten answerer held held_after) entries
+part_more answerer held then held_after found none new front entries empty begins put adds = λ before h.
+    let made = adds [] empty in record {
+      text = h.text ++ string_bytes new.text;
+      answers = answers_append (IsAnswerBy answerer) before entries h.text (string_bytes new.text) h.answers made.text;
+      front = h.text ++ front;
+      begins = starts_behind h.text (string_bytes new.text) front begins;
+      written = Appends-trans held then held_after h.text front h.written put;
+    }
+
+-- what is true whatever the error
+pub on_err : {T E : Type 0} (result : Result T E) (P : Type 0) → P → IfErr result (λ _. P)
+on_err (Ok value) P h = tt
+on_err (Err error) P h = h
+
+-- ---- which lines were read
+
+only_these : (grammar : Grammar) (list line line_after : ℕ) (texts : List (List ℕ)) (entries : List ListEntry)
+    (refusals : List Refusal) → line ≡ 0 → AreTexts grammar list texts line line_after entries refusals
+    → AreRead grammar list 1 texts entries refusals
+only_these grammar list line line_after texts entries refusals none h =
+    subst (λ n. AreRead grammar list (n + 1) texts entries refusals) none
+    (subst (λ rs. AreRead grammar list (line + 1) texts entries rs) (append-nil refusals)
+    (subst (λ es. AreRead grammar list (line + 1) texts es (refusals ++ [])) (append-nil entries)
+    (subst (λ ts. AreRead grammar list (line + 1) ts (entries ++ []) (refusals ++ [])) (append-nil texts)
+    (h [] [] [] (refl, refl)))))
+
+-- a part of the answers to the entries of lines that come first
+part_of_lines : (answerer : Answerer) (left held held_after : Option (List ℕ)) (start now : LineReader)
+    (lines others : List (List ℕ)) → start.line ≡ 0
+    → IfSome left (λ bytes. lines_of (after_mark bytes) ≡ lines ++ others)
+    → ReadsLines start now lines (IsWritten answerer held held false) (IsPartWritten answerer held held_after)
+    → IsWrittenInPart answerer start.grammar start.list left held held_after
+part_of_lines answerer left held held_after start now lines others line first (texts, are, adds) = record {
+  entries = adds.entries;
+  refusals = adds.refusals;
+  read = record {
+    lines = lines;
+    others = others;
+    front = first;
+    texts = texts;
+    contents = are;
+    read = only_these start.grammar start.list start.line now.line texts adds.entries adds.refusals line adds.read;
+  };
+  written = adds.made [] (written_none answerer held);
+}
+
+-- the bytes of the list, past a byte order mark
+after_front : (more : Bool) (all rest : List ℕ) (left_now : Option (List ℕ)) (start : LineReader) (now : Reading)
+    (A B : List ListEntry → Type 0) → (h : IsListUpTo more (Some all) (Some rest) start now A B)
+    → after_mark all ≡ h.front ++ (pending now ++ rest)
+after_front more all rest left_now start now A B h =
+    ap after_mark (h.read ∙ append_assoc h.mark (h.front ++ pending now) rest) ∙ h.past rest h.end
+    ∙ append_assoc h.front (pending now) rest
+
+-- the lines that were read come first
+lines_first : (more : Bool) (left left_now : Option (List ℕ)) (start : LineReader) (now : Reading)
+    (A B : List ListEntry → Type 0) → (h : IsListUpTo more left left_now start now A B)
+    → (others : List (List ℕ)) × IfSome left (λ bytes. lines_of (after_mark bytes) ≡ lines_of h.front ++ others)
+lines_first more None left_now start now A B h = ([], tt)
+lines_first more (Some all) None start now A B h = absurd h.read
+lines_first more (Some all) (Some rest) start now A B h = (
+  lines_of (pending now ++ rest),
+  ap lines_of (after_front more all rest (Some rest) start now A B h) ∙ h.closed (pending now ++ rest),
+)
+
+-- the last lines were taken, so all lines were
+lines_all : (left left_now : Option (List ℕ)) (start : LineReader) (now next : Reading)
+    (A B C D : List ListEntry → Type 0) → (h : IsListUpTo false left left_now start now A B)
+    → (t : TakesLines false now next C D)
+    → IfSome left (λ bytes. lines_of (after_mark bytes) ≡ (lines_of h.front ++ lines_of t.front) ++ [])
+lines_all None left_now start now next A B C D h t = tt
+lines_all (Some all) None start now next A B C D h t = absurd h.read
+lines_all (Some all) (Some rest) start now next A B C D h t =
+    let over : pending now ++ rest ≡ t.front =
+    ap (λ z. pending now ++ z) (h.end refl) ∙ append-nil (pending now) ∙ t.is
+    ∙ ap (λ z. t.front ++ z) (t.all refl) ∙ append-nil t.front in
+    ap lines_of (after_front false all rest (Some rest) start now A B h ∙ ap (λ z. h.front ++ z) over)
+    ∙ h.closed t.front ∙ sym (append-nil (lines_of h.front ++ lines_of t.front))
+
+-- nothing was read and nothing written
+pub none_part : (answerer : Answerer) (grammar : Grammar) (list : ℕ) (left held : Option (List ℕ))
+    → IsWrittenInPart answerer grammar list left held held
+none_part answerer grammar list left held = record {
+  entries = [];
+  refusals = [];
+  read = nothing left;
+  written = all_written answerer held held false [] (written_none answerer held);
+}
+  where
+    nothing : (left : Option (List ℕ)) → IsFrontRead grammar list left [] []
+    nothing None = record {
+      lines = [];
+      others = [];
+      front = tt;
+      texts = [];
+      contents = refl;
+      read = (refl, refl);
+    }
+    nothing (Some bytes) = record {
+      lines = [];
+      others = lines_of (after_mark bytes);
+      front = refl;
+      texts = [];
+      contents = refl;
+      read = (refl, refl);
+    }
+
+-- the answers to the lines up to what is pending were written
+pub up_to_part : (answerer : Answerer) (more : Bool) (left left_now held then : Option (List ℕ)) (start : LineReader)
+    (now : Reading) (found : Bool) → start.line ≡ 0
+    → IsListUpTo more left left_now start now (IsWritten answerer held held false) (IsWritten answerer held then found)
+    → IsWrittenInPart answerer start.grammar start.list left held then
+up_to_part answerer more left left_now held then start now found line h =
+    let (others, first) = lines_first more left left_now start now (IsWritten answerer held held false)
+    (IsWritten answerer held then found) h in
+    part_of_lines answerer left held then start now.lines (lines_of h.front) others line first
+    (reads_weaker start now.lines (lines_of h.front) (IsWritten answerer held held false)
+    (IsWritten answerer held then found) (IsWritten answerer held held false) (IsPartWritten answerer held then) h.lines
+    (λ entries adds before none. all_written answerer held then found (before ++ entries) (adds before none)))
+
+-- more lines were taken, and a part of the answers to their entries was written
+pub taken_part : (answerer : Answerer) (more : Bool) (left left_now held then held_after : Option (List ℕ))
+    (start : LineReader) (now next : Reading) (found : Bool) (none new : Answers) (front : List ℕ) → start.line ≡ 0
+    → IsListUpTo more left left_now start now (IsWritten answerer held held false) (IsWritten answerer held then found)
+    → AreAnswersBy answerer none []
+    → TakesLines more now next (AreAnswersBy answerer none) (AreAnswersBy answerer new)
+    → StartsWith (string_bytes new.text) front → Appends then held_after front
+    → IsWrittenInPart answerer start.grammar start.list left held held_after
+taken_part answerer true left left_now held then held_after start now next found none new front line h empty t begins
+    put =
+    let taken = takes_weaker true now next (AreAnswersBy answerer none) (AreAnswersBy answerer new)
+    (IsWritten answerer held then found) (IsPartWritten answerer held held_after) t
+    (λ entries adds. part_more answerer held then held_after found none new front entries empty begins put adds) in
+    let upto = up_to_lines left left_now start now next (IsWritten answerer held held false)
+    (IsWritten answerer held then found) (IsPartWritten answerer held held_after) h taken in
+    let (others, first) = lines_first true left left_now start next (IsWritten answerer held held false)
+    (IsPartWritten answerer held held_after) upto in
+    part_of_lines answerer left held held_after start next.lines (lines_of upto.front) others line first upto.lines
+taken_part answerer false left left_now held then held_after start now next found none new front line h empty t begins
+    put =
+    part_of_lines answerer left held held_after start next.lines (lines_of h.front ++ lines_of t.front) [] line
+    (lines_all left left_now start now next (IsWritten answerer held held false) (IsWritten answerer held then found)
+    (AreAnswersBy answerer none) (AreAnswersBy answerer new) h t)
+    (reads_more start now.lines next.lines (lines_of h.front) (lines_of t.front) (IsWritten answerer held held false)
+    (IsWritten answerer held then found) (IsPartWritten answerer held held_after) h.lines
+    (reads_weaker now.lines next.lines (lines_of t.front) (AreAnswersBy answerer none) (AreAnswersBy answerer new)
+    (IsWritten answerer held then found) (IsPartWritten answerer held held_after) t.lines
+    (λ entries adds. part_more answerer held then held_after found none new front entries empty begins put adds)))
+
+-- no more lines were refused, so nothing was reported
+pub still_quiet : (more taken : Bool) (left left_now : Option (List ℕ)) (start : LineReader) (now next : Reading)
+    (A B C D : List ListEntry → Type 0) (faults then after : Option (List ℕ))
+    → IsListUpTo more left left_now start now A B → TakesLines taken now next C D
+    → next.lines.refused.count ≡ start.refused.count
+    → (now.lines.refused.count ≡ start.refused.count → Keeps faults then)
+    → (next.lines.refused.count ≡ now.lines.refused.count → Keeps then after) → Keeps faults after
+still_quiet more taken left left_now start now next A B C D faults then after h t same before report =
+    let one = h.lines.2.added.count in
+    let two = t.lines.2.added.count in
+    Keeps-trans faults then after (before (omega (arith, one, two, same))) (report (omega (arith, one, two, same)))
+
+-- ---- the same of a session that has read one list
+
+-- the first list, and what answers entries by it
+record HasFirst (query : Query) (grammar : Grammar) (lists : List (List ℕ)) (answerer : Answerer) : Type 0 where
+  first : List ListEntry
+  read : AreListsRead grammar 0 lists (first ∷ []) []
+  for : IsAnswererFor query answerer first
+
+first_of : (query : Query) (grammar : Grammar) (lists : List (List ℕ)) (s : Session) (answerer : Answerer)
+    (before : List (List ListEntry)) → length before ≡ 1 → IsAskState query s before
+    → AreListsRead grammar 0 lists before [] → s.answerer ≡ Some answerer → HasFirst query grammar lists answerer
+first_of query grammar lists s answerer [] one state read is = absurd (omega (arith, one))
+first_of query grammar lists s answerer (first ∷ second ∷ before) one state read is = absurd (omega (arith, one))
+first_of query grammar lists s answerer (first ∷ []) one (kept, has, for) read is =
+    let both : Some kept ≡ Some answerer = sym has ∙ is in
+    let same : kept ≡ answerer = cc in record {
+      first = first;
+      read = read;
+      for = subst (λ z. IsAnswererFor query z first) same for;
+    }
+
+-- what a session keeps of a filter or a route
+pub ask_state : (query : Query) (grammar : Grammar) (s : Session) (entries : List (List ListEntry)) → HasStream query
+    → IsState (Ask query grammar) s entries → IsAskState query s entries
+ask_state Count grammar s entries streams h = absurd streams
+ask_state Compare grammar s entries streams h = absurd streams
+ask_state (Filter side) grammar s entries streams h = h
+ask_state Route grammar s entries streams h = h
+
+-- a filter or a route that has read one list has its answerer
+answerer_of : (query : Query) (s : Session) (before : List (List ListEntry)) → length before ≡ 1
+    → IsAskState query s before → (answerer : Answerer) × (s.answerer ≡ Some answerer)
+answerer_of query s [] one state = absurd (omega (arith, one))
+answerer_of query s (first ∷ second ∷ before) one state = absurd (omega (arith, one))
+answerer_of query s (first ∷ []) one (answerer, has, for) = (answerer, has)
+
+pub no_answerer : (work : Work) (lists : List (List ℕ)) (s : Session) → WereRead work lists s
+    → ((answerer : Answerer) → s.answerer ≡ Some answerer → ⊥) → ¬ (CanStream work (length lists))
+no_answerer (Combine request) lists s h none can = can
+no_answerer (Ask query g) lists s h none (streams, one) =
+    let (answerer, has) = answerer_of query s h.entries
+    (lists_count g 0 lists h.entries h.refusals h.read ∙ one) (ask_state query g s h.entries streams h.state) in
+    none answerer has
+
+part_right : (query : Query) (grammar : Grammar) (lists : List (List ℕ)) (s : Session) (answerer : Answerer)
+    (left held held_after : Option (List ℕ)) → HasStream query → WereRead (Ask query grammar) lists s
+    → s.reading.lines.list ≡ 1 → s.answerer ≡ Some answerer → s.reading.lines.refused.count ≡ 0
+    → IsWrittenInPart answerer s.reading.lines.grammar s.reading.lines.list left held held_after
+    → IsStreamedInPart query grammar lists left held held_after
+part_right query grammar lists s answerer left held held_after streams h one is none part =
+    let k = first_of query grammar lists s answerer h.entries
+    (lists_count grammar 0 lists h.entries h.refusals h.read ∙ sym h.count ∙ one)
+    (ask_state query grammar s h.entries streams h.state)
+    (subst (AreListsRead grammar 0 lists h.entries) (none_of_length h.refusals (sym h.kept.count ∙ none)) h.read) is in
+    let at = part.read in
+    record {
+      first = k.first;
+      first_read = k.read;
+      entries = part.entries;
+      refusals = part.refusals;
+      read = subst (λ g. IsFrontRead g (length lists) left part.entries part.refusals) h.same_grammar
+          (subst (λ n. IsFrontRead s.reading.lines.grammar n left part.entries part.refusals) h.count at);
+      text = part.written.text;
+      right = replies_right query answerer k.first part.entries part.written.text k.for
+          (entries_some s.reading.lines.grammar s.reading.lines.list 1 at.texts part.entries part.refusals at.read)
+          part.written.answers;
+      front = part.written.front;
+      begins = part.written.begins;
+      written = part.written.written;
+    }
+
+-- a stream that ended early, by its failure
+failure_right : (work : Work) (lists : List (List ℕ)) (left held held_after : Option (List ℕ))
+    (failure : StreamFailure) → IsBroken failure → IsWorkStreamedInPart work lists left held held_after
+    → IsStreamFailure work lists left held held_after failure
+failure_right work lists left held held_after (StreamFailures.Start failure) broken h = absurd broken
+failure_right work lists left held held_after (StreamFailures.Read failure) broken h = h
+failure_right work lists left held held_after StreamFailures.Unwritable broken h = h
+
+pub work_failed : (work : Work) (query : Query) (g : Grammar) (lists : List (List ℕ)) (s : Session)
+    (answerer : Answerer) (left held held_after : Option (List ℕ)) (failure : StreamFailure) → WereRead work lists s
+    → s.work ≡ Ask query g → HasStream query → s.reading.lines.list ≡ 1 → s.answerer ≡ Some answerer
+    → s.reading.lines.refused.count ≡ 0
+    → IsWrittenInPart answerer s.reading.lines.grammar s.reading.lines.list left held held_after → IsBroken failure
+    → IsStreamFailure work lists left held held_after failure
+work_failed work query g lists s answerer left held held_after failure h asks streams one is none part broken =
+    let same : work ≡ Ask query g = sym h.same_work ∙ asks in
+    failure_right work lists left held held_after failure broken
+    (subst (λ w. IsWorkStreamedInPart w lists left held held_after) (sym same)
+    (part_right query g lists s answerer left held held_after streams (subst (λ w. WereRead w lists s) same h) one is
+    none part))
+
+-- what was written when a stream failed
+pub part_or_kept : (work : Work) (lists : List (List ℕ)) (left held held_after : Option (List ℕ))
+    (failure : StreamFailure) → IsStreamFailure work lists left held held_after failure
+    → Keeps held held_after ⊎ IsWorkStreamedInPart work lists left held held_after
+part_or_kept work lists left held held_after (StreamFailures.Start failure) h = inl h.1
+part_or_kept work lists left held held_after (StreamFailures.Read failure) h = inr h
+part_or_kept work lists left held held_after StreamFailures.Unwritable h = inr h
+
+-- ---- a list that was streamed whole
+
+-- the second of two lists
+second_read : (grammar : Grammar) (lists : List (List ℕ)) (bytes : List ℕ) (first entries : List ListEntry)
+    (refusals : List Refusal) → AreListsRead grammar 0 lists (first ∷ []) []
+    → AreListsRead grammar 0 (lists ++ bytes ∷ []) (first ∷ entries ∷ []) refusals
+    → (here : List Refusal) × IsListRead grammar (length lists) bytes entries here
+second_read grammar [] bytes first entries refusals h k = let clash : first ∷ [] ≡ [] = h.0 in absurd cc
+second_read grammar (b ∷ []) bytes first entries refusals h (
+  e,
+  es,
+  r,
+  rs,
+  cut,
+  split,
+  is,
+  (
+    e2,
+    es2,
+    r2,
+    rs2,
+    cut2,
+    split2,
+    is2,
+    end,
+  ),
+) =
+    let same : e2 ≡ entries = cc in (r2, subst (λ z. IsListRead grammar 1 bytes z r2) same is2)
+second_read grammar (b ∷ c ∷ lists) bytes first entries refusals (e, es, r, rs, cut, split, is, more) k =
+    let next : es ≡ more.0 ∷ more.1 = more.4 in absurd cc
+
+-- all that was written is a part of it
+pub streamed_part : (work : Work) (lists : List (List ℕ)) (left left_after held held_after : Option (List ℕ))
+    (streamed : Streamed) → IsWorkStreamed work lists left left_after held held_after streamed
+    → IsWorkStreamedInPart work lists left held held_after
+streamed_part (Combine request) lists left left_after held held_after streamed h = absurd h
+streamed_part (Ask query g) lists left left_after held held_after streamed h =
+    let (here, is) = second_read g lists h.bytes h.first h.entries h.refusals h.first_read h.read in
+    record {
+      first = h.first;
+      first_read = h.first_read;
+      entries = h.entries;
+      refusals = here;
+      read = record {
+        lines = lines_of (after_mark h.bytes);
+        others = [];
+        front = Consumes-whole left left_after h.bytes
+            (λ bytes. lines_of (after_mark bytes) ≡ lines_of (after_mark h.bytes) ++ []) h.given.given h.given.whole
+            (sym (append-nil (lines_of (after_mark h.bytes))));
+        texts = is.0;
+        contents = is.1;
+        read = is.2;
+      };
+      text = h.text;
+      right = h.right;
+      front = h.text;
+      begins = starts_with_all h.text;
+      written = h.written;
+    }

@@ -1,0 +1,125 @@
+//! The lines of a list that are not empty, and the lines that are refused.
+ghost use Rattle.std.specs.Prelude.{◌≡◌, ◌≢◌, ◌↔◌, ◌+◌, List, [], IsTrue, IfOk, OnOk, map};
+ghost use Rattle.netset_lib.specs.ContentLines as lists;
+ghost use Rattle.netset_lib.specs.ContentLines.{AreContentLines};
+ghost use Rattle.netset_lib.specs.ContentLineOf.{line_of, refused_of, AddsLine, AddsRead};
+
+use crate::reader::{contents_of, first_line};
+use crate::rule_list::skip_mark;
+use ipnet::Grammar;
+use std::alloc::{AllocError, Global};
+
+/// A line that is not empty.
+#[derive(Clone, Copy)]
+pub(crate) struct ContentLine<'a> {
+    /// Its number, from 1.
+    pub(crate) number: usize,
+    /// Its contents, without a comment and blanks around them.
+    pub(crate) text: &'a [u8],
+}
+
+/// A line that is refused.
+///
+/// ```text
+/// of "+ 10.0.0.0/8\n\n10.0.0.0/9 # x\n", read as changes: number 3, text "10.0.0.0/9", cause UnknownSign
+/// ```
+#[derive(Debug, Drop)]
+pub struct RefusedText<C> {
+    /// Its number, from 1.
+    pub number: usize,
+    /// Its contents, without a comment and blanks around them.
+    pub text: Vec<u8>,
+    /// Why it is refused.
+    pub cause: C,
+}
+
+/// Returns the next number. Fails if a `usize` cannot count so far.
+fn next_number(number: usize) -> Result<usize, AllocError>
+    ensures { IfOk result (λ next. next ≡ number + 1) }
+{
+    match number.checked_add(1) {
+        Some(next) => Ok(next),
+        None => Err(AllocError),
+    }
+}
+
+/// Appends the line, unless it is empty. Fails if memory runs out.
+fn push_some<'a>(
+    lines: &mut Vec<ContentLine<'a>>,
+    number: usize,
+    text: &'a [u8],
+) -> Result<(), AllocError>
+    ensures { OnOk result
+        (AddsLine number text.now (map line_of lines.old.items) (map line_of lines.new.items)) }
+{
+    if text.is_empty() {
+        return Ok(());
+    }
+    lines.push(ContentLine { number, text })?;
+    Ok(())
+}
+
+/// Returns the lines of the bytes that are not empty, without comments and blanks around their contents. A byte order
+/// mark at the start is skipped. Fails if memory runs out.
+pub(crate) fn content_lines<'a>(
+    alloc: Global,
+    bytes: &'a [u8],
+    grammar: Grammar,
+) -> Result<Vec<ContentLine<'a>>, AllocError>
+    ensures { IfOk result (λ lines. AreContentLines grammar bytes.now (map line_of lines.items)) }
+{
+    let mut room = String::new(alloc);
+    let mut lines = Vec::new(alloc);
+    let mut number: usize = 0;
+    let mut rest = skip_mark(bytes);
+    'lines: while !rest.is_empty() {
+        let (line, after) = first_line(rest);
+        number = next_number(number)?;
+        let text = contents_of(&mut room, line, grammar)?;
+        push_some(&mut lines, number, text)?;
+        rest = after;
+    }
+    Ok(lines)
+}
+
+/// Returns whether a line of the bytes is not empty, without comments and blanks. Fails if memory runs out.
+///
+/// ```text
+/// "# nothing\n\n": false; "x\n": true
+/// ```
+pub fn has_lines(alloc: Global, bytes: &[u8], grammar: Grammar) -> Result<bool, AllocError>
+    ensures { IfOk result (λ has. (lines : List lists.ContentLine) × AreContentLines grammar bytes.now lines
+        × (IsTrue has ↔ (lines ≢ []))) }
+{
+    let lines = content_lines(alloc, bytes, grammar)?;
+    Ok(!lines.is_empty())
+}
+
+/// Appends what was read of the line: an item, or why it is refused. Fails if memory runs out.
+pub(crate) fn keep_read<T: Drop, C: Drop>(
+    alloc: Global,
+    items: &mut Vec<T>,
+    refused: &mut Vec<RefusedText<C>>,
+    line: ContentLine<'_>,
+    read: Result<T, C>,
+) -> Result<(), AllocError>
+    ensures { OnOk result (AddsRead (line_of line.entry) read items.old.items items.new.items
+        (map refused_of refused.old.items) (map refused_of refused.new.items)) }
+{
+    match read {
+        Ok(item) => {
+            items.push(item)?;
+            Ok(())
+        }
+        Err(cause) => {
+            let text = line.text.to_vec(alloc)?;
+            let number = line.number;
+            refused.push(RefusedText {
+                number,
+                text,
+                cause,
+            })?;
+            Ok(())
+        }
+    }
+}

@@ -1,0 +1,84 @@
+//! Texts that have to be one network.
+ghost use Rattle.std.specs.Prelude.{◌≡◌, ℕ, List, IfOk, IfErr};
+ghost use Rattle.ipnet.specs.declared.parser.Grammar.{Grammar};
+ghost use Rattle.ipnet.specs.NetworkOf.{ip_network};
+ghost use Rattle.netset_lib.specs.Entries.{IsNoEntry};
+ghost use Rattle.netset_lib.specs.EntryOf.{IsWrittenAs};
+ghost use Rattle.netset_lib.specs.NetworkEntries.{IsNetworkWord, IsNoNetworkWord, IsNetworkCause};
+ghost use Rattle.netset_lib.specs.NetworkSteps.{IsRange};
+ghost use Rattle.netset_lib.specs.declared.network_entry.NetworkCause.TheVariants.{Range};
+
+use crate::cause::{Cause, cause_of};
+use crate::entry::Entry;
+use crate::reader::read_text;
+use crate::rule_line::first_blank;
+use ipnet::{Grammar, IpNet};
+use std::alloc::AllocError;
+
+/// Why a text is not a network or an address.
+///
+/// ```text
+/// (nothing)                 Missing
+/// 10.0.0.0-10.0.0.255       Range
+/// 10.0.0.0/8 10.1.0.0/16    TwoWords
+/// 10.0.0.0/33               NoEntry(Some(LengthAbove32))
+/// all                       NoEntry(None)
+/// ```
+#[derive(Clone, Copy, Debug, PartialEq, Eq, Drop)]
+pub enum NetworkCause {
+    /// The text is empty.
+    Missing,
+    /// The text is a range.
+    Range,
+    /// The text has more than one word.
+    TwoWords,
+    /// The text is a word that is not an entry. Has the cause, if one can be named.
+    NoEntry(Option<Cause>),
+}
+
+/// Returns the network of the entry's addresses, or the cause if the entry is a range.
+fn network_of(entry: Entry) -> Result<IpNet, NetworkCause>
+    ensures network { IfOk result (λ n. (grammar : Grammar) → (text : List ℕ) → IsWrittenAs grammar text entry
+        → IsNetworkWord grammar text (ip_network n)) }
+    ensures cause { IfErr result (λ cause. (cause ≡ Range) × IsRange entry) }
+{
+    match entry {
+        Entry::Network(network) => Ok(network.trunc()),
+        Entry::Address(address) => Ok(IpNet::from(address)),
+        Entry::Ipv4Range(_, _) | Entry::Ipv6Range(_, _) => Err(NetworkCause::Range),
+    }
+}
+
+/// Returns why a text that is not an entry is not one.
+fn cause_without_entry(
+    room: &mut String,
+    text: &[u8],
+    grammar: Grammar,
+) -> Result<NetworkCause, AllocError>
+    requires { IsNoEntry grammar text.now }
+    ensures { IfOk result (IsNetworkCause grammar text.now) }
+{
+    if text.is_empty() {
+        return Ok(NetworkCause::Missing);
+    }
+    if first_blank(text) < text.len() {
+        return Ok(NetworkCause::TwoWords);
+    }
+    Ok(NetworkCause::NoEntry(cause_of(room, text, grammar)?))
+}
+
+/// Returns the network that the text is, without host bits, or why it is not one. Fails if memory runs out.
+pub(crate) fn read_network_entry(
+    room: &mut String,
+    text: &[u8],
+    grammar: Grammar,
+) -> Result<Result<IpNet, NetworkCause>, AllocError>
+    ensures network { IfOk result (λ read. IfOk read (λ n. IsNetworkWord grammar text.now (ip_network n))) }
+    ensures none { IfOk result (λ read. IfErr read (λ _. IsNoNetworkWord grammar text.now)) }
+    ensures cause { IfOk result (λ read. IfErr read (IsNetworkCause grammar text.now)) }
+{
+    match read_text(room, text, grammar)? {
+        Some(found) => Ok(network_of(found.entry)),
+        None => Ok(Err(cause_without_entry(room, text, grammar)?)),
+    }
+}

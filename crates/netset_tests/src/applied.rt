@@ -1,0 +1,114 @@
+//! Changes that are applied to a list, and the verdicts of a prefix list: writers that fail, and refused memory.
+use crate::support::{NAMES, WINDOW, session_of};
+use ipnet::Grammar;
+use netset_lib::{Form, Operation, PrefixRequest, Request, Work, run_apply, run_prefix_list};
+use std::alloc::Global;
+use std::test::Fail;
+use test_support::devices::{ArrayWriter, NEVER, WHOLE};
+use test_support::memory::{Outcome, grow_stack, is_refused, is_refused_beside_room};
+
+/// The error message for a writer that fails.
+const UNWRITABLE: &[u8] = b"netset: output cannot be written\n";
+
+/// The work of a session for changes that are applied.
+const UNION: Work = Work::Combine(Request {
+    operation: Operation::Union,
+    grammar: Grammar::Strict,
+    form: Form::Networks,
+});
+
+/// The status of changes that are applied to 10.0.0.0/30, or `None` if memory runs out while the list is read.
+fn run_changes(alloc: Global, out: &mut ArrayWriter, faults: &mut ArrayWriter) -> Option<u8> {
+    let Ok(list) = Vec::from_slice(alloc, b"10.0.0.0/30\n") else {
+        return None;
+    };
+    let changes = b"- 10.0.0.0/30 # all\n\n+\t10.0.0.0/31\n".as_slice();
+    match session_of(alloc, UNION, &[list]) {
+        Ok(session) => Some(run_apply(session, ("changes", changes), &NAMES, out, faults)),
+        Err(_) => None,
+    }
+}
+
+/// The status of the verdicts on two networks, of which the second is denied.
+fn run_verdicts(alloc: Global, out: &mut ArrayWriter, faults: &mut ArrayWriter) -> u8 {
+    let request = PrefixRequest {
+        prefixes: b"permit 10.0.0.0/8 ge 16 le 24\n",
+        networks: b"10.1.0.0/16\n10.0.0.0/8 # x\n",
+        grammar: Grammar::Strict,
+    };
+    run_prefix_list(alloc, request, ("prefixes", "networks"), out, faults)
+}
+
+#[test]
+fn writers(rt: HostRuntime) -> Result<(), Fail> {
+    let alloc = rt.alloc();
+    // label, bytes at a time, the write that fails, how many bytes are out
+    let rows = [
+        ("no failure", 1, NEVER, None),
+        ("the first write fails", WHOLE, 1, Some(0)),
+        ("a later write fails", 1, 3, Some(2)),
+    ];
+    for (label, most, fails_at, held) in rows {
+        let mut out = ArrayWriter::new(most, fails_at);
+        let mut faults = ArrayWriter::whole();
+        let status = run_changes(alloc, &mut out, &mut faults);
+        let front = &b"10.0.0.0/31\n"[..held.unwrap_or(12)];
+        let wanted = if held.is_none() { 0 } else { 2 };
+        assert!(&rt; status == Some(wanted), "apply: {label}: status");
+        assert!(&rt; out.held() == front, "apply: {label}: output");
+        let mut out = ArrayWriter::new(most, fails_at);
+        let status = run_verdicts(alloc, &mut out, &mut faults);
+        let front = &b"permit 10.1.0.0/16\ndeny 10.0.0.0/8\n"[..held.unwrap_or(35)];
+        assert!(&rt;
+            status == if held.is_none() { 1 } else { 2 },
+            "verdicts: {label}: status"
+        );
+        assert!(&rt; out.held() == front, "verdicts: {label}: output");
+        let reports = if held.is_none() {
+            0
+        } else {
+            2 * UNWRITABLE.len()
+        };
+        assert!(&rt; faults.held().len() == reports, "{label}: reports");
+    }
+    Ok(())
+}
+
+/// The outcome of changes that are applied, if the ends of the run are right.
+fn changes_outcome(alloc: Global) -> Outcome {
+    let mut out = ArrayWriter::whole();
+    let mut faults = ArrayWriter::whole();
+    let Some(status) = run_changes(alloc, &mut out, &mut faults) else {
+        return Outcome::Refused;
+    };
+    match (status, out.held(), faults.held()) {
+        (0, b"10.0.0.0/31\n", b"") => Outcome::Answered,
+        (2, b"", b"netset: out of memory\n") => Outcome::Refused,
+        _ => Outcome::Wrong,
+    }
+}
+
+/// The outcome of the verdicts, if the ends of the run are right.
+fn verdicts_outcome(alloc: Global) -> Outcome {
+    let mut out = ArrayWriter::whole();
+    let mut faults = ArrayWriter::whole();
+    let status = run_verdicts(alloc, &mut out, &mut faults);
+    match (status, out.held(), faults.held()) {
+        (1, b"permit 10.1.0.0/16\ndeny 10.0.0.0/8\n", b"") => Outcome::Answered,
+        (2, b"", b"netset: out of memory\n") => Outcome::Refused,
+        _ => Outcome::Wrong,
+    }
+}
+
+#[test]
+fn memory(rt: HostRuntime) -> Result<(), Fail> {
+    grow_stack(rt.alloc())?;
+    let alloc = rt.alloc();
+    let is_right = is_refused_beside_room(alloc, WINDOW, || changes_outcome(alloc))?;
+    assert!(&rt; is_right, "memory: apply");
+    assert!(&rt;
+        is_refused(alloc, || verdicts_outcome(alloc))?,
+        "memory: verdicts"
+    );
+    Ok(())
+}

@@ -1,0 +1,133 @@
+-- The words of a line, cut from its front.
+use Rattle.std.proofs.Common.{◌≡◌, ℕ, zero, suc, ◌<◌, ◌≤◌, true, false, List, [], ◌∷◌, ◌++◌, length, get_or, take}
+use Rattle.std.proofs.Common.{drop, refl, sym, ap, ◌∙◌, arith, if◌then◌else◌, append_assoc, subst, ◌≢◌, ◌-◌, add-zero}
+use Rattle.std.proofs.Common.{length-append}
+use Rattle.std.proofs.lemmas.List.{take_rest, length-drop, get_or-drop}
+use Rattle.std.proofs.Math.Seq.{take-append_seam, drop-append_seam}
+use Rattle.netset_words.specs.Words.{Word, cuts, after_cut, after_byte, words_of}
+
+-- the words of a line that begins with a byte of this kind
+after_gap : (b : ℕ) (line : List ℕ) → cuts b ≡ true → words_of (b ∷ line) ≡ after_cut b (words_of line)
+after_gap b line is = ap (λ t. if t then after_cut b (words_of line) else after_byte b (words_of line)) is
+
+after_letter : (b : ℕ) (line : List ℕ) → cuts b ≡ false → words_of (b ∷ line) ≡ after_byte b (words_of line)
+after_letter b line is = ap (λ t. if t then after_cut b (words_of line) else after_byte b (words_of line)) is
+
+-- a word of one byte before words that follow a cut
+before_cut : (b c : ℕ) (words : List Word)
+    → after_byte b (after_cut c words) ≡ record { before = []; text = b ∷ [] } ∷ after_cut c words
+before_cut b c [] = refl
+before_cut b c (w ∷ words) = refl
+
+one_letter : (b : ℕ) (line : List ℕ) → (0 < length line → cuts (get_or line 0 0) ≡ true)
+    → after_byte b (words_of line) ≡ record { before = []; text = b ∷ [] } ∷ words_of line
+one_letter b [] next = refl
+one_letter b (c ∷ line) next =
+    let is = after_gap c line (next (omega arith)) in
+    ap (after_byte b) is ∙ before_cut b c (words_of line)
+    ∙ ap (λ z. record { before = []; text = b ∷ [] } ∷ z) (sym is)
+
+-- a word at the front
+word_front : (len : ℕ) (line : List ℕ) → 0 < len → len ≤ length line
+    → ((k : ℕ) → k < len → cuts (get_or line k 0) ≡ false) → (len < length line → cuts (get_or line len 0) ≡ true)
+    → words_of line ≡ record { before = []; text = take len line } ∷ words_of (drop len line)
+word_front zero line some within letters next = absurd (omega arith)
+word_front (suc n) [] some within letters next = absurd (omega arith)
+word_front (suc zero) (b ∷ line) some within letters next =
+    after_letter b line (letters 0 (omega arith)) ∙ one_letter b line (λ less. next (omega (arith, less)))
+word_front (suc (suc n)) (b ∷ line) some within letters next =
+    after_letter b line (letters 0 (omega arith))
+    ∙ ap (after_byte b) (word_front (suc n) line (omega arith) (omega (arith, within))
+    (λ k less. letters (suc k) (omega (arith, less))) (λ less. next (omega (arith, less))))
+
+-- with cuts before it
+gap_front : (gap : ℕ) (line text : List ℕ) (words : List Word) → gap ≤ length line
+    → ((k : ℕ) → k < gap → cuts (get_or line k 0) ≡ true)
+    → words_of (drop gap line) ≡ record { before = []; text = text } ∷ words
+    → words_of line ≡ record { before = take gap line; text = text } ∷ words
+gap_front zero line text words within cut is = is
+gap_front (suc n) [] text words within cut is = absurd (omega arith)
+gap_front (suc n) (b ∷ line) text words within cut is =
+    after_gap b line (cut 0 (omega arith))
+    ∙ ap (after_cut b) (gap_front n line text words (omega (arith, within))
+    (λ k less. cut (suc k) (omega (arith, less))) is)
+
+-- nothing but cuts
+gap_only : (line : List ℕ) → ((k : ℕ) → k < length line → cuts (get_or line k 0) ≡ true) → words_of line ≡ []
+gap_only [] cut = refl
+gap_only (b ∷ line) cut =
+    after_gap b line (cut 0 (omega arith))
+    ∙ ap (after_cut b) (gap_only line (λ k less. cut (suc k) (omega (arith, less))))
+
+-- ---- as the code cuts
+
+-- nothing is after the gap
+pub gap_is_all : (bytes rest : List ℕ) (gap : ℕ) → rest ≡ take (length bytes - gap) (drop gap bytes)
+    → gap ≤ length bytes → ((k : ℕ) → k < gap → cuts (get_or bytes k 0) ≡ true) → length rest ≡ 0
+    → words_of bytes ≡ []
+gap_is_all bytes rest gap is within cut none =
+    let size : length bytes - gap ≡ 0 =
+    omega (arith, none, ap length (is ∙ take_rest bytes gap), length-drop gap bytes) in
+    gap_only bytes (λ k less. cut k (omega (arith, size, less)))
+
+-- a word after the gap
+word_at : (bytes : List ℕ) (gap len : ℕ) → gap ≤ length bytes
+    → ((k : ℕ) → k < gap → cuts (get_or bytes k 0) ≡ true) → cuts (get_or bytes gap 0) ≡ false
+    → length (drop gap bytes) ≢ 0 → len ≤ length (drop gap bytes)
+    → ((k : ℕ) → k < len → cuts (get_or (drop gap bytes) k 0) ≡ false)
+    → (len < length (drop gap bytes) → cuts (get_or (drop gap bytes) len 0) ≡ true)
+    → words_of bytes ≡ record { before = take gap bytes; text = take len (drop gap bytes) }
+    ∷ words_of (drop len (drop gap bytes))
+word_at bytes gap zero within cut letter some fits letters next =
+    let at : get_or (drop gap bytes) 0 0 ≡ get_or bytes gap 0 =
+    get_or-drop gap bytes 0 0 ∙ ap (λ n. get_or bytes n 0) (add-zero gap) in
+    let is : true ≡ false = sym (next (omega (arith, some))) ∙ ap cuts at ∙ letter in
+    absurd cc
+word_at bytes gap (suc n) within cut letter some fits letters next =
+    gap_front gap bytes (take (suc n) (drop gap bytes)) (words_of (drop (suc n) (drop gap bytes))) within cut
+    (word_front (suc n) (drop gap bytes) (omega arith) fits letters next)
+
+pub word_cut : (bytes rest : List ℕ) (gap len : ℕ) → rest ≡ take (length bytes - gap) (drop gap bytes)
+    → gap ≤ length bytes → ((k : ℕ) → k < gap → cuts (get_or bytes k 0) ≡ true)
+    → (gap < length bytes → cuts (get_or bytes gap 0) ≡ false) → length rest ≢ 0 → len ≤ length rest
+    → ((k : ℕ) → k < len → cuts (get_or rest k 0) ≡ false) → (len < length rest → cuts (get_or rest len 0) ≡ true)
+    → words_of bytes ≡ record { before = take gap bytes; text = take len rest }
+    ∷ words_of (take (length rest - len) (drop len rest))
+word_cut bytes rest gap len cut_so within cut letter some fits letters next =
+    let is : rest ≡ drop gap bytes = cut_so ∙ take_rest bytes gap in
+    let size = ap length is in
+    let less : gap < length bytes = omega (arith, some, size, length-drop gap bytes, within) in
+    subst (λ r. words_of bytes ≡ record { before = take gap bytes; text = take len r }
+    ∷ words_of (take (length r - len) (drop len r))) (sym is)
+    (word_at bytes gap len within cut (letter less) (λ none. some (size ∙ none)) (omega (arith, fits, size))
+    (subst (λ r. (k : ℕ) → k < len → cuts (get_or r k 0) ≡ false) is letters)
+    (subst (λ r. len < length r → cuts (get_or r len 0) ≡ true) is next)
+    ∙ ap (λ z. record { before = take gap bytes; text = take len (drop gap bytes) } ∷ words_of z)
+    (sym (take_rest (drop gap bytes) len)))
+
+-- the text between two parts of bytes
+between : (front text back : List ℕ) (n : ℕ) → n ≡ length text → take n (drop (length front) (front ++ (text ++ back)))
+    ≡ text
+between front text back n is =
+    ap (take n) (drop-append_seam front (text ++ back)) ∙ ap (λ k. take k (text ++ back)) is
+    ∙ take-append_seam text back
+
+-- three words, with the bytes between them
+pub span_cut : (bytes before first rest dash_before dash others last_before last after : List ℕ)
+    → bytes ≡ before ++ (first ++ rest) → rest ≡ dash_before ++ (dash ++ others)
+    → others ≡ last_before ++ (last ++ after)
+    → take ((length bytes - length after) - length before) (drop (length before) bytes)
+    ≡ first ++ dash_before ++ dash ++ last_before ++ last
+span_cut bytes before first rest dash_before dash others last_before last after is next more =
+    let text = first ++ dash_before ++ dash ++ last_before ++ last in
+    let joined : first ++ rest ≡ text ++ after =
+    ap (λ z. first ++ z) (next ∙ ap (λ z. dash_before ++ (dash ++ z)) more)
+    ∙ sym (append_assoc (first ++ dash_before ++ dash ++ last_before) last after
+    ∙ append_assoc (first ++ dash_before ++ dash) last_before (last ++ after)
+    ∙ append_assoc (first ++ dash_before) dash (last_before ++ (last ++ after))
+    ∙ append_assoc first dash_before (dash ++ (last_before ++ (last ++ after)))) in
+    let all : bytes ≡ before ++ (text ++ after) = is ∙ ap (λ z. before ++ z) joined in
+    let size : (length bytes - length after) - length before ≡ length text =
+    omega (arith, ap length all, length-append before (text ++ after), length-append text after) in
+    ap (λ z. take ((length bytes - length after) - length before) (drop (length before) z)) all
+    ∙ between before text after ((length bytes - length after) - length before) size

@@ -1,0 +1,51 @@
+use Rattle.std.proofs.Common.{◌≡◌, ◌+◌, ◌∷◌, [], List, ℕ, true, false, refl, sym, ap, ◌∙◌, subst}
+use Rattle.ipnet_text.proofs.ListsLaws.{OnOk_then}
+use Rattle.netset_words.specs.declared.refused_word.WordCause.TheVariants.{NulByte, Netmask}
+use Rattle.netset_words.specs.Extracts.{mask_refusals}
+use Rattle.netset_words.specs.ExtractSteps.{AddsRefusals}
+use Rattle.netset_words.specs.Items.{mask_texts}
+use Rattle.netset_words.proofs.ExtractLaws.{nul_line, word_line, refusals_none}
+use Rattle.netset_words.proofs.ItemLaws.{match_some, match_none}
+use Rattle.netset_words.proofs.word_reader.WordReader.read_line.Goals as goal
+
+pub returns-then-has_byte : goal.returns-then-has_byte
+returns-then-has_byte c =
+    let old = c.args.self.now in
+    let next : c.in-Some.number ≡ old.line + 1 = c.in-Some.ensures.1 in
+    OnOk_then c.push.result c.push.ensures
+    (λ added. nul_line old _ c.args.line.now (record { same_request = refl; same_list = refl; next = next })
+    (sym c.has_byte.ensures ∙ c.if-has_byte.true) refl refl
+    (subst (λ n. AddsRefusals old.refused c.push.new.self
+    (record { list = old.list; line = n; text = c.args.line.now; cause = NulByte } ∷ [])) next added))
+
+pub returns-in-Some-mask : goal.returns-in-Some-mask
+returns-in-Some-mask c =
+    let old = c.args.self.now in
+    let next : c.in-Some.number ≡ old.line + 1 = c.in-Some.ensures.1 in
+    let (items, are, up_to) = c.in_ok-state.ensures in
+    let mask = c.in-Some-mask.mask in
+    let (more, first) = match_some c.in_ok-state.state.mask mask (mask_texts items ≡ [])
+    (λ m. (more : List (List ℕ)) × (mask_texts items ≡ m.now ∷ more)) up_to.mask c.in-Some-mask.is in
+    OnOk_then c.push-in-Some-mask.result c.push-in-Some-mask.ensures
+    (λ added. word_line old _ c.args.line.now items c.in_ok-state.state
+    (record { same_request = refl; same_list = refl; next = next })
+    (λ nul. let clash : true ≡ false = sym nul ∙ sym c.has_byte.ensures ∙ c.if-has_byte.false in absurd cc) are up_to
+    c.is_any-self.ensures
+    (subst (λ rs. AddsRefusals old.refused c.push-in-Some-mask.new.self rs)
+    (sym (ap (mask_refusals old.list (old.line + 1)) first))
+    (subst (λ n. AddsRefusals old.refused c.push-in-Some-mask.new.self
+    (record { list = old.list; line = n; text = mask.now; cause = Netmask } ∷ [])) next added)))
+
+pub returns-in-None : goal.returns-in-None
+returns-in-None c =
+    let old = c.args.self.now in
+    let (items, are, up_to) = c.in_ok-state.ensures in
+    let none = match_none c.in_ok-state.state.mask (mask_texts items ≡ [])
+    (λ m. (more : List (List ℕ)) × (mask_texts items ≡ m.now ∷ more)) up_to.mask
+    (λ m e. let clash = sym e ∙ c.in-None.is in absurd cc) in
+    word_line old _ c.args.line.now items c.in_ok-state.state
+    (record { same_request = refl; same_list = refl; next = c.in-Some.ensures.1 })
+    (λ nul. let clash : true ≡ false = sym nul ∙ sym c.has_byte.ensures ∙ c.if-has_byte.false in absurd cc) are up_to
+    c.is_any-self.ensures
+    (subst (AddsRefusals old.refused old.refused) (sym (ap (mask_refusals old.list (old.line + 1)) none))
+    (refusals_none old.refused old.refused.few))

@@ -1,0 +1,159 @@
+//! The entries in texts that are read one after another.
+ghost use Rattle.std.specs.Prelude.{◌≡◌, ◌+◌, List, ℕ, [], ◌∷◌, ◌++◌, length, true, IfOk, OnOk};
+ghost use Rattle.ipnet.specs.Lines.{lines_of};
+ghost use Rattle.ipnet_text.specs.Inputs.{GaveWhole};
+ghost use Rattle.netset_lib.specs.Marks.{IsPastMark};
+ghost use Rattle.netset_words.specs.ExtractSteps.{ReadsFront};
+
+use crate::item::ExtractRequest;
+use crate::word_reader::WordReader;
+use ipnet_text::{ReadError, Window, lines_len};
+use netset_lib::{MOST_READS, ReadFailure, begin_input};
+use std::alloc::{AllocError, Global};
+use std::io::Read;
+
+/// The texts of a call, which are read one after another, and the entries that were found.
+///
+/// Kept are the entries, and of a text only the line that is not complete.
+///
+/// ```text
+/// new(the first of each line), read("allow 10.0.0.0/9;\n"), read("::1 ::2"): the answer is "10.0.0.0/9\n::1\n"
+/// ```
+#[derive(Drop)]
+pub struct Extraction {
+    window: Window,
+    /// The front of a line that is not complete.
+    carry: Vec<u8>,
+    pub(crate) words: WordReader,
+}
+
+/// Reads the lines of the bytes in `carry` and of complete lines that follow, and empties `carry`. If no line follows,
+/// and more bytes may come, it does nothing.
+fn read_front(
+    words: &mut WordReader,
+    carry: &mut Vec<u8>,
+    front: &[u8],
+    more: bool,
+) -> Result<(), AllocError>
+    requires { more ≡ true → (rest : List ℕ) → lines_of (front.now ++ rest) ≡ lines_of front.now ++ lines_of rest }
+    ensures { OnOk result (ReadsFront more words.old words.new carry.old.items carry.new.items front.now) }
+{
+    if carry.is_empty() {
+        return words.read(front);
+    }
+    if front.is_empty() && more {
+        return Ok(());
+    }
+    carry.extend_from_slice(front)?;
+    words.read(carry.as_slice())?;
+    carry.clear();
+    Ok(())
+}
+
+impl Extraction {
+    ghost use Rattle.netset_words.specs.ExtractSteps.{TakesBytes, IsAtFirstLine};
+    ghost use Rattle.netset_words.specs.Extractions.{WereExtracted, IsNoted, has_entry, refused_count};
+
+    /// Returns an extraction that has read no text. Fails if memory runs out.
+    pub fn new(alloc: Global, request: ExtractRequest) -> Result<Extraction, AllocError>
+        ensures { IfOk result (WereExtracted request []) }
+    {
+        Ok(Extraction {
+            window: Window::new(alloc)?,
+            carry: Vec::new(alloc),
+            words: WordReader::new(alloc, request),
+        })
+    }
+
+    /// Reads the bytes in the window: the lines that are complete, or all lines if `more` is false. The front of
+    /// another line is kept in `carry`.
+    fn take_bytes(&mut self, more: bool) -> Result<(), AllocError>
+        ensures { OnOk result (TakesBytes more self.old self.new) }
+    {
+        let held = self.window.held();
+        let count = lines_len(held, more);
+        read_front(&mut self.words, &mut self.carry, &held[..count], more)?;
+        self.carry.extend_from_slice(&held[count..])?;
+        let all = held.len();
+        self.window.take(all);
+        Ok(())
+    }
+
+    /// Begins a text: reads its first bytes, and returns whether more may come.
+    fn begin<R: Read>(&mut self, input: &mut R) -> Result<bool, ReadError>
+        ensures past { IfOk result (λ more.
+            IsPastMark more (R.remaining input.old) (R.remaining input.new) self.new.window) }
+        ensures carry { IfOk result (λ more. self.new.carry.items ≡ []) }
+        ensures words { IfOk result (λ more. IsAtFirstLine self.old.words self.new.words) }
+    {
+        self.carry.clear();
+        let left = self.window.held().len();
+        self.window.take(left);
+        self.words.line = 0;
+        self.words.has_entry = false;
+        let more = begin_input(&mut self.window, input)?;
+        Ok(more)
+    }
+
+    /// Goes on to the next text. Fails if there are more texts than a `usize` counts.
+    fn end(&mut self) -> Result<(), ReadFailure>
+        ensures next { OnOk result (self.new.words.list ≡ self.old.words.list + 1) }
+        ensures same_request { self.new.words.request ≡ self.old.words.request }
+        ensures same_answer { self.new.words.answer ≡ self.old.words.answer }
+        ensures same_refused { self.new.words.refused ≡ self.old.words.refused }
+        ensures same_entry { self.new.words.has_entry ≡ self.old.words.has_entry }
+    {
+        let Some(list) = self.words.list.checked_add(1) else {
+            return Err(ReadFailure::Memory);
+        };
+        self.words.list = list;
+        Ok(())
+    }
+
+    /// Reads the next text up to its end.
+    ///
+    /// A byte order mark at the start is skipped. Words are cut at spaces, tabs, line ends, vertical tabs, form feeds,
+    /// and at `"`, `'`, a backquote, `,`, `;`, `(`, `)`, `[`, `]`, `{`, `}`, `<`, `>`, `=` and `|`. A word that is an
+    /// entry counts, and a word that is an IPv4 netmask of length 1 to 31 is refused with its line. So is a line with a
+    /// NUL byte. A refused line is not an error here: `run_extract` reports it.
+    ///
+    /// The error is `Unreadable` if a read fails, and `Memory` if memory runs out.
+    pub fn read<R: Read>(&mut self, input: &mut R) -> Result<(), ReadFailure>
+        ensures { OnOk result ((how : ExtractRequest) → (texts : List (List ℕ)) → WereExtracted how texts self.old
+            → ((bytes : List ℕ) × GaveWhole (R.remaining input.old) (R.remaining input.new) bytes
+            × WereExtracted how (texts ++ bytes ∷ []) self.new
+            × IsNoted how (length texts) bytes (has_entry self.new))) }
+    {
+        let mut more = self.begin(input)?;
+        for _ in 0..MOST_READS {
+            self.take_bytes(more)?;
+            if !more {
+                return self.end();
+            }
+            more = self.window.fill(input)?;
+        }
+        Err(ReadFailure::Unreadable)
+    }
+
+    /// The number of refused lines of all texts that were read.
+    ///
+    /// ```text
+    /// after read("10.0.0.0 255.0.0.0\n") and read("255.0.0.0\n"): 2
+    /// ```
+    pub fn refused_count(&self) -> usize
+        ensures { result ≡ refused_count self.now }
+    {
+        self.words.refused.count
+    }
+
+    /// Whether the text that was read last has an entry.
+    ///
+    /// ```text
+    /// after read("allow 10.0.0.1;\n"): true; after read("allow all;\n"): false
+    /// ```
+    pub fn has_entry(&self) -> bool
+        ensures { result ≡ has_entry self.now }
+    {
+        self.words.has_entry
+    }
+}

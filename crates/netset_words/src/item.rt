@@ -1,0 +1,140 @@
+//! The items of a line: entries, netmasks, and other words.
+ghost use Rattle.std.specs.Prelude.{◌≡◌, ◌<◌, ◌↔◌, ◌++◌, [], length, IsTrue, IfOk, IfSome, IfNone, MatchOption};
+ghost use Rattle.ipnet_base.specs.Address.{ip_address};
+ghost use Rattle.netset_words.specs.Items.{BeginsRange, IsKind, IsMask, IsNextItem, IsRangeItem};
+ghost use Rattle.netset_words.specs.Words.{words_of};
+ghost use Rattle.netset_words.specs.WordSteps.{item_of, word_of};
+
+use crate::word::{NextWord, next_word};
+use ipnet::{Grammar, IpAddr};
+use netset_lib::{is_netmask, read_address, read_entry, read_text};
+use std::alloc::AllocError;
+use std::str;
+
+/// The entries to extract from texts.
+#[derive(Clone, Copy, Debug, PartialEq, Eq)]
+pub struct ExtractRequest {
+    /// The grammar of the entries.
+    pub grammar: Grammar,
+    /// Whether only the first entry of each line is wanted.
+    pub first: bool,
+    /// Whether two addresses around a `-` with blanks are a range.
+    pub ranges: bool,
+}
+
+/// The kind of a part of a line.
+#[derive(Clone, Copy, Debug, PartialEq, Eq)]
+pub(crate) enum Kind {
+    /// An entry, which is not a netmask.
+    Entry,
+    /// An IPv4 netmask of length 1 to 31.
+    Mask,
+    /// Something else.
+    Other,
+}
+
+/// A part of a line, and the bytes that follow.
+#[derive(Clone, Copy)]
+pub(crate) struct LineItem<'a> {
+    pub(crate) kind: Kind,
+    pub(crate) text: &'a [u8],
+    pub(crate) after: &'a [u8],
+}
+
+/// Whether the address is an IPv4 netmask of length 1 to 31.
+fn is_mask(address: IpAddr) -> bool
+    ensures { IsTrue result ↔ IsMask (ip_address address) }
+{
+    match address {
+        IpAddr::V4(mask) => mask.to_bits() != 0 && mask.to_bits() != u32::MAX && is_netmask(mask),
+        IpAddr::V6(_) => false,
+    }
+}
+
+/// Returns the kind of the text.
+fn text_kind(room: &mut String, text: &str, grammar: Grammar) -> Result<Kind, AllocError>
+    ensures { IfOk result (IsKind grammar text.now) }
+{
+    if let Some(address) = read_address(room, text, grammar)? {
+        return if is_mask(address) {
+            Ok(Kind::Mask)
+        } else {
+            Ok(Kind::Entry)
+        };
+    }
+    match read_entry(room, text, grammar)? {
+        Some(_) => Ok(Kind::Entry),
+        None => Ok(Kind::Other),
+    }
+}
+
+/// Returns the kind of the word.
+fn word_kind(room: &mut String, word: &[u8], grammar: Grammar) -> Result<Kind, AllocError>
+    ensures { IfOk result (IsKind grammar word.now) }
+{
+    match str::from_utf8(word) {
+        Ok(text) => text_kind(room, text, grammar),
+        Err(_) => Ok(Kind::Other),
+    }
+}
+
+/// The range with blanks that the word begins at the front of the bytes.
+fn range_at<'a>(
+    room: &mut String,
+    bytes: &'a [u8],
+    first: NextWord<'a>,
+    request: ExtractRequest,
+) -> Result<Option<LineItem<'a>>, AllocError>
+    requires { bytes.now ≡ first.before.now ++ (first.text.now ++ first.after.now) }
+    ensures item { IfOk result (λ found. MatchOption found
+        (¬ (BeginsRange request (word_of first.entry) (words_of first.entry.after.now)))
+        (λ item. IsRangeItem request (word_of first.entry) (words_of first.entry.after.now) (item_of item)
+        (words_of item.after.now))) }
+    ensures shorter { IfOk result (λ found. IfSome found
+        (λ item. length item.after.now < length first.entry.after.now)) }
+{
+    if !request.ranges {
+        return Ok(None);
+    }
+    let Some(dash) = next_word(first.after) else {
+        return Ok(None);
+    };
+    if dash.text != b"-".as_slice() {
+        return Ok(None);
+    }
+    let Some(last) = next_word(dash.after) else {
+        return Ok(None);
+    };
+    let text = &bytes[first.before.len()..bytes.len() - last.after.len()];
+    match read_text(room, text, request.grammar)? {
+        Some(_) => Ok(Some(LineItem {
+            kind: Kind::Entry,
+            text,
+            after: last.after,
+        })),
+        None => Ok(None),
+    }
+}
+
+/// Returns the first item of the bytes, or `None` if they have no word. Fails if memory runs out.
+pub(crate) fn next_item<'a>(
+    room: &mut String,
+    bytes: &'a [u8],
+    request: ExtractRequest,
+) -> Result<Option<LineItem<'a>>, AllocError>
+    ensures item { IfOk result (λ found. MatchOption found (words_of bytes.now ≡ [])
+        (λ item. IsNextItem request (words_of bytes.now) (item_of item) (words_of item.after.now))) }
+    ensures shorter { IfOk result (λ found. IfSome found (λ item. length item.after.now < length bytes.now)) }
+{
+    let Some(first) = next_word(bytes) else {
+        return Ok(None);
+    };
+    if let Some(item) = range_at(room, bytes, first, request)? {
+        return Ok(Some(item));
+    }
+    Ok(Some(LineItem {
+        kind: word_kind(room, first.text, request.grammar)?,
+        text: first.text,
+        after: first.after,
+    }))
+}

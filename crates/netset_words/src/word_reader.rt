@@ -1,0 +1,93 @@
+//! The lines of texts: their entries are added to an answer, and refused lines are kept.
+ghost use Rattle.std.specs.Prelude.{◌≡◌, ◌||◌, ◌∷◌, [], OnOk};
+ghost use Rattle.ipnet.specs.Lines.{lines_of};
+
+use crate::item::ExtractRequest;
+use crate::line_items::read_items;
+use crate::refused_word::{RefusedWords, WordCause};
+use netset_lib::{first_line, has_byte};
+use std::alloc::{AllocError, Global};
+
+/// Whether the text had an entry before, or has one now.
+fn is_any(before: bool, now: bool) -> bool
+    ensures { result ≡ (before || now) }
+{
+    before || now
+}
+
+/// Reads the lines of texts.
+#[derive(Drop)]
+pub(crate) struct WordReader {
+    pub(crate) alloc: Global,
+    pub(crate) request: ExtractRequest,
+    /// The index of the text, from 0.
+    pub(crate) list: usize,
+    /// The number of lines that were read of the text.
+    pub(crate) line: usize,
+    /// The entries, each with a newline.
+    pub(crate) answer: Vec<u8>,
+    pub(crate) refused: RefusedWords,
+    /// Whether the text has an entry.
+    pub(crate) has_entry: bool,
+    room: String,
+}
+
+impl WordReader {
+    ghost use Rattle.netset_words.specs.ExtractSteps.{AreAllRefusals, ReadsWords};
+
+    /// A reader of the first text.
+    pub(crate) fn new(alloc: Global, request: ExtractRequest) -> WordReader
+        ensures request { result.request ≡ request }
+        ensures first { result.list ≡ 0 }
+        ensures answer { result.answer.items ≡ [] }
+        ensures none { AreAllRefusals result.refused [] }
+    {
+        WordReader {
+            alloc,
+            request,
+            list: 0,
+            line: 0,
+            answer: Vec::new(alloc),
+            refused: RefusedWords::new(alloc),
+            has_entry: false,
+            room: String::new(alloc),
+        }
+    }
+
+    /// Reads a line. Fails if memory runs out, or if there are more lines than a `usize` counts.
+    fn read_line(&mut self, line: &[u8]) -> Result<(), AllocError>
+        ensures { OnOk result (ReadsWords self.old self.new (line.now ∷ [])) }
+    {
+        let Some(number) = self.line.checked_add(1) else {
+            return Err(AllocError);
+        };
+        self.line = number;
+        let place = (self.list, number);
+        if has_byte(line, 0) {
+            return self
+                .refused
+                .push(self.alloc, place, line, WordCause::NulByte);
+        }
+        let state = read_items(&mut self.room, &mut self.answer, self.request, line)?;
+        self.has_entry = is_any(self.has_entry, state.has_entry);
+        match state.mask {
+            Some(mask) => self
+                .refused
+                .push(self.alloc, place, mask, WordCause::Netmask),
+            None => Ok(()),
+        }
+    }
+
+    /// Reads the lines of the bytes. Fails as `read_line` does.
+    pub(crate) fn read(&mut self, bytes: &[u8]) -> Result<(), AllocError>
+        ensures { OnOk result (ReadsWords self.old self.new (lines_of bytes.now)) }
+    {
+        let mut rest = bytes;
+        'lines: while !rest.is_empty() {
+            let (line, after) = first_line(rest);
+            self.read_line(line)?;
+            rest = after;
+        }
+        Ok(())
+    }
+}

@@ -1,0 +1,60 @@
+"""A plain model of the texts of entries, written from crates/netset_lib/specs/Entries.antt. A module, not a script."""
+import re
+from ipaddress import AddressValueError, IPv4Address, IPv6Address
+
+BLANKS = " \t\f\r"
+
+# The numbers of the IPv4 netmasks.
+MASKS = {2**32 - 2**(32 - length) for length in range(33)}
+
+
+def address_of(text, legacy):
+    """The family and the number of the address, or None."""
+    parts = text.split(".")
+    if ":" not in text:
+        zeros = any(len(part) > 1 and part[0] == "0" for part in parts)
+        if len(parts) != 4 or not all(re.fullmatch("[0-9]{1,3}", part) and int(part) < 256 for part in parts):
+            return None
+        return None if zeros and not legacy else (4, int(IPv4Address(".".join(str(int(part)) for part in parts))))
+    dotted = re.fullmatch("(.*:)([0-9.]+)", text)
+    if legacy and dotted and address_of(dotted.group(2), True):
+        text = dotted.group(1) + str(IPv4Address(address_of(dotted.group(2), True)[1]))
+    try:
+        return None if "%" in text or "/" in text else (6, int(IPv6Address(text)))
+    except AddressValueError:
+        return None
+
+
+def length_of(text, address, legacy):
+    """The prefix length that the text after the "/" of a network is, by digits or by a netmask, or None."""
+    most = 32 if address[0] == 4 else 128
+    if re.fullmatch("[0-9]+", text):
+        zero = len(text) > 1 and text[0] == "0"
+        return int(text) if len(text) <= len(str(most)) and int(text) <= most and (legacy or not zero) else None
+    mask = address_of(text, legacy)
+    is_one = mask and mask[1] in MASKS and (mask[1] > 0 or address[1] == 0)
+    if is_one and address[0] == mask[0] == 4 and (mask[1] < 2**32 - 1 or address[1] > 0):
+        return bin(mask[1]).count("1")
+    return None
+
+
+def range_of(text, legacy):
+    """The family, the first and the last number of the entry, or None."""
+    first, sign, last = text.partition("-")
+    if sign:
+        first, last = address_of(first.rstrip(BLANKS), legacy), address_of(last.lstrip(BLANKS), legacy)
+        return (*first, last[1]) if first and last and first[0] == last[0] and first[1] <= last[1] else None
+    front, sign, back = text.partition("/")
+    address = address_of(front, legacy)
+    if not address or not sign:
+        return (*address, address[1]) if address else None
+    length = length_of(back, address, legacy)
+    if length is None:
+        return None
+    size = 2 ** ((32 if address[0] == 4 else 128) - length)
+    first = address[1] // size * size
+    return (address[0], first, first + size - 1)
+
+
+def is_entry(text, legacy=True):
+    return range_of(text, legacy) is not None
