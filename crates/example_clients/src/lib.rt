@@ -9,5 +9,4 @@ pub mod lists;
 pub mod networks;
 pub mod plans;
 pub mod routes;
-pub mod scripts;
 pub mod texts;

@@ -1,6 +1,6 @@
 use Rattle.std.proofs.Common.{inl, inr}
 use Rattle.netset_lib.specs.Scripts.{Union, Difference}
-use Rattle.example_clients.proofs.scripts.difference_in_two_steps.Goals as goal
+use Rattle.example_scripts.proofs.difference_in_two_steps.Goals as goal
 
 pub returns : goal.returns
 returns c = λ a b d h k.

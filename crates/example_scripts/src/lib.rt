@@ -1,4 +1,6 @@
-//! Scripts of the program `netset`, whose answers are equal because the sets are.
+//! Scripts of the program `netset` whose results are equal because their sets are.
+#![tactic(auto)]
+
 ghost use Rattle.std.specs.Prelude.{◌≡◌};
 ghost use Rattle.netset_lib.specs.Scripts.{Script, Union, Intersection, Difference, Complement, Gives};
 ghost use Rattle.netset_lib.specs.declared.operation.Families.TheVariants.{Both};

@@ -1,7 +1,7 @@
 use Rattle.std.proofs.Common.{inl, inr}
 use Rattle.netset_lib.specs.Scripts.{Union, Intersection, Complement}
 use Rattle.netset_lib.specs.declared.operation.Families.TheVariants.{Both}
-use Rattle.example_clients.proofs.scripts.complement_of_a_union.Goals as goal
+use Rattle.example_scripts.proofs.complement_of_a_union.Goals as goal
 
 pub returns : goal.returns
 returns c = λ a b h k.
