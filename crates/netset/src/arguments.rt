@@ -240,32 +240,48 @@ fn filter_command<'a>(alloc: Global) -> Result<Command<'a>, AllocError> {
         .arg(other(alloc, "The list to filter; standard input if it is omitted").required(false))
 }
 
-/// Adds the commands whose result is not a list of addresses.
-fn with_queries<'a>(alloc: Global, command: Command<'a>) -> Result<Command<'a>, AllocError> {
-    let count =
+/// The command `count`.
+fn count_command<'a>(alloc: Global) -> Result<Command<'a>, AllocError> {
+    let about =
         "For each list its name, and how many IPv4 and IPv6 addresses it has, with tabs between; then the total";
-    let compare =
+    command_of(alloc, "count", about)?.arg(any_files(alloc))
+}
+
+/// The command `compare`.
+fn compare_command<'a>(alloc: Global) -> Result<Command<'a>, AllocError> {
+    let about =
         "The number of addresses that are in only one of two lists; status 1 if there are any";
-    let route =
+    command_of(alloc, "compare", about)?
+        .arg(first_file(alloc))?
+        .arg(other(alloc, "The other list"))
+}
+
+/// The command `route`.
+fn route_command<'a>(alloc: Global) -> Result<Command<'a>, AllocError> {
+    let about =
         "For each entry of FILE, the longest network of TABLE that contains it, or - and status 1";
     let asked = "The list of entries to look up; standard input if it is omitted";
+    command_of(alloc, "route", about)?
+        .arg(stream_flag(alloc)?)?
+        .arg(first(alloc, "TABLE", "The list of networks to choose from"))?
+        .arg(other(alloc, asked).required(false))
+}
+
+/// Adds the commands that count, and that compare lists.
+fn with_comparisons<'a>(alloc: Global, command: Command<'a>) -> Result<Command<'a>, AllocError> {
     command
-        .subcommand(command_of(alloc, "count", count)?.arg(any_files(alloc))?)?
-        .subcommand(
-            command_of(alloc, "compare", compare)?
-                .arg(first_file(alloc))?
-                .arg(other(alloc, "The other list"))?,
-        )?
+        .subcommand(count_command(alloc)?)?
+        .subcommand(compare_command(alloc)?)?
         .subcommand(changes_command(alloc)?)?
-        .subcommand(apply_command(alloc)?)?
+        .subcommand(apply_command(alloc)?)
+}
+
+/// Adds the commands that search a text or a list, and `plan`.
+fn with_searches<'a>(alloc: Global, command: Command<'a>) -> Result<Command<'a>, AllocError> {
+    command
         .subcommand(extract_command(alloc)?)?
         .subcommand(filter_command(alloc)?)?
-        .subcommand(
-            command_of(alloc, "route", route)?
-                .arg(stream_flag(alloc)?)?
-                .arg(first(alloc, "TABLE", "The list of networks to choose from"))?
-                .arg(other(alloc, asked).required(false))?,
-        )?
+        .subcommand(route_command(alloc)?)?
         .subcommand(plan_command(alloc)?)
 }
 
@@ -276,7 +292,8 @@ fn command<'a>(alloc: Global) -> Result<Command<'a>, AllocError> {
         .about("Combines and compares lists of networks, addresses and ranges")
         .subcommand_required(true)
         .arg_required_else_help(true);
-    let command = with_queries(alloc, with_operations(alloc, command)?)?;
+    let command = with_comparisons(alloc, with_operations(alloc, command)?)?;
+    let command = with_searches(alloc, command)?;
     with_rules(alloc, with_listings(alloc, command)?)?.subcommand(prefix_command(alloc)?)
 }
 
