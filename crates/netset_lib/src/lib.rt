@@ -46,7 +46,7 @@ pub mod script_laws;
 pub mod session;
 mod word;
 
-pub use answer::{Answer, Failure, Form, Request};
+pub use answer::{Answer, Failure, Form, Request, lines_of_networks};
 pub use apply::{ChangeFailure, changed_text};
 pub use apply_program::run_apply;
 pub use cause::Cause;

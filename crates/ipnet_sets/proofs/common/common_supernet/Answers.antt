@@ -4,7 +4,7 @@ use Rattle.ipnet.specs.NetworkOf.{ip_network}
 use Rattle.ipnet.specs.NetLaws.{ip_valid}
 use Rattle.ipnet_sets.specs.RouteMapSteps.{AreSharedBits}
 use Rattle.ipnet_sets.proofs.ClimbLaws.{common_from_bits}
-use Rattle.ipnet_sets.proofs.route_map.common.common_supernet.Goals as goal
+use Rattle.ipnet_sets.proofs.common.common_supernet.Goals as goal
 
 pub returns-clause-some : goal.returns-clause-some
 returns-clause-some c =

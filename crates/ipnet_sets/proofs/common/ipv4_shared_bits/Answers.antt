@@ -2,7 +2,7 @@
 use Rattle.std.proofs.Common.{◌<◌, ◌^◌, refl, subst, arith}
 use Rattle.ipnet_base.specs.Address.{ipv4_address}
 use Rattle.ipnet_sets.proofs.SharedBitLaws.{shared_bits}
-use Rattle.ipnet_sets.proofs.route_map.common.ipv4_shared_bits.Goals as goal
+use Rattle.ipnet_sets.proofs.common.ipv4_shared_bits.Goals as goal
 
 pub returns : goal.returns
 returns c =
