@@ -19,8 +19,8 @@ def address_of(text, legacy):
     dotted = re.fullmatch("(.*:)([0-9.]+)", text)
     if legacy and dotted and address_of(dotted.group(2), True):
         text = dotted.group(1) + str(IPv4Address(address_of(dotted.group(2), True)[1]))
-    front, _, back = text.partition("::")
-    for whole in [text] + [":".join(part for part in (front, back) if part)] * (legacy and text.count("::") == 1):
+    filled = ":".join(part for part in text.partition("::")[::2] if part)
+    for whole in [text] + [filled] * (legacy and "::" not in filled):
         try:
             return None if "%" in text or "/" in text else (6, int(IPv6Address(whole)))
         except AddressValueError:

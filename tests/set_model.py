@@ -222,6 +222,16 @@ def within(table, block):
             if other[0] == family and other[2] <= open_bits and other[1] >> open_bits == number >> open_bits]
 
 
+def supernet_text(ranges, family):
+    """The smallest network that contains all addresses of the family in the set: of all networks that contain its
+    first address, from the longest on, the first that contains them all. None if there is no such address."""
+    ends = [end for f, first, last in ranges if f == family for end in (first, last)]
+    for open_bits in range(WIDTH[family] + 1):
+        if ends and len({end >> open_bits for end in ends}) == 1:
+            return network_text(*truncation((family, ends[0], open_bits)))
+    return None
+
+
 def network_text(family, number, open_bits):
     """The canonical text of the network."""
     return "{}/{}".format(address_text(family, number), WIDTH[family] - open_bits)

@@ -1,31 +1,12 @@
 -- Frames: the network that a picture shows.
 use Rattle.std.specs.Prelude.{◌⊎◌}
 use Rattle.ipnet_base.specs.Address.{Family, IPv4, IPv6, Address}
-use Rattle.ipnet_base.specs.Network.{Network, IsNetwork, InBlock, IsSubnetOf, IsTruncated, IsTruncationOf}
+use Rattle.ipnet_base.specs.Network.{Network, IsTruncationOf}
 use Rattle.ipnet.specs.NetworkOf.{ip_network}
+use Rattle.ipnet_sets.specs.Supernets.{IsSmallestAround}
 use Rattle.ipnet_pictures.specs.declared.frame.Frame.{Frame}
 use Rattle.ipnet_pictures.specs.declared.frame.Frame.TheVariants.{Named, Ipv6, FirstFamily}
 use Rattle.ipnet_pictures.specs.Parts.{IsInPart, HasNone}
-
--- The smallest network that contains all addresses of the set. Example: 10.20.0.0/21 for 10.20.3.0 to 10.20.4.9.
-pub record IsSmallestAround (InSet : Address → Type 0) (n : Network) : Type 0 where
-  pub network : IsNetwork n
-  pub truncated : IsTruncated n
-  pub holds : (x : Address) → InSet x → InBlock n x
-  pub smallest : (k : Network) → IsNetwork k → ((x : Address) → InSet x → InBlock k x) → IsSubnetOf n k
-
--- The network contains the first address, and lies in each network that contains both. Only private contracts use this
--- and `IsAround`.
-pub record IsOnWay (first last : Address) (n : Network) : Type 0 where
-  pub network : IsNetwork n
-  pub truncated : IsTruncated n
-  pub has_first : InBlock n first
-  pub within : (k : Network) → IsNetwork k → InBlock k first → InBlock k last → IsSubnetOf n k
-
--- The smallest network that contains both addresses.
-pub record IsAround (first last : Address) (n : Network) : Type 0 where
-  pub way : IsOnWay first last n
-  pub has_last : InBlock n last
 
 -- The network of all addresses of a family: 0.0.0.0/0 or ::/0.
 abbrev pub all_of : Family → Network

@@ -1,13 +1,14 @@
 //! The frame of a picture: the smallest network around the addresses that it shows.
 ghost use Rattle.std.specs.Prelude.{◌≡◌, ◌↔◌, IfOk, IfSome, IsNone};
-ghost use Rattle.ipnet_base.specs.Address.{Family, IPv4, IPv6, IsAddress, ip_address};
+ghost use Rattle.ipnet_base.specs.Address.{IPv4, IPv6};
 ghost use Rattle.ipnet.specs.NetworkOf.{ip_network};
-ghost use Rattle.ipnet_sets.specs.Members.{IsMember};
-ghost use Rattle.ipnet_pictures.specs.Frames.{IsAround, IsSmallestAround, all_of, IsFrame, HasNoFrame};
+ghost use Rattle.ipnet_sets.specs.Members.{IsMember, IsMemberOf, HasFamily};
+ghost use Rattle.ipnet_sets.specs.Supernets.{IsSmallestAround};
+ghost use Rattle.ipnet_pictures.specs.Frames.{all_of, IsFrame, HasNoFrame};
 ghost use Rattle.ipnet_pictures.specs.Parts.{IsInPart, HasNone};
 
 use crate::part::part_in;
-use ipnet::{IpAddr, IpNet, Ipv6Net};
+use ipnet::{IpNet, Ipv6Net};
 use ipnet_sets::IpSet;
 use std::alloc::{AllocError, Global};
 
@@ -22,21 +23,17 @@ pub enum Frame {
     FirstFamily,
 }
 
-/// The smallest network that contains both addresses, which are of one family.
-fn smallest_around(first: IpAddr, last: IpAddr) -> IpNet
-    requires same_family { (ip_address first).family ≡ (ip_address last).family }
-    requires first_fits { IsAddress (ip_address first) }
-    requires last_fits { IsAddress (ip_address last) }
-    ensures { IsAround (ip_address first) (ip_address last) (ip_network result) }
+/// The smallest network that contains the addresses of the set that are of the network's family, or `None` if there are
+/// none.
+fn smallest_around(set: &IpSet, network: &IpNet) -> Option<IpNet>
+    ensures some { IfSome result (λ frame.
+        IsSmallestAround (IsMemberOf (ip_network network.now).family set.now) (ip_network frame)) }
+    ensures none { IsNone result ↔ ¬ (HasFamily (ip_network network.now).family set.now) }
 {
-    let mut frame = IpNet::from(first);
-    'widen: while !frame.contains(&last) {
-        match frame.supernet() {
-            Some(wider) => frame = wider,
-            None => return frame,
-        }
+    match network {
+        IpNet::V4(_) => set.ipv4_supernet().map(IpNet::V4),
+        IpNet::V6(_) => set.ipv6_supernet().map(IpNet::V6),
     }
-    frame
 }
 
 /// Returns the smallest network that contains all addresses of the set in the network's block, or `None` if there are
@@ -51,13 +48,7 @@ pub fn frame_in(alloc: Global, set: &IpSet, network: &IpNet) -> Result<Option<Ip
     ensures none { IfOk result (λ found. IsNone found ↔ HasNone (IsMember set.now) (ip_network network.now)) }
 {
     let part = part_in(alloc, set, network)?;
-    let Some(first) = part.first() else {
-        return Ok(None);
-    };
-    let Some(last) = part.last() else {
-        return Ok(None);
-    };
-    Ok(Some(smallest_around(first, last)))
+    Ok(smallest_around(&part, network))
 }
 
 /// The network 0.0.0.0/0.

@@ -160,6 +160,8 @@ fn ask_one(alloc: Global, call: &str, set: &IpSet) -> Result<Option<String>, All
         "ipv6_count" => show(alloc, set.ipv6_count())?,
         "has_ipv4" => show(alloc, set.has_ipv4())?,
         "has_ipv6" => show(alloc, set.has_ipv6())?,
+        "ipv4_supernet" => show(alloc, set.ipv4_supernet())?,
+        "ipv6_supernet" => show(alloc, set.ipv6_supernet())?,
         "ranges" => show(alloc, list(alloc, set.ranges())?)?,
         "ranges_of_loop" => show(alloc, list_of_loop(alloc, set)?)?,
         "ranges_back" => show(alloc, list_back(alloc, set.ranges())?)?,

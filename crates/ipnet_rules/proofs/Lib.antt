@@ -6,3 +6,4 @@ pub mod RouteLaws
 pub mod CellLaws
 pub mod PaintingLaws
 pub mod OwnerLaws
+pub mod KeptLaws

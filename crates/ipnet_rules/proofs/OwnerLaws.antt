@@ -61,7 +61,7 @@ owners_next f rules cuts place d pieces old new within count free are painted be
     )
 
 -- a rule matches a number if and only if it matches the cut of its cell
-one_cell_at : (f : Family) (rules : List Rule) (cuts : List ℕ) → AreCuts f rules cuts → (cell n : ℕ)
+pub one_cell_at : (f : Family) (rules : List Rule) (cuts : List ℕ) → AreCuts f rules cuts → (cell n : ℕ)
     → IsInCell cuts cell n → (place : ℕ)
     → MatchesAt rules place (address_at f n) ↔ MatchesAt rules place (address_at f (slice_index cuts cell))
 one_cell_at f rules cuts h cell n inside place = (
@@ -90,7 +90,7 @@ one_decides rules i j x a b = elim (cases_lt i j) [
 ]
 
 -- a cell that a rule matches has an owner
-owner_decides : (f : Family) (rules : List Rule) (cells : Cells) → AreCells f rules cells → (cell : ℕ)
+pub owner_decides : (f : Family) (rules : List Rule) (cells : Cells) → AreCells f rules cells → (cell : ℕ)
     → cell < length cells.cuts.items → slice_index cells.owners.items cell < length rules
     → Decides rules (slice_index cells.owners.items cell) (address_at f (slice_index cells.cuts.items cell))
 owner_decides f rules cells h cell within owned = elim (h.owners cell within) [

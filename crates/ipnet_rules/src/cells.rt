@@ -128,17 +128,17 @@ fn span_of(cuts: &[u128], piece: &Piece) -> Span
 
 /// The owners of cells, while the rules are asked one after the other.
 #[derive(Drop)]
-struct Painting {
+pub(crate) struct Painting {
     /// The owner of each cell, or `free`.
-    owners: Vec<usize>,
+    pub(crate) owners: Vec<usize>,
     /// For each cell with an owner a later cell, up to which no cell is free.
     skips: Vec<usize>,
-    free: usize,
+    pub(crate) free: usize,
 }
 
 impl Painting {
     /// Returns the painting of this many cells, of which each is free.
-    fn new(alloc: Global, count: usize, free: usize) -> Result<Painting, AllocError>
+    pub(crate) fn new(alloc: Global, count: usize, free: usize) -> Result<Painting, AllocError>
         ensures { IfOk result (IsFreePainting count free) }
     {
         let mut owners = Vec::new(alloc);
@@ -179,7 +179,7 @@ impl Painting {
     }
 
     /// Makes the place the owner of each free cell whose cut lies in one of the pieces.
-    fn paint_all(&mut self, cuts: &[u128], pieces: &[Piece], place: usize)
+    pub(crate) fn paint_all(&mut self, cuts: &[u128], pieces: &[Piece], place: usize)
         requires skips { AreSkips self.old }
         requires cuts { IsStrictlyIncreasing cuts.now }
         requires within { length self.old.owners.items ≡ length cuts.now }

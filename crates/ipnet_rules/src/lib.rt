@@ -2,11 +2,13 @@
 #![tactic(auto)]
 
 mod cells;
+pub mod kept;
 pub mod prefix_list;
 mod route_sets;
 pub mod rules;
 pub mod unreached;
 
+pub use kept::kept_rules;
 pub use prefix_list::{PrefixList, PrefixRule, PrefixRuleError};
 pub use rules::{Action, Addresses, Rule, Rules};
 pub use unreached::Unreached;

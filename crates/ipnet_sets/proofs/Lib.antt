@@ -29,6 +29,7 @@ pub mod ChunkLaws
 pub mod RouteMapLaws
 pub mod ClimbLaws
 pub mod SharedBitLaws
+pub mod AroundLaws
 pub mod RouteMapParts
 pub mod RouteMapMatches
 pub mod ImageLaws

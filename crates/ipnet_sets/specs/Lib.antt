@@ -2,6 +2,7 @@
 pub mod Boundaries
 pub mod Members
 pub mod SetRanges
+pub mod Supernets
 pub mod Gather
 pub mod Pushed
 pub mod ManySets

@@ -2,6 +2,7 @@
 #![tactic(auto)]
 
 mod boundaries;
+mod common;
 mod gather;
 pub mod image;
 mod number;

@@ -13,9 +13,9 @@ ghost use Rattle.ipnet_sets.specs.RouteSteps.{IsTable};
 ghost use Rattle.ipnet_sets.specs.RouteMaps.{IsWithRoute, IsWithoutRoute};
 ghost use Rattle.ipnet_sets.specs.RouteMapSteps.{all_of, AreFilled};
 
+use crate::common::common_supernet;
 use crate::routes::{RouteTable, is_same};
 use chunks::Chunk;
-use common::common_supernet;
 use index::ChunkIndex;
 use ipnet::{IpAddr, IpNet};
 use matches::MapMatches;
@@ -24,7 +24,6 @@ use std::alloc::{AllocError, Global};
 
 mod changes;
 mod chunks;
-mod common;
 mod index;
 pub mod laws;
 pub mod matches;

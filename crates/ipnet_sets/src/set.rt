@@ -19,6 +19,7 @@ use std::fmt;
 pub mod builder;
 pub mod laws;
 mod many;
+mod supernets;
 
 /// A set of IPv4 and IPv6 addresses.
 ///

@@ -1,6 +1,7 @@
 //! The command line: the lists to read, and what to do with them.
 use crate::apply::apply_command;
 use crate::changes::changes_command;
+use crate::entries::with_entries;
 use crate::extract::extract_command;
 use crate::forms::with_forms;
 use crate::listing::with_listings;
@@ -122,7 +123,7 @@ pub fn first<'a>(alloc: Global, name: &'a str, help: &'a str) -> Arg<'a> {
 }
 
 /// The only list; standard input, if it is omitted.
-fn one_file<'a>(alloc: Global) -> Arg<'a> {
+pub fn one_file<'a>(alloc: Global) -> Arg<'a> {
     let help = "A list, - for standard input; standard input if it is omitted";
     first(alloc, "FILE", help).required(false)
 }
@@ -293,7 +294,7 @@ fn command<'a>(alloc: Global) -> Result<Command<'a>, AllocError> {
         .subcommand_required(true)
         .arg_required_else_help(true);
     let command = with_comparisons(alloc, with_operations(alloc, command)?)?;
-    let command = with_searches(alloc, command)?;
+    let command = with_entries(alloc, with_searches(alloc, command)?)?;
     with_rules(alloc, with_listings(alloc, command)?)?.subcommand(prefix_command(alloc)?)
 }
 

@@ -4,6 +4,7 @@
 mod apply;
 mod arguments;
 mod changes;
+mod entries;
 mod extract;
 mod forms;
 mod leftovers;
@@ -20,6 +21,7 @@ mod version;
 use crate::apply::{APPLY, applied};
 use crate::arguments::{ArgumentFailure, Call, call_of, matches_of, output_of, reports_of, words};
 use crate::changes::{CHANGES, changed};
+use crate::entries::run_if_entries;
 use crate::extract::{EXTRACT, extracted};
 use crate::forms::form_of;
 use crate::listing::run_if_listing;
@@ -117,6 +119,9 @@ fn ran(rt: &HostRuntime, matches: &ArgMatches, streams: &mut Streams<'_>) -> u8 
         return status;
     }
     if let Some(status) = run_if_listing(rt, matches, streams) {
+        return status;
+    }
+    if let Some(status) = run_if_entries(rt, matches, streams) {
         return status;
     }
     match matches.subcommand() {

@@ -102,8 +102,12 @@ fn push_range(text: &mut String, range: IpAddrRange) -> Result<(), AllocError>
     Ok(())
 }
 
-/// The networks, one a line.
-pub(crate) fn lines_of_networks(alloc: Global, networks: &[IpNet]) -> Result<String, AllocError>
+/// Returns the text of the networks, one a line. Fails only if memory runs out.
+///
+/// ```text
+/// of 10.0.0.0/8 and fd00::/8: "10.0.0.0/8\nfd00::/8\n"
+/// ```
+pub fn lines_of_networks(alloc: Global, networks: &[IpNet]) -> Result<String, AllocError>
     ensures { IfOk result (λ text. string_bytes text ≡ text_of_lines (map ip_network networks.now)) }
 {
     let mut text = String::new(alloc);

@@ -10,12 +10,16 @@ use ipnet::Grammar;
 use std::alloc::{AllocError, Global};
 
 /// A line that is not empty.
+///
+/// ```text
+/// of "10.0.0.0/8\n\n10.0.0.1 # x\n", the second one: number 3, text "10.0.0.1"
+/// ```
 #[derive(Clone, Copy)]
-pub(crate) struct ContentLine<'a> {
+pub struct ContentLine<'a> {
     /// Its number, from 1.
-    pub(crate) number: usize,
+    pub number: usize,
     /// Its contents, without a comment and blanks around them.
-    pub(crate) text: &'a [u8],
+    pub text: &'a [u8],
 }
 
 /// A line that is refused.
@@ -61,7 +65,11 @@ fn push_some<'a>(
 
 /// Returns the lines of the bytes that are not empty, without comments and blanks around their contents. A byte order
 /// mark at the start is skipped. Fails if memory runs out.
-pub(crate) fn content_lines<'a>(
+///
+/// ```text
+/// "10.0.0.0/8 # ours\n\n::1\n": line 1, "10.0.0.0/8", and line 3, "::1"
+/// ```
+pub fn content_lines<'a>(
     alloc: Global,
     bytes: &'a [u8],
     grammar: Grammar,
@@ -95,8 +103,13 @@ pub fn has_lines(alloc: Global, bytes: &[u8], grammar: Grammar) -> Result<bool, 
     Ok(!lines.is_empty())
 }
 
-/// Appends what was read of the line: an item, or why it is refused. Fails if memory runs out.
-pub(crate) fn keep_read<T: Drop, C: Drop>(
+/// Appends what was read of the line: an item to `items`, or the line and why it is refused to `refused`. Fails if
+/// memory runs out.
+///
+/// ```text
+/// line 2, "x", and Err(None): RefusedText with number 2, text "x" and no cause
+/// ```
+pub fn keep_read<T: Drop, C: Drop>(
     alloc: Global,
     items: &mut Vec<T>,
     refused: &mut Vec<RefusedText<C>>,

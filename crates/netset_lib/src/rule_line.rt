@@ -76,7 +76,11 @@ pub(crate) fn action_of(word: &[u8]) -> Option<Action>
 }
 
 /// Returns the rule for the addresses of the entry.
-fn rule_for(action: Action, entry: Entry) -> Rule
+///
+/// ```text
+/// Permit and Address(10.0.0.1): permit 10.0.0.1-10.0.0.1
+/// ```
+pub fn rule_for(action: Action, entry: Entry) -> Rule
     ensures action { result.action ≡ action }
     ensures matched { (x : Address) → Matches result x ↔ IsInRange (entry_range entry) x }
 {

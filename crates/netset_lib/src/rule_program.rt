@@ -15,7 +15,7 @@ use std::io;
 use std::io::Write;
 
 /// At most this many refused lines are reported.
-pub(crate) const MOST_LINES: usize = 10;
+pub const MOST_LINES: usize = 10;
 
 /// Writes the answer over the list of rules to `out`, and returns the exit status.
 ///

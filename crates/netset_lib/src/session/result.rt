@@ -17,7 +17,7 @@ use std::alloc::Global;
 impl Session {
     ghost use Rattle.netset_lib.specs.Sessions.{WereRead};
 
-    /// The allocator of the session.
+    /// Returns the allocator of the session.
     pub fn alloc(&self) -> Global {
         self.reading.lines.alloc
     }

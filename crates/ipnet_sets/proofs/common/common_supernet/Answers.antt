@@ -1,0 +1,23 @@
+-- The shared bits, as far as both prefixes go.
+use Rattle.std.proofs.Common.{◌∙◌, ap, subst₂, arith}
+use Rattle.ipnet.specs.NetworkOf.{ip_network}
+use Rattle.ipnet.specs.NetLaws.{ip_valid}
+use Rattle.ipnet_sets.specs.RouteMapSteps.{AreSharedBits}
+use Rattle.ipnet_sets.proofs.ClimbLaws.{common_from_bits}
+use Rattle.ipnet_sets.proofs.common.common_supernet.Goals as goal
+
+pub returns-clause-some : goal.returns-clause-some
+returns-clause-some c =
+    let n = ip_network c.args.network.now in
+    let k = ip_network c.args.other.now in
+    let m = ip_network c.new_assert.result in
+    let made = c.new_assert.ensures in
+    common_from_bits n k m (ip_network c.trunc.result) c.in_ok-shared.shared (ip_valid c.args.network.now)
+    (ip_valid c.args.other.now)
+    (subst₂ (λ x y. AreSharedBits x y c.in_ok-shared.shared) c.addr-ip.ensures c.addr.ensures
+    c.in_ok-shared.ensures.some)
+    (ap (λ z. z.family) made ∙ ap (λ z. z.family) c.addr-ip.ensures)
+    (ap (λ z. z.number) made ∙ ap (λ z. z.number) c.addr-ip.ensures)
+    (omega (arith, ap (λ z. z.prefix_len) made)) (omega (arith, ap (λ z. z.prefix_len) made))
+    (omega (arith, ap (λ z. z.prefix_len) made)) (λ l a b d. omega (arith, ap (λ z. z.prefix_len) made, a, b, d))
+    c.trunc.ensures

@@ -1,0 +1,12 @@
+-- The leading zeros of the exclusive or are the shared bits.
+use Rattle.std.proofs.Common.{◌<◌, ◌^◌, refl, subst, arith}
+use Rattle.ipnet_base.specs.Address.{ipv4_address}
+use Rattle.ipnet_sets.proofs.SharedBitLaws.{shared_bits}
+use Rattle.ipnet_sets.proofs.common.ipv4_shared_bits.Goals as goal
+
+pub returns : goal.returns
+returns c =
+    shared_bits (ipv4_address c.args.ip) (ipv4_address c.args.other) refl
+    (subst (λ z. z < 2 ^ 32) c.to_bits.ensures (omega (arith, c.to_bits.type_inv)))
+    (subst (λ z. z < 2 ^ 32) c.to_bits-2.ensures (omega (arith, c.to_bits-2.type_inv))) 32
+    c.to_bits.result c.to_bits-2.result refl c.to_bits.ensures c.to_bits-2.ensures

@@ -1,0 +1,85 @@
+//! The commands about the entries of lists: their arguments, and their runs.
+use crate::arguments::{FIRST, STANDARD_INPUT, command_of, flags_of, one_file};
+use crate::lists::{read_filled, report_unread};
+use crate::output::Streams;
+use crate::session_of;
+use clap::{ArgMatches, Command};
+use ipnet::Grammar;
+use netset_entries::{run_redundant, run_supernet};
+use std::alloc::{AllocError, Global};
+
+/// The names of the commands.
+const SUPERNET: &str = "supernet";
+
+const REDUNDANT: &str = "redundant";
+
+/// Adds the commands about entries.
+pub fn with_entries<'a>(alloc: Global, command: Command<'a>) -> Result<Command<'a>, AllocError> {
+    let supernet =
+        "The smallest network that contains all addresses of the list, for each address family that occurs in it";
+    let redundant =
+        "The entries that the others make unnecessary, and the fewest that cover each; status 1 if there are any";
+    let supernet = command_of(alloc, SUPERNET, supernet)?.arg(one_file(alloc))?;
+    let redundant = command_of(alloc, REDUNDANT, redundant)?.arg(one_file(alloc))?;
+    command.subcommand(supernet)?.subcommand(redundant)
+}
+
+/// Reads the list, and prints the smallest networks around its addresses.
+fn supernet(rt: &HostRuntime, matches: &ArgMatches, streams: &mut Streams<'_>) -> u8 {
+    let work = netset_lib::Command::Union.work(flags_of(matches));
+    let names = [matches.get_str(FIRST).unwrap_or(STANDARD_INPUT)];
+    match session_of(rt, work, &names, streams) {
+        Ok(session) => run_supernet(session, &names, &mut streams.answer, &mut streams.faults),
+        Err(status) => status,
+    }
+}
+
+/// Reads the bytes of the list of this name. If that fails, it is reported, and the error is the exit status. So it is
+/// if a file has no line, and that is to be refused.
+fn entries_of(rt: &HostRuntime, name: &str, streams: &Streams<'_>) -> Result<Vec<u8>, u8> {
+    match read_filled(rt, name, "entries", streams.reports) {
+        Ok(Some(bytes)) => Ok(bytes),
+        Ok(None) => Err(2),
+        Err(unread) => {
+            report_unread(rt, name, &unread);
+            Err(2)
+        }
+    }
+}
+
+/// The grammar of the entries.
+fn grammar_of(matches: &ArgMatches) -> Grammar {
+    if matches.get_flag("legacy") {
+        Grammar::Legacy
+    } else {
+        Grammar::Strict
+    }
+}
+
+/// Reads the list, and prints the entries that the others make unnecessary.
+fn redundant(rt: &HostRuntime, matches: &ArgMatches, streams: &mut Streams<'_>) -> u8 {
+    let name = matches.get_str(FIRST).unwrap_or(STANDARD_INPUT);
+    match entries_of(rt, name, streams) {
+        Ok(bytes) => run_redundant(
+            rt.alloc(),
+            (name, bytes.as_slice()),
+            grammar_of(matches),
+            &mut streams.answer,
+            &mut streams.faults,
+        ),
+        Err(status) => status,
+    }
+}
+
+/// Runs the command if it is about entries, and returns the status. `None` if it is not.
+pub fn run_if_entries(
+    rt: &HostRuntime,
+    matches: &ArgMatches,
+    streams: &mut Streams<'_>,
+) -> Option<u8> {
+    match matches.subcommand() {
+        Some((name, matches)) if name == SUPERNET => Some(supernet(rt, matches, streams)),
+        Some((name, matches)) if name == REDUNDANT => Some(redundant(rt, matches, streams)),
+        _ => None,
+    }
+}

@@ -1,0 +1,8 @@
+-- Lemmas that the proofs of this crate share.
+pub mod SupernetLaws
+pub mod EntryLineLaws
+pub mod WitnessLaws
+pub mod CoverLaws
+pub mod SpanLaws
+pub mod RedundancyLaws
+pub mod PieceLaws

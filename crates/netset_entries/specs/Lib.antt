@@ -1,0 +1,9 @@
+-- The definitions that the contracts of this crate cite.
+pub mod Supernets
+pub mod NumberedEntries
+pub mod EntryLineOf
+pub mod EntryPlaces
+pub mod EntryTexts
+pub mod Redundancy
+pub mod Spans
+pub mod Covers

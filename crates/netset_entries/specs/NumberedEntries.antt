@@ -1,0 +1,47 @@
+-- The entries of a list, each with the number of its line.
+use Rattle.std.specs.Prelude.{◌≡◌, ◌⊎◌, ℕ, List, [], ◌∷◌, Option}
+use Rattle.ipnet_base.specs.Ranges.{AddressRange}
+use Rattle.ipnet.specs.declared.parser.Grammar.{Grammar}
+use Rattle.netset_lib.specs.declared.cause.Cause.{Cause}
+use Rattle.netset_lib.specs.Causes.{IsCauseTold}
+use Rattle.netset_lib.specs.ContentLines.{ContentLine, RefusedContent, AreContentLines, IsNextRefused}
+use Rattle.netset_lib.specs.Entries.{IsEntryText, IsNoEntry}
+
+-- An entry of a list: the number of its line, from 1, its text and its range.
+-- Example: 3, `::1` and the range of one address for `::1 # x` on line 3.
+pub record NumberedEntry : Type 0 where
+  pub line : ℕ
+  pub text : List ℕ
+  pub range : AddressRange
+
+-- The line is this entry.
+pub record IsEntryOfLine (grammar : Grammar) (line : ContentLine) (entry : NumberedEntry) : Type 0 where
+  pub number : entry.line ≡ line.number
+  pub text : entry.text ≡ line.text
+  pub writes : IsEntryText grammar line.text entry.range
+
+-- The text is not an entry, and this is the cause if one can be named.
+abbrev pub IsRefusedFor : Grammar → List ℕ → Option Cause → Type 0
+IsRefusedFor grammar text cause = IsNoEntry grammar text × IsCauseTold grammar text cause
+
+-- Each of the lines is an entry or is refused. These are the entries and the refused lines, in order.
+abbrev pub AreEntryLines : Grammar → List ContentLine → List NumberedEntry → List (RefusedContent (Option Cause))
+    → Type 0
+AreEntryLines grammar [] entries refused = (entries ≡ []) × (refused ≡ [])
+AreEntryLines grammar (line ∷ lines) entries refused =
+    ((entry : NumberedEntry) × (more : List NumberedEntry) × (entries ≡ entry ∷ more)
+    × IsEntryOfLine grammar line entry × AreEntryLines grammar lines more refused)
+    ⊎ ((more : List (RefusedContent (Option Cause))) × IsNextRefused (IsRefusedFor grammar) line refused more
+    × AreEntryLines grammar lines entries more)
+
+-- The bytes are a list with these entries and refused lines.
+-- Example: `10.0.0.1\n\nx # y\n` has one entry, on line 1, and line 3, `x`, is refused without a cause.
+abbrev pub IsEntryList : Grammar → List ℕ → List NumberedEntry → List (RefusedContent (Option Cause)) → Type 0
+IsEntryList grammar bytes entries refused = (lines : List ContentLine) × AreContentLines grammar bytes lines
+    × AreEntryLines grammar lines entries refused
+
+-- No line of the list is refused, and `Holds` is true of its entries.
+pub record HoldsOfEntries (grammar : Grammar) (bytes : List ℕ) (Holds : List NumberedEntry → Type 0) : Type 0 where
+  pub entries : List NumberedEntry
+  pub read : IsEntryList grammar bytes entries []
+  pub right : Holds entries

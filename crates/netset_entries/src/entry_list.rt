@@ -1,0 +1,72 @@
+//! The entries of a list, each with its line.
+ghost use Rattle.std.specs.Prelude.{IfOk, IfErr};
+ghost use Rattle.netset_entries.specs.EntryLineOf.{numbered, IsReadOf};
+ghost use Rattle.netset_entries.specs.NumberedEntries.{IsEntryOfLine, IsRefusedFor};
+ghost use Rattle.netset_lib.specs.ContentLineOf.{line_of};
+
+use ipnet::Grammar;
+use netset_lib::{
+    Cause, ContentLine, Entry, RefusedText, cause_of, content_lines, keep_read, read_text,
+};
+use std::alloc::{AllocError, Global};
+
+/// An entry of a list, and its line.
+#[derive(Clone, Copy)]
+pub(crate) struct EntryLine<'a> {
+    /// The number of its line, from 1.
+    pub(crate) number: usize,
+    /// The entry as written.
+    pub(crate) text: &'a [u8],
+    /// The entry.
+    pub(crate) entry: Entry,
+}
+
+/// The entries of a list, and the lines that are refused.
+#[derive(Drop)]
+pub(crate) struct EntryList<'a> {
+    pub(crate) entries: Vec<EntryLine<'a>>,
+    pub(crate) refused: Vec<RefusedText<Option<Cause>>>,
+}
+
+/// Returns the entry of the line, or why it is not one. Fails if memory runs out.
+fn read_line<'a>(
+    room: &mut String,
+    line: ContentLine<'a>,
+    grammar: Grammar,
+) -> Result<Result<EntryLine<'a>, Option<Cause>>, AllocError>
+    ensures entry { IfOk result (λ read. IfOk read (λ entry.
+        IsEntryOfLine grammar (line_of line.entry) (numbered entry))) }
+    ensures cause { IfOk result (λ read. IfErr read (IsRefusedFor grammar line.entry.text.now)) }
+{
+    let (number, text) = (line.number, line.text);
+    match read_text(room, text, grammar)? {
+        Some(found) => {
+            let entry = found.entry;
+            Ok(Ok(EntryLine {
+                number,
+                text,
+                entry,
+            }))
+        }
+        None => Ok(Err(cause_of(room, text, grammar)?)),
+    }
+}
+
+/// Returns the entries of the list that the bytes are, and its refused lines. Fails if memory runs out.
+pub(crate) fn entry_list<'a>(
+    alloc: Global,
+    bytes: &'a [u8],
+    grammar: Grammar,
+) -> Result<EntryList<'a>, AllocError>
+    ensures { IfOk result (IsReadOf grammar bytes.now) }
+{
+    let lines = content_lines(alloc, bytes, grammar)?;
+    let mut room = String::new(alloc);
+    let mut entries = Vec::new(alloc);
+    let mut refused = Vec::new(alloc);
+    for line in lines.as_slice() {
+        let read = read_line(&mut room, *line, grammar)?;
+        keep_read(alloc, &mut entries, &mut refused, *line, read)?;
+    }
+    Ok(EntryList { entries, refused })
+}
