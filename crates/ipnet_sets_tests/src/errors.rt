@@ -35,6 +35,10 @@ fn texts(rt: HostRuntime) -> Result<(), Fail> {
             TableImageError::Routes,
             "wrong routes in the image of a table",
         ),
+        (
+            TableImageError::Index,
+            "wrong index in the image of a table",
+        ),
     ] {
         let text = error.to_string(alloc)?;
         assert!(rt; text.as_str() == wanted, "an error of a table's image");
