@@ -157,6 +157,7 @@ pub extern "C" fn ipnet_table_longest_match(table: &[u8], address: &[u8], value:
 }
 
 /// Returns the value of the longest match for the address of these octets, or `missing` if there is none.
+#[inline(always)]
 fn value_for(image: &RouteTableImage<'_>, octets: &[u8], missing: u32) -> u32
     ensures { (t : List (Route ℕ)) (x : Address) → IsTableImageOf image.now.table.bytes.now t → AreOctetsOf octets.now x
         → IsValueFor t x missing result }

@@ -135,6 +135,7 @@ impl<'a> RouteTableImage<'a> {
     /// ```text
     /// of the image of 0.0.0.0/0 with 1 and 10.0.0.0/8 with 2: 10.1.0.0/16 is in 10.0.0.0/8, which has 2
     /// ```
+    #[inline(always)]
     pub fn covering(&self, network: &IpNet) -> Option<(IpNet, u32)>
         ensures none { (t : List (Route ℕ)) → IsTableImageOf self.now.table.bytes.now t → IsNone result
             ↔ ((k : Network) → Contains (networks_of t) k → ¬ (IsSubnetOf (ip_network network.now) k)) }
@@ -155,6 +156,9 @@ impl<'a> RouteTableImage<'a> {
     /// ```text
     /// of the image of 0.0.0.0/0 with 1 and 10.0.0.0/8 with 2: 10.1.2.3 is in 10.0.0.0/8, which has 2
     /// ```
+    //
+    // Without the attributes the address goes through memory in pieces, and each call waits for the call before it.
+    #[inline(always)]
     pub fn longest_match(&self, ip: &IpAddr) -> Option<(IpNet, u32)>
         ensures none { (t : List (Route ℕ)) → IsTableImageOf self.now.table.bytes.now t
             → IsNone result ↔ ¬ (IsCoveredBy (networks_of t) (ip_address ip.now)) }
