@@ -38,3 +38,4 @@ pub mod TableRowLaws
 pub mod TableImageLaws
 pub mod TableCheckLaws
 pub mod TableOnceLaws
+pub mod TableRestoredLaws

@@ -26,7 +26,8 @@ from_some None d = d
 pub same_some : {X : Type 0} (o : Option X) (a b : X) → o ≡ Some a → o ≡ Some b → a ≡ b
 same_some o a b e f = ap (λ z. from_some z a) (sym e ∙ f)
 
-image_table : {count : ℕ} (bytes : List ℕ) (t : List (Route ℕ)) → AreRoutesIn bytes count t → IsTable (networks_of t)
+pub image_table : {count : ℕ} (bytes : List ℕ) (t : List (Route ℕ)) → AreRoutesIn bytes count t
+    → IsTable (networks_of t)
 image_table bytes t h = table_of (networks_of t) h.truncated h.ascending
 
 -- the route at a place of the image
@@ -81,6 +82,7 @@ IsRead bytes i answer = (n : Network) (value link : ℕ) → IsNetwork n → IsR
 -- the route that was read is the route of the table at this place
 pub record IsFound (t : List (Route ℕ)) (i : ℕ) (other : StoredRoute) : Type 0 where
   pub member : Contains t (ip_network other.network, other.value)
+  pub member_at : member.0 ≡ i
   pub at : Contains (networks_of t) (ip_network other.network)
   pub at_is : at.0 ≡ i
   pub linked : IsNearest (networks_of t) (ip_network other.network) i other.link
@@ -98,8 +100,12 @@ found_at bytes t h i other answer l read is =
     let link : s.1.linked.link ≡ other.link = sym got.link_is ∙ ap (λ (z : StoredRoute). z.link) same in
     let place : (c : Contains (networks_of t) (ip_network other.network)) × (c.0 ≡ i)
     = subst (λ z. (c : Contains (networks_of t) z) × (c.0 ≡ i)) network (s.1.at, s.1.at_is) in
+    let member : (c : Contains t (ip_network other.network, other.value)) × (c.0 ≡ i)
+    = subst₂ (λ n v. let q : Route ℕ = (n, v) in (c : Contains t q) × (c.0 ≡ i)) network value
+    (s.1.member, s.1.member_at) in
     record {
-      member = subst₂ (λ n v. Contains t (n, v)) network value s.1.member;
+      member = member.0;
+      member_at = member.1;
       at = place.0;
       at_is = place.1;
       linked = subst₂ (λ n k. IsNearest (networks_of t) n i k) network link s.1.linked.nearest;

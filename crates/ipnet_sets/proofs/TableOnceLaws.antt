@@ -171,7 +171,7 @@ one_image a b p q routes h g =
 
 -- ---- one table for each image
 
-one_list : {count : ℕ} (bytes : List ℕ) (r s : List (Route ℕ)) → AreRoutesIn bytes count r
+pub one_list : {count : ℕ} (bytes : List ℕ) (r s : List (Route ℕ)) → AreRoutesIn bytes count r
     → AreRoutesIn bytes count s → r ≡ s
 one_list {count} bytes r s h g =
     ext_get_or d r s (h.as_many ∙ sym g.as_many) (λ i l. same i (omega (arith, l, h.as_many)))

@@ -28,7 +28,7 @@ use Rattle.ipnet_sets.specs.RouteSteps.{IsNearest, IsPlaceOf}
 use Rattle.ipnet_sets.specs.declared.routes.image.rows.StoredRoute.{StoredRoute}
 use Rattle.ipnet_sets.specs.declared.routes.image.TableImageError.{TableImageError}
 use Rattle.ipnet_sets.specs.declared.routes.image.TableImageError.TheVariants.{TooShort, Magic, Version, Length}
-use Rattle.ipnet_sets.specs.declared.routes.image.TableImageError.TheVariants.{Routes, Index}
+use Rattle.ipnet_sets.specs.declared.routes.image.TableImageError.TheVariants.{Routes, Index, Memory}
 
 -- ---- the header
 
@@ -177,7 +177,7 @@ abbrev pub HasRoutes : List ℕ → Type 0
 HasRoutes bytes = (routes : List (Route ℕ)) × AreRoutesIn bytes (route_count bytes) routes
 
 -- The error is the reason why the bytes are not the image of a table. The reasons are tried in this order, so each
--- error occurs exactly if its condition holds and none before it does.
+-- error occurs exactly if its condition holds and none before it does. Memory runs out only for an image of a table.
 abbrev pub IsTableRefusal : TableImageError → List ℕ → Type 0
 IsTableRefusal TooShort bytes = ¬ (HasTableRoom bytes)
 IsTableRefusal Magic bytes = HasTableRoom bytes × ¬ (HasTableMagic bytes)
@@ -186,6 +186,7 @@ IsTableRefusal Length bytes =
     HasTableRoom bytes × HasTableMagic bytes × HasTableVersion bytes × ¬ (HasTableLength bytes)
 IsTableRefusal Routes bytes = HasTableHeader bytes × ¬ (HasRoutes bytes)
 IsTableRefusal Index bytes = HasTableHeader bytes × HasRoutes bytes × ¬ (IsTableImage bytes)
+IsTableRefusal Memory bytes = IsTableImage bytes
 
 -- ---- private steps
 

@@ -12,6 +12,7 @@ ghost use Rattle.ipnet_sets.specs.Routes.{Route, networks_of, IsLongestMatch, Is
 ghost use Rattle.ipnet_sets.specs.TableImages.{HasTableHeader, IsTableImageOf, IsTableImage, IsTableRefusal};
 
 pub(crate) mod buckets;
+mod restored;
 pub(crate) mod rows;
 pub(crate) mod stored_table;
 mod written;
@@ -20,6 +21,7 @@ use super::RouteTable;
 use crate::image::stored::read_u64;
 use buckets::Buckets;
 use ipnet::{IpAddr, IpNet};
+use restored::restored_table;
 use std::alloc::{AllocError, Global};
 use std::fmt;
 use stored_table::StoredTable;
@@ -40,6 +42,8 @@ pub enum TableImageError {
     Routes,
     /// The index is not the index of the routes.
     Index,
+    /// Memory ran out. The bytes are the image of a table.
+    Memory,
 }
 
 impl fmt::Display for TableImageError {
@@ -51,6 +55,7 @@ impl fmt::Display for TableImageError {
             TableImageError::Length => "wrong length of the image of a table",
             TableImageError::Routes => "wrong routes in the image of a table",
             TableImageError::Index => "wrong index in the image of a table",
+            TableImageError::Memory => "out of memory",
         })
     }
 }
@@ -97,8 +102,8 @@ pub struct RouteTableImage<'a> {
 }
 
 impl<'a> RouteTableImage<'a> {
-    /// Returns the bytes as an image if their header is one, in constant time; the error is neither `Routes` nor
-    /// `Index`. Allocates nothing.
+    /// Returns the bytes as an image if their header is one, in constant time; the error is `TooShort`, `Magic`,
+    /// `Version` or `Length`. Allocates nothing.
     ///
     /// ```text
     /// of 31 bytes: Err(TooShort); of an image without its last byte: Err(Length)
@@ -177,8 +182,8 @@ pub struct RouteTableRef<'a> {
 }
 
 impl<'a> RouteTableRef<'a> {
-    /// Returns the bytes as a table if they are the image of one; the error says why they are not. Reads all routes,
-    /// and allocates nothing.
+    /// Returns the bytes as a table if they are the image of one; the error says why they are not, and is never
+    /// `Memory`. Reads all routes and the index, and allocates nothing.
     ///
     /// ```text
     /// of the image of 10.0.0.0/8 and 10.1.0.0/16 with its two routes exchanged: Err(Routes)
@@ -236,6 +241,22 @@ impl<'a> RouteTableRef<'a> {
 
 impl RouteTable<u32> {
     ghost use Rattle.ipnet_sets.specs.RoutesOf.{routes_of};
+
+    /// Returns the table of which the bytes are the image; the error says why they are the image of no table.
+    ///
+    /// ```text
+    /// of the image of 10.0.0.0/8 with 7: Ok of the table of 10.0.0.0/8 with 7; of no byte: Err(TooShort)
+    /// ```
+    pub fn from_bytes(alloc: Global, bytes: &[u8]) -> Result<RouteTable<u32>, TableImageError>
+        ensures { MatchResult result (λ table. IsTableImageOf bytes.now (routes_of table))
+            (λ error. IsTableRefusal error bytes.now) }
+    {
+        let stored = RouteTableRef::from_bytes(bytes)?;
+        match restored_table(alloc, &stored.image.table) {
+            Ok(table) => Ok(table),
+            Err(_) => Err(TableImageError::Memory),
+        }
+    }
 
     /// Returns the image of the table: 32 bytes, 16 for each IPv4 route and 32 for each IPv6 route, and from 256 routes
     /// of a family on the index, of at most 8 MiB. Fails if memory runs out, and if there are 2^32 routes or more.
