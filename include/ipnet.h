@@ -374,10 +374,10 @@ ipnet_status ipnet_set_complement(const void *set, size_t set_len, void *buffer,
 /* ---- Tables of routes
  *
  * A table has networks with a number each, its value, and finds the longest network that contains an address. It is kept
- * by the caller, as a set is: as its image. An image has 32 bytes, 32 for each route, and from 4,096 routes on an index
- * of 524,292 bytes and 4 for each IPv4 route. The calls on an image allocate nothing and test only its header. If the
- * image comes from outside, test all of it once with ipnet_table_check. Whatever the bytes are, no call reads outside of
- * them, and every call ends. */
+ * by the caller, as a set is: as its image. Each table has exactly one image. An image has 32 bytes, 16 for each IPv4 route
+ * and 32 for each IPv6 route, and from 256 routes of a family on an index, of at most 8 bytes for each route and 12 more.
+ * The questions to an image allocate nothing and test only its header. If the image comes from outside, test all of it
+ * once with ipnet_table_check. Whatever the bytes are, no call reads outside of them, and every call ends. */
 
 /* Writes the image of a table of routes. The text is a list of networks, in the strict grammar, and `values` has one
  * number for each network, in the same order. Networks are equal if they are equal without their host bits; if one is
@@ -393,7 +393,7 @@ ipnet_status ipnet_set_complement(const void *set, size_t set_len, void *buffer,
  * `buffer` is modified only on OK, and only up to the end of the image. `*count` is modified only on OK,
  * BUFFER_TOO_SHORT and BAD_LINE.
  *
- *     "10.0.0.0/8\n10.1.0.0/16", 1, 2   OK, 96
+ *     "10.0.0.0/8\n10.1.0.0/16", 1, 2   OK, 64
  */
 ipnet_status ipnet_table_from_text(const char *text, size_t text_len, const uint32_t *values, size_t values_len,
                                    void *buffer, size_t buffer_len, size_t *count);
@@ -406,7 +406,8 @@ ipnet_status ipnet_table_from_text(const char *text, size_t text_len, const uint
  */
 ipnet_status ipnet_table_count(const void *table, size_t table_len, size_t *count);
 
-/* Returns OK if the bytes are the image of a table, and NOT_A_TABLE if they are not. Reads all of the routes once. */
+/* Returns OK if the bytes are the image of a table, and NOT_A_TABLE if they are not. Reads all of the routes and
+ * the index once. */
 ipnet_status ipnet_table_check(const void *table, size_t table_len);
 
 /* Returns 1 if a network of the table contains the address, and writes the value of the longest of them into `*value`;

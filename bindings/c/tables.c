@@ -42,7 +42,7 @@ static void texts(void)
     size_t count = 99;
     expect(ipnet_table_from_text(NULL, 0, NULL, 0, buffer, sizeof buffer, &count) == IPNET_OK && count == 32, "none");
     expect(ipnet_table_from_text(list, strlen(list), numbers, 6, NULL, 0, &count) == IPNET_BUFFER_TOO_SHORT
-           && count == 192, "no buffer");
+           && count == 128, "no buffer");
     count = 99;
     expect(ipnet_table_from_text(list, strlen(list), numbers, 5, buffer, sizeof buffer, &count) == IPNET_WRONG_LENGTH
            && count == 99, "five values");
@@ -125,6 +125,54 @@ static void hostile(const uint8_t *table, size_t len)
     }
 }
 
+enum { EACH = 300, ROWS = 32 + EACH * 16 + EACH * 32, INDEXED = ROWS + (256 + 256 + 1) * 4 };
+
+/* The image of a table of EACH networks of each family, the first one last if `backward`. */
+static uint8_t *indexed_image(bool backward)
+{
+    static char text[EACH * 2 * 24];
+    static uint32_t values[EACH * 2];
+    size_t text_len = 0, len = 0;
+    for (unsigned i = 0; i < EACH * 2; i++) {
+        unsigned number = backward ? EACH * 2 - 1 - i : i;
+        values[i] = number;
+        text_len += (size_t)sprintf(text + text_len, number < EACH ? "10.%u.%u.0/24\n" : "2001:db8:%x%02x::/48\n",
+                                    number >> 8, number & 255);
+    }
+    uint8_t *image = malloc(INDEXED);
+    if (image == NULL) {
+        abort();
+    }
+    expect(ipnet_table_from_text(text, text_len, values, EACH * 2, image, INDEXED, &len) == IPNET_OK && len == INDEXED,
+           "a table with an index");
+    return image;
+}
+
+/* A table with an index: one image whatever the order, and no other index. */
+static void indexed(void)
+{
+    uint8_t *table = indexed_image(false), *other = indexed_image(true);
+    expect(memcmp(table, other, INDEXED) == 0, "one image");
+    for (unsigned i = 0; i < EACH; i++) {
+        const uint8_t octets[16] = {10, (uint8_t)(i >> 8), (uint8_t)i, 9};
+        uint32_t value = UNTOUCHED;
+        expect(ipnet_table_longest_match(table, INDEXED, octets, 4, &value) == 1 && value == i, "a match by the index");
+        expect(ipnet_table_longest_match(table, INDEXED, octets, 16, &value) == 0, "no match of IPv6");
+    }
+    expect(ipnet_table_check(table, INDEXED) == IPNET_OK, "the index");
+    for (size_t i = ROWS; i < INDEXED; i++) {
+        uint32_t value = 0;
+        other[i] ^= (uint8_t)(1 << i % 8);
+        expect(ipnet_table_check(other, INDEXED) == IPNET_NOT_A_TABLE, "a changed index");
+        for (size_t k = 0; k < sizeof asked / sizeof asked[0]; k++) {
+            ipnet_table_longest_match(other, INDEXED, asked[k].octets, asked[k].len, &value);
+        }
+        other[i] = table[i];
+    }
+    free(other);
+    free(table);
+}
+
 int main(void)
 {
     uint8_t buffer[512];
@@ -136,6 +184,7 @@ int main(void)
     bulk(table, len);
     hostile(table, len);
     free(table);
+    indexed();
     printf("%u answers, %u faults\n", calls, faults);
     return faults > 0;
 }

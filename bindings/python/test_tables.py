@@ -54,6 +54,38 @@ class Tables(unittest.TestCase):
             self.assertEqual(table[f"10.{number >> 8}.{number & 255}.9"], number)
         self.assertNotIn("11.0.0.1", table)
 
+    def test_index(self):
+        """Tables that have an index: random networks of both families, also outside 2000::/3, and at the bounds of the
+        sizes of an index. The model looks each address up by every prefix length."""
+        draw = random.Random(11)
+        for ipv4, ipv6 in ((255, 0), (256, 0), (0, 256), (300, 300), (4096, 10), (10, 4096), (70_000, 5_000)):
+            routes = {}
+            while len(routes) < ipv4:
+                length = draw.choice((8, 12, 16, 20, 22, 23, 24, 24, 24, 32))
+                routes[4, draw.getrandbits(32) >> 32 - length, length] = len(routes)
+            while len(routes) < ipv4 + ipv6:
+                length = draw.choice((0, 3, 16, 19, 29, 32, 40, 48, 48, 64, 128))
+                number = draw.choice((draw.getrandbits(128), 1 << 125 | draw.getrandbits(125), draw.getrandbits(100)))
+                routes[6, number >> 128 - length, length] = len(routes)
+            lines = [(str(ipaddress.ip_network((number << width - length, length)) if width == 32
+                          else ipaddress.IPv6Network((number << width - length, length))), value)
+                     for (family, number, length), value in routes.items() for width in ((32, 128)[family == 6],)]
+            table = RouteTable(lines)
+            draw.shuffle(lines)
+            self.assertEqual(RouteTable(lines).to_bytes(), table.to_bytes())
+            for family, width, lengths in ((4, 32, range(32, -1, -1)), (6, 128, (128, 64, 48, 40, 32, 29, 19, 16, 3, 0))):
+                numbers = [draw.getrandbits(width) for _ in range(200)] + [0, (1 << width) - 1]
+                numbers += [(number << width - length) | draw.choice((0, (1 << width - length) - 1))
+                            for (kind, number, length), _ in draw.sample(list(routes.items()), 200) if kind == family]
+                wanted = [next((routes[family, number >> width - length, length] for length in lengths
+                                if (family, number >> width - length, length) in routes), 1 << 31) for number in numbers]
+                octets = b"".join(number.to_bytes(width // 8, "big") for number in numbers)
+                self.assertEqual(list(table.get_packed(octets, width // 8, missing=1 << 31)), wanted)
+            image, rows = table.to_bytes(), 32 + 16 * ipv4 + 32 * ipv6
+            for at in {draw.randrange(rows, len(image)) for _ in range(20)} if rows < len(image) else ():
+                with self.assertRaises(NotATable):
+                    RouteTable.from_bytes(image[:at] + bytes([image[at] ^ 1 << draw.randrange(8)]) + image[at + 1:])
+
     def test_refused(self):
         self.assertRaises(BadLine, RouteTable, {"10.0.0.0/33": 1})
         self.assertRaises(BadLine, RouteTable, [("10.0.0.0/8\n10.0.0.0/9", 1)])

@@ -477,7 +477,7 @@ pub fn set_is_subset(set: &[u8], other: &[u8]) -> Result<bool, Error> {
 /// The image of the table of the networks of a text, each with the value at its place. There are as many values as
 /// networks.
 pub fn table_from(text: &str, values: &[u32]) -> Result<Vec<u8>, Error> {
-    answer(values.len().saturating_mul(32).saturating_add(32), |buffer| {
+    answer(values.len().saturating_mul(24).saturating_add(44), |buffer| {
         let mut count = 0;
         // SAFETY: as in `call`.
         let status = unsafe {

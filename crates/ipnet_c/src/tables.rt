@@ -48,15 +48,15 @@ fn table_image(alloc: Global, networks: &[IpNet], values: &[u32]) -> Result<Vec<
 ///
 /// The text has one network per line, in the strict grammar; empty lines are skipped. `values` has one number for each
 /// network, in the same order. Networks are equal if they are equal without their host bits; if one is given twice, the
-/// last value counts. The image has 32 bytes, 32 for each route, and from 4,096 routes on an index of 524,292 bytes
-/// and 4 for each IPv4 route.
+/// last value counts. The image has 32 bytes, 16 for each IPv4 route and 32 for each IPv6 route, and from 256 routes of
+/// a family on an index, of at most 8 bytes for each route and 12 more.
 ///
 /// Returns 0; 4 if the buffer is too short, with the length needed in `count`; 1 if a line is not a network, with the
 /// number of the first such line in `count`; 2 if the text is not UTF-8; 6 if there are not as many values as networks;
-/// 3 if memory runs out. The buffer changes only at 0, `count` only at 0, 1 and 4.
+/// 3 if memory runs out, or if there are 2^32 routes or more. The buffer changes only at 0, `count` only at 0, 1 and 4.
 ///
 /// ```text
-/// "10.0.0.0/8\n10.1.0.0/16\n" and 1, 2    0, and an image of 96 bytes
+/// "10.0.0.0/8\n10.1.0.0/16\n" and 1, 2    0, and an image of 64 bytes
 /// "10.0.0.0/8\n" and 1, 2                 6
 /// ```
 #[unsafe(no_mangle)]
@@ -108,7 +108,7 @@ pub extern "C" fn ipnet_table_count(table: &[u8], count: &mut usize) -> u32
     OK
 }
 
-/// Returns 0 if the bytes are the image of a table, and 13 if they are not. Reads all routes once.
+/// Returns 0 if the bytes are the image of a table, and 13 if they are not. Reads all routes and the index once.
 ///
 /// ```text
 /// the image of 10.0.0.0/8 with 1    0
@@ -157,8 +157,9 @@ pub extern "C" fn ipnet_table_longest_match(table: &[u8], address: &[u8], value:
 }
 
 /// Returns the value of the longest match for the address of these octets, or `missing` if there is none.
+#[inline(always)]
 fn value_for(image: &RouteTableImage<'_>, octets: &[u8], missing: u32) -> u32
-    ensures { (t : List (Route ℕ)) (x : Address) → IsTableImageOf image.now.bytes.now t → AreOctetsOf octets.now x
+    ensures { (t : List (Route ℕ)) (x : Address) → IsTableImageOf image.now.table.bytes.now t → AreOctetsOf octets.now x
         → IsValueFor t x missing result }
 {
     match read_address(octets) {

@@ -97,7 +97,7 @@ read_back w n at old new all h e l =
     ∙ number_later w old h.added at 0 e
     ∙ h.number_is
 
-read_all_back : (w at count : ℕ) (ns old new all : List ℕ) → AreAppended w ns old new → length old ≡ at
+pub read_all_back : (w at count : ℕ) (ns old new all : List ℕ) → AreAppended w ns old new → length old ≡ at
     → length ns ≡ count → IsLonger new all → numbers_from w count all at ≡ ns
 read_all_back w at count ns old new all h e size l =
     let here : at + 0 ≡ at = omega arith in

@@ -34,5 +34,9 @@ pub mod RouteMapParts
 pub mod RouteMapMatches
 pub mod ImageLaws
 pub mod ImageSetLaws
+pub mod BucketLaws
+pub mod TableRowLaws
 pub mod TableImageLaws
 pub mod TableCheckLaws
+pub mod TableOnceLaws
+pub mod TableRestoredLaws

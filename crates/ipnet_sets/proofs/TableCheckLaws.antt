@@ -1,39 +1,50 @@
 -- The test of an image of a table: one stored route more, and what a refused route shows.
-use Rattle.std.proofs.Common.{◌≡◌, ℕ, zero, suc, ◌+◌, ◌-◌, ◌*◌, ◌<◌, ◌≤◌, List, [], ◌∷◌, ◌++◌, length, get_or, Contains}
+use Rattle.std.proofs.Common.{◌≡◌, ℕ, zero, suc, ◌+◌, ◌-◌, ◌<◌, ◌≤◌, List, [], ◌∷◌, ◌++◌, length, get_or, Contains}
 use Rattle.std.proofs.Common.{All, Option, Some, None, refl, sym, ap, ◌∙◌, subst, subst₂, arith, inl, inr}
-use Rattle.std.proofs.lemmas.Bool.{cases_lt}
+use Rattle.std.proofs.lemmas.Bool.{cases_lt, cases_order}
 use Rattle.std.proofs.lemmas.List.{length_push, get_or_push, get_or_append_left, map-append, length-map}
 use Rattle.std.proofs.lemmas.List.Elements.{All-push}
 use Rattle.std.proofs.lemmas.List.Quantifiers.{all_pairs_push}
-use Rattle.ipnet_base.specs.Address.{Family, IPv4, IPv6, family_index, width}
+use Rattle.ipnet_base.specs.Address.{Family, IPv4, IPv6}
 use Rattle.ipnet_base.specs.Blocks.{IsAscending}
 use Rattle.ipnet_base.specs.Network.{Network, IsNetwork, IsTruncated, IsBefore}
+use Rattle.ipnet_base.specs.Stack.{IsBeforeOrEqual}
 use Rattle.ipnet_base.proofs.ListLaws.{contains_nil, contains_at, pair_at, one_place, at_place}
 use Rattle.ipnet_base.proofs.NetworkLaws.{same_network}
-use Rattle.ipnet_base.proofs.OrderLaws.{IsBefore-transitive}
+use Rattle.ipnet_base.proofs.OrderLaws.{IsBefore-transitive, IsBeforeOrEqual-transitive}
 use Rattle.ipnet.specs.declared.net.IpNet.{IpNet}
 use Rattle.ipnet.specs.NetworkOf.{ip_network}
 use Rattle.ipnet.specs.NetLaws.{ip_valid}
 use Rattle.ipnet_sets.specs.Images.{number_from}
 use Rattle.ipnet_sets.specs.Routes.{Route, networks_of}
-use Rattle.ipnet_sets.specs.RouteSteps.{IsNearest}
-use Rattle.ipnet_sets.specs.TableImages.{IsNetworkAt, IsRouteAt, AreRoutesIn}
+use Rattle.ipnet_sets.specs.RouteSteps.{IsNearest, IsPlaceOf}
+use Rattle.ipnet_sets.specs.declared.routes.image.rows.StoredRoute.{StoredRoute}
+use Rattle.ipnet_sets.specs.TableImages.{route_place, number_width, IsRouteAt, IsLinkedAt, AreRoutesIn}
 use Rattle.ipnet_sets.proofs.TableImageLaws.{IsFound, stored_route, same_some}
 
--- one kind is of one family and length
-kind_once : (f g : Family) (l m kind : ℕ) → l ≤ width f → m ≤ width g → kind ≡ family_index f * 256 + l
-    → kind ≡ family_index g * 256 + m → (f ≡ g) × (l ≡ m)
-kind_once IPv4 IPv4 l m kind a b c d = (refl, omega (arith, c, d))
-kind_once IPv4 IPv6 l m kind a b c d = absurd (omega (arith, a, c, d))
-kind_once IPv6 IPv4 l m kind a b c d = absurd (omega (arith, b, c, d))
-kind_once IPv6 IPv6 l m kind a b c d = (refl, omega (arith, c, d))
+-- what is stored at an index is one network
+pub network_once : (bytes : List ℕ) (i : ℕ) (n k : Network) (v w l m : ℕ) → IsRouteAt bytes i n v l
+    → IsRouteAt bytes i k w m → n ≡ k
+network_once bytes i n k v w l m a b = go n.family k.family refl refl
+  where
+    same : (f : Family) → n.family ≡ f → k.family ≡ f → n ≡ k
+    same f e g = same_network n k (e ∙ sym g)
+        (sym a.row.number
+        ∙ ap (λ z. number_from (number_width z) bytes (route_place bytes i)) (e ∙ sym g) ∙ b.row.number)
+        (sym a.row.prefix_len
+        ∙ ap (λ z. number_from 4 bytes (route_place bytes i + number_width z)) (e ∙ sym g) ∙ b.row.prefix_len)
 
-network_once : (bytes : List ℕ) (at : ℕ) (n k : Network) → IsNetwork n → IsNetwork k → IsNetworkAt bytes at n
-    → IsNetworkAt bytes at k → n ≡ k
-network_once bytes at n k valid_n valid_k a b =
-    let kinds = kind_once n.family k.family n.prefix_len k.prefix_len (number_from 4 bytes (at + 16))
-    valid_n.prefix_fits valid_k.prefix_fits a.kind b.kind in
-    same_network n k kinds.0 (sym a.number ∙ b.number) kinds.1
+    apart : n.family ≡ IPv4 → k.family ≡ IPv6 → n ≡ k
+    apart e g = let wrong : IPv6 ≡ IPv4 = sym g ∙ b.in_part.1 (a.in_part.0 e) in absurd (cc)
+
+    apart_too : n.family ≡ IPv6 → k.family ≡ IPv4 → n ≡ k
+    apart_too e g = let wrong : IPv6 ≡ IPv4 = sym e ∙ a.in_part.1 (b.in_part.0 g) in absurd (cc)
+
+    go : (f g : Family) → n.family ≡ f → k.family ≡ g → n ≡ k
+    go IPv4 IPv4 e g = same IPv4 e g
+    go IPv4 IPv6 e g = apart e g
+    go IPv6 IPv4 e g = apart_too e g
+    go IPv6 IPv6 e g = same IPv6 e g
 
 -- a place before the end of the list is in the list without its last element
 in_front : {X : Type 0} (xs : List X) (y x : X) (c : Contains (xs ++ y ∷ []) x) → c.0 < length xs
@@ -74,34 +85,33 @@ nearest_once ns n limit p q le a b = omega (arith, below p q a b, below q p b a)
         omega (arith, less)
 
 -- one route more
-pub routes_more : {count : ℕ} (bytes : List ℕ) (t : List (Route ℕ)) → AreRoutesIn bytes count t → (net : IpNet)
-    → IsNetworkAt bytes (count * 32 + 32) (ip_network net) → IsTruncated (ip_network net)
-    → ((k : Network) → Contains (networks_of t) k → IsBefore k (ip_network net))
-    → IsNearest (networks_of t) (ip_network net) count (number_from 8 bytes (count * 32 + 32 + 24))
-    → AreRoutesIn bytes (count + 1) (t ++ (ip_network net, number_from 4 bytes (count * 32 + 32 + 20)) ∷ [])
-routes_more {count} bytes t h net stored cut before near = record {
+pub routes_more : {count : ℕ} (bytes : List ℕ) (t : List (Route ℕ)) → AreRoutesIn bytes count t → (route : StoredRoute)
+    → IsRouteAt bytes count (ip_network route.network) route.value route.link
+    → IsTruncated (ip_network route.network)
+    → ((k : Network) → Contains (networks_of t) k → IsBefore k (ip_network route.network))
+    → IsNearest (networks_of t) (ip_network route.network) count route.link
+    → AreRoutesIn bytes (count + 1) (t ++ (ip_network route.network, route.value) ∷ [])
+routes_more {count} bytes t h route stored cut before near = record {
   as_many = omega (arith, length_push t r, h.as_many);
-  valid = subst (All IsNetwork) (sym grown) (All-push IsNetwork ns n h.valid (ip_valid net));
+  valid = subst (All IsNetwork) (sym grown) (All-push IsNetwork ns n h.valid (ip_valid route.network));
   truncated = subst (All IsTruncated) (sym grown) (All-push IsTruncated ns n h.truncated cut);
   ascending = subst IsAscending (sym grown)
       (all_pairs_push IsBefore ns n h.ascending (λ k d l. before (get_or ns k d) (contains_at ns k d l)));
-  stored = λ q c. elim (cases_lt c.0 (length t)) [
+  held = λ q c. elim (cases_lt c.0 (length t)) [
     | inl lt ↦
         let d = in_front t r q c lt in
-        subst (λ i. IsRouteAt bytes (i * 32 + 32) q (number_from 8 bytes (i * 32 + 32 + 24))) d.1 (h.stored q d.0)
+        subst (λ i. IsLinkedAt bytes (networks_of (t ++ r ∷ [])) i q) d.1 (older q d.0)
     | inr ge ↦
         let d = at_end t r q c ge in
-        subst₂ (λ i x. IsRouteAt bytes (i * 32 + 32) x (number_from 8 bytes (i * 32 + 32 + 24)))
-        (sym (d.0 ∙ h.as_many)) d.1 new
+        subst₂ (λ i x. IsLinkedAt bytes (networks_of (t ++ r ∷ [])) i x) (sym (d.0 ∙ h.as_many)) d.1 new
   ];
-  linked = λ k c. linked k (subst (λ z. Contains z k) grown c);
 }
   where
     n : Network
-    n = ip_network net
+    n = ip_network route.network
 
     r : Route ℕ
-    r = (n, number_from 4 bytes (count * 32 + 32 + 20))
+    r = (n, route.value)
 
     ns : List Network
     ns = networks_of t
@@ -112,24 +122,23 @@ routes_more {count} bytes t h net stored cut before near = record {
     grown : networks_of (t ++ r ∷ []) ≡ ns ++ n ∷ []
     grown = map-append (λ (q : Route ℕ). q.0) t (r ∷ [])
 
-    new : IsRouteAt bytes (count * 32 + 32) r (number_from 8 bytes (count * 32 + 32 + 24))
-    new = record { network = stored; value = refl; link_is = refl }
+    new : IsLinkedAt bytes (networks_of (t ++ r ∷ [])) count r
+    new = record {
+      link = route.link;
+      stored = stored;
+      nearest = subst (λ z. IsNearest z n count route.link) (sym grown)
+          (nearest_longer ns n n count route.link (omega (arith, size)) near);
+    }
 
-    linked : (k : Network) (c : Contains (ns ++ n ∷ []) k)
-        → IsNearest (networks_of (t ++ r ∷ [])) k c.0 (number_from 8 bytes (c.0 * 32 + 32 + 24))
-    linked k c = elim (cases_lt c.0 (length ns)) [
-      | inl lt ↦
-          let d = in_front ns n k c lt in
-          subst₂ (λ z i. IsNearest z k i (number_from 8 bytes (i * 32 + 32 + 24))) (sym grown) d.1
-          (nearest_longer ns n k d.0.0 (number_from 8 bytes (d.0.0 * 32 + 32 + 24)) (omega (arith, d.0.1))
-          (h.linked k d.0))
-      | inr ge ↦
-          let d = at_end ns n k c ge in
-          let place : count ≡ c.0 = omega (arith, d.0, size) in
-          subst₂ (λ i x. IsNearest (networks_of (t ++ r ∷ [])) x i (number_from 8 bytes (i * 32 + 32 + 24))) place d.1
-          (subst (λ z. IsNearest z n count (number_from 8 bytes (count * 32 + 32 + 24))) (sym grown)
-          (nearest_longer ns n n count (number_from 8 bytes (count * 32 + 32 + 24)) (omega (arith, size)) near))
-    ]
+    older : (q : Route ℕ) (d : Contains t q) → IsLinkedAt bytes (networks_of (t ++ r ∷ [])) d.0 q
+    older q d =
+        let was = h.held q d in
+        record {
+          link = was.link;
+          stored = was.stored;
+          nearest = subst (λ z. IsNearest z q.0 d.0 was.link) (sym grown)
+              (nearest_longer ns n q.0 d.0 was.link (omega (arith, d.1, size, h.as_many)) was.nearest);
+        }
 
 -- the last of the routes so far
 pub record IsLastOf (t : List (Route ℕ)) (count : ℕ) (previous : Option IpNet) : Type 0 where
@@ -166,20 +175,20 @@ all_before {count} bytes t h previous last n before k c = go previous refl
 -- in each image, the route before comes before this one
 pub comes_before : {count many : ℕ} (bytes : List ℕ) (t u : List (Route ℕ)) → AreRoutesIn bytes count t
     → AreRoutesIn bytes many u → count < many → (previous : Option IpNet) → IsLastOf t count previous
-    → (other : IpNet) → IsFound bytes u count other → (p : IpNet) → previous ≡ Some p
-    → IsBefore (ip_network p) (ip_network other)
+    → (other : StoredRoute) → IsFound u count other → (p : IpNet) → previous ≡ Some p
+    → IsBefore (ip_network p) (ip_network other.network)
 comes_before {count} {many} bytes t u h g lt previous last other found p e =
     let d = last.some p e in
     let place : count - 1 < count = omega (arith, d.1) in
     let here : d.0.0 ≡ count - 1 = omega (arith, d.1) in
     let s = stored_route bytes t h (count - 1) place in
     let r = stored_route bytes u g (count - 1) (omega (arith, place, lt)) in
-    let same : r.0.0 ≡ s.0.0 = network_once bytes ((count - 1) * 32 + 32) r.0.0 s.0.0 r.1.valid s.1.valid
-    r.1.stored.network s.1.stored.network in
+    let same : r.0.0 ≡ s.0.0 = network_once bytes (count - 1) r.0.0 s.0.0 r.0.1 s.0.1 r.1.linked.link s.1.linked.link
+    r.1.linked.stored s.1.linked.stored in
     let mine : s.0.0 ≡ ip_network p = one_place (networks_of t) s.0.0 (ip_network p) s.1.at d.0
     (s.1.at_is ∙ sym here) in
-    subst (λ z. IsBefore z (ip_network other)) (same ∙ mine)
-    (pair_at IsBefore (networks_of u) g.ascending r.0.0 (ip_network other) r.1.at found.at
+    subst (λ z. IsBefore z (ip_network other.network)) (same ∙ mine)
+    (pair_at IsBefore (networks_of u) g.ascending r.0.0 (ip_network other.network) r.1.at found.at
     (omega (arith, r.1.at_is, found.at_is, place)))
 
 pub routes_none : (bytes : List ℕ) → AreRoutesIn bytes 0 []
@@ -188,8 +197,7 @@ routes_none bytes = record {
   valid = λ k d l. absurd (omega (arith, l));
   truncated = λ k d l. absurd (omega (arith, l));
   ascending = λ i j d l m. absurd (omega (arith, m));
-  stored = λ r c. absurd (contains_nil r c);
-  linked = λ n c. absurd (contains_nil n c);
+  held = λ r c. absurd (contains_nil r c);
 }
 
 pub last_none : IsLastOf [] 0 None
@@ -223,3 +231,38 @@ last_more {count} bytes t h net v = record {
           get_or_push ns (ip_network net) (ip_network net)
               count size,
         )
+
+-- ---- the test of the index
+
+-- a place is the place of the network if the neighbours on both sides are right
+pub place_from_neighbours : {count : ℕ} (bytes : List ℕ) (t : List (Route ℕ)) → AreRoutesIn bytes count t
+    → (n : Network) (place : ℕ) → place ≤ count
+    → ((k : Network) (c : Contains (networks_of t) k) → c.0 + 1 ≡ place → IsBefore k n)
+    → ((k : Network) (c : Contains (networks_of t) k) → c.0 ≡ place → IsBeforeOrEqual n k)
+    → IsPlaceOf (networks_of t) n place
+place_from_neighbours {count} bytes t h n place within before from = record {
+  within = omega (arith, within, size);
+  before = λ k c l. elim (cases_order (c.0 + 1) place) [
+    | inl last ↦ before k c last
+    | inr (inl less) ↦
+        let m = get_or ns (place - 1) k in
+        let d : Contains ns m = contains_at ns (place - 1) k (omega (arith, less, within, size)) in
+        IsBefore-transitive k m n (pair_at IsBefore ns h.ascending k m c d (omega (arith, less)))
+        (before m d (omega (arith, less)))
+    | inr (inr more) ↦ absurd (omega (arith, more, l))
+  ];
+  from = λ k c l. elim (cases_order place c.0) [
+    | inl first ↦ from k c (sym first)
+    | inr (inl less) ↦
+        let m = get_or ns place k in
+        let d : Contains ns m = contains_at ns place k (omega (arith, less, c.1)) in
+        IsBeforeOrEqual-transitive n m k (from m d refl) (inr (pair_at IsBefore ns h.ascending m k d c less))
+    | inr (inr more) ↦ absurd (omega (arith, more, l))
+  ];
+}
+  where
+    ns : List Network
+    ns = networks_of t
+
+    size : length ns ≡ count
+    size = length-map t (λ (q : Route ℕ). q.0) ∙ h.as_many

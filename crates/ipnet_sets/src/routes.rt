@@ -138,7 +138,7 @@ pub(crate) fn place_after<V>(routes: &[(IpNet, V)], bucket: Bucket, network: &Ip
 }
 
 /// Returns the index of the network; if the list does not have it, the index of the next network.
-fn place_of<V>(routes: &[(IpNet, V)], bucket: Bucket, network: &IpNet) -> usize
+pub(crate) fn place_of<V>(routes: &[(IpNet, V)], bucket: Bucket, network: &IpNet) -> usize
     requires { IsTable (ip_networks routes.now) }
     ensures { IsPlaceOf (ip_networks routes.now) (ip_network network.now) result }
 {

@@ -35,6 +35,11 @@ fn texts(rt: HostRuntime) -> Result<(), Fail> {
             TableImageError::Routes,
             "wrong routes in the image of a table",
         ),
+        (
+            TableImageError::Index,
+            "wrong index in the image of a table",
+        ),
+        (TableImageError::Memory, "out of memory"),
     ] {
         let text = error.to_string(alloc)?;
         assert!(rt; text.as_str() == wanted, "an error of a table's image");

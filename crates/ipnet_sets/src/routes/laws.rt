@@ -1,11 +1,12 @@
 //! The laws of all tables of routes: functions with nothing to run, whose contracts are the laws.
-ghost use Rattle.std.specs.Prelude.{◌≡◌, ◌↔◌, ◌∷◌, List, All, Contains, IsTrue};
+ghost use Rattle.std.specs.Prelude.{◌≡◌, ℕ, ◌^◌, ◌<◌, ◌↔◌, ◌∷◌, List, All, Contains, IsTrue};
 ghost use Rattle.ipnet_base.specs.Address.{Address};
 ghost use Rattle.ipnet_base.specs.Blocks.{IsAscending};
 ghost use Rattle.ipnet_base.specs.Network.{IsNetwork, IsTruncated};
 ghost use Rattle.ipnet_sets.specs.Routes.{Route, networks_of, IsLongestMatch, AreMatches};
 ghost use Rattle.ipnet_sets.specs.RouteValues.{AreClones, AreEqual};
 ghost use Rattle.ipnet_sets.specs.RoutesOf.{routes_of};
+ghost use Rattle.ipnet_sets.specs.TableImages.{IsTableImageOf};
 ghost use Rattle.ipnet_sets.specs.declared.routes.RouteTable.{RouteTable};
 
 use super::RouteTable;
@@ -38,4 +39,11 @@ pub fn tables_follow_routes<V: PartialEq + Clone>()
         ↔ AreEqual V.eq (routes_of t) (routes_of u) }
     ensures clone { (t u : RouteTable V) → ⟦<RouteTable<V> as Clone>⟧.is_clone t u
         ↔ AreClones V.is_clone (routes_of t) (routes_of u) }
+{}
+
+/// Each table whose values are numbers has exactly one image, and each image is the image of one table.
+pub fn a_table_has_one_image()
+    ensures image { (routes : List (Route ℕ)) (a b : List ℕ) → All (λ byte. byte < 2 ^ 8) a
+        → All (λ byte. byte < 2 ^ 8) b → IsTableImageOf a routes → IsTableImageOf b routes → a ≡ b }
+    ensures table { (bytes : List ℕ) (r s : List (Route ℕ)) → IsTableImageOf bytes r → IsTableImageOf bytes s → r ≡ s }
 {}

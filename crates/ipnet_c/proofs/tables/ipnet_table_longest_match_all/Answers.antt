@@ -9,7 +9,7 @@ loop-index-init c = record { as_many = refl; done = λ i less. absurd (omega ari
 
 pub loop-index-preserved : goal.loop-index-preserved
 loop-index-preserved c =
-    valued_more c.in-Ok.image.bytes.now c.args.addresses.now c.args.width c.args.missing c.loop-index.index
+    valued_more c.in-Ok.image.table.bytes.now c.args.addresses.now c.args.width c.args.missing c.loop-index.index
     c.args.values.now c.loop-index.values c.value_for.result c.loop-index.invariant
     (omega (arith, c.loop-index-test.true, c.loop-index.auto.values)) c.value_for.ensures
 
