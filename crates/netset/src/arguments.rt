@@ -1,4 +1,7 @@
 //! The command line: the lists to read, and what to do with them.
+ghost use Rattle.std.specs.Prelude.{◌≡◌, ◌≤◌, ◌↔◌, ◌++◌, map, codes, IsTrue, IfOk, OnOk};
+ghost use Rattle.netset.specs.Arguments.{values_of, IsFlag, AreListNames, most_before_input};
+
 use crate::apply::apply_command;
 use crate::changes::changes_command;
 use crate::entries::with_entries;
@@ -304,7 +307,13 @@ pub fn matches_of<'a>(alloc: Global, words: &'a [String]) -> Result<ArgMatches<'
 }
 
 /// The flags that are set. A flag that the command does not have is not set.
-pub fn flags_of(matches: &ArgMatches) -> Flags {
+pub fn flags_of(matches: &ArgMatches) -> Flags
+    ensures legacy { IsFlag matches.now (codes "legacy") result.legacy }
+    ensures ranges { IsFlag matches.now (codes "ranges") result.ranges }
+    ensures ipv4 { IsFlag matches.now (codes "ipv4") result.ipv4 }
+    ensures ipv6 { IsFlag matches.now (codes "ipv6") result.ipv6 }
+    ensures outside { IsFlag matches.now (codes "outside") result.outside }
+{
     Flags {
         legacy: matches.get_flag("legacy"),
         ranges: matches.get_flag("ranges"),
@@ -314,21 +323,47 @@ pub fn flags_of(matches: &ArgMatches) -> Flags {
     }
 }
 
+/// Appends the values of the argument with this id to the names, in order.
+fn push_values<'a>(
+    names: &mut Vec<&'a str>,
+    matches: &ArgMatches<'a>,
+    id: &str,
+) -> Result<(), AllocError>
+    ensures { OnOk result (map (λ name. name.now) names.new.items
+        ≡ map (λ name. name.now) names.old.items ++ values_of matches.now id.now) }
+{
+    match matches.get_strs(id) {
+        Some(values) => names.extend_from_slice(values),
+        None => Ok(()),
+    }
+}
+
+/// Whether the work also reads standard input if this number of lists is named: if none is, and if only the first list
+/// of a filter or a route is.
+fn reads_input(work: Work, named: usize) -> bool
+    ensures { IsTrue result ↔ (named ≤ most_before_input work) }
+{
+    match work {
+        Work::Ask(Query::Filter(_) | Query::Route, _) => named <= 1,
+        Work::Ask(Query::Count | Query::Compare, _) | Work::Combine(_) => named == 0,
+    }
+}
+
 /// The names of the lists, in order. Standard input is the list that is not named: the only one, or the second of
 /// `filter` and `route`.
 fn names_of<'a>(
     alloc: Global,
     work: Work,
     matches: &ArgMatches<'a>,
-) -> Result<Vec<&'a str>, AllocError> {
+) -> Result<Vec<&'a str>, AllocError>
+    ensures { IfOk result (λ names. AreListNames work
+        (values_of matches.now (codes "first") ++ values_of matches.now (codes "others"))
+        (map (λ name. name.now) names.items)) }
+{
     let mut names = Vec::new(alloc);
-    for id in [FIRST, OTHERS] {
-        for name in matches.get_strs(id).unwrap_or(&[]) {
-            names.push(*name)?;
-        }
-    }
-    let takes_two = matches!(work, Work::Ask(Query::Filter(_) | Query::Route, _));
-    if names.is_empty() || (takes_two && names.len() == 1) {
+    push_values(&mut names, matches, FIRST)?;
+    push_values(&mut names, matches, OTHERS)?;
+    if reads_input(work, names.len()) {
         names.push(STANDARD_INPUT)?;
     }
     Ok(names)

@@ -1,4 +1,9 @@
 //! The lists, read from files and from standard input.
+ghost use Rattle.std.specs.Prelude.{◌≡◌, ◌↔◌};
+ghost use Rattle.std.specs.IoError.{raw_os_error};
+ghost use Rattle.netset.specs.Files.{IsOutOfMemory};
+ghost use Rattle.netset_lib.specs.declared.reading.ReadFailure.TheVariants.{Memory};
+
 use crate::arguments::STANDARD_INPUT;
 use ipnet::Grammar;
 use netset_lib::{ReadFailure, RuleList, Session, has_lines, is_entry_text, read_bytes};
@@ -104,7 +109,10 @@ fn read_from<R: Read + Drop, L: ListReader>(lists: &mut L, input: R) -> Result<u
 }
 
 /// Why the file was not opened.
-pub fn unopened(error: &io::Error) -> Unread {
+pub fn unopened(error: &io::Error) -> Unread
+    ensures memory { (result.failure ≡ Memory) ↔ IsOutOfMemory error.now }
+    ensures code { result.code ≡ raw_os_error error.now }
+{
     let failure = if error.kind() == ErrorKind::OutOfMemory {
         ReadFailure::Memory
     } else {

@@ -1,4 +1,7 @@
 //! The commands that read a list of rules.
+ghost use Rattle.std.specs.Prelude.{◌≡◌, codes, Some, IfSome};
+ghost use Rattle.netset.specs.Arguments.{IsQueryOf};
+
 use crate::arguments::{FIRST, STANDARD_INPUT, command_of, first, operation_command};
 use crate::forms::form_of;
 use crate::lists::{read_rules, report_unread};
@@ -48,7 +51,9 @@ pub fn with_rules<'a>(alloc: Global, command: Command<'a>) -> Result<Command<'a>
 }
 
 /// Returns what the command of this name asks of a list of rules, or `None` if it reads no such list.
-fn query_of(name: &str, matches: &ArgMatches) -> Option<RuleQuery> {
+fn query_of(name: &str, matches: &ArgMatches) -> Option<RuleQuery>
+    ensures { IfSome result (IsQueryOf name.now matches.now) }
+{
     let form = if matches.get_flag("ranges") {
         Form::Ranges
     } else {

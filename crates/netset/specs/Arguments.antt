@@ -1,0 +1,63 @@
+-- The words of a command line: its flags, and the names of its lists.
+use Rattle.std.specs.Prelude.{◌≡◌, ◌≤◌, ◌<◌, ◌⊎◌, ◌↔◌, ℕ, Bool, true, false, List, [], ◌∷◌, ◌++◌, length, codes}
+use Rattle.std.specs.Prelude.{Some, None, option_map, unwrap_or}
+use Rattle.clap.specs.declared.parser.matches.ArgMatches.{ArgMatches}
+use Rattle.clap.specs.Matches.{found_of, first_value, matched_of, one_text, raw_values}
+use Rattle.ipnet_rules.specs.declared.rules.Action.{Action}
+use Rattle.ipnet_rules.specs.declared.rules.Action.TheVariants.{Permit}
+use Rattle.netset_lib.specs.Commands.{form_of}
+use Rattle.netset_lib.specs.declared.answer.Form.{Form}
+use Rattle.netset_lib.specs.declared.command.Work.{Work}
+use Rattle.netset_lib.specs.declared.command.Work.TheVariants.{Combine, Ask}
+use Rattle.netset_lib.specs.declared.query.Query.TheVariants.{Count, Compare, Filter, Route}
+use Rattle.netset_lib.specs.declared.rule_answer.RuleQuery.{RuleQuery}
+use Rattle.netset_lib.specs.declared.rule_answer.RuleQuery.TheVariants.{Permitted, Unreached}
+
+-- The name of standard input.
+abbrev pub standard_input : List ℕ
+standard_input = codes "-"
+
+-- The values of the argument with this id, in order; none if it was not given.
+-- Example: `b`, `c` for the id `others` of `union a b c`.
+abbrev pub values_of : ArgMatches → List ℕ → List (List ℕ)
+values_of matches id = unwrap_or (option_map raw_values (matched_of (found_of matches) id)) []
+
+-- Whether the flag with this id is set. A flag that the command does not have is not set.
+pub record IsFlag (matches : ArgMatches) (id : List ℕ) (flag : Bool) : Type 0 where
+  pub set : one_text (found_of matches) id ≡ Some (codes "true") → flag ≡ true
+  pub unset : one_text (found_of matches) id ≡ Some (codes "false") → flag ≡ false
+  pub absent : one_text (found_of matches) id ≡ None → flag ≡ false
+
+-- The greatest number of named lists with which the work also reads standard input: none, and one list of a filter or a
+-- route.
+abbrev pub most_before_input : Work → ℕ
+most_before_input (Combine request) = 0
+most_before_input (Ask Count grammar) = 0
+most_before_input (Ask Compare grammar) = 0
+most_before_input (Ask (Filter side) grammar) = 1
+most_before_input (Ask Route grammar) = 1
+
+-- The names of the lists of a call: those that are given, and then `-` for a list that is not.
+-- Example: `filter a` has the names `a`, `-`; `union` has `-`; `union a` has `a`.
+abbrev pub AreListNames : Work → List (List ℕ) → List (List ℕ) → Type 0
+AreListNames work given names =
+    ((length given ≤ most_before_input work) × (names ≡ given ++ standard_input ∷ []))
+    ⊎ ((most_before_input work < length given) × (names ≡ given))
+
+-- The addresses that no rule matches are permitted if and only if the value of `--default` is `permit`.
+abbrev pub IsDefault : ArgMatches → Action → Type 0
+IsDefault matches action =
+    (action ≡ Permit) ↔ (first_value (found_of matches) (codes "default") ≡ Some (codes "permit"))
+
+-- A set is printed as ranges if and only if the flag `--ranges` is set.
+pub record IsFormOf (matches : ArgMatches) (form : Form) : Type 0 where
+  pub ranges : Bool
+  pub flag : IsFlag matches (codes "ranges") ranges
+  pub is : form ≡ form_of ranges
+
+-- The query on a list of rules of the command with this name.
+-- Example: `permitted` with `--default permit` is `Permitted(Permit, Networks)`.
+abbrev pub IsQueryOf : List ℕ → ArgMatches → RuleQuery → Type 0
+IsQueryOf name matches (Permitted action form) =
+    (name ≡ codes "permitted") × IsDefault matches action × IsFormOf matches form
+IsQueryOf name matches Unreached = name ≡ codes "unreached"
