@@ -151,20 +151,14 @@ fn request_of<'a>(matches: &ArgMatches<'a>) -> Result<FormRequest<'a>, FormFault
     Ok(FormRequest { form, min_length })
 }
 
-/// Whether an option asks for a form other than networks or ranges.
-fn asks_form(matches: &ArgMatches) -> bool {
-    [FORMAT, PREFIX, MIN_LENGTH, IPV4_SET, IPV6_SET]
-        .iter()
-        .any(|id| matches.get_str(id).is_some())
-}
-
-/// Returns the form that the options of the command ask for, or `None` if they ask only for networks or ranges. If they
-/// cannot be used, that is reported, and the error is the exit status.
+/// Returns the form that the options of the command ask for, or `None` if its result is not a set. If the options cannot
+/// be used, that is reported, and the error is the exit status.
 pub fn form_of<'a>(
     rt: &HostRuntime,
     matches: &ArgMatches<'a>,
+    is_set: bool,
 ) -> Result<Option<FormRequest<'a>>, u8> {
-    if !asks_form(matches) {
+    if !is_set {
         return Ok(None);
     }
     match request_of(matches) {

@@ -146,7 +146,7 @@ fn answered(rt: &HostRuntime, matches: &ArgMatches, streams: &mut Streams<'_>) -
     };
     let names = names.as_slice();
     let form = match matches.subcommand() {
-        Some((_, matches)) => form_of(rt, matches),
+        Some((_, matches)) => form_of(rt, matches, matches!(work, Work::Combine(_))),
         None => Ok(None),
     };
     let form = match form {

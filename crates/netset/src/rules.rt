@@ -79,7 +79,8 @@ pub fn run_if_rules(
 ) -> Option<u8> {
     let (name, matches) = matches.subcommand()?;
     let query = query_of(name, matches)?;
-    let form = match form_of(rt, matches) {
+    let is_set = matches!(query, RuleQuery::Permitted(_, _));
+    let form = match form_of(rt, matches, is_set) {
         Ok(form) => form,
         Err(status) => return Some(status),
     };
