@@ -151,8 +151,8 @@ fn request_of<'a>(matches: &ArgMatches<'a>) -> Result<FormRequest<'a>, FormFault
     Ok(FormRequest { form, min_length })
 }
 
-/// Returns the form that the options of the command ask for, or `None` if its result is not a set. If the options cannot
-/// be used, that is reported, and the error is the exit status.
+/// Returns the form that the options of the command ask for, or `None` if its result is not a set. If the options
+/// cannot be used, that is reported, and the error is the exit status.
 pub fn form_of<'a>(
     rt: &HostRuntime,
     matches: &ArgMatches<'a>,
