@@ -7,6 +7,7 @@ mod changes;
 mod extract;
 mod forms;
 mod leftovers;
+mod lines;
 mod listing;
 mod lists;
 mod output;
@@ -22,6 +23,7 @@ use crate::arguments::{ArgumentFailure, Call, call_of, matches_of, output_of, re
 use crate::changes::{CHANGES, changed};
 use crate::extract::{EXTRACT, extracted};
 use crate::forms::form_of;
+use crate::lines::{LINES, filtered};
 use crate::listing::run_if_listing;
 use crate::lists::{read_lists, report_unread};
 use crate::output::{CLOSED, Streams};
@@ -125,6 +127,7 @@ fn ran(rt: &HostRuntime, matches: &ArgMatches, streams: &mut Streams<'_>) -> u8 
         Some((name, matches)) if name == APPLY => applied(rt, matches, streams),
         Some((name, matches)) if name == PREFIX_LIST => matched(rt, matches, streams),
         Some((name, matches)) if name == EXTRACT => extracted(rt, matches, streams),
+        Some((_, matches)) if matches.get_flag(LINES) => filtered(rt, matches, streams),
         _ => answered(rt, matches, streams),
     }
 }

@@ -4,6 +4,10 @@ use Rattle.std.proofs.Common.{All, length, take, drop, refl, sym, ap, ◌∙◌,
 use Rattle.std.proofs.Common.{append-nil, get_or, get_or-take, length-take-le, eq-eqb, ne_eqb, eqb-true, if◌then◌else◌}
 use Rattle.std.proofs.lemmas.List.{take_more, take-append-drop, take_rest}
 use Rattle.std.proofs.lemmas.List.Elements.{All-nil, All-append, All-head, All-tail, All-from_get_or}
+use Rattle.std.proofs.Common.{not}
+use Rattle.std.specs.List.{suffix_len}
+use Rattle.std.proofs.lemmas.List.Sums.{suffix_len_is}
+use Rattle.netset_words.specs.Words.{cuts}
 use Rattle.memchr.specs.Find.{NoneBefore, Nowhere, Passes, is_byte}
 use Rattle.ipnet_sets.specs.Members.{IsMember}
 use Rattle.ipnet_sets.specs.declared.set.IpSet.{IpSet}
@@ -163,6 +167,16 @@ whole_result how chosen written lines f h = elim h.current [ inr d ↦ absurd (o
       undecided = subst (AreAllRefusals f.undecided)
           (ap (λ p. h.result.undecided ++ p.undecided) k.nothing ∙ append-nil h.result.undecided) h.undecided;
     } ]
+
+-- ---- the whole words of a front
+
+pub whole_front : (front : List ℕ) (n : ℕ) → n ≤ length front
+    → ((k : ℕ) → n ≤ k → k < length front → cuts (get_or front k 0) ≡ false)
+    → (0 < n → cuts (get_or front (n - 1) 0) ≡ true) → n ≡ length front - suffix_len (λ b. not (cuts b)) front
+whole_front front n within letters stops =
+    let rest = suffix_len_is (λ b. not (cuts b)) front n 0 within (λ k after inside. ap not (letters k after inside))
+    (λ some. ap not (stops some)) in
+    omega (arith, rest, within)
 
 -- ---- bytes of which a rest is not read
 

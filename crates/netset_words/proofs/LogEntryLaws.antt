@@ -1,5 +1,5 @@
 -- The entries of a log, as they are read.
-use Rattle.std.proofs.Common.{◌≡◌, ℕ, ◌<◌, ◌&&◌, Bool, true, false, List, [], ◌∷◌, All, refl, sym, subst, arith}
+use Rattle.std.proofs.Common.{◌≡◌, ℕ, ◌<◌, ◌&&◌, Bool, true, false, not, List, [], ◌∷◌, All, refl, sym, subst, arith}
 use Rattle.std.proofs.Common.{inl, inr, Option, Some, None, Result, Ok, Err, IfOk, IfNone}
 use Rattle.std.specs.Char.{is_ascii_digit}
 use Rattle.std.specs.List.{list_all}
@@ -20,6 +20,18 @@ pub ok_none : {V E : Type 0} (A B : Type 0) (r : Result (Option V) E) → (A →
 ok_none A B (Ok (Some v)) f h = tt
 ok_none A B (Ok None) f h = f h
 ok_none A B (Err e) f h = tt
+
+pub if_none : {V : Type 0} (A : Type 0) (o : Option V) → IfNone o A → ((v : V) → o ≡ Some v → ⊥) → A
+if_none A (Some v) h not = absurd (not v refl)
+if_none A None h not = h
+
+pub not_true : (b : Bool) → not b ≡ true → b ≡ false
+not_true false e = refl
+not_true true e = sym e
+
+pub not_false : (b : Bool) → not b ≡ false → b ≡ true
+not_false true e = refl
+not_false false e = sym e
 
 both : (p q : Bool) → (p && q) ≡ true → (p ≡ true) × (q ≡ true)
 both true q e = (refl, e)

@@ -7,6 +7,7 @@ use Rattle.std.specs.List.{suffix_len}
 use Rattle.ipnet_base.specs.Address.{Address}
 use Rattle.ipnet_sets.specs.Members.{IsMember}
 use Rattle.ipnet_sets.specs.declared.set.IpSet.{IpSet}
+use Rattle.netset_words.specs.declared.line_filter.LineAnswers.{LineAnswers}
 use Rattle.netset_words.specs.declared.line_filter.LineFilter.{LineFilter}
 use Rattle.netset_words.specs.declared.line_filter.Rest.{Rest}
 use Rattle.netset_words.specs.declared.line_filter.Rest.TheVariants as Rests
@@ -19,7 +20,7 @@ use Rattle.netset_words.specs.declared.refused_word.WordCause.TheVariants as Cau
 use Rattle.netset_words.specs.Extracts.{WordRefusal}
 use Rattle.netset_words.specs.ExtractSteps.{AddsRefusals, AreAllRefusals}
 use Rattle.netset_words.specs.LogLines.{LogResult, no_result, joined, IsShortLine, IsLongLine, IsLogLine, AreLogLines}
-use Rattle.netset_words.specs.LogLines.{IsVerdict, treated, treated_front, is_printed, report_of, result_of, front_of}
+use Rattle.netset_words.specs.LogLines.{IsVerdict, treated, treated_front, is_printed, report_of, result_of, front_of, has_none}
 use Rattle.netset_words.specs.LogSteps.{AddsResult, IsCurrentLine, rest_of}
 use Rattle.netset_words.specs.FilterSteps.{IsFilterUpTo}
 use Rattle.netset_words.specs.Words.{cuts, words_of}
@@ -110,6 +111,24 @@ same_report number line cur Treatments.Printed is = refl
 same_report number line cur Treatments.LeftOut is = refl
 same_report number line cur Treatments.Undecided is =
     ap (λ z. record { list = 1; line = number; text = z; cause = Causes.Undecided } ∷ []) is
+
+-- a whole line was read
+pub line_read : (how : LinesRequest) (InSet : Address → Type 0) (old new : LineAnswers) (line : List ℕ) (v : Verdict)
+    (t : Treatment) (printed : Bool) → length line ≤ 1048576 → IsVerdict how InSet (words_of line) v
+    → t ≡ treated how.others v
+    → new.text.items ≡ old.text.items ++ (if is_printed t then line ++ 10 ∷ [] else []) → printed ≡ is_printed t
+    → new.printed ≡ (old.printed || printed) → new.nones ≡ old.nones + has_none v → (number : ℕ)
+    → ((r : LogResult) × IsShortLine how InSet number line r × (r.undecided ≡ []) × AddsResult old new r)
+line_read how InSet old new line v t printed short right is text is_shown any nones number = (
+  result_of number (has_none v) line (line ++ 10 ∷ []) (treated how.others v),
+  record { short = short; verdict = v; right = right; is = refl },
+  whole_report how.others v number line,
+  record {
+    text = text ∙ ap (λ z. old.text.items ++ (if is_printed z then line ++ 10 ∷ [] else [])) is;
+    printed = any ∙ ap (λ z. old.printed || z) (is_shown ∙ ap is_printed is);
+    nones = nones;
+  },
+)
 
 -- ---- fronts
 

@@ -4,12 +4,22 @@ use Rattle.std.proofs.Common.{length, take, drop, refl, sym, ap, ◌∙◌, arit
 use Rattle.std.proofs.Common.{get_or, IsTrue}
 use Rattle.std.proofs.lemmas.List.{take_rest}
 use Rattle.std.proofs.lemmas.List.Elements.{All-nil, All-cons, All-append, All-weaker}
-use Rattle.ipnet_base.specs.Address.{Address, IsAddress}
+use Rattle.std.proofs.Common.{codes}
+use Rattle.std.specs.Net.Addr.{ipv4_octets, ipv4_bits}
+use Rattle.std.specs.declared.net.ipv4_addr.Ipv4Addr.{Ipv4Addr}
+use Rattle.std.specs.declared.net.ip_addr.IpAddr.TheVariants as Ip
+use Rattle.ipnet.specs.AddressTexts.{IsIpv4AddressText, IsJoined}
+use Rattle.ipnet.specs.Numerals.{IsOctet}
+use Rattle.ipnet.specs.declared.parser.Grammar.TheVariants.{Strict}
+use Rattle.ipnet_base.specs.Address.{Address, IsAddress, ipv4_address}
 use Rattle.ipnet_base.specs.Ranges.{AddressRange}
 use Rattle.ipnet.specs.declared.parser.Grammar.{Grammar}
 use Rattle.ipnet_sets.specs.Members.{IsMember}
 use Rattle.ipnet_sets.specs.SetRanges.{IsInRange}
 use Rattle.ipnet_sets.specs.declared.set.IpSet.{IpSet}
+use Rattle.netset_lib.specs.declared.entry.Entry.TheVariants as Entries
+use Rattle.netset_lib.specs.Entries.{IsIpv4Text}
+use Rattle.netset_lib.specs.EntryOf.{entry_range}
 use Rattle.netset_lib.specs.Filtering.{HasAddresses}
 use Rattle.netset_words.specs.declared.log_line.LinesRequest.{LinesRequest}
 use Rattle.netset_words.specs.declared.log_line.Verdict.{Verdict}
@@ -36,6 +46,49 @@ front_entry grammar bytes len range some within letters next is = record {
   none = All-nil (IsNoEntryWord grammar);
   is = is;
 }
+
+-- a text of the strict grammar is one of each grammar
+any_octet : (grammar : Grammar) (text : List ℕ) (n : ℕ) → IsOctet Strict text n → IsOctet grammar text n
+any_octet grammar text n h = record {
+  digits = h.digits;
+  value = h.value;
+  short = h.short;
+  small = h.small;
+  plain = λ is zero. h.plain refl zero;
+}
+
+any_joined : (grammar : Grammar) (text octets : List ℕ) → IsJoined (codes ".") (IsOctet Strict) text octets
+    → IsJoined (codes ".") (IsOctet grammar) text octets
+any_joined grammar text [] h = h
+any_joined grammar text (a ∷ []) h = any_octet grammar text a h
+any_joined grammar text (a ∷ b ∷ octets) (first, rest, cut, is, more) =
+    (first, rest, cut, any_octet grammar first a is, any_joined grammar rest (b ∷ octets) more)
+
+any_address : (grammar : Grammar) (text : List ℕ) (a : Ipv4Addr) → IsIpv4AddressText Strict text (ipv4_octets a)
+    → IsLogEntry grammar text (entry_range (Entries.Address (Ip.V4 a)))
+unfolding ipv4_bits
+any_address grammar text a h =
+    let writes : IsIpv4Text grammar text (ipv4_address a) =
+    record {
+      octets = ipv4_octets a;
+      writes = (any_joined grammar text (ipv4_octets a) h.0, h.1);
+      family = refl;
+      number = refl;
+    } in
+    inl (inl (inr record { address = ipv4_address a; writes = inl writes; is = refl }))
+
+-- an address at the front of the bytes
+pub address_front : (grammar : Grammar) (bytes : List ℕ) (len n : ℕ) (a : Ipv4Addr) → n ≡ len → 0 < len
+    → n ≤ length bytes → ((k : ℕ) → k < n → cuts (get_or bytes k 0) ≡ false)
+    → (n < length bytes → cuts (get_or bytes n 0) ≡ true)
+    → IsIpv4AddressText Strict (take len bytes) (ipv4_octets a)
+    → IsNextLogEntry grammar bytes (entry_range (Entries.Address (Ip.V4 a)))
+    (take (length bytes - len) (drop len bytes))
+address_front grammar bytes len n a same some within letters next writes =
+    front_entry grammar bytes len (entry_range (Entries.Address (Ip.V4 a))) some (subst (λ m. m ≤ length bytes) same within)
+    (subst (λ m. (k : ℕ) → k < m → cuts (get_or bytes k 0) ≡ false) same letters)
+    (subst (λ m. m < length bytes → cuts (get_or bytes m 0) ≡ true) same next)
+    (any_address grammar (take len bytes) a writes)
 
 -- words that are not entries were passed
 pub record IsPassed (grammar : Grammar) (bytes rest : List ℕ) : Type 0 where

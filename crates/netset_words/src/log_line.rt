@@ -1,6 +1,7 @@
 //! Lines of a log, chosen by their entries.
 ghost use Rattle.std.specs.Prelude.{◌≡◌, ◌<◌, All, length, IfOk, IfSome, MatchOption};
 ghost use Rattle.ipnet_sets.specs.Members.{IsMember};
+ghost use Rattle.ipnet.specs.declared.parser.Grammar.{Grammar};
 ghost use Rattle.netset_lib.specs.EntryOf.{entry_range};
 ghost use Rattle.netset_words.specs.LogEntries.{IsNoEntryWord};
 ghost use Rattle.netset_words.specs.LogLines.{IsVerdict, treated, treated_front};
@@ -90,11 +91,12 @@ const LONGEST: usize = "255.255.255.255 ".len();
 /// Returns the IPv4 address that the bytes begin with, if a byte that cuts follows. `None` says nothing about the
 /// bytes: this is a quick test.
 #[inline]
-fn leading_address(bytes: &[u8], grammar: Grammar) -> Option<LineEntry<'_>>
-    ensures entry { IfSome result (λ e. IsNextLogEntry grammar bytes.now (entry_range e.entry) e.after.now) }
+fn leading_address(bytes: &[u8]) -> Option<LineEntry<'_>>
+    ensures entry { IfSome result (λ e. (grammar : Grammar)
+        → IsNextLogEntry grammar bytes.now (entry_range e.entry) e.after.now) }
     ensures shorter { IfSome result (λ e. length e.after.now < length bytes.now) }
 {
-    if bytes.len() < LONGEST || grammar == Grammar::Legacy {
+    if bytes.len() < LONGEST {
         return None;
     }
     let (address, len) = ipv4_addr_at(bytes)?;
@@ -117,7 +119,7 @@ pub(crate) fn next_log_entry<'a>(
         (λ e. IsNextLogEntry grammar bytes.now (entry_range e.entry) e.after.now)) }
     ensures shorter { IfOk result (λ found. IfSome found (λ e. length e.after.now < length bytes.now)) }
 {
-    if let Some(found) = leading_address(bytes, grammar) {
+    if let Some(found) = leading_address(bytes) {
         return Ok(Some(found));
     }
     let mut rest = bytes;
