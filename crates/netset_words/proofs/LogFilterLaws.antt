@@ -21,7 +21,7 @@ use Rattle.netset_words.specs.Extracts.{WordRefusal}
 use Rattle.netset_words.specs.ExtractSteps.{AddsRefusals, AreAllRefusals}
 use Rattle.netset_words.specs.LogLines.{LogResult, no_result, joined, IsShortLine, IsLongLine, IsLogLine, AreLogLines}
 use Rattle.netset_words.specs.LogLines.{IsVerdict, treated, treated_front, is_printed, report_of, result_of, front_of, has_none}
-use Rattle.netset_words.specs.LogSteps.{AddsResult, IsCurrentLine, rest_of}
+use Rattle.netset_words.specs.LogSteps.{AddsResult, IsCurrentLine, rest_of, after_front}
 use Rattle.netset_words.specs.FilterSteps.{IsFilterUpTo}
 use Rattle.netset_words.specs.Words.{cuts, words_of}
 use Rattle.netset_words.proofs.ExtractLaws.{all_refusals}
@@ -92,15 +92,8 @@ not_kept Treatments.Printed e = absurd cc
 not_kept Treatments.LeftOut e = absurd cc
 not_kept Treatments.Undecided e = absurd cc
 
--- what is printed after the front
-pub after_front : Rest → List ℕ → List ℕ
-after_front Rests.Kept piece = []
-after_front Rests.Printed piece = piece
-after_front Rests.LeftOut piece = []
-
 more_text : (number : ℕ) (cur piece line : List ℕ) (t : Treatment) (rest : Rest) → rest ≡ rest_of t
     → (result_of number 0 line (cur ++ piece) t).text ≡ (result_of number 0 cur cur t).text ++ after_front rest piece
-unfolding after_front
 more_text number cur piece line Treatments.Printed rest is = rw is refl
 more_text number cur piece line Treatments.LeftOut rest is = rw is refl
 more_text number cur piece line Treatments.Undecided rest is = rw is refl
@@ -323,12 +316,27 @@ module _ (how : LinesRequest) (chosen : IpSet) (written : List ℕ) (lines : Lis
             rest front
       ]
 
+  -- a line of which nothing was read before
+  pub whole_ends : new.request ≡ old.request → new.set ≡ old.set → new.line ≡ old.line + 1
+      → old.rest ≡ Rests.Kept → old.front.items ≡ []
+      → ((number : ℕ) → ((r : LogResult) × IsShortLine old.request (IsMember old.set) number piece r
+      × (r.undecided ≡ []) × AddsResult old.answers new.answers r))
+      → new.undecided ≡ old.undecided → new.rest ≡ old.rest → new.front ≡ old.front
+      → IsFilterUpTo how chosen written (lines ++ (cur ++ piece) ∷ []) [] new
+  whole_ends request set next kept none reads undecided rest front =
+      let (r, is, decided, adds) = reads (length lines + 1) in
+      kept_ends r request set next kept
+      (subst (λ z. IsShortLine how (IsMember chosen) (length lines + 1) (z ++ piece) r) (sym none)
+      (subst (λ q. IsShortLine q (IsMember chosen) (length lines + 1) piece r) h.same_request
+      (subst (λ q. IsShortLine old.request (IsMember q) (length lines + 1) piece r) h.same_set is)))
+      decided adds undecided (rest ∙ kept) (ap (λ f. f.items) front ∙ none)
+
   -- a decided line ends
   pub long_ends : new.request ≡ old.request → new.set ≡ old.set → new.line ≡ old.line + 1
       → (old.rest ≡ Rests.Kept → ⊥)
       → new.answers.text.items ≡ old.answers.text.items ++ after_front old.rest (10 ∷ [])
       → new.answers.printed ≡ old.answers.printed → new.answers.nones ≡ old.answers.nones
-      → new.undecided ≡ old.undecided → new.rest ≡ Rests.Kept → new.front.items ≡ []
+      → new.undecided ≡ old.undecided → new.rest ≡ Rests.Kept → new.front.items ≡ old.front.items
       → IsFilterUpTo how chosen written (lines ++ cur ∷ []) [] new
   long_ends request set next other text printed nones undecided rest front =
       elim h.current [ inl k ↦ absurd (other k.rest_is) | inr d ↦
@@ -344,7 +352,7 @@ module _ (how : LinesRequest) (chosen : IpSet) (written : List ℕ) (lines : Lis
             (subst (λ n. IsLogLine how (IsMember chosen) n cur r) (omega arith)
             (inr (record { long = d.long; verdict = d.verdict; right = d.right; is = refl })));
         partial = no_result;
-        current = inl (record { rest_is = rest; kept = front; short = omega arith; nothing = refl });
+        current = inl (record { rest_is = rest; kept = front ∙ d.none; short = omega arith; nothing = refl });
         text = ap (λ z. written ++ z) text
             ∙ sym (append_assoc written old.answers.text.items (after_front old.rest (10 ∷ [])))
             ∙ ap (λ z. z ++ after_front old.rest (10 ∷ [])) (h.text ∙ ap (λ p. h.result.text ++ p.text) d.is)
@@ -359,3 +367,22 @@ module _ (how : LinesRequest) (chosen : IpSet) (written : List ℕ) (lines : Lis
             ∙ sym (append-nil (h.result.undecided ++ report_of number cur t)))
             (rw undecided h.undecided);
       } ]
+
+-- a line that is kept ends
+pub kept_line_ends : (how : LinesRequest) (chosen : IpSet) (written : List ℕ) (lines : List (List ℕ)) (cur : List ℕ)
+    (old new : LineFilter) → IsFilterUpTo how chosen written lines cur old → (line : List ℕ)
+    → line ≡ old.front.items → new.request ≡ old.request → new.set ≡ old.set → new.line ≡ old.line + 1
+    → old.rest ≡ Rests.Kept
+    → ((number : ℕ) → ((r : LogResult) × IsShortLine old.request (IsMember old.set) number line r
+    × (r.undecided ≡ []) × AddsResult old.answers new.answers r))
+    → new.undecided ≡ old.undecided → new.rest ≡ old.rest → new.front.items ≡ []
+    → IsFilterUpTo how chosen written (lines ++ cur ∷ []) [] new
+kept_line_ends how chosen written lines cur old new h line front request set next kept reads undecided rest empty =
+    let (r, is, decided, adds) = reads (length lines + 1) in
+    subst (λ z. IsFilterUpTo how chosen written (lines ++ z ∷ []) [] new) (append-nil cur)
+    (kept_ends how chosen written lines cur [] old new h r request set next kept
+    (subst (λ z. IsShortLine how (IsMember chosen) (length lines + 1) z r)
+    (front ∙ sym (append-nil old.front.items))
+    (subst (λ q. IsShortLine q (IsMember chosen) (length lines + 1) line r) h.same_request
+    (subst (λ q. IsShortLine old.request (IsMember q) (length lines + 1) line r) h.same_set is)))
+    decided adds undecided (rest ∙ kept) empty)

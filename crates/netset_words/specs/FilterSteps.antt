@@ -1,6 +1,6 @@
 -- The private steps of a filter that reads a log.
 -- Only private contracts use these.
-use Rattle.std.specs.Prelude.{◌≡◌, ◌≢◌, ◌+◌, ◌||◌, ℕ, Bool, true, false, List, [], ◌++◌, length, All, Option}
+use Rattle.std.specs.Prelude.{◌≡◌, ◌≢◌, ◌+◌, ◌||◌, ℕ, Bool, true, false, List, [], ◌∷◌, ◌++◌, length, All, Option}
 use Rattle.std.specs.Io.KnownBytes.{Appends}
 use Rattle.ipnet.specs.Lines.{lines_of}
 use Rattle.ipnet_sets.specs.Members.{IsMember}
@@ -27,6 +27,24 @@ pub record IsFilterUpTo (how : LinesRequest) (set : IpSet) (written : List ℕ) 
   pub printed : f.answers.printed ≡ (result.printed || partial.printed)
   pub nones : f.answers.nones ≡ result.nones
   pub undecided : AreAllRefusals f.undecided (result.undecided ++ partial.undecided)
+
+-- More bytes of a line were read.
+abbrev pub GoesOn : LineFilter → LineFilter → List ℕ → Type 0
+GoesOn old new piece = (how : LinesRequest) → (set : IpSet) → (written : List ℕ) → (lines : List (List ℕ))
+    → (cur : List ℕ) → IsFilterUpTo how set written lines cur old
+    → IsFilterUpTo how set written lines (cur ++ piece) new
+
+-- A line ends.
+abbrev pub EndsLine : LineFilter → LineFilter → Type 0
+EndsLine old new = (how : LinesRequest) → (set : IpSet) → (written : List ℕ) → (lines : List (List ℕ))
+    → (cur : List ℕ) → IsFilterUpTo how set written lines cur old
+    → IsFilterUpTo how set written (lines ++ cur ∷ []) [] new
+
+-- The rest of a line was read.
+abbrev pub ReadsEnd : LineFilter → LineFilter → List ℕ → Type 0
+ReadsEnd old new piece = (how : LinesRequest) → (set : IpSet) → (written : List ℕ) → (lines : List (List ℕ))
+    → (cur : List ℕ) → IsFilterUpTo how set written lines cur old
+    → IsFilterUpTo how set written (lines ++ (cur ++ piece) ∷ []) [] new
 
 -- The bytes of a log were read.
 pub record IsLogUpTo (how : LinesRequest) (set : IpSet) (written bytes : List ℕ) (f : LineFilter) : Type

@@ -31,6 +31,12 @@ rest_of Treatments.Printed = Rests.Printed
 rest_of Treatments.LeftOut = Rests.LeftOut
 rest_of Treatments.Undecided = Rests.LeftOut
 
+-- The bytes of a line that are printed after its front.
+abbrev pub after_front : Rest → List ℕ → List ℕ
+after_front Rests.Kept piece = []
+after_front Rests.Printed piece = piece
+after_front Rests.LeftOut piece = []
+
 -- A line whose front is kept.
 pub record IsKeptLine (rest : Rest) (front cur : List ℕ) (partial : LogResult) : Type 0 where
   pub rest_is : rest ≡ Rests.Kept

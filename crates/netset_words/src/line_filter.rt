@@ -12,7 +12,7 @@ ghost use Rattle.netset_words.specs.declared.log_line.LinesRequest.{LinesRequest
 ghost use Rattle.netset_words.specs.declared.line_filter.Rest.TheVariants.{Kept};
 ghost use Rattle.netset_words.specs.ExtractSteps.{AddsRefusals};
 ghost use Rattle.netset_words.specs.LogLines.{LogResult, IsShortLine, has_none, is_printed, report_of};
-ghost use Rattle.netset_words.specs.LogSteps.{AddsResult, rest_of};
+ghost use Rattle.netset_words.specs.LogSteps.{AddsResult, rest_of, after_front};
 ghost use Rattle.netset_words.specs.Words.{cuts};
 
 use crate::log_line::{LinesRequest, Treatment, Verdict, front_treatment, verdict_on, whole_treatment};
@@ -154,6 +154,17 @@ fn rest_after(treatment: Treatment) -> Rest
     }
 }
 
+/// Appends more bytes of a line that was decided by its front, if it is printed.
+fn print_more(text: &mut Vec<u8>, rest: Rest, piece: &[u8]) -> Result<(), AllocError>
+    ensures { OnOk result (text.new.items ≡ text.old.items ++ after_front rest piece.now) }
+{
+    match rest {
+        Rest::Kept => Ok(()),
+        Rest::Printed => text.extend_from_slice(piece),
+        Rest::LeftOut => Ok(()),
+    }
+}
+
 /// Adds a report of the line with this front, if it is not decided.
 fn report_front(
     alloc: Global,
@@ -197,7 +208,7 @@ pub struct LineFilter {
 
 impl LineFilter {
     ghost use Rattle.netset_words.specs.Logs.{IsFilterFor};
-    ghost use Rattle.netset_words.specs.FilterSteps.{IsFilterUpTo, IsLogUpTo, ReadsUpTo};
+    ghost use Rattle.netset_words.specs.FilterSteps.{IsFilterUpTo, IsLogUpTo, ReadsUpTo, GoesOn, EndsLine, ReadsEnd};
 
     /// Returns a filter that has read no line. The set is the result of the session. The error is a failure of the
     /// session, as `Session::into_set` has it.
@@ -243,12 +254,11 @@ impl LineFilter {
     }
 
     /// Reads bytes with which the front of a line gets longer than 1 MiB, and decides on it.
+    #[tactic(none)]
     fn pass_front(&mut self, piece: &[u8]) -> Result<(), AllocError>
-        requires { 1048576 < length self.old.front.items + length piece.now }
-        ensures { OnOk result ((how : LinesRequest) → (set : IpSet) → (written : List ℕ)
-            → (lines : List (List ℕ)) → (cur : List ℕ) → self.old.rest ≡ Kept
-            → IsFilterUpTo how set written lines cur self.old
-            → IsFilterUpTo how set written lines (cur ++ piece.now) self.new) }
+        requires long { 1048576 < length self.old.front.items + length piece.now }
+        requires kept { self.old.rest ≡ Kept }
+        ensures { OnOk result (GoesOn self.old self.new piece.now) }
     {
         let Some(number) = self.line.checked_add(1) else {
             return Err(AllocError);
@@ -267,64 +277,82 @@ impl LineFilter {
         Ok(())
     }
 
-    /// Reads bytes of a line that does not end with them.
-    fn go_on(&mut self, piece: &[u8]) -> Result<(), AllocError>
-        ensures { OnOk result ((how : LinesRequest) → (set : IpSet) → (written : List ℕ)
-            → (lines : List (List ℕ)) → (cur : List ℕ) → IsFilterUpTo how set written lines cur self.old
-            → IsFilterUpTo how set written lines (cur ++ piece.now) self.new) }
+    /// Reads bytes of a line that is kept.
+    fn keep(&mut self, piece: &[u8]) -> Result<(), AllocError>
+        requires { self.old.rest ≡ Kept }
+        ensures { OnOk result (GoesOn self.old self.new piece.now) }
     {
-        match self.rest {
-            Rest::Kept => {
-                if piece.len() <= MOST_FRONT - self.front.len() {
-                    self.front.extend_from_slice(piece)
-                } else {
-                    self.pass_front(piece)
-                }
-            }
-            Rest::Printed => self.answers.text.extend_from_slice(piece),
-            Rest::LeftOut => Ok(()),
+        if piece.len() <= MOST_FRONT - self.front.len() {
+            self.front.extend_from_slice(piece)
+        } else {
+            self.pass_front(piece)
         }
     }
 
-    /// Ends the text of a line.
-    fn close_line(&mut self) -> Result<(), AllocError> {
+    /// Reads bytes of a line that was decided by its front.
+    fn pass(&mut self, piece: &[u8]) -> Result<(), AllocError>
+        requires { self.old.rest ≢ Kept }
+        ensures { OnOk result (GoesOn self.old self.new piece.now) }
+    {
+        print_more(&mut self.answers.text, self.rest, piece)
+    }
+
+    /// Reads bytes of a line that does not end with them.
+    fn go_on(&mut self, piece: &[u8]) -> Result<(), AllocError>
+        ensures { OnOk result (GoesOn self.old self.new piece.now) }
+    {
         match self.rest {
-            Rest::Kept => {
-                let line = self.front.as_slice();
-                self.answers.read_line(&self.set, self.request, line)?;
-                self.front.clear();
-                Ok(())
-            }
-            Rest::Printed => {
-                self.answers.text.push(b'\n')?;
-                Ok(())
-            }
-            Rest::LeftOut => Ok(()),
+            Rest::Kept => self.keep(piece),
+            Rest::Printed => self.pass(piece),
+            Rest::LeftOut => self.pass(piece),
         }
+    }
+
+    /// Ends a line that is kept, and has this number.
+    fn end_kept(&mut self, number: usize) -> Result<(), AllocError>
+        requires kept { self.old.rest ≡ Kept }
+        requires next { number ≡ self.old.line + 1 }
+        ensures { OnOk result (EndsLine self.old self.new) }
+    {
+        let line = self.front.as_slice();
+        self.answers.read_line(&self.set, self.request, line)?;
+        self.front.clear();
+        self.line = number;
+        Ok(())
+    }
+
+    /// Ends a line that was decided by its front, and has this number.
+    fn end_passed(&mut self, number: usize) -> Result<(), AllocError>
+        requires passed { self.old.rest ≢ Kept }
+        requires next { number ≡ self.old.line + 1 }
+        ensures { OnOk result (EndsLine self.old self.new) }
+    {
+        print_more(&mut self.answers.text, self.rest, b"\n")?;
+        self.rest = Rest::Kept;
+        self.line = number;
+        Ok(())
     }
 
     /// Ends a line. Fails if memory runs out, or if there are more lines than a `usize` counts.
     fn end_line(&mut self) -> Result<(), AllocError>
-        ensures { OnOk result ((how : LinesRequest) → (set : IpSet) → (written : List ℕ)
-            → (lines : List (List ℕ)) → (cur : List ℕ) → IsFilterUpTo how set written lines cur self.old
-            → IsFilterUpTo how set written (lines ++ cur ∷ []) [] self.new) }
+        ensures { OnOk result (EndsLine self.old self.new) }
     {
-        let Some(line) = self.line.checked_add(1) else {
+        let Some(number) = self.line.checked_add(1) else {
             return Err(AllocError);
         };
-        self.close_line()?;
-        self.rest = Rest::Kept;
-        self.line = line;
-        Ok(())
+        match self.rest {
+            Rest::Kept => self.end_kept(number),
+            Rest::Printed => self.end_passed(number),
+            Rest::LeftOut => self.end_passed(number),
+        }
     }
 
     /// Reads a whole line, if none was begun.
     fn read_whole(&mut self, line: &[u8]) -> Result<(), AllocError>
-        requires { length line.now ≤ 1048576 }
-        ensures { OnOk result ((how : LinesRequest) → (set : IpSet) → (written : List ℕ)
-            → (lines : List (List ℕ)) → (cur : List ℕ) → self.old.rest ≡ Kept → self.old.front.items ≡ []
-            → IsFilterUpTo how set written lines cur self.old
-            → IsFilterUpTo how set written (lines ++ (cur ++ line.now) ∷ []) [] self.new) }
+        requires short { length line.now ≤ 1048576 }
+        requires kept { self.old.rest ≡ Kept }
+        requires none { self.old.front.items ≡ [] }
+        ensures { OnOk result (ReadsEnd self.old self.new line.now) }
     {
         let Some(number) = self.line.checked_add(1) else {
             return Err(AllocError);
@@ -334,17 +362,24 @@ impl LineFilter {
         Ok(())
     }
 
-    /// Reads the rest of a line.
-    fn read_end(&mut self, piece: &[u8]) -> Result<(), AllocError>
-        ensures { OnOk result ((how : LinesRequest) → (set : IpSet) → (written : List ℕ)
-            → (lines : List (List ℕ)) → (cur : List ℕ) → IsFilterUpTo how set written lines cur self.old
-            → IsFilterUpTo how set written (lines ++ (cur ++ piece.now) ∷ []) [] self.new) }
+    /// Reads the rest of a line of which a front may be there.
+    fn read_rest(&mut self, piece: &[u8]) -> Result<(), AllocError>
+        ensures { OnOk result (ReadsEnd self.old self.new piece.now) }
     {
-        if self.rest == Rest::Kept && self.front.is_empty() && piece.len() <= MOST_FRONT {
-            return self.read_whole(piece);
-        }
         self.go_on(piece)?;
         self.end_line()
+    }
+
+    /// Reads the rest of a line.
+    fn read_end(&mut self, piece: &[u8]) -> Result<(), AllocError>
+        ensures { OnOk result (ReadsEnd self.old self.new piece.now) }
+    {
+        match self.rest {
+            Rest::Kept if self.front.is_empty() && piece.len() <= MOST_FRONT => {
+                self.read_whole(piece)
+            }
+            _ => self.read_rest(piece),
+        }
     }
 
     /// Reads the bytes up to the end of the first line, or all of them, and returns the others.
