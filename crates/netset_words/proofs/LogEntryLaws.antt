@@ -1,6 +1,6 @@
 -- The entries of a log, as they are read.
 use Rattle.std.proofs.Common.{◌≡◌, ℕ, ◌<◌, ◌&&◌, Bool, true, false, not, List, [], ◌∷◌, All, refl, sym, subst, arith}
-use Rattle.std.proofs.Common.{inl, inr, Option, Some, None, Result, Ok, Err, IfOk, IfNone}
+use Rattle.std.proofs.Common.{inl, inr, Option, Some, None, Result, Ok, Err, IfOk, IfNone, OnOk, IsErr}
 use Rattle.std.specs.Char.{is_ascii_digit}
 use Rattle.std.specs.List.{list_all}
 use Rattle.std.specs.Str.{IsUtf8}
@@ -24,6 +24,10 @@ ok_none A B (Err e) f h = tt
 pub if_none : {V : Type 0} (A : Type 0) (o : Option V) → IfNone o A → ((v : V) → o ≡ Some v → ⊥) → A
 if_none A (Some v) h not = absurd (not v refl)
 if_none A None h not = h
+
+pub no_ok : {V E : Type 0} (A : Type 0) (r : Result V E) → IsErr r → OnOk r A
+no_ok A (Ok v) h = absurd cc
+no_ok A (Err e) h = tt
 
 pub not_true : (b : Bool) → not b ≡ true → b ≡ false
 not_true false e = refl

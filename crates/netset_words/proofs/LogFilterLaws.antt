@@ -1,7 +1,7 @@
 -- The lines of a log, and the front of a line that is not complete.
 use Rattle.std.proofs.Common.{◌≡◌, ◌≢◌, ◌⊎◌, ℕ, ◌+◌, ◌-◌, ◌<◌, ◌≤◌, ◌||◌, Bool, true, false, List, [], ◌∷◌, ◌++◌, All}
 use Rattle.std.proofs.Common.{length, take, drop, refl, sym, ap, ◌∙◌, arith, inl, inr, subst, append_assoc, append-nil}
-use Rattle.std.proofs.Common.{length-append, add-zero, if◌then◌else◌, not, take_all}
+use Rattle.std.proofs.Common.{length-append, add-zero, if◌then◌else◌, not, take_all, length-take-le, length-drop}
 use Rattle.std.proofs.lemmas.List.{take-append-le, take-append-drop}
 use Rattle.std.specs.List.{suffix_len}
 use Rattle.ipnet_base.specs.Address.{Address}
@@ -386,3 +386,40 @@ kept_line_ends how chosen written lines cur old new h line front request set nex
     (subst (λ q. IsShortLine q (IsMember chosen) (length lines + 1) line r) h.same_request
     (subst (λ q. IsShortLine old.request (IsMember q) (length lines + 1) line r) h.same_set is)))
     decided adds undecided (rest ∙ kept) empty)
+
+-- a line gets longer than 1 MiB, as the code decides on it
+pub front_read : (how : LinesRequest) (chosen : IpSet) (written : List ℕ) (lines : List (List ℕ))
+    (cur piece : List ℕ) (old new : LineFilter) → IsFilterUpTo how chosen written lines cur old
+    → (last more front : List ℕ) (k n number : ℕ) (verdict : Verdict) (t : Treatment) (printed : Bool)
+    → IsSameFilter old new → last ≡ take k piece → more ≡ drop k piece → k + length old.front.items ≡ 1048576
+    → 1048576 < length old.front.items + length piece → front ≡ old.front.items ++ last → n ≡ length front - suffix_len (λ b. not (cuts b)) front
+    → IsVerdict old.request (IsMember old.set) (words_of (take n front)) verdict
+    → t ≡ treated_front old.request.any old.request.others verdict
+    → new.answers.text.items ≡ old.answers.text.items ++ (if is_printed t then front ++ more else [])
+    → printed ≡ is_printed t → new.answers.printed ≡ (old.answers.printed || printed)
+    → new.answers.nones ≡ old.answers.nones → number ≡ old.line + 1
+    → AddsRefusals old.undecided new.undecided (report_of number front t) → old.rest ≡ Rests.Kept
+    → new.rest ≡ rest_of t → new.front.items ≡ [] → IsFilterUpTo how chosen written lines (cur ++ piece) new
+front_read how chosen written lines cur piece old new h last more front k n number verdict t printed same last_is more_is
+    room long front_is n_is right is text shown any nones number_is reports kept rest empty =
+    let whole = old.front.items ++ last in
+    let treatment = treated_front how.any how.others verdict in
+    let t_is : t ≡ treatment = is ∙ ap (λ q. treated_front q.any q.others verdict) h.same_request in
+    let within : k ≤ length piece = omega (arith, room, long) in
+    let last_len : length last ≡ k = ap length last_is ∙ length-take-le k piece within in
+    let more_len : length more ≡ length piece - k = ap length more_is ∙ length-drop k piece in
+    front_passed how chosen written lines cur piece old new h last more verdict same
+    (sym (take-append-drop k piece) ∙ ap (λ z. z ++ drop k piece) (sym last_is) ∙ ap (λ z. last ++ z) (sym more_is))
+    (length-append old.front.items last ∙ omega (arith, room, last_len)) (omega (arith, room, long, more_len))
+    (subst (λ z. IsVerdict how (IsMember chosen) (words_of (take (length z - suffix_len (λ b. not (cuts b)) z) z)) verdict)
+    front_is
+    (subst (λ m. IsVerdict how (IsMember chosen) (words_of (take m front)) verdict) n_is
+    (subst (λ q. IsVerdict q (IsMember chosen) (words_of (take n front)) verdict) h.same_request
+    (subst (λ q. IsVerdict old.request (IsMember q) (words_of (take n front)) verdict) h.same_set right))))
+    (text ∙ ap (λ z. old.answers.text.items ++ (if is_printed z then front ++ more else [])) t_is
+    ∙ ap (λ z. old.answers.text.items ++ (if is_printed treatment then z ++ more else [])) front_is)
+    (any ∙ ap (λ z. old.answers.printed || z) (shown ∙ ap is_printed t_is)) nones
+    (subst (AddsRefusals old.undecided new.undecided)
+    (ap (λ m. report_of m front t) number_is ∙ ap (λ z. report_of (old.line + 1) z t) front_is
+    ∙ ap (report_of (old.line + 1) whole) t_is) reports)
+    kept (rest ∙ ap rest_of t_is) empty

@@ -34,6 +34,14 @@ const SHOWN: usize = 101;
 /// The index of the log among the names of a call. The first name is the set's.
 const LOG: usize = 1;
 
+/// Returns the number of bytes that may follow the front of a line that is kept.
+fn room_after(front: &[u8]) -> usize
+    requires { length front.now ≤ 1048576 }
+    ensures { result + length front.now ≡ 1048576 }
+{
+    MOST_FRONT - front.len()
+}
+
 /// Returns the number of bytes of the front of a line, without a word that may go on after it.
 fn whole_len(front: &[u8]) -> usize
     ensures { result ≡ length front.now - suffix_len (λ b. not (cuts b)) front.now }
@@ -263,7 +271,7 @@ impl LineFilter {
         let Some(number) = self.line.checked_add(1) else {
             return Err(AllocError);
         };
-        let (last, more) = piece.split_at(MOST_FRONT - self.front.len());
+        let (last, more) = piece.split_at(room_after(self.front.as_slice()));
         self.front.extend_from_slice(last)?;
         let front = self.front.as_slice();
         let whole = &front[..whole_len(front)];
@@ -278,11 +286,12 @@ impl LineFilter {
     }
 
     /// Reads bytes of a line that is kept.
+    #[tactic(none)]
     fn keep(&mut self, piece: &[u8]) -> Result<(), AllocError>
         requires { self.old.rest ≡ Kept }
         ensures { OnOk result (GoesOn self.old self.new piece.now) }
     {
-        if piece.len() <= MOST_FRONT - self.front.len() {
+        if piece.len() <= room_after(self.front.as_slice()) {
             self.front.extend_from_slice(piece)
         } else {
             self.pass_front(piece)
@@ -371,6 +380,7 @@ impl LineFilter {
     }
 
     /// Reads the rest of a line.
+    #[tactic(none)]
     fn read_end(&mut self, piece: &[u8]) -> Result<(), AllocError>
         ensures { OnOk result (ReadsEnd self.old self.new piece.now) }
     {
