@@ -56,6 +56,11 @@ pub record IsLogUpTo (how : LinesRequest) (set : IpSet) (written bytes : List �
   pub no_end : All (λ b. b ≢ 10) cur
   pub up_to : IsFilterUpTo how set written (lines_of closed) cur f
 
+-- The log ends.
+abbrev pub EndsLog : LineFilter → LineFilter → Type 0
+EndsLog old new = (how : LinesRequest) → (set : IpSet) → (written : List ℕ) → (bytes : List ℕ)
+    → IsLogUpTo how set written bytes old → IsFilterUpTo how set written (lines_of bytes) [] new
+
 -- Some bytes of a log were read, up to a rest.
 pub record ReadsUpTo (old new : LineFilter) (bytes rest : List ℕ) : Type 0 where
   pub taken : List ℕ

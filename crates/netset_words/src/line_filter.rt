@@ -216,7 +216,7 @@ pub struct LineFilter {
 
 impl LineFilter {
     ghost use Rattle.netset_words.specs.Logs.{IsFilterFor};
-    ghost use Rattle.netset_words.specs.FilterSteps.{IsFilterUpTo, IsLogUpTo, ReadsUpTo, GoesOn, EndsLine, ReadsEnd};
+    ghost use Rattle.netset_words.specs.FilterSteps.{IsFilterUpTo, IsLogUpTo, ReadsUpTo, GoesOn, EndsLine, ReadsEnd, EndsLog};
 
     /// Returns a filter that has read no line. The set is the result of the session. The error is a failure of the
     /// session, as `Session::into_set` has it.
@@ -379,20 +379,31 @@ impl LineFilter {
         self.end_line()
     }
 
-    /// Reads the rest of a line.
+    /// Reads the rest of a line that is kept.
     #[tactic(none)]
+    fn read_kept_end(&mut self, piece: &[u8]) -> Result<(), AllocError>
+        requires { self.old.rest ≡ Kept }
+        ensures { OnOk result (ReadsEnd self.old self.new piece.now) }
+    {
+        if self.front.len() == 0 && piece.len() <= MOST_FRONT {
+            return self.read_whole(piece);
+        }
+        self.read_rest(piece)
+    }
+
+    /// Reads the rest of a line.
     fn read_end(&mut self, piece: &[u8]) -> Result<(), AllocError>
         ensures { OnOk result (ReadsEnd self.old self.new piece.now) }
     {
         match self.rest {
-            Rest::Kept if self.front.is_empty() && piece.len() <= MOST_FRONT => {
-                self.read_whole(piece)
-            }
-            _ => self.read_rest(piece),
+            Rest::Kept => self.read_kept_end(piece),
+            Rest::Printed => self.read_rest(piece),
+            Rest::LeftOut => self.read_rest(piece),
         }
     }
 
     /// Reads the bytes up to the end of the first line, or all of them, and returns the others.
+    #[tactic(none)]
     fn read_piece<'a>(&mut self, bytes: &'a [u8]) -> Result<&'a [u8], AllocError>
         requires { 0 < length bytes.now }
         ensures log { IfOk result (λ rest. ReadsUpTo self.old self.new bytes.now rest.now) }
@@ -407,6 +418,7 @@ impl LineFilter {
     }
 
     /// Reads more bytes of the log. Fails if memory runs out, or if there are more lines than a `usize` counts.
+    #[tactic(none)]
     pub(crate) fn read(&mut self, bytes: &[u8]) -> Result<(), AllocError>
         ensures { OnOk result ((how : LinesRequest) → (set : IpSet) → (written : List ℕ)
             → (before : List ℕ) → IsLogUpTo how set written before self.old
@@ -420,15 +432,35 @@ impl LineFilter {
         Ok(())
     }
 
-    /// Ends the log. Fails as `read` does.
-    pub(crate) fn end(&mut self) -> Result<(), AllocError>
-        ensures { OnOk result ((how : LinesRequest) → (set : IpSet) → (written : List ℕ)
-            → (bytes : List ℕ) → IsLogUpTo how set written bytes self.old
-            → IsFilterUpTo how set written (lines_of bytes) [] self.new) }
+    /// Ends the log, if a line is kept or there is none.
+    #[tactic(none)]
+    fn end_kept_log(&mut self) -> Result<(), AllocError>
+        requires { self.old.rest ≡ Kept }
+        ensures { OnOk result (EndsLog self.old self.new) }
     {
-        if self.rest == Rest::Kept && self.front.is_empty() {
+        if self.front.len() == 0 {
             return Ok(());
         }
         self.end_line()
+    }
+
+    /// Ends the log, if a line was decided by its front.
+    #[tactic(none)]
+    fn end_passed_log(&mut self) -> Result<(), AllocError>
+        requires { self.old.rest ≢ Kept }
+        ensures { OnOk result (EndsLog self.old self.new) }
+    {
+        self.end_line()
+    }
+
+    /// Ends the log. Fails as `read` does.
+    pub(crate) fn end(&mut self) -> Result<(), AllocError>
+        ensures { OnOk result (EndsLog self.old self.new) }
+    {
+        match self.rest {
+            Rest::Kept => self.end_kept_log(),
+            Rest::Printed => self.end_passed_log(),
+            Rest::LeftOut => self.end_passed_log(),
+        }
     }
 }
