@@ -19,7 +19,7 @@ use Rattle.netset_words.specs.declared.line_filter.Rest.TheVariants as Rests
 use Rattle.netset_words.specs.declared.log_line.LinesRequest.{LinesRequest}
 use Rattle.netset_words.specs.ExtractSteps.{AreAllRefusals}
 use Rattle.netset_words.specs.LogLines.{LogResult, AreLogLines, treated_front}
-use Rattle.netset_words.specs.FilterSteps.{IsFilterUpTo, IsLogUpTo, ReadsUpTo}
+use Rattle.netset_words.specs.FilterSteps.{IsFilterUpTo, IsLogUpTo, ReadsUpTo, GoesOn, ReadsEnd}
 use Rattle.netset_words.proofs.LogFilterLaws.{not_kept, or_false}
 
 -- ---- the end of a line
@@ -206,3 +206,28 @@ all_read start now bytes [] none h = λ how set written before begun.
     subst (λ z. IsLogUpTo how set written (before ++ z) now) (sym (h.cut ∙ append-nil h.taken))
     (h.log how set written before begun)
 all_read start now bytes (b ∷ rest) none h = absurd (omega arith)
+
+-- bytes without the end of a line
+pub piece_goes : (old new : LineFilter) (bytes rest : List ℕ) → Nowhere (Passes (is_byte 10) bytes) 0 (length bytes)
+    → GoesOn old new bytes → rest ≡ [] → ReadsUpTo old new bytes rest
+piece_goes old new bytes rest none goes empty = record {
+  taken = bytes;
+  cut = sym (append-nil bytes) ∙ ap (λ z. bytes ++ z) (sym empty);
+  log = λ how set written before h.
+      log_grows how set written before old h bytes new (no_end bytes none)
+      (goes how set written (lines_of h.closed) h.cur h.up_to);
+}
+
+-- the bytes up to the end of a line
+pub piece_ends : (old new : LineFilter) (bytes : List ℕ) (i : ℕ)
+    → NoneBefore (Passes (is_byte 10) bytes) 0 (length bytes) i → Passes (is_byte 10) bytes i
+    → ReadsEnd old new (take i bytes)
+    → ReadsUpTo old new bytes (take (length bytes - (i + 1)) (drop (i + 1) bytes))
+piece_ends old new bytes i before found ends = record {
+  taken = take i bytes ++ 10 ∷ [];
+  cut = to_end bytes i before.high found;
+  log = λ how set written earlier h.
+      line_closes how set written earlier old h (take i bytes) new
+      (before_end bytes i (omega (arith, before.high)) before)
+      (ends how set written (lines_of h.closed) h.cur h.up_to);
+}
