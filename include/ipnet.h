@@ -374,8 +374,9 @@ ipnet_status ipnet_set_complement(const void *set, size_t set_len, void *buffer,
 /* ---- Tables of routes
  *
  * A table has networks with a number each, its value, and finds the longest network that contains an address. It is kept
- * by the caller, as a set is: as its image. Each table has exactly one image. An image has 32 bytes, 16 for each IPv4 route
- * and 32 for each IPv6 route, and from 256 routes of a family on an index, of at most 8 bytes for each route and 12 more.
+ * by the caller, as a set is: as its image. A table of fewer than 2^32 routes has exactly one image. An image has 32
+ * bytes, 16 for each IPv4 route and 32 for each IPv6 route, and from 256 routes of a family on an index, of at most 8
+ * bytes for each route and 12 more.
  * The questions to an image allocate nothing and test only its header. If the image comes from outside, test all of it
  * once with ipnet_table_check. Whatever the bytes are, no call reads outside of them, and every call ends. */
 

@@ -9,4 +9,5 @@ pub mod lists;
 pub mod networks;
 pub mod plans;
 pub mod routes;
+pub mod stored;
 pub mod texts;

@@ -261,7 +261,7 @@ table_written list links starts magic m n b0 b1 b2 b3 b4 b5 b6 table linked full
             (index_bits (stated_routes b6 IPv6)) bucket) p) (sym (same_networks list))
             (sym (entry bucket (omega (arith, l, entries, index.as_many))))
             (subst₂ (λ x y. IsPlaceOf (ip_networks list) (bucket_start (index_bits x) (index_bits y) bucket)
-            (get_or starts bucket 0)) (sym ipv4_told) (sym ipv6_told)
+            (get_or starts bucket 0)) (sym ipv4_stated) (sym ipv6_stated)
             (index.each bucket 0 (omega (arith, l, entries, index.as_many))));
       };
     }
@@ -305,21 +305,21 @@ table_written list links starts magic m n b0 b1 b2 b3 b4 b5 b6 table linked full
     to1 : IsLonger b1 b6
     to1 = longer b1 b2 b6 (by_one 8 1 b1 b2 h2) to2
 
-    ipv4_told : stated_routes b6 IPv4 ≡ m
-    ipv4_told = read_back 8 m 16 b2 b3 b6 h3 l2 to3
+    ipv4_stated : stated_routes b6 IPv4 ≡ m
+    ipv4_stated = read_back 8 m 16 b2 b3 b6 h3 l2 to3
 
-    ipv6_told : stated_routes b6 IPv6 ≡ n
-    ipv6_told = read_back 8 n 24 b3 b4 b6 h4 l3 to4
+    ipv6_stated : stated_routes b6 IPv6 ≡ n
+    ipv6_stated = read_back 8 n 24 b3 b4 b6 h4 l3 to4
 
     total : route_count b6 ≡ m + n
-    total = ap₂ (λ x y. x + y) ipv4_told ipv6_told
+    total = ap₂ (λ x y. x + y) ipv4_stated ipv6_stated
 
     entries : index_size (index_bits (stated_routes b6 IPv4)) (index_bits (stated_routes b6 IPv6))
         ≡ index_size (index_bits m) (index_bits n)
-    entries = ap₂ (λ x y. index_size (index_bits x) (index_bits y)) ipv4_told ipv6_told
+    entries = ap₂ (λ x y. index_size (index_bits x) (index_bits y)) ipv4_stated ipv6_stated
 
     at_index : index_place b6 ≡ 32 + (m + n) * 16 + (m + n - m) * 16
-    at_index = ap₂ (λ i x. 32 + i * 16 + (i - x) * 16) total ipv4_told
+    at_index = ap₂ (λ i x. 32 + i * 16 + (i - x) * 16) total ipv4_stated
 
     entry : (bucket : ℕ) → bucket < length starts
         → number_from 4 b6 (index_place b6 + bucket * 4) ≡ get_or starts bucket 0
@@ -333,11 +333,11 @@ table_written list links starts magic m n b0 b1 b2 b3 b4 b5 b6 table linked full
         let fits : c.0 + 1 ≤ m + n = omega (arith, c.1, many, count) in
         let part = parts_of list m first r c in
         let place : length b4 + c.0 * 16 + (c.0 - m) * 16 ≡ route_place b6 c.0 =
-        ap₂ (λ z x. z + c.0 * 16 + (c.0 - x) * 16) l4 (sym ipv4_told) in
+        ap₂ (λ z x. z + c.0 * 16 + (c.0 - x) * 16) l4 (sym ipv4_stated) in
         record {
           link = get_or links c.0 0;
           stored = record {
-            in_part = subst (λ x. (r.0.family ≡ IPv4) ↔ (c.0 < x)) (sym ipv4_told) part;
+            in_part = subst (λ x. (r.0.family ≡ IPv4) ↔ (c.0 < x)) (sym ipv4_stated) part;
             row = subst (λ i. IsRowAt b6 i r.0 r.1 (get_or links c.0 0)) place
                 (row_longer b5 b6 (length b4 + c.0 * 16 + (c.0 - m) * 16) r.0 r.1 (get_or links c.0 0)
                 (omega (arith, l4, l5, row_size r.0.family c.0 m part, later (c.0 + 1) (m + n) m fits)) to5

@@ -13,7 +13,7 @@
 --
 -- The link is one more than the index of the smallest network that encloses the network, or 0. The index divides the
 -- networks into buckets by the first bits of their numbers, and has the index of the first route of each bucket. Each
--- table has exactly one image.
+-- table of fewer than 2^32 routes has exactly one image.
 use Rattle.std.specs.Prelude.{◌≡◌, ℕ, zero, ◌+◌, ◌-◌, ◌*◌, ◌^◌, ◌<◌, ◌≤◌, ◌↔◌, List, ◌++◌, length, get_or}
 use Rattle.std.specs.Prelude.{Contains, All, Option, Some}
 use Rattle.std.specs.Prelude.{nat_le, if◌then◌else◌}

@@ -17,7 +17,7 @@ pub use image::{ImageError, IpSetImage, IpSetRef};
 pub use operation::Operation;
 pub use route_map::RouteMap;
 pub use routes::RouteTable;
-pub use routes::image::{RouteTableImage, RouteTableRef};
+pub use routes::image::{RouteTableImage, RouteTableRef, TableImageError};
 pub use set::IpSet;
 pub use set::builder::IpSetBuilder;
 pub use set_networks::IpSetNetworks;

@@ -1,8 +1,8 @@
 //! Images of tables of routes whose values are numbers: the bytes of a table, which a caller can store, send and map,
 //! and which can be asked in place.
 //!
-//! The format is in `specs/TableImages`: a header of 32 bytes, then the routes, then the index. Each table has exactly
-//! one image.
+//! The format is in `specs/TableImages`: a header of 32 bytes, then the routes, then the index. Each table of fewer
+//! than 2^32 routes has exactly one image.
 ghost use Rattle.std.specs.Prelude.{◌≡◌, ℕ, ◌↔◌, List, length, IsTrue, IsNone, IfSome, IfOk, MatchResult, Contains};
 ghost use Rattle.ipnet_base.specs.Address.{ip_address};
 ghost use Rattle.ipnet_base.specs.Network.{Network, IsSubnetOf};
@@ -163,6 +163,7 @@ impl<'a> RouteTableImage<'a> {
     /// ```
     //
     // Without the attributes the address goes through memory in pieces, and each call waits for the call before it.
+    // Each arm has a copy of the search that compares numbers of one family only, which takes two thirds of the time.
     #[inline(always)]
     pub fn longest_match(&self, ip: &IpAddr) -> Option<(IpNet, u32)>
         ensures none { (t : List (Route ℕ)) → IsTableImageOf self.now.table.bytes.now t
@@ -170,8 +171,10 @@ impl<'a> RouteTableImage<'a> {
         ensures some { (t : List (Route ℕ)) → IsTableImageOf self.now.table.bytes.now t
             → IfSome result (λ route. IsLongestMatch t (ip_address ip.now) (ip_network route.0, route.1)) }
     {
-        let host = IpNet::from(*ip);
-        self.covering(&host)
+        match ip {
+            IpAddr::V4(address) => self.covering(&IpNet::from(IpAddr::V4(*address))),
+            IpAddr::V6(address) => self.covering(&IpNet::from(IpAddr::V6(*address))),
+        }
     }
 }
 
@@ -242,7 +245,8 @@ impl<'a> RouteTableRef<'a> {
 impl RouteTable<u32> {
     ghost use Rattle.ipnet_sets.specs.RoutesOf.{routes_of};
 
-    /// Returns the table of which the bytes are the image; the error says why they are the image of no table.
+    /// Returns the table of which the bytes are the image; the error says why they are the image of no table, or is
+    /// `Memory` if memory runs out.
     ///
     /// ```text
     /// of the image of 10.0.0.0/8 with 7: Ok of the table of 10.0.0.0/8 with 7; of no byte: Err(TooShort)

@@ -41,7 +41,8 @@ pub fn tables_follow_routes<V: PartialEq + Clone>()
         ↔ AreClones V.is_clone (routes_of t) (routes_of u) }
 {}
 
-/// Each table whose values are numbers has exactly one image, and each image is the image of one table.
+/// Each table whose values are numbers has at most one image, and bytes are the image of at most one table. A table of
+/// 2^32 routes or more has none.
 pub fn a_table_has_one_image()
     ensures image { (routes : List (Route ℕ)) (a b : List ℕ) → All (λ byte. byte < 2 ^ 8) a
         → All (λ byte. byte < 2 ^ 8) b → IsTableImageOf a routes → IsTableImageOf b routes → a ≡ b }
