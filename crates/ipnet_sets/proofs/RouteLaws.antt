@@ -1,6 +1,6 @@
 -- The search for the longest network that contains an address, in a table of routes.
 use Rattle.std.proofs.Common.{◌≡◌, ℕ, ◌+◌, ◌-◌, ◌<◌, ◌≤◌, List, length, map, get_or, Contains, All}
-use Rattle.std.proofs.Common.{[], ◌∷◌, Bool, true, false, Less, Equal, Greater, Ordering, Option}
+use Rattle.std.proofs.Common.{◌↔◌, [], ◌∷◌, Bool, true, false, Less, Equal, Greater, Ordering, Option}
 use Rattle.std.proofs.Common.{refl, sym, ap, ◌∙◌, subst, arith, inl, inr}
 use Rattle.std.specs.Ordering.{is_lt, is_some_and, partial_lt, MatchOrdering}
 use Rattle.std.proofs.lemmas.Bool.{cases_order, cases_lt}
@@ -8,19 +8,19 @@ use Rattle.std.proofs.lemmas.List.{length-map, get_or-map}
 use Rattle.std.proofs.lemmas.List.Elements.{All-map}
 use Rattle.ipnet_base.specs.Address.{Address, width, family_index}
 use Rattle.ipnet_base.specs.Network.{Network, IsNetwork, host_bits, InBlock, IsSubnetOf, IsTruncated, IsBefore}
-use Rattle.ipnet_base.specs.Blocks.{IsAscending}
+use Rattle.ipnet_base.specs.Blocks.{IsAscending, IsCoveredBy}
 use Rattle.ipnet_base.specs.Stack.{IsBeforeOrEqual}
 use Rattle.ipnet_base.specs.Values.{ComparesBy}
 use Rattle.ipnet_base.proofs.BlockLaws.{own, own_in, block_between}
 use Rattle.ipnet_base.proofs.NestingLaws.{nested, nested_or_disjoint}
 use Rattle.ipnet_base.proofs.NetworkLaws.{same_from_block}
-use Rattle.ipnet_base.proofs.ListLaws.{pair_at, one_place, all_at, contains_at, pairs_weaker}
+use Rattle.ipnet_base.proofs.ListLaws.{pair_at, one_place, all_at, contains_at, pairs_weaker, any_from_contains}
 use Rattle.ipnet_base.proofs.OrderLaws.{IsBefore-asymmetric, IsBefore-transitive, IsBeforeOrEqual-transitive}
 use Rattle.ipnet_base.proofs.OrderLaws.{order_total}
 use Rattle.ipnet.specs.declared.net.IpNet.{IpNet}
 use Rattle.ipnet.specs.NetworkOf.{ip_network}
 use Rattle.ipnet.specs.NetLaws.{ip_valid}
-use Rattle.ipnet_sets.specs.Routes.{Route, networks_of, ip_routes, ip_networks, IsLongestMatch}
+use Rattle.ipnet_sets.specs.Routes.{Route, networks_of, ip_routes, ip_networks, IsLongestMatch, IsLongestHolder}
 use Rattle.ipnet_sets.specs.RouteSteps.{IsTable, IsPlaceAfter, IsNearest, AreLinks}
 
 -- the value at a place, as what it stands for
@@ -186,6 +186,26 @@ host_in k x a = nested (host x) k x (own_in (host x)) a (omega arith)
 
 pub in_from_host : (k : Network) (x : Address) → IsSubnetOf (host x) k → InBlock k x
 in_from_host k x sub = sub x (own_in (host x))
+
+-- no route holds an address if and only if none contains the network of this address
+pub none_holds : {V : Type 0} (t : List (Route V)) (x : Address) (n : Network) (IsOut : Type 0) → n ≡ host x
+    → IsOut ↔ ((k : Network) → Contains (networks_of t) k → ¬ (IsSubnetOf n k))
+    → IsOut ↔ ¬ (IsCoveredBy (networks_of t) x)
+none_holds t x n IsOut is none = (
+  λ out held. none.0 out held.1 (held.0, held.2, held.3)
+      (subst (λ m. IsSubnetOf m held.1) (sym is) (host_in held.1 x held.4)),
+  λ out. none.1 (λ k has sub. out (any_from_contains (λ m. InBlock m x) (networks_of t) k has
+      (in_from_host k x (subst (λ m. IsSubnetOf m k) is sub)))),
+)
+
+-- the longest route that contains the network of an address is the longest that holds the address
+pub longest_holds : {V : Type 0} (t : List (Route V)) (x : Address) (n : Network) (route : Route V) → n ≡ host x
+    → IsLongestHolder t n route → IsLongestMatch t x route
+longest_holds t x n route is h = record {
+  member = h.member;
+  holds = in_from_host route.0 x (subst (λ m. IsSubnetOf m route.0) is h.holds);
+  longest = λ other has held. h.longest other has (subst (λ m. IsSubnetOf m other.0) (sym is) (host_in other.0 x held));
+}
 
 -- the place of a network of the table is just before the place after it
 pub own_place : (networks : List Network) → IsTable networks → (n : Network) (place : ℕ)
