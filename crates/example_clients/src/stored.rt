@@ -30,10 +30,7 @@ pub fn fits_in(addresses: &IpSet, block: &Ipv4Net) -> bool
 /// ```text
 /// of the table of 10.0.0.0/8 with 7: the table of 10.0.0.0/8 with 7
 /// ```
-pub fn restored(
-    alloc: Global,
-    table: &RouteTable<u32>,
-) -> Result<RouteTable<u32>, TableImageError>
+pub fn restored(alloc: Global, table: &RouteTable<u32>) -> Result<RouteTable<u32>, TableImageError>
     ensures { IfOk result (λ copy. routes_of copy ≡ routes_of table.now) }
 {
     a_table_has_one_image();
