@@ -33,17 +33,17 @@ refused_last : (grammar : Grammar) (lines : List ContentLine) (line : ContentLin
     → AreEntryLines grammar lines entries refused → IsRefusedFor grammar line.text cause
     → AreEntryLines grammar (lines ++ line ∷ []) entries
     (refused ++ record { number = line.number; text = line.text; cause = cause } ∷ [])
-refused_last grammar [] line entries refused cause h told =
+refused_last grammar [] line entries refused cause h reported =
     let one : RefusedContent (Option Cause) = record { number = line.number; text = line.text; cause = cause } in
-    inr ([], record { cause = cause; told = told; next = ap (λ z. z ++ one ∷ []) h.1 }, (h.0, refl))
-refused_last grammar (l ∷ lines) line entries refused cause (inl (first, more, next, writes, h)) told =
-    inl (first, more, next, writes, refused_last grammar lines line more refused cause h told)
-refused_last grammar (l ∷ lines) line entries refused cause (inr (more, next, h)) told =
+    inr ([], record { cause = cause; reported = reported; next = ap (λ z. z ++ one ∷ []) h.1 }, (h.0, refl))
+refused_last grammar (l ∷ lines) line entries refused cause (inl (first, more, next, writes, h)) reported =
+    inl (first, more, next, writes, refused_last grammar lines line more refused cause h reported)
+refused_last grammar (l ∷ lines) line entries refused cause (inr (more, next, h)) reported =
     let one : RefusedContent (Option Cause) = record { number = line.number; text = line.text; cause = cause } in
     inr (
       more ++ one ∷ [],
-      record { cause = next.cause; told = next.told; next = ap (λ z. z ++ one ∷ []) next.next },
-      refused_last grammar lines line entries more cause h told,
+      record { cause = next.cause; reported = next.reported; next = ap (λ z. z ++ one ∷ []) next.next },
+      refused_last grammar lines line entries more cause h reported,
     )
 
 -- what is kept of a line that was read
@@ -53,15 +53,15 @@ line_last : (grammar : Grammar) (lines : List ContentLine) (line : ContentLine) 
     → IfOk read (λ entry. IsEntryOfLine grammar line (numbered entry)) → IfErr read (IsRefusedFor grammar line.text)
     → AddsRead line read old new refused refused_after
     → AreEntryLines grammar (lines ++ line ∷ []) (map numbered new) refused_after
-line_last grammar lines line (Ok entry) old new refused refused_after h is told adds =
+line_last grammar lines line (Ok entry) old new refused refused_after h is reported adds =
     subst (λ z. AreEntryLines grammar (lines ++ line ∷ []) (map numbered z) refused_after) (sym adds.0)
     (subst (AreEntryLines grammar (lines ++ line ∷ []) (map numbered (old ++ entry ∷ []))) (sym adds.1)
     (subst (λ z. AreEntryLines grammar (lines ++ line ∷ []) z refused) (sym (map_push numbered old entry))
     (entry_last grammar lines line (map numbered old) refused (numbered entry) h is)))
-line_last grammar lines line (Err cause) old new refused refused_after h is told adds =
+line_last grammar lines line (Err cause) old new refused refused_after h is reported adds =
     subst (λ z. AreEntryLines grammar (lines ++ line ∷ []) (map numbered z) refused_after) (sym adds.0)
     (subst (AreEntryLines grammar (lines ++ line ∷ []) (map numbered old)) (sym adds.1)
-    (refused_last grammar lines line (map numbered old) refused cause h told))
+    (refused_last grammar lines line (map numbered old) refused cause h reported))
 
 module _ {V : Type 0} (grammar : Grammar) (of : V → ContentLine) (items : List V) where
   -- the next line was read
@@ -72,11 +72,11 @@ module _ {V : Type 0} (grammar : Grammar) (of : V → ContentLine) (items : List
       → IfErr read (IsRefusedFor grammar (of (get_or items place v)).text)
       → AddsRead (of (get_or items place v)) read old new refused refused_after
       → AreEntryLines grammar (map of (take (place + 1) items)) (map numbered new) refused_after
-  line_next place v read old new refused refused_after less h is told adds =
+  line_next place v read old new refused refused_after less h is reported adds =
       subst (λ z. AreEntryLines grammar z (map numbered new) refused_after)
       (sym (ap (map of) (take_more items place v less) ∙ map_push of (take place items) (get_or items place v)))
       (line_last grammar (map of (take place items)) (of (get_or items place v)) read old new refused refused_after h is
-      told adds)
+      reported adds)
 
   -- all lines were read
   pub lines_all : (place : ℕ) (entries : List NumberedEntry) (refused : List (RefusedContent (Option Cause)))

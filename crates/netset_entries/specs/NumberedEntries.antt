@@ -3,7 +3,7 @@ use Rattle.std.specs.Prelude.{◌≡◌, ◌⊎◌, ℕ, List, [], ◌∷◌, Op
 use Rattle.ipnet_base.specs.Ranges.{AddressRange}
 use Rattle.ipnet.specs.declared.parser.Grammar.{Grammar}
 use Rattle.netset_lib.specs.declared.cause.Cause.{Cause}
-use Rattle.netset_lib.specs.Causes.{IsCauseTold}
+use Rattle.netset_lib.specs.Causes.{IsReportedCause}
 use Rattle.netset_lib.specs.ContentLines.{ContentLine, RefusedContent, AreContentLines, IsNextRefused}
 use Rattle.netset_lib.specs.Entries.{IsEntryText, IsNoEntry}
 
@@ -22,7 +22,7 @@ pub record IsEntryOfLine (grammar : Grammar) (line : ContentLine) (entry : Numbe
 
 -- The text is not an entry, and this is the cause if one can be named.
 abbrev pub IsRefusedFor : Grammar → List ℕ → Option Cause → Type 0
-IsRefusedFor grammar text cause = IsNoEntry grammar text × IsCauseTold grammar text cause
+IsRefusedFor grammar text cause = IsNoEntry grammar text × IsReportedCause grammar text cause
 
 -- Each of the lines is an entry or is refused. These are the entries and the refused lines, in order.
 abbrev pub AreEntryLines : Grammar → List ContentLine → List NumberedEntry → List (RefusedContent (Option Cause))

@@ -4,7 +4,7 @@ use Rattle.std.proofs.lemmas.List.Elements.{All-nil, All-cons}
 use Rattle.ipnet.specs.declared.parser.Grammar.{Grammar}
 use Rattle.netset_lib.specs.declared.cause.Cause.{Cause}
 use Rattle.netset_lib.specs.declared.cause.Cause.TheVariants as Causes
-use Rattle.netset_lib.specs.Causes.{Explains, IsCauseTold, IsFirstOf, causes}
+use Rattle.netset_lib.specs.Causes.{Explains, IsReportedCause, IsFirstOf, causes}
 use Rattle.netset_lib.specs.Entries.{IsNoEntry}
 
 listed : (cause : Cause) → Contains causes cause
@@ -32,15 +32,16 @@ listed Causes.HostName = (20, omega arith, refl)
 
 none_explains : (list : List Cause) (text : List ℕ) → IsFirstOf list text None → All (λ c. ¬ (Explains text c)) list
 none_explains [] text h = All-nil (λ c. ¬ (Explains text c))
-none_explains (c ∷ list) text (inl (is, told)) = absurd cc
+none_explains (c ∷ list) text (inl (is, reported)) = absurd cc
 none_explains (c ∷ list) text (inr (not, h)) =
     All-cons (λ z. ¬ (Explains text z)) c list not (none_explains list text h)
 
 -- a text that is no entry and has no cause is explained by none
-pub told_none : (grammar : Grammar) (text : List ℕ) (told : Option Cause) → IsCauseTold grammar text told
-    → told ≡ None → IsNoEntry grammar text → (cause : Cause) → ¬ (Explains text cause)
-told_none grammar text told (inl ((range, is), h)) none unread cause = absurd (unread range is)
-told_none grammar text told (inr (unread, h)) none other cause =
+pub reported_none : (grammar : Grammar) (text : List ℕ) (reported : Option Cause)
+    → IsReportedCause grammar text reported → reported ≡ None → IsNoEntry grammar text → (cause : Cause)
+    → ¬ (Explains text cause)
+reported_none grammar text reported (inl ((range, is), h)) none unread cause = absurd (unread range is)
+reported_none grammar text reported (inr (unread, h)) none other cause =
     let (k, within, same) = listed cause in
     subst (λ z. ¬ (Explains text z)) same
     (none_explains causes text (subst (IsFirstOf causes text) none h) k cause within)

@@ -13,8 +13,8 @@ use Rattle.ipnet_base.specs.Address.{Family, Address, IPv4}
 use Rattle.ipnet.specs.declared.parser.Grammar.{Grammar}
 use Rattle.ipnet.specs.declared.parser.Grammar.TheVariants.{Legacy}
 use Rattle.netset_lib.specs.declared.cause.Cause.{Cause}
-use Rattle.netset_lib.specs.Causes.{AreAddresses, Explains, IsCauseTold, IsCutAt, IsFirstOf, IsMaskNumber, IsMaskText}
-use Rattle.netset_lib.specs.Causes.{IsOfFamily, WritesAbove}
+use Rattle.netset_lib.specs.Causes.{AreAddresses, Explains, IsReportedCause, IsCutAt, IsFirstOf, IsMaskNumber}
+use Rattle.netset_lib.specs.Causes.{IsMaskText, IsOfFamily, WritesAbove}
 use Rattle.netset_lib.specs.CauseSteps.{WriteEnds}
 use Rattle.netset_lib.specs.Entries.{IsAddressText, IsNoEntry, ReadsAs, after_blanks, before_blanks}
 use Rattle.netset_lib.proofs.EntryTexts.{none_of, ok_map, one_address, some_of}
@@ -115,8 +115,8 @@ pair_none Related front back none = is_false (λ p. none (p.first, p.last) (p.wr
 -- ---- the first cause
 
 -- a text with a cause is not an entry
-pub told_no_entry : (grammar : Grammar) (text : List ℕ) (o : Option Cause) → IsCauseTold grammar text o
+pub reported_no_entry : (grammar : Grammar) (text : List ℕ) (o : Option Cause) → IsReportedCause grammar text o
     → IfSome o (λ _. IsNoEntry grammar text)
-told_no_entry grammar text None h = tt
-told_no_entry grammar text (Some c) (inl h) = let clash = h.1 in absurd cc
-told_no_entry grammar text (Some c) (inr h) = h.0
+reported_no_entry grammar text None h = tt
+reported_no_entry grammar text (Some c) (inl h) = let clash = h.1 in absurd cc
+reported_no_entry grammar text (Some c) (inr h) = h.0

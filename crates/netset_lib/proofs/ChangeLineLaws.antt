@@ -48,9 +48,9 @@ pub no_network_line : (grammar : Grammar) (Has : Network → Type 0) (text word 
     (cause : NetworkCause) → word ≡ leading_word text → rest ≡ after_word text
     → ((n : Network) → word ≡ sign_of (signed sign n)) → IsNoNetworkWord grammar rest
     → IsNetworkCause grammar rest cause → IsChangeCause grammar Has text (Causes.NoNetwork cause)
-no_network_line grammar Has text word rest sign cause first is has none told =
+no_network_line grammar Has text word rest sign cause first is has none reported =
     let any : Network = record { family = IPv4; number = 0; prefix_len = 0 } in (
       (signed sign any, sym first ∙ has any),
       subst (IsNoNetworkWord grammar) is none,
-      subst (λ z. IsNetworkCause grammar z cause) is told,
+      subst (λ z. IsNetworkCause grammar z cause) is reported,
     )

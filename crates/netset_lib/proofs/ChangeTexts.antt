@@ -211,7 +211,7 @@ module _ (grammar : Grammar) (Has : Network → Type 0) where
   not_refused : (change : ListChange) (cause : ChangeCause) → IsGoodChange Has change
       → IsChangeCause grammar Has (change_text change) cause → ⊥
   not_refused change Causes.UnknownSign good unknown = unknown (change, first_word_is change)
-  not_refused change (Causes.NoNetwork cause) good (sign, none, told) =
+  not_refused change (Causes.NoNetwork cause) good (sign, none, reported) =
       none (changed_network change) (line_is_change grammar change good.plain).network
   not_refused change Causes.Present good (n, is, has) =
       let here = line_is_change grammar change good.plain in
@@ -237,7 +237,7 @@ module _ (grammar : Grammar) (Has : Network → Type 0) where
             numbered k in
             let same = one_change grammar (change_text c) next.item c next.is.0 (line_is_change grammar c here.plain) in
             (next.next ∙ ap₂ (λ z zs. z ∷ zs) same rest.0, rest.1)
-        | inr (items, next, k) ↦ absurd (not_refused c next.cause here next.told)
+        | inr (items, next, k) ↦ absurd (not_refused c next.cause here next.reported)
       ]
 
   -- the text of changes is read as these changes

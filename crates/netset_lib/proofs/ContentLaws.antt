@@ -88,17 +88,17 @@ module _ {T C : Type 0} (Is : List ℕ → T → Type 0) (IsCause : List ℕ →
       (cause : C) → AreItems Is IsCause lines items refused → IsCause line.text cause
       → AreItems Is IsCause (lines ++ line ∷ []) items
       (refused ++ record { number = line.number; text = line.text; cause = cause } ∷ [])
-  refused_last [] line items refused cause h told =
+  refused_last [] line items refused cause h reported =
       let one : RefusedContent C = record { number = line.number; text = line.text; cause = cause } in
-      inr ([], record { cause = cause; told = told; next = ap (λ z. z ++ one ∷ []) h.1 }, (h.0, refl))
-  refused_last (l ∷ lines) line items refused cause (inl (more, next, h)) told =
-      inl (more, next, refused_last lines line more refused cause h told)
-  refused_last (l ∷ lines) line items refused cause (inr (more, next, h)) told =
+      inr ([], record { cause = cause; reported = reported; next = ap (λ z. z ++ one ∷ []) h.1 }, (h.0, refl))
+  refused_last (l ∷ lines) line items refused cause (inl (more, next, h)) reported =
+      inl (more, next, refused_last lines line more refused cause h reported)
+  refused_last (l ∷ lines) line items refused cause (inr (more, next, h)) reported =
       let one : RefusedContent C = record { number = line.number; text = line.text; cause = cause } in
       inr (
         more ++ one ∷ [],
-        record { cause = next.cause; told = next.told; next = ap (λ z. z ++ one ∷ []) next.next },
-        refused_last lines line items more cause h told,
+        record { cause = next.cause; reported = next.reported; next = ap (λ z. z ++ one ∷ []) next.next },
+        refused_last lines line items more cause h reported,
       )
 
   -- one line more was read
@@ -107,14 +107,14 @@ module _ {T C : Type 0} (Is : List ℕ → T → Type 0) (IsCause : List ℕ →
       → IfOk read (Is line.text) → IfErr read (IsCause line.text)
       → AddsRead line read items items_after refused refused_after
       → AreItems Is IsCause (lines ++ line ∷ []) items_after refused_after
-  read_last lines line (Ok item) items items_after refused refused_after h is told adds =
+  read_last lines line (Ok item) items items_after refused refused_after h is reported adds =
       subst (λ z. AreItems Is IsCause (lines ++ line ∷ []) z refused_after) (sym adds.0)
       (subst (AreItems Is IsCause (lines ++ line ∷ []) (items ++ item ∷ [])) (sym adds.1)
       (item_last lines line items refused item h is))
-  read_last lines line (Err cause) items items_after refused refused_after h is told adds =
+  read_last lines line (Err cause) items items_after refused refused_after h is reported adds =
       subst (λ z. AreItems Is IsCause (lines ++ line ∷ []) z refused_after) (sym adds.0)
       (subst (AreItems Is IsCause (lines ++ line ∷ []) items) (sym adds.1)
-      (refused_last lines line items refused cause h told))
+      (refused_last lines line items refused cause h reported))
 
   -- each item is what some text is
   pub items_all : (P : T → Type 0) → ((text : List ℕ) (item : T) → Is text item → P item)
@@ -157,7 +157,7 @@ items_same Is Other IsCause OtherCause f g (l ∷ lines) items refused (inl (mor
 items_same Is Other IsCause OtherCause f g (l ∷ lines) items refused (inr (more, next, h)) =
     inr (
       more,
-      record { cause = next.cause; told = g l.text next.cause next.told; next = next.next },
+      record { cause = next.cause; reported = g l.text next.cause next.reported; next = next.next },
       items_same Is Other IsCause OtherCause f g lines items more h,
     )
 
@@ -174,11 +174,11 @@ pub read_next : {T C V : Type 0} (Is : List ℕ → T → Type 0) (IsCause : Lis
     → IfErr read (IsCause (f (get_or xs i d)).text)
     → AddsRead (f (get_or xs i d)) read items items_after refused refused_after
     → AreItems Is IsCause (map f (take (i + 1) xs)) items_after refused_after
-read_next Is IsCause f xs i d read items items_after refused refused_after less h is told adds =
+read_next Is IsCause f xs i d read items items_after refused refused_after less h is reported adds =
     subst (λ z. AreItems Is IsCause z items_after refused_after)
     (sym (ap (map f) (take_more xs i d less) ∙ map_push f (take i xs) (get_or xs i d)))
-    (read_last Is IsCause (map f (take i xs)) (f (get_or xs i d)) read items items_after refused refused_after h is told
-    adds)
+    (read_last Is IsCause (map f (take i xs)) (f (get_or xs i d)) read items items_after refused refused_after h is
+    reported adds)
 
 -- all lines were read
 pub read_all : {T C V : Type 0} (Is : List ℕ → T → Type 0) (IsCause : List ℕ → C → Type 0) (f : V → ContentLine)

@@ -14,7 +14,7 @@ use Rattle.netset_lib.specs.declared.cause.Cause.{Cause}
 use Rattle.netset_lib.specs.declared.reader.LineReader.{LineReader}
 use Rattle.netset_lib.specs.declared.reading.Reading.{Reading}
 use Rattle.netset_lib.specs.declared.refused.RefusedLines.{RefusedLines}
-use Rattle.netset_lib.specs.Causes.{IsCauseTold}
+use Rattle.netset_lib.specs.Causes.{IsReportedCause}
 use Rattle.netset_lib.specs.Entries.{IsEntryText, IsNoEntry}
 use Rattle.netset_lib.specs.Lists.{ListEntry, Refusal, AreRead, AreContents, IsContents}
 use Rattle.netset_lib.specs.Reading.{HasMore, Adds, AreTexts, AddsLines, ReadsLines, NotesEntries}
@@ -46,11 +46,11 @@ entry_line grammar list line (b ∷ text) texts range more refusals some is h =
 
 refused_line : (grammar : Grammar) (list line : ℕ) (text : List ℕ) (texts : List (List ℕ)) (entries : List ListEntry)
     (more : List Refusal) → 0 < length text → IsNoEntry grammar text → (cause : Option Cause)
-    → IsCauseTold grammar text cause → AreRead grammar list (line + 1) texts entries more
+    → IsReportedCause grammar text cause → AreRead grammar list (line + 1) texts entries more
     → AreRead grammar list line (text ∷ texts) entries (refusal_at list line text cause ∷ more)
-refused_line grammar list line [] texts entries more some none cause told h = absurd (omega arith)
-refused_line grammar list line (b ∷ text) texts entries more some none cause told h =
-    inr (more, record { cause = cause; next = refl; no_entry = none; told = told }, h)
+refused_line grammar list line [] texts entries more some none cause reported h = absurd (omega arith)
+refused_line grammar list line (b ∷ text) texts entries more some none cause reported h =
+    inr (more, record { cause = cause; next = refl; no_entry = none; reported = reported }, h)
 
 -- ---- lines, one after the other
 
@@ -171,16 +171,16 @@ module _ (old new : LineReader) (text : List ℕ) (same_grammar : new.grammar �
   }
 
   pub adds_refusal : (IsMade : List ListEntry → Type 0) (cause : Option Cause) → 0 < length text
-      → IsNoEntry old.grammar text → IsCauseTold old.grammar text cause
+      → IsNoEntry old.grammar text → IsReportedCause old.grammar text cause
       → HasMore old.refused new.refused (refusal_at old.list (old.line + 1) text cause ∷ [])
       → new.has_entry ≡ old.has_entry → AddsLines old new (text ∷ []) IsMade IsMade
-  adds_refusal IsMade cause some none told one noted = record {
+  adds_refusal IsMade cause some none reported one noted = record {
     same_grammar = same_grammar;
     same_list = same_list;
     entries = [];
     refusals = refusal_at old.list (old.line + 1) text cause ∷ [];
     read = λ later more refused h. refused_line old.grammar old.list (old.line + 1) text later more refused some none
-        cause told (subst (λ n. AreRead old.grammar old.list (n + 1) later more refused) next h);
+        cause reported (subst (λ n. AreRead old.grammar old.list (n + 1) later more refused) next h);
     added = one;
     made = λ before h. subst IsMade (sym (append-nil before)) h;
     notes = none_noted old.has_entry new.has_entry noted;

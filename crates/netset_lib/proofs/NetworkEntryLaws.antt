@@ -83,9 +83,9 @@ network_none grammar text entry (Ok n) h written is = tt
 network_none grammar text entry (Err cause) h written is =
     range_is_no_network grammar text (range_cause grammar text entry h.1 written is)
 
-pub network_told : {N : Type 0} (grammar : Grammar) (text : List ℕ) (entry : Entry) (r : Result N NetworkCause)
+pub network_reported : {N : Type 0} (grammar : Grammar) (text : List ℕ) (entry : Entry) (r : Result N NetworkCause)
     → IfErr r (λ cause. (cause ≡ Causes.Range) × IsRange entry) → IsWrittenAs grammar text entry
     → IsEntryText grammar text (entry_range entry) → IfErr r (IsNetworkCause grammar text)
-network_told grammar text entry (Ok n) h written is = tt
-network_told grammar text entry (Err cause) h written is =
+network_reported grammar text entry (Ok n) h written is = tt
+network_reported grammar text entry (Err cause) h written is =
     subst (IsNetworkCause grammar text) (sym h.0) (range_cause grammar text entry h.1 written is)

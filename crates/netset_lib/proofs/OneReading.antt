@@ -19,7 +19,7 @@ use Rattle.ipnet.specs.NetworkTexts.{IsNetworkText}
 use Rattle.ipnet.proofs.WholeTexts.{one_network}
 use Rattle.ipnet_sets.specs.SetRanges.{range_of}
 use Rattle.netset_lib.specs.declared.cause.Cause.{Cause}
-use Rattle.netset_lib.specs.Causes.{causes, IsFirstOf, IsCauseTold}
+use Rattle.netset_lib.specs.Causes.{causes, IsFirstOf, IsReportedCause}
 use Rattle.netset_lib.specs.Entries.{IsAddressText, IsMaskedBy, IsMaskedText, IsNetworkOrMasked}
 use Rattle.netset_lib.specs.Entries.{IsPlainEntry, IsEntryText, IsRangeEntry, IsRangeFrom, before_blanks}
 use Rattle.netset_lib.specs.Entries.{after_blanks, block_range}
@@ -209,20 +209,20 @@ all_contents grammar (line ∷ lines) texts others (text, more, is, one, h) (oth
 
 -- ---- the entries and the refused lines
 
-first_cause : (order : List Cause) (text : List ℕ) (told other : Option Cause) → IsFirstOf order text told
-    → IsFirstOf order text other → told ≡ other
-first_cause [] text told other h k = h ∙ sym k
-first_cause (cause ∷ order) text told other (inl h) (inl k) = h.1 ∙ sym k.1
-first_cause (cause ∷ order) text told other (inl h) (inr k) = absurd (k.0 h.0)
-first_cause (cause ∷ order) text told other (inr h) (inl k) = absurd (h.0 k.0)
-first_cause (cause ∷ order) text told other (inr h) (inr k) = first_cause order text told other h.1 k.1
+first_cause : (order : List Cause) (text : List ℕ) (reported other : Option Cause) → IsFirstOf order text reported
+    → IsFirstOf order text other → reported ≡ other
+first_cause [] text reported other h k = h ∙ sym k
+first_cause (cause ∷ order) text reported other (inl h) (inl k) = h.1 ∙ sym k.1
+first_cause (cause ∷ order) text reported other (inl h) (inr k) = absurd (k.0 h.0)
+first_cause (cause ∷ order) text reported other (inr h) (inl k) = absurd (h.0 k.0)
+first_cause (cause ∷ order) text reported other (inr h) (inr k) = first_cause order text reported other h.1 k.1
 
-one_cause : (grammar : Grammar) (text : List ℕ) (told other : Option Cause) → IsCauseTold grammar text told
-    → IsCauseTold grammar text other → told ≡ other
-one_cause grammar text told other (inl (e, h)) (inl (d, k)) = h ∙ sym k
-one_cause grammar text told other (inl ((range, e), h)) (inr (none, k)) = absurd (none range e)
-one_cause grammar text told other (inr (none, h)) (inl ((range, d), k)) = absurd (none range d)
-one_cause grammar text told other (inr (none, h)) (inr (nor, k)) = first_cause causes text told other h k
+one_cause : (grammar : Grammar) (text : List ℕ) (reported other : Option Cause) → IsReportedCause grammar text reported
+    → IsReportedCause grammar text other → reported ≡ other
+one_cause grammar text reported other (inl (e, h)) (inl (d, k)) = h ∙ sym k
+one_cause grammar text reported other (inl ((range, e), h)) (inr (none, k)) = absurd (none range e)
+one_cause grammar text reported other (inr (none, h)) (inl ((range, d), k)) = absurd (none range d)
+one_cause grammar text reported other (inr (none, h)) (inr (nor, k)) = first_cause causes text reported other h k
 
 one_list : (grammar : Grammar) (list line : ℕ) (texts : List (List ℕ)) (entries others : List ListEntry)
     (refusals more : List Refusal) → AreRead grammar list line texts entries refusals
@@ -244,7 +244,7 @@ one_list grammar list line ((b ∷ text) ∷ texts) entries others refusals more
     absurd (next.no_entry also.range also.writes)
 one_list grammar list line ((b ∷ text) ∷ texts) entries others refusals more (inr (e, next, h)) (inr (d, also, k)) =
     let rest = one_list grammar list (line + 1) texts entries others e d h k in
-    let cause = one_cause grammar (b ∷ text) next.cause also.cause next.told also.told in (
+    let cause = one_cause grammar (b ∷ text) next.cause also.cause next.reported also.reported in (
       rest.0,
       next.next
           ∙ ap₂ (λ z zs. record { list = list; line = line; text = b ∷ text; cause = z } ∷ zs) cause rest.1

@@ -18,7 +18,7 @@ use Rattle.netset_lib.specs.RuleLines.{AreRulesRead, AreRuleLines, rule_and, ref
 use Rattle.netset_lib.specs.RuleLines.{IsRuleText, IsNoRule, IsRuleCause, leading_word, word_of}
 use Rattle.ipnet_rules.specs.declared.rules.Action.{Action}
 use Rattle.netset_lib.specs.declared.rule_line.RuleCause.TheVariants.{UnknownWord, NoEntry, TwoEntries, BadEntry}
-use Rattle.netset_lib.specs.Causes.{IsCauseTold}
+use Rattle.netset_lib.specs.Causes.{IsReportedCause}
 use Rattle.netset_lib.specs.Entries.{IsEntryText, IsNoEntry}
 use Rattle.netset_lib.proofs.CommentLaws.{behind}
 use Rattle.netset_lib.specs.RuleSteps.{joined, AddsText, AddsLine, AreReadUpTo, IsEntryCause}
@@ -52,7 +52,7 @@ text_more grammar number (b ∷ text) texts old new more (one, is, inl next) h =
 )
 text_more grammar number (b ∷ text) texts old new more (one, is, inr next) h = (
   refusal_and number (b ∷ text) next.cause more,
-  (more, h, inr (record { cause = next.cause; none = next.none; told = next.told; next = refl })),
+  (more, h, inr (record { cause = next.cause; none = next.none; reported = next.reported; next = refl })),
   ap (λ z. joined old (joined z more)) (sym next.next) ∙ sym (joined_more old one more)
       ∙ ap (λ z. joined z more) (sym is),
 )
@@ -127,11 +127,11 @@ adds_rule grammar number (b ∷ text) old new rule some is adds =
 pub adds_refusal : (grammar : Grammar) (number : ℕ) (text : List ℕ) (old new : RuleContents) (cause : RuleCause)
     → length text ≢ 0 → IsNoRule grammar text → IsRuleCause grammar text cause
     → new ≡ joined old (refusal_and number text cause no_rules) → AddsText grammar number text old new
-adds_refusal grammar number [] old new cause some none told adds = absurd (some refl)
-adds_refusal grammar number (b ∷ text) old new cause some none told adds = (
+adds_refusal grammar number [] old new cause some none reported adds = absurd (some refl)
+adds_refusal grammar number (b ∷ text) old new cause some none reported adds = (
   refusal_and number (b ∷ text) cause no_rules,
   adds,
-  inr (record { cause = cause; none = none; told = told; next = refl }),
+  inr (record { cause = cause; none = none; reported = reported; next = refl }),
 )
 
 -- no rule without an entry after the word
@@ -148,10 +148,10 @@ rule_cause grammar text word rest action UnknownWord first is has none h = absur
 rule_cause grammar text word rest action NoEntry first is has none h = ((action, sym first ∙ has), sym is ∙ h)
 rule_cause grammar text word rest action TwoEntries first is has none h =
     ((action, sym first ∙ has), λ e. h (subst (λ z. leading_word z ≡ z) (sym is) e))
-rule_cause grammar text word rest action (BadEntry told) first is has none h = (
+rule_cause grammar text word rest action (BadEntry reported) first is has none h = (
   (action, sym first ∙ has),
   λ e. h.0 (is ∙ e),
   subst (λ z. leading_word z ≡ z) is h.1,
   subst (IsNoEntry grammar) is none,
-  subst (λ z. IsCauseTold grammar z told) is h.2,
+  subst (λ z. IsReportedCause grammar z reported) is h.2,
 )

@@ -165,14 +165,14 @@ causes =
 
 -- The first of the causes whose sentence is true of the text, or `None` if no sentence is.
 abbrev pub IsFirstOf : List Cause → List ℕ → Option Cause → Type 0
-IsFirstOf [] text told = told ≡ None
-IsFirstOf (cause ∷ more) text told =
-    (Explains text cause × (told ≡ Some cause)) ⊎ ((¬ (Explains text cause)) × IsFirstOf more text told)
+IsFirstOf [] text reported = reported ≡ None
+IsFirstOf (cause ∷ more) text reported =
+    (Explains text cause × (reported ≡ Some cause)) ⊎ ((¬ (Explains text cause)) × IsFirstOf more text reported)
 
 -- An entry has no cause. Another text has the first of the causes that explains it.
 -- Example: `LengthAbove32` for `10.0.0.0/33` and `010.0.0.0/0033`; `EndsBeforeStart` for `10.0.0.9 - 10.0.0.1`;
 -- `LegacyAlone` for `010.0.0.1` in the strict grammar; `MaskAfterBlank`, and not `TwoEntries`, for
 -- `10.0.0.0 255.0.0.0`; none for `10.0.0.0/+33`.
-abbrev pub IsCauseTold : Grammar → List ℕ → Option Cause → Type 0
-IsCauseTold grammar text told = (((range : AddressRange) × IsEntryText grammar text range) × (told ≡ None))
-    ⊎ (IsNoEntry grammar text × IsFirstOf causes text told)
+abbrev pub IsReportedCause : Grammar → List ℕ → Option Cause → Type 0
+IsReportedCause grammar text reported = (((range : AddressRange) × IsEntryText grammar text range) × (reported ≡ None))
+    ⊎ (IsNoEntry grammar text × IsFirstOf causes text reported)

@@ -39,7 +39,7 @@ pub record IsNextItem {T : Type 0} (Is : List ℕ → T → Type 0) (text : List
 pub record IsNextRefused {C : Type 0} (IsCause : List ℕ → C → Type 0) (line : ContentLine)
     (refused more : List (RefusedContent C)) : Type 0 where
   pub cause : C
-  pub told : IsCause line.text cause
+  pub reported : IsCause line.text cause
   pub next : refused ≡ record { number = line.number; text = line.text; cause = cause } ∷ more
 
 -- Each of the lines is an item or is refused. These are the items and the refused lines, in order.

@@ -9,7 +9,7 @@ use Rattle.ipnet.specs.declared.parser.Grammar.{Grammar}
 use Rattle.ipnet.specs.Lines.{lines_of}
 use Rattle.ipnet_sets.specs.SetRanges.{IsInRange}
 use Rattle.netset_lib.specs.declared.cause.Cause.{Cause}
-use Rattle.netset_lib.specs.Causes.{IsCauseTold}
+use Rattle.netset_lib.specs.Causes.{IsReportedCause}
 use Rattle.netset_lib.specs.Entries.{IsEntryText, IsNoEntry, after_blanks, before_blanks}
 use Rattle.netset_lib.specs.Words.{leading}
 
@@ -91,7 +91,7 @@ pub record IsNextRefusal (grammar : Grammar) (list line : ℕ) (text : List ℕ)
   pub cause : Option Cause
   pub next : refusals ≡ record { list = list; line = line; text = text; cause = cause } ∷ more
   pub no_entry : IsNoEntry grammar text
-  pub told : IsCauseTold grammar text cause
+  pub reported : IsReportedCause grammar text cause
 
 -- Lines with these contents, the first with number `line`, have these entries and refused lines, in order. Empty ones
 -- are skipped.

@@ -5,7 +5,7 @@ use Rattle.ipnet_base.specs.Ranges.{AddressRange}
 use Rattle.ipnet.specs.declared.parser.Grammar.{Grammar}
 use Rattle.netset_lib.specs.declared.network_entry.NetworkCause.{NetworkCause}
 use Rattle.netset_lib.specs.declared.network_entry.NetworkCause.TheVariants.{Missing, Range, TwoWords, NoEntry}
-use Rattle.netset_lib.specs.Causes.{IsCauseTold}
+use Rattle.netset_lib.specs.Causes.{IsReportedCause}
 use Rattle.netset_lib.specs.Entries.{IsPlainEntry, IsRangeEntry, IsNoEntry, block_range}
 use Rattle.netset_lib.specs.RuleLines.{leading_word}
 
@@ -31,4 +31,4 @@ IsNetworkCause grammar text Missing = text ≡ []
 IsNetworkCause grammar text Range = IsSomeRange grammar text
 IsNetworkCause grammar text TwoWords = IsNoEntry grammar text × (leading_word text ≢ text)
 IsNetworkCause grammar text (NoEntry cause) = (text ≢ []) × (leading_word text ≡ text) × IsNoEntry grammar text
-    × IsCauseTold grammar text cause
+    × IsReportedCause grammar text cause

@@ -26,7 +26,7 @@ pub record IsListNetwork (grammar : Grammar) (text : List ℕ) (n : ListNetwork)
 -- Why a text is not a network: it is not one, for this cause.
 pub record IsNoListNetwork (grammar : Grammar) (text : List ℕ) (cause : NetworkCause) : Type 0 where
   pub none : IsNoNetworkWord grammar text
-  pub told : IsNetworkCause grammar text cause
+  pub reported : IsNetworkCause grammar text cause
 
 -- The bytes are a list of networks: each line is a network or an address, or is refused. Blanks, comments and a byte
 -- order mark are as in lists of entries. Example: of `10.0.0.0/8\n10.0.0.0-10.0.0.255\n`, line 2 is refused.

@@ -13,7 +13,7 @@ use Rattle.ipnet_rules.specs.Rules.{Matches}
 use Rattle.ipnet_sets.specs.SetRanges.{IsInRange}
 use Rattle.netset_lib.specs.declared.rule_line.RuleCause.{RuleCause}
 use Rattle.netset_lib.specs.declared.rule_line.RuleCause.TheVariants.{UnknownWord, NoEntry, TwoEntries, BadEntry}
-use Rattle.netset_lib.specs.Causes.{IsCauseTold}
+use Rattle.netset_lib.specs.Causes.{IsReportedCause}
 use Rattle.netset_lib.specs.Entries.{IsEntryText, IsNoEntry}
 use Rattle.netset_lib.specs.Lists.{AreContents, after_mark}
 
@@ -55,7 +55,7 @@ IsRuleCause grammar text NoEntry = HasRuleWord text × (after_word text ≡ [])
 IsRuleCause grammar text TwoEntries = HasRuleWord text × (leading_word (after_word text) ≢ after_word text)
 IsRuleCause grammar text (BadEntry cause) = HasRuleWord text × (after_word text ≢ [])
     × (leading_word (after_word text) ≡ after_word text) × IsNoEntry grammar (after_word text)
-    × IsCauseTold grammar (after_word text) cause
+    × IsReportedCause grammar (after_word text) cause
 
 -- The line of a rule: its number, from 1, and its contents.
 pub record LineOfRule : Type 0 where
@@ -105,7 +105,7 @@ pub record IsNextRuleRefusal (grammar : Grammar) (number : ℕ) (text : List ℕ
     0 where
   pub cause : RuleCause
   pub none : IsNoRule grammar text
-  pub told : IsRuleCause grammar text cause
+  pub reported : IsRuleCause grammar text cause
   pub next : contents ≡ refusal_and number text cause more
 
 -- Lines with these texts, the first with this number, have these rules and refused lines. Empty ones are skipped.

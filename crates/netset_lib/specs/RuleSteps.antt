@@ -5,7 +5,7 @@ use Rattle.ipnet.specs.declared.parser.Grammar.{Grammar}
 use Rattle.ipnet.specs.Lines.{lines_of}
 use Rattle.netset_lib.specs.declared.rule_line.RuleCause.{RuleCause}
 use Rattle.netset_lib.specs.declared.rule_line.RuleCause.TheVariants.{UnknownWord, NoEntry, TwoEntries, BadEntry}
-use Rattle.netset_lib.specs.Causes.{IsCauseTold}
+use Rattle.netset_lib.specs.Causes.{IsReportedCause}
 use Rattle.netset_lib.specs.declared.rule_list.RuleReader.{RuleReader}
 use Rattle.netset_lib.specs.Lists.{IsContents}
 use Rattle.netset_lib.specs.RuleContentsOf.{contents_of}
@@ -17,7 +17,8 @@ abbrev pub IsEntryCause : Grammar → List ℕ → RuleCause → Type 0
 IsEntryCause grammar text UnknownWord = ⊥
 IsEntryCause grammar text NoEntry = text ≡ []
 IsEntryCause grammar text TwoEntries = leading_word text ≢ text
-IsEntryCause grammar text (BadEntry cause) = (text ≢ []) × (leading_word text ≡ text) × IsCauseTold grammar text cause
+IsEntryCause grammar text (BadEntry cause) =
+    (text ≢ []) × (leading_word text ≡ text) × IsReportedCause grammar text cause
 
 -- The contents of one list of rules, and then of another.
 abbrev pub joined : RuleContents → RuleContents → RuleContents

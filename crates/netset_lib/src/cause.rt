@@ -2,7 +2,7 @@
 ghost use Rattle.std.specs.Prelude.{◌≡◌, ◌↔◌, IsTrue, IfOk, IfSome, Some, None};
 ghost use Rattle.std.specs.Str.{IsUtf8};
 ghost use Rattle.netset_lib.specs.Entries.{IsNoEntry};
-ghost use Rattle.netset_lib.specs.Causes.{Explains, IsCauseTold, IsFirstOf, causes};
+ghost use Rattle.netset_lib.specs.Causes.{Explains, IsReportedCause, IsFirstOf, causes};
 
 use crate::cause_bytes::{has_byte, has_star, is_host_name, is_no_ipv4};
 use crate::cause_parts::{Parts, is_cut_so, is_entry};
@@ -174,7 +174,7 @@ fn cause_in_text(
     grammar: Grammar,
 ) -> Result<Option<Cause>, AllocError>
     requires { IsUtf8 text.now }
-    ensures { IfOk result (IsCauseTold grammar text.now) }
+    ensures { IfOk result (IsReportedCause grammar text.now) }
 {
     match read_entry(room, text, grammar)? {
         Some(_) => Ok(None),
@@ -211,9 +211,9 @@ pub fn cause_of(
     text: &[u8],
     grammar: Grammar,
 ) -> Result<Option<Cause>, AllocError>
-    ensures told { IfOk result (IsCauseTold grammar text.now) }
-    ensures no_entry { IfOk result (λ told. IfSome told (λ _. IsNoEntry grammar text.now)) }
-    ensures none { IfOk result (λ told. told ≡ None → IsNoEntry grammar text.now
+    ensures reported { IfOk result (IsReportedCause grammar text.now) }
+    ensures no_entry { IfOk result (λ reported. IfSome reported (λ _. IsNoEntry grammar text.now)) }
+    ensures none { IfOk result (λ reported. reported ≡ None → IsNoEntry grammar text.now
         → (cause : Cause) → ¬ (Explains text.now cause)) }
 {
     match str::from_utf8(text) {

@@ -6,7 +6,7 @@ ghost use Rattle.ipnet_base.specs.Address.{Address};
 ghost use Rattle.ipnet_rules.specs.declared.rules.Action.{Action};
 ghost use Rattle.ipnet_rules.specs.Rules.{Matches};
 ghost use Rattle.ipnet_sets.specs.SetRanges.{IsInRange};
-ghost use Rattle.netset_lib.specs.Causes.{IsCauseTold};
+ghost use Rattle.netset_lib.specs.Causes.{IsReportedCause};
 ghost use Rattle.netset_lib.specs.Entries.{IsNoEntry};
 ghost use Rattle.netset_lib.specs.EntryOf.{entry_range};
 ghost use Rattle.netset_lib.specs.RuleLines.{word_of, leading_word, after_word, IsRuleText, IsNoRule, IsRuleCause};

@@ -151,9 +151,9 @@ fn reports(rt: HostRuntime) -> Result<(), Fail> {
         let mut faults = ArrayWriter::whole();
         let status = run_rules(read, PERMITTED, "a", &mut out, &mut faults);
         assert!(&rt; status == 2 && out.held().is_empty(), "{list}: status");
-        let told = faults.held();
-        assert!(&rt; told.starts_with(b"a:1: not a rule: "), "{list}: place");
-        assert!(&rt; told.ends_with(report.as_bytes()), "{list}: cause");
+        let reported = faults.held();
+        assert!(&rt; reported.starts_with(b"a:1: not a rule: "), "{list}: place");
+        assert!(&rt; reported.ends_with(report.as_bytes()), "{list}: cause");
     }
     Ok(())
 }

@@ -1,10 +1,10 @@
 use Rattle.std.proofs.Common.{◌≡◌, IfSome, None, inr, rules, subst}
 use Rattle.netset_lib.specs.declared.cause.Cause.{Cause}
-use Rattle.netset_lib.specs.Causes.{IsCauseTold, Explains}
+use Rattle.netset_lib.specs.Causes.{IsReportedCause, Explains}
 use Rattle.netset_lib.specs.Entries.{IsNoEntry}
 use Rattle.netset_lib.proofs.EntryTexts.{ok_map}
-use Rattle.netset_lib.proofs.CauseOrder.{told_none}
-use Rattle.netset_lib.proofs.CauseTexts.{told_no_entry}
+use Rattle.netset_lib.proofs.CauseOrder.{reported_none}
+use Rattle.netset_lib.proofs.CauseTexts.{reported_no_entry}
 use Rattle.netset_lib.proofs.ListLines.{entry_utf8}
 use Rattle.netset_lib.proofs.cause.cause_of.Goals as goal
 
@@ -12,24 +12,24 @@ pub returns-in-Ok-clause-no_entry : goal.returns-in-Ok-clause-no_entry
 returns-in-Ok-clause-no_entry c =
     let grammar = c.args.grammar in
     let same : c.in-Ok.text.now ≡ c.args.text.now = search rules in
-    ok_map (IsCauseTold grammar c.in-Ok.text.now) (λ told. IfSome told (λ _. IsNoEntry grammar c.args.text.now))
+    ok_map (IsReportedCause grammar c.in-Ok.text.now) (λ found. IfSome found (λ _. IsNoEntry grammar c.args.text.now))
     c.cause_in_text.result
-    (λ told h. told_no_entry grammar c.args.text.now told (subst (λ t. IsCauseTold grammar t told) same h))
+    (λ found h. reported_no_entry grammar c.args.text.now found (subst (λ t. IsReportedCause grammar t found) same h))
     c.cause_in_text.ensures
 
 pub returns-in-Ok-clause-none : goal.returns-in-Ok-clause-none
 returns-in-Ok-clause-none c =
     let grammar = c.args.grammar in
     let same : c.in-Ok.text.now ≡ c.args.text.now = search rules in
-    ok_map (IsCauseTold grammar c.in-Ok.text.now)
-    (λ told. told ≡ None → IsNoEntry grammar c.args.text.now → (cause : Cause) → ¬ (Explains c.args.text.now cause))
+    ok_map (IsReportedCause grammar c.in-Ok.text.now)
+    (λ found. found ≡ None → IsNoEntry grammar c.args.text.now → (cause : Cause) → ¬ (Explains c.args.text.now cause))
     c.cause_in_text.result
-    (λ told h. told_none grammar c.args.text.now told (subst (λ t. IsCauseTold grammar t told) same h))
+    (λ found h. reported_none grammar c.args.text.now found (subst (λ t. IsReportedCause grammar t found) same h))
     c.cause_in_text.ensures
 
 -- bytes that are not UTF-8 are no entry
-pub returns-in-Err-clause-told : goal.returns-in-Err-clause-told
-returns-in-Err-clause-told c =
+pub returns-in-Err-clause-reported : goal.returns-in-Err-clause-reported
+returns-in-Err-clause-reported c =
     inr (
       λ range is. c.in-Err.ensures.cases.0 (entry_utf8 c.args.grammar c.args.text.now range is),
       c.cause_in_bytes.ensures,

@@ -5,9 +5,9 @@ use Rattle.netset_lib.proofs.cause.first_cause.Goals as goal
 
 -- a cause that does not explain the text is passed over
 pub loop-index-preserved : goal.loop-index-preserved
-loop-index-preserved c = λ told h.
-    c.loop-index.invariant told
-    (subst (λ z. IsFirstOf z c.args.text.now told)
+loop-index-preserved c = λ reported h.
+    c.loop-index.invariant reported
+    (subst (λ z. IsFirstOf z c.args.text.now reported)
     (sym (drop_more c.args.causes.now c.loop-index.index _ c.loop-index-test.true))
     (inr (
       λ e.

@@ -6,4 +6,5 @@ use Rattle.netset_lib.proofs.cause.first_cause.Given as goal
 -- the first of the causes that are left is the first of all
 abbrev pub invariant-loop-index : goal.invariant-loop-index
 invariant-loop-index l =
-    (told : Option Cause) → IsFirstOf (drop l.index l.fn.causes) l.fn.text told → IsFirstOf l.fn.causes l.fn.text told
+    (reported : Option Cause) → IsFirstOf (drop l.index l.fn.causes) l.fn.text reported
+    → IsFirstOf l.fn.causes l.fn.text reported

@@ -47,6 +47,6 @@ returns-in_ok-cause-in-None g c =
     OnOk_then c.push-in-None.result c.push-in-None.ensures
     (λ more. reads_one old _ c.args.line.now text made made c.in_ok-text.ensures
     (adds_refusal old _ text refl refl c.in-Some.ensures.1 made cause
-    (some_bytes (length text) c.if-is_empty.ensures) none c.in_ok-cause-in-None.ensures.told
+    (some_bytes (length text) c.if-is_empty.ensures) none c.in_ok-cause-in-None.ensures.reported
     (subst (λ n. HasMore old.refused c.push-in-None.new.self (refusal_at old.list n text cause ∷ []))
     c.in-Some.ensures.1 more) refl))
