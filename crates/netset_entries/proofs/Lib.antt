@@ -6,3 +6,5 @@ pub mod CoverLaws
 pub mod SpanLaws
 pub mod RedundancyLaws
 pub mod PieceLaws
+pub mod OverlapLaws
+pub mod PairLaws
