@@ -8,3 +8,4 @@ pub mod RedundancyLaws
 pub mod PieceLaws
 pub mod OverlapLaws
 pub mod PairLaws
+pub mod OverlapTextLaws
