@@ -7,5 +7,7 @@ pub mod SpanLaws
 pub mod RedundancyLaws
 pub mod PieceLaws
 pub mod OverlapLaws
+pub mod RunLaws
 pub mod PairLaws
 pub mod OverlapTextLaws
+pub mod TwoListLaws

@@ -53,8 +53,8 @@ rise_after n spans up i j d le less =
     omega (arith, rises, at_i, at_j)
 
 -- all that is left
-pub rest_of : (n : ℕ) (spans : List Span) → take (length spans - n) (drop n spans) ≡ drop n spans
-rest_of n spans = take_all (length spans - n) (drop n spans) (omega (arith, length-drop n spans))
+pub rest_of : {X : Type 0} (n : ℕ) (xs : List X) → take (length xs - n) (drop n xs) ≡ drop n xs
+rest_of n xs = take_all (length xs - n) (drop n xs) (omega (arith, length-drop n xs))
 
 -- ---- the spans that a span meets
 

@@ -1,16 +1,18 @@
 -- The lines of pairs, written piece by piece.
-use Rattle.std.proofs.Common.{◌≡◌, ℕ, ◌+◌, ◌<◌, ◌≤◌, Bool, true, false, ◌||◌, List, [], ◌∷◌, ◌++◌, length, take, drop}
+use Rattle.std.proofs.Common.{◌≡◌, ℕ, zero, suc, ◌+◌, ◌<◌, ◌≤◌, ◌⊎◌, Bool, true, false, ◌||◌, List, [], ◌∷◌, ◌++◌, length, take, drop}
 use Rattle.std.proofs.Common.{get_or, Option, refl, sym, ap, ap₂, ◌∙◌, subst, append_assoc, append-nil}
 use Rattle.std.proofs.Common.{take-append-drop}
-use Rattle.std.proofs.Common.{take_all}
+use Rattle.std.proofs.Common.{take_all, arith, inl, inr}
+use Rattle.std.proofs.lemmas.Bool.{cases_lt, true≢false}
 use Rattle.std.proofs.lemmas.List.{take_more, drop_more, drop_all}
 use Rattle.ipnet_text.specs.Pieces.{IsInPieces}
 use Rattle.netset_entries.specs.declared.span.Span.{Span}
 use Rattle.netset_entries.specs.EntryTexts.{IsFront}
 use Rattle.netset_entries.specs.NumberedEntries.{NumberedEntry}
 use Rattle.netset_entries.specs.Overlaps.{Pair, pair_text, pair_lines, is_asked}
-use Rattle.netset_entries.specs.Sweeps.{pair_of, met, if_asked, asked_pairs, pairs_of, has_some}
+use Rattle.netset_entries.specs.Sweeps.{pair_of, met, if_asked, asked_pairs, pairs_of, has_some, no_span, AreRuns}
 use Rattle.netset_entries.proofs.PieceLaws.{no_piece, piece_more, piece_put, front_after}
+use Rattle.netset_entries.proofs.RunLaws.{not_asked}
 
 pub lines_append : (pairs more : List Pair) → pair_lines (pairs ++ more) ≡ pair_lines pairs ++ pair_lines more
 lines_append [] more = refl
@@ -65,20 +67,64 @@ module _ (entries : List NumberedEntry) (count : Option ℕ) (s : Span) (others 
       ap (asked_pairs entries count s) (take_more others i t less)
       ∙ asked_append entries count s (take i others) (get_or others i t ∷ [])
 
-  pub met_more : (a b c : Option (List ℕ)) (piece new start : List ℕ) (i : ℕ) (t : Span) → i < length others
-      → IsInPieces a b piece (start ++ pair_lines (to i))
-      → IsInPieces b c new (piece ++ pair_lines (one (get_or others i t)))
-      → IsInPieces a c new (start ++ pair_lines (to (i + 1)))
-  met_more a b c piece new start i t less h k =
-      step_more a b c piece new start (pair_lines (to i)) (pair_lines (one (get_or others i t)))
-      (pair_lines (to (i + 1))) h k
-      (ap pair_lines (to_next i t less) ∙ lines_append (to i) (one (get_or others i t)))
+  -- a pair that is not put is not asked for
+  not_put : (t : Span) → has_some (one t) ≡ false → is_asked count s.place t.place ≡ false
+  not_put t none = go (is_asked count s.place t.place) (pair_of entries s t) none
+    where
+      go : (b : Bool) (p : Pair) → has_some (if_asked b p ++ []) ≡ false → b ≡ false
+      go true p wrong = absurd (true≢false wrong)
+      go false p right = refl
 
-  pub met_some : (i : ℕ) (t : Span) (found more : Bool) → i < length others → found ≡ has_some (to i)
-      → more ≡ has_some (one (get_or others i t)) → (found || more) ≡ has_some (to (i + 1))
-  met_some i t found more less h k =
-      ap₂ (λ x y. x || y) h k ∙ sym (some_append (to i) (one (get_or others i t)))
-      ∙ sym (ap has_some (to_next i t less))
+  none_put : (t : Span) → is_asked count s.place t.place ≡ false → one t ≡ []
+  none_put t none = ap (λ b. if_asked b (pair_of entries s t) ++ []) none
+
+  -- the spans of a run are passed over
+  passed : (runs : List ℕ) (i n : ℕ) → AreRuns count others runs → i < length others
+      → is_asked count s.place (get_or others i no_span).place ≡ false → n ≤ get_or runs i 0 → to (i + n) ≡ to i
+  passed runs i zero h less none within = ap to (omega arith)
+  passed runs i (suc n) h less none within = elim (cases_lt (i + n) (length others)) [
+    | inl inside ↦
+        let same = (h.each i (omega (arith, less, h.enough))).same (i + n) (omega arith) (omega (arith, within))
+        inside in
+        let not = not_asked count s.place (get_or others i no_span).place (get_or others (i + n) no_span).place same
+        none in
+        ap to on ∙ to_next (i + n) no_span inside ∙ ap (λ z. to (i + n) ++ z) (none_put (get_or others (i + n) no_span) not)
+        ∙ append-nil (to (i + n)) ∙ before
+    | inr past ↦
+        ap (asked_pairs entries count s) (take_all (i + suc n) others (omega (arith, past))
+        ∙ sym (take_all (i + n) others past)) ∙ before
+  ]
+    where
+      on : i + suc n ≡ i + n + 1
+      on = omega arith
+
+      before : to (i + n) ≡ to i
+      before = passed runs i n h less none (omega (arith, within))
+
+  -- the next span after one whose pair is put, or after a run
+  pub met_step : (runs : List ℕ) (i n : ℕ) (more : Bool) → AreRuns count others runs → i < length others
+      → more ≡ has_some (one (get_or others i no_span)) → (more ≡ true → n ≡ 1)
+      → (more ≡ false → n ≡ get_or runs i 0) → to (i + n) ≡ to i ++ one (get_or others i no_span)
+  met_step runs i n true h less is put pass =
+      ap (λ z. to (i + z)) (put refl) ∙ to_next i no_span less
+  met_step runs i n false h less is put pass =
+      let none = not_put (get_or others i no_span) (sym is) in
+      passed runs i n h less none (omega (arith, pass refl))
+      ∙ sym (append-nil (to i))
+      ∙ ap (λ z. to i ++ z) (sym (none_put (get_or others i no_span) none))
+
+  pub met_more : (a b c : Option (List ℕ)) (piece new start : List ℕ) (i next : ℕ) (t : Span)
+      → to next ≡ to i ++ one t
+      → IsInPieces a b piece (start ++ pair_lines (to i)) → IsInPieces b c new (piece ++ pair_lines (one t))
+      → IsInPieces a c new (start ++ pair_lines (to next))
+  met_more a b c piece new start i next t is h k =
+      step_more a b c piece new start (pair_lines (to i)) (pair_lines (one t)) (pair_lines (to next)) h k
+      (ap pair_lines is ∙ lines_append (to i) (one t))
+
+  pub met_some : (i next : ℕ) (t : Span) (found more : Bool) → to next ≡ to i ++ one t → found ≡ has_some (to i)
+      → more ≡ has_some (one t) → (found || more) ≡ has_some (to next)
+  met_some i next t found more is h k =
+      ap₂ (λ x y. x || y) h k ∙ sym (some_append (to i) (one t)) ∙ sym (ap has_some is)
 
   pub met_front : (a b c : Option (List ℕ)) (piece start : List ℕ) (i : ℕ) (t : Span) → i < length others
       → IsInPieces a b piece (start ++ pair_lines (to i))

@@ -1,6 +1,7 @@
 -- The pairs that share addresses, found by going through the spans in the order of their first addresses.
 -- Only private contracts use these.
-use Rattle.std.specs.Prelude.{◌≡◌, ◌<◌, ℕ, Bool, true, false, nat_le, List, length, [], ◌∷◌, ◌++◌, Option, All, slice_index_or}
+use Rattle.std.specs.Prelude.{◌≡◌, ◌<◌, ◌≤◌, ◌+◌, ℕ, Bool, true, false, nat_lt, nat_le, List, length, [], ◌∷◌, ◌++◌}
+use Rattle.std.specs.Prelude.{Option, Some, None, All, slice_index_or}
 use Rattle.std.specs.List.{take_while}
 use Rattle.ipnet_base.specs.Address.{Family, IPv4}
 use Rattle.ipnet_sets.specs.SetRanges.{range_of}
@@ -56,3 +57,25 @@ pub record AreAllSpans (entries : List NumberedEntry) (f : Family) (spans : List
 -- the span is of an entry of the list and of the family
 abbrev pub IsPlaced : List NumberedEntry → Family → Span → Type 0
 IsPlaced entries f s = (s.place < length entries) × ((placed entries s).entry.range.family ≡ f)
+
+-- a value for indexes that a list does not have
+abbrev pub no_span : Span
+no_span = record { first = 0; last = 0; place = 0 }
+
+-- of two lists, the entry at the index is of the first
+abbrev pub is_of_first : Option ℕ → ℕ → Bool
+is_of_first None i = true
+is_of_first (Some count) i = nat_lt i count
+
+-- from the span at the index on, the entries of this many spans are of the same list
+pub record IsRun (count : Option ℕ) (spans : List Span) (most i run : ℕ) : Type 0 where
+  pub some : 0 < run
+  pub within : i + run ≤ most
+  pub same : (j : ℕ) → i ≤ j → j < i + run → j < length spans
+      → is_of_first count (slice_index_or spans j no_span).place
+      ≡ is_of_first count (slice_index_or spans i no_span).place
+
+-- a run for each of the spans, or for more
+pub record AreRuns (count : Option ℕ) (spans : List Span) (runs : List ℕ) : Type 0 where
+  pub enough : length spans ≤ length runs
+  pub each : (i : ℕ) → i < length runs → IsRun count spans (length runs) i (slice_index_or runs i 0)

@@ -9,6 +9,7 @@ pub mod overlaps_program;
 mod redundancy;
 mod redundant;
 pub mod redundant_program;
+mod runs;
 mod span;
 pub mod supernet;
 pub mod supernet_program;

@@ -13,12 +13,14 @@ ghost use Rattle.netset_entries.specs.Overlaps as pairs;
 ghost use Rattle.netset_entries.specs.Overlaps.{shared, both_of, pair_text, pair_lines, IsOverlapText, HasOverlap};
 ghost use Rattle.netset_entries.specs.Spans.{family_of};
 ghost use Rattle.netset_entries.specs.Sweeps.{pair_of, met, asked_pairs, pairs_of, has_some, IsPlaced, AreAllSpans};
+ghost use Rattle.netset_entries.specs.Sweeps.{AreRuns};
 ghost use Rattle.netset_lib.specs.Answers.{range_text};
 ghost use Rattle.netset_lib.specs.EntryOf.{entry_range};
 ghost use Rattle.netset_lib.specs.RuleAnswers.{IsWritten, IsFrontWritten};
 
 use crate::entry_list::EntryLine;
 use crate::lines::{WriteFailure, push_entry, write_if_long};
+use crate::runs::runs_of;
 use crate::span::{Family, Span, span_of, spans_of};
 use ipnet::text_laws::{ipv4_address_text_is_of_octets, ipv6_address_text_is_of_groups};
 use ipnet::{IpAddr, ipv4_addr_text, ipv6_addr_text};
@@ -178,30 +180,43 @@ fn put_pair<W: Write>(
     Ok(true)
 }
 
+/// Returns how many spans come next: one after a pair that is put, and the run else.
+fn step(is_put: bool, run: usize) -> usize
+    ensures put { is_put ≡ true → result ≡ 1 }
+    ensures passed { is_put ≡ false → result ≡ run }
+{
+    if is_put { 1 } else { run }
+}
+
 /// Appends the lines of the pairs of the span and the others that are asked for to the piece, and returns whether there
-/// are some. A piece that is long is written.
+/// are some. A piece that is long is written. `others` are spans and their runs: a run of spans that are not asked for
+/// is passed over at once.
 fn put_met<W: Write>(
     out: &mut W,
     piece: &mut Vec<u8>,
     asked: &Asked<'_>,
     span: &Span,
-    others: &[Span],
+    others: (&[Span], &[usize]),
 ) -> Result<bool, WriteFailure>
     requires placed { (f : addresses.Family) × IsPlaced (map numbered asked.now.entries.items) f span.now
-        × All (IsPlaced (map numbered asked.now.entries.items) f) others.now }
+        × All (IsPlaced (map numbered asked.now.entries.items) f) others.entry.0.now }
+    requires runs { AreRuns asked.now.count others.entry.0.now others.entry.1.now }
     ensures whole { let more = asked_pairs (map numbered asked.now.entries.items) asked.now.count span.now
-        others.now in OnOk result (IsInPieces (W.contents out.old) (W.contents out.new) piece.new.items
+        others.entry.0.now in OnOk result (IsInPieces (W.contents out.old) (W.contents out.new) piece.new.items
         (piece.old.items ++ pair_lines more)) }
     ensures found { let more = asked_pairs (map numbered asked.now.entries.items) asked.now.count span.now
-        others.now in IfOk result (λ found. found ≡ has_some more) }
+        others.entry.0.now in IfOk result (λ found. found ≡ has_some more) }
     ensures front { let more = asked_pairs (map numbered asked.now.entries.items) asked.now.count span.now
-        others.now in
+        others.entry.0.now in
         IsFront (W.contents out.old) (W.contents out.new) (piece.old.items ++ pair_lines more) }
 {
+    let (spans, runs) = others;
     let mut found = false;
-    for other in others {
-        let more = put_pair(out, piece, asked, span, other)?;
+    let mut at = 0;
+    while at < spans.len() {
+        let more = put_pair(out, piece, asked, span, &spans[at])?;
         found = found | more;
+        at += step(more, runs[at]);
     }
     Ok(found)
 }
@@ -223,8 +238,10 @@ fn put_pairs<W: Write>(
     piece: &mut Vec<u8>,
     asked: &Asked<'_>,
     spans: &[Span],
+    runs: &[usize],
 ) -> Result<bool, WriteFailure>
     requires spans { (f : addresses.Family) × AreAllSpans (map numbered asked.now.entries.items) f spans.now }
+    requires runs { AreRuns asked.now.count spans.now runs.now }
     ensures whole { let more = pairs_of (map numbered asked.now.entries.items) asked.now.count spans.now in
         OnOk result (IsInPieces (W.contents out.old) (W.contents out.new) piece.new.items
         (piece.old.items ++ pair_lines more)) }
@@ -236,7 +253,13 @@ fn put_pairs<W: Write>(
     let mut found = false;
     for index in 0..spans.len() {
         let others = met_by(&spans[index], &spans[index + 1..]);
-        let more = put_met(out, piece, asked, &spans[index], others)?;
+        let more = put_met(
+            out,
+            piece,
+            asked,
+            &spans[index],
+            (others, &runs[index + 1..]),
+        )?;
         found = found | more;
     }
     Ok(found)
@@ -266,6 +289,24 @@ fn all_spans(
     spans_of(alloc, entries, flags.as_slice(), family)
 }
 
+/// The spans of all entries of a family, in the order of their first addresses, and their runs.
+#[derive(Drop)]
+struct Sweep {
+    spans: Vec<Span>,
+    runs: Vec<usize>,
+}
+
+/// Returns the sweep of the entries of the family.
+fn sweep_of(alloc: Global, asked: &Asked<'_>, family: Family) -> Result<Sweep, AllocError>
+    ensures spans { IfOk result (λ sweep.
+        AreAllSpans (map numbered asked.now.entries.items) (family_of family) sweep.spans.items) }
+    ensures runs { IfOk result (λ sweep. AreRuns asked.now.count sweep.spans.items sweep.runs.items) }
+{
+    let spans = all_spans(alloc, asked.entries.as_slice(), family)?;
+    let runs = runs_of(alloc, asked.count, spans.as_slice())?;
+    Ok(Sweep { spans, runs })
+}
+
 /// Writes the lines of the pairs of entries that share an address and are asked for, and returns whether there are
 /// some. If it fails, nothing or a front of the lines has been written.
 pub(crate) fn write_overlaps<W: Write>(
@@ -281,11 +322,23 @@ pub(crate) fn write_overlaps<W: Write>(
         ⊎ IsFrontWritten (IsOverlapText (map numbered asked.now.entries.items) asked.now.count)
         (W.contents out.old) (W.contents out.new) }
 {
-    let ipv4 = all_spans(alloc, asked.entries.as_slice(), Family::Ipv4)?;
-    let ipv6 = all_spans(alloc, asked.entries.as_slice(), Family::Ipv6)?;
+    let ipv4 = sweep_of(alloc, asked, Family::Ipv4)?;
+    let ipv6 = sweep_of(alloc, asked, Family::Ipv6)?;
     let mut piece = Vec::new(alloc);
-    let first = put_pairs(out, &mut piece, asked, ipv4.as_slice())?;
-    let second = put_pairs(out, &mut piece, asked, ipv6.as_slice())?;
+    let first = put_pairs(
+        out,
+        &mut piece,
+        asked,
+        ipv4.spans.as_slice(),
+        ipv4.runs.as_slice(),
+    )?;
+    let second = put_pairs(
+        out,
+        &mut piece,
+        asked,
+        ipv6.spans.as_slice(),
+        ipv6.runs.as_slice(),
+    )?;
     write_whole(out, piece.as_slice())?;
     out.flush()?;
     Ok(first | second)

@@ -1,20 +1,18 @@
 -- The pairs of one span more.
-use Rattle.std.proofs.Common.{◌≡◌, ◌+◌, ◌-◌, ◌++◌, List, map, take, drop, length, get_or, sym, subst, ◌∙◌, ap, All, arith}
+use Rattle.std.proofs.Common.{◌≡◌, ◌+◌, ◌-◌, ◌++◌, List, map, take, drop, length, get_or, sym, subst, subst₂, ◌∙◌, ap, All, arith, leb}
 use Rattle.std.proofs.Common.{take_all}
 use Rattle.std.proofs.lemmas.List.{length-drop}
 use Rattle.std.proofs.lemmas.List.Elements.{All-drop, All-take, All-get_or}
+use Rattle.std.proofs.lemmas.List.Sums.{prefix_len-le-length}
 use Rattle.ipnet_text.specs.Pieces.{IsInPieces}
-use Rattle.netset_entries.specs.declared.span.Span.{Span}
 use Rattle.netset_entries.specs.EntryLineOf.{numbered}
 use Rattle.netset_entries.specs.EntryTexts.{IsFront}
 use Rattle.netset_entries.specs.Overlaps.{pair_lines}
-use Rattle.netset_entries.specs.Sweeps.{met, asked_pairs, has_some, IsPlaced}
+use Rattle.netset_entries.specs.Sweeps.{no_span, met, asked_pairs, has_some, IsPlaced, AreRuns}
 use Rattle.netset_entries.proofs.OverlapLaws.{all_placed, rest_of}
 use Rattle.netset_entries.proofs.PairLaws.{done_start, done_more, done_front}
+use Rattle.netset_entries.proofs.RunLaws.{runs_after, runs_up_to}
 use Rattle.netset_entries.proofs.overlaps.put_pairs.Goals as goal
-
-abbrev no_span : Span
-no_span = record { first = 0; last = 0; place = 0 }
 
 pub loop-index-init : goal.loop-index-init
 loop-index-init g c =
@@ -35,6 +33,13 @@ put_met-requires g c =
         subst (All (IsPlaced entries f)) (sym (c.met_by-others.ensures ∙ ap (met s) (rest_of (i + 1) spans)))
             (All-take (IsPlaced entries f) _ (drop (i + 1) spans) (All-drop (IsPlaced entries f) (i + 1) spans all)),
       );
+      runs = subst₂ (AreRuns c.args.asked.now.count)
+          (sym (c.met_by-others.ensures ∙ ap (met s) (rest_of (i + 1) spans)))
+          (sym (rest_of (i + 1) c.args.runs.now))
+          (runs_up_to c.args.asked.now.count _ (drop (i + 1) spans) (drop (i + 1) c.args.runs.now)
+          (prefix_len-le-length (λ t. leb t.first s.last) (drop (i + 1) spans))
+          (runs_after c.args.asked.now.count (i + 1) spans c.args.runs.now (omega (arith, c.loop-index-test.true))
+          c.requires.runs));
     }
 
 pub loop-index-preserved : goal.loop-index-preserved

@@ -1,0 +1,118 @@
+-- Runs of spans whose entries are of the same list.
+use Rattle.std.proofs.Common.{◌≡◌, ℕ, zero, suc, ◌+◌, ◌-◌, ◌<◌, ◌≤◌, ◌⊎◌, Bool, true, false, List, [], ◌∷◌, ◌++◌, length}
+use Rattle.std.proofs.Common.{take, drop, set, get_or, All, Option, Some, None, refl, sym, ap, ◌∙◌, subst, arith, inl, inr}
+use Rattle.std.proofs.Common.{nat_lt, nat_le, if◌then◌else◌}
+use Rattle.std.proofs.lemmas.Bool.{cases_lt, cases_eq, leb-false, lt-leb, ltb-true, ltb-false, lt-ltb, le-ltb, true≢false}
+use Rattle.std.proofs.lemmas.List.{get_or-drop, get_or-take, get_or-set_other, length-drop, length-set, length-take-le}
+use Rattle.std.proofs.lemmas.List.Elements.{All-get_or}
+use Rattle.std.proofs.lemmas.Grind.{get_or-set_at}
+use Rattle.netset_entries.specs.declared.span.Span.{Span}
+use Rattle.netset_entries.specs.Overlaps.{is_asked}
+use Rattle.netset_entries.specs.Sweeps.{no_span, is_of_first, IsRun, AreRuns}
+
+-- ---- which list
+
+-- if a pair is not asked for, no pair with another entry of the same list is
+pub not_asked : (count : Option ℕ) (i j k : ℕ) → is_of_first count k ≡ is_of_first count j
+    → is_asked count i j ≡ false → is_asked count i k ≡ false
+not_asked None i j k same none = none
+not_asked (Some n) i j k same none = go (nat_lt i n) none
+  where
+    of_second : (m : ℕ) → nat_le n m ≡ false → nat_lt m n ≡ true
+    of_second m no = lt-ltb m n (leb-false n m no)
+
+    go : (b : Bool) → (if b then nat_le n j else nat_lt j n) ≡ false
+        → (if b then nat_le n k else nat_lt k n) ≡ false
+    go true no = lt-leb n k (ltb-true k n (same ∙ of_second j no))
+    go false no = same ∙ no
+
+module _ (count : Option ℕ) where
+  abbrev side : List Span → ℕ → Bool
+  side spans i = is_of_first count (get_or spans i no_span).place
+
+  -- ---- making runs
+
+  pub runs_start : (spans : List Span) (runs : List ℕ) → length runs ≡ length spans → All (λ run. run ≡ 1) runs
+      → AreRuns count spans runs
+  runs_start spans runs long ones = record {
+    enough = omega (arith, long);
+    each = λ i less.
+        let one : get_or runs i 0 ≡ 1 = All-get_or (λ run. run ≡ 1) runs i 0 less ones in record {
+          some = omega (arith, one);
+          within = omega (arith, one, less);
+          same = λ j from lt inside.
+              let equal : j ≡ i = omega (arith, from, lt, one) in
+              ap (side spans) equal;
+        };
+  }
+
+  -- a span joins the run after it
+  pub runs_joined : (spans : List Span) (runs : List ℕ) (i : ℕ) → AreRuns count spans runs → i + 1 < length runs
+      → side spans i ≡ side spans (i + 1) → AreRuns count spans (set runs i (get_or runs (i + 1) 0 + 1))
+  runs_joined spans runs i h inside joins = record {
+    enough = omega (arith, h.enough, length-set runs i next);
+    each = λ k less. elim (cases_eq k i) [
+      | inl here ↦
+          let is : get_or (set runs i next) k 0 ≡ next =
+          get_or-set_at runs i k next 0 here (omega (arith, inside)) in record {
+            some = omega (arith, is);
+            within = omega (arith, is, here, old.within, length-set runs i next);
+            same = λ j from lt past. elim (cases_lt i j) [
+              | inl after ↦
+                  old.same j (omega (arith, after)) (omega (arith, lt, is, here)) past
+                  ∙ sym joins ∙ ap (side spans) (sym here)
+              | inr before ↦
+                  let equal : j ≡ k = omega (arith, before, from, here) in
+                  ap (side spans) equal
+            ];
+          }
+      | inr other ↦
+          let is : get_or (set runs i next) k 0 ≡ get_or runs k 0 = get_or-set_other runs i k next 0 other in
+          let known = h.each k (omega (arith, less, length-set runs i next)) in record {
+            some = omega (arith, is, known.some);
+            within = omega (arith, is, known.within, length-set runs i next);
+            same = λ j from lt past. known.same j from (omega (arith, lt, is)) past;
+          }
+    ];
+  }
+    where
+      abbrev next : ℕ
+      next = get_or runs (i + 1) 0 + 1
+
+      old : IsRun count spans (length runs) (i + 1) (get_or runs (i + 1) 0)
+      old = h.each (i + 1) inside
+
+  -- ---- parts of a list with runs
+
+  pub runs_after : (n : ℕ) (spans : List Span) (runs : List ℕ) → n ≤ length spans → AreRuns count spans runs
+      → AreRuns count (drop n spans) (drop n runs)
+  runs_after n spans runs within h = record {
+    enough = omega (arith, h.enough, length-drop n spans, length-drop n runs);
+    each = λ i less.
+        let old = h.each (n + i) (omega (arith, less, length-drop n runs)) in
+        let is : get_or (drop n runs) i 0 ≡ get_or runs (n + i) 0 = get_or-drop n runs i 0 in record {
+          some = omega (arith, is, old.some);
+          within = omega (arith, is, old.within, length-drop n runs, less);
+          same = λ j from lt inside.
+              ap (λ t. is_of_first count t.place) (get_or-drop n spans j no_span)
+              ∙ old.same (n + j) (omega (arith, from)) (omega (arith, lt, is))
+              (omega (arith, inside, length-drop n spans))
+              ∙ sym (ap (λ t. is_of_first count t.place) (get_or-drop n spans i no_span));
+        };
+  }
+
+  pub runs_up_to : (n : ℕ) (spans : List Span) (runs : List ℕ) → n ≤ length spans → AreRuns count spans runs
+      → AreRuns count (take n spans) runs
+  runs_up_to n spans runs within h = record {
+    enough = omega (arith, h.enough, within, length-take-le n spans within);
+    each = λ i less.
+        let old = h.each i less in record {
+          some = old.some;
+          within = old.within;
+          same = λ j from lt inside.
+              let short : j < n = omega (arith, inside, length-take-le n spans within) in
+              ap (λ t. is_of_first count t.place) (get_or-take n spans j no_span short)
+              ∙ old.same j from lt (omega (arith, short, within))
+              ∙ sym (ap (λ t. is_of_first count t.place) (get_or-take n spans i no_span (omega (arith, from, short))));
+        };
+  }

@@ -1,0 +1,45 @@
+-- What holds of the entries of two lists, one after the other.
+use Rattle.std.proofs.Common.{◌≡◌, ℕ, List, [], ◌++◌, length, map, Option, Some, sym, ap, ◌∙◌, subst, subst₂}
+use Rattle.std.proofs.lemmas.List.{map-append, length-map}
+use Rattle.ipnet.specs.declared.parser.Grammar.{Grammar}
+use Rattle.netset_lib.specs.RuleAnswers.{IsWritten, IsFrontWritten}
+use Rattle.netset_entries.specs.declared.entry_list.EntryLine.{EntryLine}
+use Rattle.netset_entries.specs.EntryLineOf.{numbered}
+use Rattle.netset_entries.specs.NumberedEntries.{NumberedEntry, IsEntryList}
+use Rattle.netset_entries.specs.Overlaps.{HoldsOfTwo, IsOverlapText, IsOverlapAnswerOfTwo}
+
+module _ (grammar : Grammar) (bytes other : List ℕ) (first second joined : List EntryLine) (count : Option ℕ)
+    (read : IsEntryList grammar bytes (map numbered first) [])
+    (other_read : IsEntryList grammar other (map numbered second) [])
+    (is : joined ≡ first ++ second) (counted : count ≡ Some (length first)) where
+
+  pub of_two : (Holds : List NumberedEntry → Option ℕ → Type 0) → Holds (map numbered joined) count
+      → HoldsOfTwo grammar bytes other Holds
+  of_two Holds h = record {
+    entries = map numbered first;
+    read = read;
+    right = record {
+      entries = map numbered second;
+      read = other_read;
+      right = subst₂ Holds (ap (map numbered) is ∙ map-append numbered first second)
+          (counted ∙ ap Some (sym (length-map numbered first))) h;
+    };
+  }
+
+  pub written_of_two : (a b : Option (List ℕ)) → IsWritten (IsOverlapText (map numbered joined) count) a b
+      → IsWritten (IsOverlapAnswerOfTwo grammar bytes other) a b
+  written_of_two a b h = record {
+    text = h.text;
+    right = of_two (λ entries count. IsOverlapText entries count h.text) h.right;
+    written = h.written;
+  }
+
+  pub front_of_two : (a b : Option (List ℕ)) → IsFrontWritten (IsOverlapText (map numbered joined) count) a b
+      → IsFrontWritten (IsOverlapAnswerOfTwo grammar bytes other) a b
+  front_of_two a b h = record {
+    text = h.text;
+    right = of_two (λ entries count. IsOverlapText entries count h.text) h.right;
+    front = h.front;
+    begins = h.begins;
+    written = h.written;
+  }
