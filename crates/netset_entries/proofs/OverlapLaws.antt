@@ -6,7 +6,7 @@ use Rattle.std.proofs.Common.{arith, inl, inr, leb}
 use Rattle.std.specs.List.{take_while, prefix_len}
 use Rattle.std.specs.List.Sorted.{IsNonDecreasingBy, IsPartitionPoint}
 use Rattle.std.proofs.lemmas.Bool.{cases_lt, leb-true, leb-false, le-leb, true≢false}
-use Rattle.std.proofs.lemmas.List.{get_or-drop, length-drop, get_or-take}
+use Rattle.std.proofs.lemmas.List.{length-drop, get_or-take}
 use Rattle.std.proofs.lemmas.List.Elements.{Contains-append_left, Contains-append_right, Contains-append_cases}
 use Rattle.std.proofs.lemmas.List.Sums.{prefix_len_is, prefix_len_passes, prefix_len_stops, prefix_len-le-length}
 use Rattle.std.proofs.lemmas.List.Folds.{length-prefix_len}
@@ -36,21 +36,13 @@ not_both s t (inl a) (inr b) = omega (arith, a, b.0)
 not_both s t (inr a) (inl b) = omega (arith, a.0, b)
 not_both s t (inr a) (inr b) = omega (arith, a.1, b.1)
 
-pub starts_rise : (spans : List Span) → AllPairs IsBeforeSpan spans → IsNonDecreasingBy (λ s. s.first) spans
+starts_rise : (spans : List Span) → AllPairs IsBeforeSpan spans → IsNonDecreasingBy (λ s. s.first) spans
 starts_rise spans up i j d le less = elim (cases_lt i j) [
   | inl lt ↦ first_le (get_or spans i d) (get_or spans j d) (up i j d lt less)
   | inr ge ↦
       let same : i ≡ j = omega (arith, le, ge) in
       omega (arith, ap (λ k. (get_or spans k d).first) same)
 ]
-
-pub rise_after : (n : ℕ) (spans : List Span) → IsNonDecreasingBy (λ s. s.first) spans
-    → IsNonDecreasingBy (λ s. s.first) (drop n spans)
-rise_after n spans up i j d le less =
-    let at_i = ap (λ s. s.first) (get_or-drop n spans i d) in
-    let at_j = ap (λ s. s.first) (get_or-drop n spans j d) in
-    let rises = up (n + i) (n + j) d (omega (arith, le)) (omega (arith, less, length-drop n spans)) in
-    omega (arith, rises, at_i, at_j)
 
 -- all that is left
 pub rest_of : {X : Type 0} (n : ℕ) (xs : List X) → take (length xs - n) (drop n xs) ≡ drop n xs

@@ -38,7 +38,11 @@ module _ (entries : List NumberedEntry) (count : Option ℕ) (ipv4 ipv6 : List S
   whole_cut = lines_append ipv4_pairs ipv6_pairs
 
   whole_right : IsOverlapText entries count whole
-  whole_right = record { pairs = ipv4_pairs ++ ipv6_pairs; are = overlaps_found entries count ipv4 ipv6 ipv4_all ipv6_all; spelled = refl; }
+  whole_right = record {
+    pairs = ipv4_pairs ++ ipv6_pairs;
+    are = overlaps_found entries count ipv4 ipv6 ipv4_all ipv6_all;
+    spelled = refl;
+  }
 
   -- a front of them is written
   cut_short : (a b : Option (List ℕ)) → IsFront a b whole → IsFrontWritten (IsOverlapText entries count) a b
@@ -54,18 +58,21 @@ module _ (entries : List NumberedEntry) (count : Option ℕ) (ipv4 ipv6 : List S
   both_put : (a b c : Option (List ℕ)) (one two : List ℕ) → IsInPieces a b one ipv4_lines
       → IsInPieces b c two (one ++ ipv6_lines) → IsInPieces a c two whole
   both_put a b c one two h k =
-      subst (IsInPieces a c two) (sym whole_cut) (piece_more a b c one (one ++ ipv6_lines) two ipv4_lines ipv6_lines h refl k)
+      subst (IsInPieces a c two) (sym whole_cut)
+      (piece_more a b c one (one ++ ipv6_lines) two ipv4_lines ipv6_lines h refl k)
 
   -- the first family fails
   pub first_front : (a b : Option (List ℕ)) → IsFront a b ipv4_lines → IsFrontWritten (IsOverlapText entries count) a b
-  first_front a b front = cut_short a b (front_after a a b ipv4_lines ipv4_lines ipv6_lines whole (no_piece a ipv4_lines ipv4_lines refl)
+  first_front a b front = cut_short a b (front_after a a b ipv4_lines ipv4_lines ipv6_lines whole
+      (no_piece a ipv4_lines ipv4_lines refl)
       whole_cut front)
 
   -- the second family fails
   pub second_front : (a b c : Option (List ℕ)) (one : List ℕ) → IsInPieces a b one ipv4_lines
       → IsFront b c (one ++ ipv6_lines) → IsFrontWritten (IsOverlapText entries count) a c
   second_front a b c one h front = cut_short a c (front_after a b c (one ++ ipv6_lines) whole [] whole
-      (subst (IsInPieces a b (one ++ ipv6_lines)) (sym whole_cut) (piece_put a b one (one ++ ipv6_lines) ipv4_lines ipv6_lines h refl))
+      (subst (IsInPieces a b (one ++ ipv6_lines)) (sym whole_cut)
+      (piece_put a b one (one ++ ipv6_lines) ipv4_lines ipv6_lines h refl))
       (sym (append-nil whole)) front)
 
   -- the last write fails

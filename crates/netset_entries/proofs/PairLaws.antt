@@ -1,5 +1,6 @@
 -- The lines of pairs, written piece by piece.
-use Rattle.std.proofs.Common.{◌≡◌, ℕ, zero, suc, ◌+◌, ◌<◌, ◌≤◌, ◌⊎◌, Bool, true, false, ◌||◌, List, [], ◌∷◌, ◌++◌, length, take, drop}
+use Rattle.std.proofs.Common.{◌≡◌, ℕ, zero, suc, ◌+◌, ◌<◌, ◌≤◌, ◌⊎◌, Bool, true, false}
+use Rattle.std.proofs.Common.{◌||◌, List, [], ◌∷◌, ◌++◌, length, take, drop}
 use Rattle.std.proofs.Common.{get_or, Option, refl, sym, ap, ap₂, ◌∙◌, subst, append_assoc, append-nil}
 use Rattle.std.proofs.Common.{take-append-drop}
 use Rattle.std.proofs.Common.{take_all, arith, inl, inr}
@@ -86,9 +87,9 @@ module _ (entries : List NumberedEntry) (count : Option ℕ) (s : Span) (others 
     | inl inside ↦
         let same = (h.each i (omega (arith, less, h.enough))).same (i + n) (omega arith) (omega (arith, within))
         inside in
-        let not = not_asked count s.place (get_or others i no_span).place (get_or others (i + n) no_span).place same
-        none in
-        ap to on ∙ to_next (i + n) no_span inside ∙ ap (λ z. to (i + n) ++ z) (none_put (get_or others (i + n) no_span) not)
+        let t = get_or others (i + n) no_span in
+        let not = not_asked count s.place (get_or others i no_span).place t.place same none in
+        ap to on ∙ to_next (i + n) no_span inside ∙ ap (λ z. to (i + n) ++ z) (none_put t not)
         ∙ append-nil (to (i + n)) ∙ before
     | inr past ↦
         ap (asked_pairs entries count s) (take_all (i + suc n) others (omega (arith, past))

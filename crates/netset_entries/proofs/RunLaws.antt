@@ -1,8 +1,8 @@
 -- Runs of spans whose entries are of the same list.
-use Rattle.std.proofs.Common.{◌≡◌, ℕ, zero, suc, ◌+◌, ◌-◌, ◌<◌, ◌≤◌, ◌⊎◌, Bool, true, false, List, [], ◌∷◌, ◌++◌, length}
-use Rattle.std.proofs.Common.{take, drop, set, get_or, All, Option, Some, None, refl, sym, ap, ◌∙◌, subst, arith, inl, inr}
+use Rattle.std.proofs.Common.{◌≡◌, ℕ, zero, suc, ◌+◌, ◌-◌, ◌<◌, ◌≤◌, ◌⊎◌, Bool, true, false, List, length, take, drop}
+use Rattle.std.proofs.Common.{set, get_or, All, Option, Some, None, refl, sym, ap, ◌∙◌, arith, inl, inr}
 use Rattle.std.proofs.Common.{nat_lt, nat_le, if◌then◌else◌}
-use Rattle.std.proofs.lemmas.Bool.{cases_lt, cases_eq, leb-false, lt-leb, ltb-true, ltb-false, lt-ltb, le-ltb, true≢false}
+use Rattle.std.proofs.lemmas.Bool.{cases_lt, cases_eq, leb-false, lt-leb, ltb-true, lt-ltb}
 use Rattle.std.proofs.lemmas.List.{get_or-drop, get_or-take, get_or-set_other, length-drop, length-set, length-take-le}
 use Rattle.std.proofs.lemmas.List.Elements.{All-get_or}
 use Rattle.std.proofs.lemmas.Grind.{get_or-set_at}
@@ -49,38 +49,34 @@ module _ (count : Option ℕ) where
   -- a span joins the run after it
   pub runs_joined : (spans : List Span) (runs : List ℕ) (i : ℕ) → AreRuns count spans runs → i + 1 < length runs
       → side spans i ≡ side spans (i + 1) → AreRuns count spans (set runs i (get_or runs (i + 1) 0 + 1))
-  runs_joined spans runs i h inside joins = record {
-    enough = omega (arith, h.enough, length-set runs i next);
-    each = λ k less. elim (cases_eq k i) [
-      | inl here ↦
-          let is : get_or (set runs i next) k 0 ≡ next =
-          get_or-set_at runs i k next 0 here (omega (arith, inside)) in record {
-            some = omega (arith, is);
-            within = omega (arith, is, here, old.within, length-set runs i next);
-            same = λ j from lt past. elim (cases_lt i j) [
-              | inl after ↦
-                  old.same j (omega (arith, after)) (omega (arith, lt, is, here)) past
-                  ∙ sym joins ∙ ap (side spans) (sym here)
-              | inr before ↦
-                  let equal : j ≡ k = omega (arith, before, from, here) in
-                  ap (side spans) equal
-            ];
-          }
-      | inr other ↦
-          let is : get_or (set runs i next) k 0 ≡ get_or runs k 0 = get_or-set_other runs i k next 0 other in
-          let known = h.each k (omega (arith, less, length-set runs i next)) in record {
-            some = omega (arith, is, known.some);
-            within = omega (arith, is, known.within, length-set runs i next);
-            same = λ j from lt past. known.same j from (omega (arith, lt, is)) past;
-          }
-    ];
-  }
-    where
-      abbrev next : ℕ
-      next = get_or runs (i + 1) 0 + 1
-
-      old : IsRun count spans (length runs) (i + 1) (get_or runs (i + 1) 0)
-      old = h.each (i + 1) inside
+  runs_joined spans runs i h inside joins =
+      let next = get_or runs (i + 1) 0 + 1 in
+      let old : IsRun count spans (length runs) (i + 1) (get_or runs (i + 1) 0) = h.each (i + 1) inside in record {
+        enough = omega (arith, h.enough, length-set runs i next);
+        each = λ k less. elim (cases_eq k i) [
+          | inl here ↦
+              let is : get_or (set runs i next) k 0 ≡ next =
+              get_or-set_at runs i k next 0 here (omega (arith, inside)) in record {
+                some = omega (arith, is);
+                within = omega (arith, is, here, old.within, length-set runs i next);
+                same = λ j from lt past. elim (cases_lt i j) [
+                  | inl after ↦
+                      old.same j (omega (arith, after)) (omega (arith, lt, is, here)) past
+                      ∙ sym joins ∙ ap (side spans) (sym here)
+                  | inr before ↦
+                      let equal : j ≡ k = omega (arith, before, from, here) in
+                      ap (side spans) equal
+                ];
+              }
+          | inr other ↦
+              let is : get_or (set runs i next) k 0 ≡ get_or runs k 0 = get_or-set_other runs i k next 0 other in
+              let known = h.each k (omega (arith, less, length-set runs i next)) in record {
+                some = omega (arith, is, known.some);
+                within = omega (arith, is, known.within, length-set runs i next);
+                same = λ j from lt past. known.same j from (omega (arith, lt, is)) past;
+              }
+        ];
+      }
 
   -- ---- parts of a list with runs
 

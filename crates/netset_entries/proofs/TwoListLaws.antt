@@ -1,4 +1,4 @@
--- What holds of the entries of two lists, one after the other.
+-- The entries of two lists, one after the other, and the text of their pairs.
 use Rattle.std.proofs.Common.{◌≡◌, ℕ, List, [], ◌++◌, length, map, Option, Some, sym, ap, ◌∙◌, subst, subst₂}
 use Rattle.std.proofs.lemmas.List.{map-append, length-map}
 use Rattle.ipnet.specs.declared.parser.Grammar.{Grammar}
@@ -12,7 +12,6 @@ module _ (grammar : Grammar) (bytes other : List ℕ) (first second joined : Lis
     (read : IsEntryList grammar bytes (map numbered first) [])
     (other_read : IsEntryList grammar other (map numbered second) [])
     (is : joined ≡ first ++ second) (counted : count ≡ Some (length first)) where
-
   pub of_two : (Holds : List NumberedEntry → Option ℕ → Type 0) → Holds (map numbered joined) count
       → HoldsOfTwo grammar bytes other Holds
   of_two Holds h = record {

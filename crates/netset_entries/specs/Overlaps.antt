@@ -28,8 +28,9 @@ BeginsBefore p q = (family_index p.entry.range.family < family_index q.entry.ran
     × ((p.entry.range.start < q.entry.range.start)
     ⊎ ((p.entry.range.start ≡ q.entry.range.start) × (p.index < q.index))))
 
--- Of one list, all pairs are asked for. Of two, which come one after the other, only the pairs with one entry of the
--- first, which has this number of entries. Example: with 2 the pairs of the indexes 0 and 2, but not 0 and 1.
+-- If there is one list, all pairs are asked for. If there are two, which come one after the other, a pair is asked for
+-- if one entry is of the first list, which has this number of entries, and the other is not.
+-- Example: with 2 the pair of the indexes 0 and 2, but not the pair of 0 and 1.
 abbrev pub is_asked : Option ℕ → ℕ → ℕ → Bool
 is_asked None i j = true
 is_asked (Some count) i j = if nat_lt i count then nat_le count j else nat_lt j count

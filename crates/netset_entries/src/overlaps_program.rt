@@ -13,7 +13,7 @@ use ipnet::Grammar;
 use std::alloc::{AllocError, Global};
 use std::io::Write;
 
-/// Appends the entries of the second list to those of the first.
+/// Joins the entries of two lists, one list after the other.
 fn joined<'a>(
     first: Vec<EntryLine<'a>>,
     second: Vec<EntryLine<'a>>,

@@ -1,7 +1,5 @@
 -- The pairs of one span more.
-use Rattle.std.proofs.Common.{◌≡◌, ◌+◌, ◌-◌, ◌++◌, List, map, take, drop, length, get_or, sym, subst, subst₂, ◌∙◌, ap, All, arith, leb}
-use Rattle.std.proofs.Common.{take_all}
-use Rattle.std.proofs.lemmas.List.{length-drop}
+use Rattle.std.proofs.Common.{◌≡◌, ◌+◌, ◌++◌, map, drop, get_or, sym, subst, subst₂, ◌∙◌, ap, All, arith, leb}
 use Rattle.std.proofs.lemmas.List.Elements.{All-drop, All-take, All-get_or}
 use Rattle.std.proofs.lemmas.List.Sums.{prefix_len-le-length}
 use Rattle.ipnet_text.specs.Pieces.{IsInPieces}
