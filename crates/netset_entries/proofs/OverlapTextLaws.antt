@@ -1,6 +1,6 @@
 -- The lines of the pairs of both families, one family after the other.
 use Rattle.std.proofs.Common.{◌≡◌, ℕ, Bool, true, false, ◌||◌, List, [], ◌++◌, Option, refl, sym, ap, ap₂, ◌∙◌, subst}
-use Rattle.std.proofs.Common.{append-nil}
+use Rattle.std.proofs.Common.{append-nil, Result, Ok}
 use Rattle.std.specs.Io.KnownBytes.{Appends, Keeps}
 use Rattle.std.proofs.KnownBytes.{Appends-kept}
 use Rattle.ipnet_base.specs.Address.{IPv4, IPv6}
@@ -15,6 +15,12 @@ use Rattle.netset_entries.specs.Sweeps.{pairs_of, has_some, AreAllSpans}
 use Rattle.netset_entries.proofs.OverlapLaws.{overlaps_found, some_overlap, no_overlap}
 use Rattle.netset_entries.proofs.PairLaws.{lines_append, some_append}
 use Rattle.netset_entries.proofs.PieceLaws.{no_piece, piece_more, piece_put, front_after}
+
+ok_is : {E : Type 0} (found known : Bool) → ◌≡◌ {A = Result Bool E} (Ok found) (Ok known) → found ≡ known
+ok_is true true ok = refl
+ok_is true false ok = absurd cc
+ok_is false true ok = absurd cc
+ok_is false false ok = refl
 
 module _ (entries : List NumberedEntry) (count : Option ℕ) (ipv4 ipv6 : List Span)
     (ipv4_all : AreAllSpans entries IPv4 ipv4) (ipv6_all : AreAllSpans entries IPv6 ipv6) where
@@ -108,14 +114,14 @@ module _ (entries : List NumberedEntry) (count : Option ℕ) (ipv4 ipv6 : List S
       → (first || second) ≡ has_some (ipv4_pairs ++ ipv6_pairs)
   found_is first second h k = ap₂ (λ x y. x || y) h k ∙ sym (some_append ipv4_pairs ipv6_pairs)
 
-  pub some_found : (first second : Bool) → first ≡ has_some ipv4_pairs → second ≡ has_some ipv6_pairs
-      → (first || second) ≡ true → HasOverlap entries count
-  some_found first second h k yes =
+  pub some_found : {E : Type 0} (first second : Bool) → first ≡ has_some ipv4_pairs → second ≡ has_some ipv6_pairs
+      → ◌≡◌ {A = Result Bool E} (Ok (first || second)) (Ok true) → HasOverlap entries count
+  some_found first second h k ok =
       some_overlap entries count (ipv4_pairs ++ ipv6_pairs) (overlaps_found entries count ipv4 ipv6 ipv4_all ipv6_all)
-      (sym (found_is first second h k) ∙ yes)
+      (sym (found_is first second h k) ∙ ok_is (first || second) true ok)
 
-  pub none_found : (first second : Bool) → first ≡ has_some ipv4_pairs → second ≡ has_some ipv6_pairs
-      → (first || second) ≡ false → HasOverlap entries count → ⊥
-  none_found first second h k no =
+  pub none_found : {E : Type 0} (first second : Bool) → first ≡ has_some ipv4_pairs → second ≡ has_some ipv6_pairs
+      → ◌≡◌ {A = Result Bool E} (Ok (first || second)) (Ok false) → HasOverlap entries count → ⊥
+  none_found first second h k ok =
       no_overlap entries count (ipv4_pairs ++ ipv6_pairs) (overlaps_found entries count ipv4 ipv6 ipv4_all ipv6_all)
-      (sym (found_is first second h k) ∙ no)
+      (sym (found_is first second h k) ∙ ok_is (first || second) false ok)

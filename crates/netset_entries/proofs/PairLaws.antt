@@ -83,24 +83,21 @@ module _ (entries : List NumberedEntry) (count : Option ℕ) (s : Span) (others 
   passed : (runs : List ℕ) (i n : ℕ) → AreRuns count others runs → i < length others
       → is_asked count s.place (get_or others i no_span).place ≡ false → n ≤ get_or runs i 0 → to (i + n) ≡ to i
   passed runs i zero h less none within = ap to (omega arith)
-  passed runs i (suc n) h less none within = elim (cases_lt (i + n) (length others)) [
-    | inl inside ↦
-        let same = (h.each i (omega (arith, less, h.enough))).same (i + n) (omega arith) (omega (arith, within))
-        inside in
-        let t = get_or others (i + n) no_span in
-        let not = not_asked count s.place (get_or others i no_span).place t.place same none in
-        ap to on ∙ to_next (i + n) no_span inside ∙ ap (λ z. to (i + n) ++ z) (none_put t not)
-        ∙ append-nil (to (i + n)) ∙ before
-    | inr past ↦
-        ap (asked_pairs entries count s) (take_all (i + suc n) others (omega (arith, past))
-        ∙ sym (take_all (i + n) others past)) ∙ before
-  ]
-    where
-      on : i + suc n ≡ i + n + 1
-      on = omega arith
-
-      before : to (i + n) ≡ to i
-      before = passed runs i n h less none (omega (arith, within))
+  passed runs i (suc n) h less none within =
+      let before = passed runs i n h less none (omega (arith, within)) in
+      elim (cases_lt (i + n) (length others)) [
+        | inl inside ↦
+            let on : i + suc n ≡ i + n + 1 = omega arith in
+            let same = (h.each i (omega (arith, less, h.enough))).same (i + n) (omega arith) (omega (arith, within))
+            inside in
+            let t = get_or others (i + n) no_span in
+            let out = not_asked count s.place (get_or others i no_span).place t.place same none in
+            ap to on ∙ to_next (i + n) no_span inside ∙ ap (λ z. to (i + n) ++ z) (none_put t out)
+            ∙ append-nil (to (i + n)) ∙ before
+        | inr past ↦
+            ap (asked_pairs entries count s) (take_all (i + suc n) others (omega (arith, past))
+            ∙ sym (take_all (i + n) others past)) ∙ before
+      ]
 
   -- the next span after one whose pair is put, or after a run
   pub met_step : (runs : List ℕ) (i n : ℕ) (more : Bool) → AreRuns count others runs → i < length others

@@ -19,12 +19,12 @@ not_asked None i j k same none = none
 not_asked (Some n) i j k same none = go (nat_lt i n) none
   where
     of_second : (m : ℕ) → nat_le n m ≡ false → nat_lt m n ≡ true
-    of_second m no = lt-ltb m n (leb-false n m no)
+    of_second m out = lt-ltb m n (leb-false n m out)
 
     go : (b : Bool) → (if b then nat_le n j else nat_lt j n) ≡ false
         → (if b then nat_le n k else nat_lt k n) ≡ false
-    go true no = lt-leb n k (ltb-true k n (same ∙ of_second j no))
-    go false no = same ∙ no
+    go true out = lt-leb n k (ltb-true k n (same ∙ of_second j out))
+    go false out = same ∙ out
 
 module _ (count : Option ℕ) where
   abbrev side : List Span → ℕ → Bool

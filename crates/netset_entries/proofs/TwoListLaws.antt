@@ -1,12 +1,25 @@
 -- The entries of two lists, one after the other, and the text of their pairs.
 use Rattle.std.proofs.Common.{◌≡◌, ℕ, List, [], ◌++◌, length, map, Option, Some, sym, ap, ◌∙◌, subst, subst₂}
-use Rattle.std.proofs.lemmas.List.{map-append, length-map}
+use Rattle.std.proofs.Common.{Bool, true, eqb}
+use Rattle.std.proofs.lemmas.Bool.{eqb-true}
+use Rattle.std.proofs.lemmas.List.{map-append, length-map, nil_from_length}
 use Rattle.ipnet.specs.declared.parser.Grammar.{Grammar}
+use Rattle.netset_lib.specs.ContentLineOf.{refused_of}
 use Rattle.netset_lib.specs.RuleAnswers.{IsWritten, IsFrontWritten}
 use Rattle.netset_entries.specs.declared.entry_list.EntryLine.{EntryLine}
-use Rattle.netset_entries.specs.EntryLineOf.{numbered}
+use Rattle.netset_entries.specs.declared.entry_list.EntryList.{EntryList}
+use Rattle.netset_entries.specs.EntryLineOf.{numbered, IsReadOf}
 use Rattle.netset_entries.specs.NumberedEntries.{NumberedEntry, IsEntryList}
 use Rattle.netset_entries.specs.Overlaps.{HoldsOfTwo, IsOverlapText, IsOverlapAnswerOfTwo}
+
+-- no line is refused
+pub all_read : (grammar : Grammar) (bytes : List ℕ) (list : EntryList) (empty : Bool) → IsReadOf grammar bytes list
+    → empty ≡ eqb (length list.refused.items) 0 → empty ≡ true
+    → IsEntryList grammar bytes (map numbered list.entries.items) []
+all_read grammar bytes list empty read is none =
+    let long = eqb-true (length list.refused.items) 0 (sym is ∙ none) in
+    subst (IsEntryList grammar bytes (map numbered list.entries.items))
+    (ap (map refused_of) (nil_from_length list.refused.items long)) read
 
 module _ (grammar : Grammar) (bytes other : List ℕ) (first second joined : List EntryLine) (count : Option ℕ)
     (read : IsEntryList grammar bytes (map numbered first) [])
@@ -21,7 +34,7 @@ module _ (grammar : Grammar) (bytes other : List ℕ) (first second joined : Lis
       entries = map numbered second;
       read = other_read;
       right = subst₂ Holds (ap (map numbered) is ∙ map-append numbered first second)
-          (counted ∙ ap Some (sym (length-map numbered first))) h;
+          (counted ∙ ap Some (sym (length-map first numbered))) h;
     };
   }
 

@@ -199,8 +199,8 @@ fn put_met<W: Write>(
     others: (&[Span], &[usize]),
 ) -> Result<bool, WriteFailure>
     requires placed { (f : addresses.Family) × IsPlaced (map numbered asked.now.entries.items) f span.now
-        × All (IsPlaced (map numbered asked.now.entries.items) f) others.entry.0.now }
-    requires runs { AreRuns asked.now.count others.entry.0.now others.entry.1.now }
+        × All (IsPlaced (map numbered asked.now.entries.items) f) others.0.now }
+    requires runs { AreRuns asked.now.count others.0.now others.1.now }
     ensures whole { let more = asked_pairs (map numbered asked.now.entries.items) asked.now.count span.now
         others.entry.0.now in OnOk result (IsInPieces (W.contents out.old) (W.contents out.new) piece.new.items
         (piece.old.items ++ pair_lines more)) }

@@ -18,8 +18,8 @@ fn joined<'a>(
     first: Vec<EntryLine<'a>>,
     second: Vec<EntryLine<'a>>,
 ) -> Result<Asked<'a>, AllocError>
-    ensures entries { IfOk result (λ asked. asked.entries.items ≡ first.items ++ second.items) }
-    ensures count { IfOk result (λ asked. asked.count ≡ Some (length first.items)) }
+    ensures entries { IfOk result (λ asked. asked.entries.items ≡ first.entry.items ++ second.entry.items) }
+    ensures count { IfOk result (λ asked. asked.count ≡ Some (length first.entry.items)) }
 {
     let mut entries = first;
     let count = Some(entries.len());
