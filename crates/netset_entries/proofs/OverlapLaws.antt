@@ -62,37 +62,37 @@ module _ (s : Span) (rest : List Span) (up : AllPairs IsBeforeSpan rest) where
   abbrev test : Span → Bool
   test t = leb t.first s.last
 
-  abbrev count : ℕ
-  count = prefix_len test rest
+  abbrev reach : ℕ
+  reach = prefix_len test rest
 
   met_known : (t : Span) → Contains (met s rest) t → Contains rest t × (t.first ≤ s.last)
   met_known t c =
-      let less : c.0 < count = omega (arith, c.1, length-prefix_len test rest) in
-      let at : get_or rest c.0 t ≡ t = sym (get_or-take count rest c.0 t less) ∙ c.2 in
+      let less : c.0 < reach = omega (arith, c.1, length-prefix_len test rest) in
+      let at : get_or rest c.0 t ≡ t = sym (get_or-take reach rest c.0 t less) ∙ c.2 in
       let passes = prefix_len_passes test rest c.0 t less in (
         (c.0, omega (arith, less, prefix_len-le-length test rest), at),
         leb-true t.first s.last (subst (λ z. test z ≡ true) at passes),
       )
 
   met_all : (t : Span) → Contains rest t → t.first ≤ s.last → Contains (met s rest) t
-  met_all t c le = elim (cases_lt c.0 count) [
+  met_all t c le = elim (cases_lt c.0 reach) [
     | inl less ↦ (
       c.0,
       omega (arith, less, length-prefix_len test rest),
-      get_or-take count rest c.0 t less ∙ c.2,
+      get_or-take reach rest c.0 t less ∙ c.2,
     )
     | inr past ↦
         let stop = prefix_len_stops test rest t (omega (arith, past, c.1)) in
-        let beyond = leb-false (get_or rest count t).first s.last stop in
-        let rises = starts_rise rest up count c.0 t past c.1 in
+        let beyond = leb-false (get_or rest reach t).first s.last stop in
+        let rises = starts_rise rest up reach c.0 t past c.1 in
         let wrong : ⊥ = omega (arith, beyond, rises, ap (λ z. z.first) c.2, le) in absurd wrong
   ]
 
   met_ordered : AllPairs IsBeforeSpan (met s rest)
   met_ordered i j d lt less =
-      let second : j < count = omega (arith, less, length-prefix_len test rest) in
-      subst₂ IsBeforeSpan (sym (get_or-take count rest i d (omega (arith, lt, second))))
-      (sym (get_or-take count rest j d second))
+      let second : j < reach = omega (arith, less, length-prefix_len test rest) in
+      subst₂ IsBeforeSpan (sym (get_or-take reach rest i d (omega (arith, lt, second))))
+      (sym (get_or-take reach rest j d second))
       (up i j d lt (omega (arith, second, prefix_len-le-length test rest)))
 
 -- ---- the pairs of a span

@@ -27,57 +27,6 @@ not_asked (Some n) i j k same none = go (nat_lt i n) none
     go false out = same ∙ out
 
 module _ (count : Option ℕ) where
-  abbrev side : List Span → ℕ → Bool
-  side spans i = is_of_first count (get_or spans i no_span).place
-
-  -- ---- making runs
-
-  pub runs_start : (spans : List Span) (runs : List ℕ) → length runs ≡ length spans → All (λ run. run ≡ 1) runs
-      → AreRuns count spans runs
-  runs_start spans runs long ones = record {
-    enough = omega (arith, long);
-    each = λ i less.
-        let one : get_or runs i 0 ≡ 1 = All-get_or (λ run. run ≡ 1) runs i 0 less ones in record {
-          some = omega (arith, one);
-          within = omega (arith, one, less);
-          same = λ j from lt inside.
-              let equal : j ≡ i = omega (arith, from, lt, one) in
-              ap (side spans) equal;
-        };
-  }
-
-  -- a span joins the run after it
-  pub runs_joined : (spans : List Span) (runs : List ℕ) (i : ℕ) → AreRuns count spans runs → i + 1 < length runs
-      → side spans i ≡ side spans (i + 1) → AreRuns count spans (set runs i (get_or runs (i + 1) 0 + 1))
-  runs_joined spans runs i h inside joins =
-      let next = get_or runs (i + 1) 0 + 1 in
-      let old : IsRun count spans (length runs) (i + 1) (get_or runs (i + 1) 0) = h.each (i + 1) inside in record {
-        enough = omega (arith, h.enough, length-set runs i next);
-        each = λ k less. elim (cases_eq k i) [
-          | inl here ↦
-              let is : get_or (set runs i next) k 0 ≡ next =
-              get_or-set_at runs i k next 0 here (omega (arith, inside)) in record {
-                some = omega (arith, is);
-                within = omega (arith, is, here, old.within, length-set runs i next);
-                same = λ j from lt past. elim (cases_lt i j) [
-                  | inl after ↦
-                      old.same j (omega (arith, after)) (omega (arith, lt, is, here)) past
-                      ∙ sym joins ∙ ap (side spans) (sym here)
-                  | inr before ↦
-                      let equal : j ≡ k = omega (arith, before, from, here) in
-                      ap (side spans) equal
-                ];
-              }
-          | inr other ↦
-              let is : get_or (set runs i next) k 0 ≡ get_or runs k 0 = get_or-set_other runs i k next 0 other in
-              let known = h.each k (omega (arith, less, length-set runs i next)) in record {
-                some = omega (arith, is, known.some);
-                within = omega (arith, is, known.within, length-set runs i next);
-                same = λ j from lt past. known.same j from (omega (arith, lt, is)) past;
-              }
-        ];
-      }
-
   -- ---- parts of a list with runs
 
   pub runs_after : (n : ℕ) (spans : List Span) (runs : List ℕ) → n ≤ length spans → AreRuns count spans runs

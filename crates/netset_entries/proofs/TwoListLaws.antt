@@ -1,6 +1,6 @@
 -- The entries of two lists, one after the other, and the text of their pairs.
 use Rattle.std.proofs.Common.{◌≡◌, ℕ, List, [], ◌++◌, length, map, Option, Some, sym, ap, ◌∙◌, subst, subst₂}
-use Rattle.std.proofs.Common.{Bool, true, eqb}
+use Rattle.std.proofs.Common.{Bool, true, ◌==◌, vec_len, arith}
 use Rattle.std.proofs.lemmas.Bool.{eqb-true}
 use Rattle.std.proofs.lemmas.List.{map-append, length-map, nil_from_length}
 use Rattle.ipnet.specs.declared.parser.Grammar.{Grammar}
@@ -14,12 +14,12 @@ use Rattle.netset_entries.specs.Overlaps.{HoldsOfTwo, IsOverlapText, IsOverlapAn
 
 -- no line is refused
 pub all_read : (grammar : Grammar) (bytes : List ℕ) (list : EntryList) (empty : Bool) → IsReadOf grammar bytes list
-    → empty ≡ eqb (length list.refused.items) 0 → empty ≡ true
+    → empty ≡ (vec_len list.refused == 0) → empty ≡ true
     → IsEntryList grammar bytes (map numbered list.entries.items) []
 all_read grammar bytes list empty read is none =
-    let long = eqb-true (length list.refused.items) 0 (sym is ∙ none) in
+    let len = eqb-true (vec_len list.refused) 0 (sym is ∙ none) in
     subst (IsEntryList grammar bytes (map numbered list.entries.items))
-    (ap (map refused_of) (nil_from_length list.refused.items long)) read
+    (ap (map refused_of) (nil_from_length list.refused.items (omega (arith, len, list.refused.ok)))) read
 
 module _ (grammar : Grammar) (bytes other : List ℕ) (first second joined : List EntryLine) (count : Option ℕ)
     (read : IsEntryList grammar bytes (map numbered first) [])
