@@ -1,18 +1,17 @@
 -- The pairs of spans that share an address are the pairs of entries that do.
-use Rattle.std.proofs.Common.{◌≡◌, ◌⊎◌, ℕ, ◌+◌, ◌-◌, ◌<◌, ◌≤◌, Bool, true, false, List, [], ◌∷◌, ◌++◌, length, map}
+use Rattle.std.proofs.Common.{◌≡◌, ℕ, ◌-◌, ◌<◌, ◌≤◌, Bool, true, false, List, [], ◌∷◌, ◌++◌, length}
 use Rattle.std.proofs.Common.{take, drop, take_all}
 use Rattle.std.proofs.Common.{get_or, All, AllPairs, Contains, Option, None, refl, sym, ap, ap₂, ◌∙◌, subst, subst₂}
 use Rattle.std.proofs.Common.{arith, inl, inr, leb}
-use Rattle.std.specs.List.{take_while, prefix_len}
+use Rattle.std.specs.List.{prefix_len}
 use Rattle.std.specs.List.Sorted.{IsNonDecreasingBy, IsPartitionPoint}
-use Rattle.std.proofs.lemmas.Bool.{cases_lt, leb-true, leb-false, le-leb, true≢false}
+use Rattle.std.proofs.lemmas.Bool.{cases_lt, leb-true, leb-false, true≢false}
 use Rattle.std.proofs.lemmas.List.{length-drop, get_or-take}
 use Rattle.std.proofs.lemmas.List.Elements.{Contains-append_left, Contains-append_right, Contains-append_cases}
 use Rattle.std.proofs.lemmas.List.Sums.{prefix_len_is, prefix_len_passes, prefix_len_stops, prefix_len-le-length}
 use Rattle.std.proofs.lemmas.List.Folds.{length-prefix_len}
 use Rattle.ipnet_base.specs.Address.{Family, IPv4, IPv6, Address, address_at, family_index}
-use Rattle.ipnet_base.specs.Ranges.{AddressRange}
-use Rattle.ipnet_base.proofs.ListLaws.{at_place, pairs_head, pairs_tail, pairs_cons, pairs_append}
+use Rattle.ipnet_base.proofs.ListLaws.{at_place, pairs_head, pairs_tail, pairs_append}
 use Rattle.ipnet_base.proofs.ListLaws.{contains_nil, contains_here, contains_there, contains_cases}
 use Rattle.ipnet_sets.specs.SetRanges.{range_of, IsInRange}
 use Rattle.netset_entries.specs.declared.span.Span.{Span}
@@ -20,7 +19,7 @@ use Rattle.netset_entries.specs.EntryPlaces.{IsEntryAt}
 use Rattle.netset_entries.specs.NumberedEntries.{NumberedEntry}
 use Rattle.netset_entries.specs.Overlaps.{Placed, Pair, BeginsBefore, is_asked, IsOverlap, IsPairBefore, AreOverlaps}
 use Rattle.netset_entries.specs.Overlaps.{HasOverlap}
-use Rattle.netset_entries.specs.Spans.{IsSpanIn, IsFlagged, IsBeforeSpan, AreSpans}
+use Rattle.netset_entries.specs.Spans.{IsSpanIn, IsBeforeSpan, AreSpans}
 use Rattle.netset_entries.specs.Sweeps.{no_entry, placed, pair_of, met, if_asked, asked_pairs, pairs_of, has_some}
 use Rattle.netset_entries.specs.Sweeps.{AreAllSpans, IsPlaced}
 

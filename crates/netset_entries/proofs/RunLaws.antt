@@ -1,14 +1,12 @@
 -- Runs of spans whose entries are of the same list.
-use Rattle.std.proofs.Common.{◌≡◌, ℕ, zero, suc, ◌+◌, ◌-◌, ◌<◌, ◌≤◌, ◌⊎◌, Bool, true, false, List, length, take, drop}
-use Rattle.std.proofs.Common.{set, get_or, All, Option, Some, None, refl, sym, ap, ◌∙◌, arith, inl, inr}
+use Rattle.std.proofs.Common.{◌≡◌, ℕ, ◌+◌, ◌<◌, ◌≤◌, Bool, true, false, List, length, take, drop}
+use Rattle.std.proofs.Common.{get_or, Option, Some, None, sym, ap, ◌∙◌, arith}
 use Rattle.std.proofs.Common.{nat_lt, nat_le, if◌then◌else◌}
-use Rattle.std.proofs.lemmas.Bool.{cases_lt, cases_eq, leb-false, lt-leb, ltb-true, lt-ltb}
-use Rattle.std.proofs.lemmas.List.{get_or-drop, get_or-take, get_or-set_other, length-drop, length-set, length-take-le}
-use Rattle.std.proofs.lemmas.List.Elements.{All-get_or}
-use Rattle.std.proofs.lemmas.Grind.{get_or-set_at}
+use Rattle.std.proofs.lemmas.Bool.{leb-false, lt-leb, ltb-true, lt-ltb}
+use Rattle.std.proofs.lemmas.List.{get_or-drop, get_or-take, length-drop, length-take-le}
 use Rattle.netset_entries.specs.declared.span.Span.{Span}
 use Rattle.netset_entries.specs.Overlaps.{is_asked}
-use Rattle.netset_entries.specs.Sweeps.{no_span, is_of_first, IsRun, AreRuns}
+use Rattle.netset_entries.specs.Sweeps.{no_span, is_of_first, AreRuns}
 
 -- ---- which list
 

@@ -63,6 +63,6 @@ returns-clause-cut_short g c = λ status.
     elim (c.asked_status.ensures.cut_short status) [
       | inl kept ↦ inl kept
       | inr front ↦ inr (front_of_two grammar bytes other first.entries.items second.entries.items c.in-Ok.asked.entries.items
-    c.in-Ok.asked.count read other_read c.in-Ok.ensures.entries c.in-Ok.ensures.count (g.W.Write.contents c.args.out.now)
+          c.in-Ok.asked.count read other_read c.in-Ok.ensures.entries c.in-Ok.ensures.count (g.W.Write.contents c.args.out.now)
           (g.W.Write.contents c.asked_status.new.out) front)
     ]
