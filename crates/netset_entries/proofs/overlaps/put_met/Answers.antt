@@ -14,7 +14,8 @@ loop-at-preserved g c =
     let i = c.loop-at.at in
     let t = get_or spans i no_span in
     let is = met_step entries asked.count c.args.span.now spans c.args.others.1.now i c.step-at.result c.in_ok-more.more
-    c.requires.runs c.loop-at-test.true c.in_ok-more.ensures.found c.step-at.ensures.put c.step-at.ensures.passed in record {
+    c.requires.runs c.loop-at-test.true c.in_ok-more.ensures.found c.step-at.ensures.put c.step-at.ensures.passed
+    in record {
       pieces = met_more entries asked.count c.args.span.now spans (held c.args.out.now) (held c.loop-at.out)
           (held c.put_pair.new.out) c.loop-at.piece.items c.put_pair.new.piece.items c.args.piece.now.items i _ t is
           c.loop-at.invariant.pieces c.in_ok-more.ensures.whole;

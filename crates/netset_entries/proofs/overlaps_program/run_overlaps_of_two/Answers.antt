@@ -16,8 +16,9 @@ returns-clause-answered g c = λ status.
     let other_read = all_read grammar other second c.is_empty-else-not-is_empty.result c.in-Ok-Ok.ensures'
     c.is_empty-else-not-is_empty.ensures c.if-not-is_empty-2.false in
     written_of_two grammar bytes other first.entries.items second.entries.items c.in-Ok.asked.entries.items
-    c.in-Ok.asked.count read other_read c.in-Ok.ensures.entries c.in-Ok.ensures.count (g.W.Write.contents c.args.out.now)
-    (g.W.Write.contents c.asked_status.new.out) (c.asked_status.ensures.answered status)
+    c.in-Ok.asked.count read other_read c.in-Ok.ensures.entries c.in-Ok.ensures.count
+    (g.W.Write.contents c.args.out.now) (g.W.Write.contents c.asked_status.new.out)
+    (c.asked_status.ensures.answered status)
 
 pub returns-clause-some : goal.returns-clause-some
 returns-clause-some g c = λ status.
@@ -62,7 +63,8 @@ returns-clause-cut_short g c = λ status.
     c.is_empty-else-not-is_empty.ensures c.if-not-is_empty-2.false in
     elim (c.asked_status.ensures.cut_short status) [
       | inl kept ↦ inl kept
-      | inr front ↦ inr (front_of_two grammar bytes other first.entries.items second.entries.items c.in-Ok.asked.entries.items
-          c.in-Ok.asked.count read other_read c.in-Ok.ensures.entries c.in-Ok.ensures.count (g.W.Write.contents c.args.out.now)
-          (g.W.Write.contents c.asked_status.new.out) front)
+      | inr front ↦
+          inr (front_of_two grammar bytes other first.entries.items second.entries.items c.in-Ok.asked.entries.items
+          c.in-Ok.asked.count read other_read c.in-Ok.ensures.entries c.in-Ok.ensures.count
+          (g.W.Write.contents c.args.out.now) (g.W.Write.contents c.asked_status.new.out) front)
     ]
