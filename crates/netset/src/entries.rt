@@ -1,17 +1,32 @@
 //! The commands about the entries of lists: their arguments, and their runs.
-use crate::arguments::{FIRST, STANDARD_INPUT, command_of, flags_of, one_file};
+use crate::arguments::{
+    ArgumentFailure, FIRST, OTHERS, STANDARD_INPUT, command_of, flags_of, one_file, other,
+    reads_input_twice,
+};
 use crate::lists::{read_filled, report_unread};
 use crate::output::Streams;
-use crate::session_of;
+use crate::{refused, session_of};
 use clap::{ArgMatches, Command};
 use ipnet::Grammar;
-use netset_entries::{run_redundant, run_supernet};
+use netset_entries::{run_overlaps, run_overlaps_of_two, run_redundant, run_supernet};
 use std::alloc::{AllocError, Global};
 
 /// The names of the commands.
 const SUPERNET: &str = "supernet";
 
 const REDUNDANT: &str = "redundant";
+
+const OVERLAPS: &str = "overlaps";
+
+/// The command `overlaps`.
+fn overlaps_command<'a>(alloc: Global) -> Result<Command<'a>, AllocError> {
+    let about =
+        "The pairs of entries that share addresses, or of an entry of each list; status 1 if there are any";
+    let help = "The other list; the pairs are then of an entry of each";
+    command_of(alloc, OVERLAPS, about)?
+        .arg(one_file(alloc))?
+        .arg(other(alloc, help).required(false))
+}
 
 /// Adds the commands about entries.
 pub fn with_entries<'a>(alloc: Global, command: Command<'a>) -> Result<Command<'a>, AllocError> {
@@ -21,7 +36,10 @@ pub fn with_entries<'a>(alloc: Global, command: Command<'a>) -> Result<Command<'
         "The entries that the others make unnecessary, and the fewest that cover each; status 1 if there are any";
     let supernet = command_of(alloc, SUPERNET, supernet)?.arg(one_file(alloc))?;
     let redundant = command_of(alloc, REDUNDANT, redundant)?.arg(one_file(alloc))?;
-    command.subcommand(supernet)?.subcommand(redundant)
+    command
+        .subcommand(supernet)?
+        .subcommand(redundant)?
+        .subcommand(overlaps_command(alloc)?)
 }
 
 /// Reads the list, and prints the smallest networks around its addresses.
@@ -71,6 +89,51 @@ fn redundant(rt: &HostRuntime, matches: &ArgMatches, streams: &mut Streams<'_>) 
     }
 }
 
+/// Reads the lists, and prints the pairs of an entry of each that share addresses.
+fn overlaps_of_two(
+    rt: &HostRuntime,
+    matches: &ArgMatches,
+    (name, other): (&str, &str),
+    streams: &mut Streams<'_>,
+) -> u8 {
+    if reads_input_twice(&[name, other]) {
+        return refused(rt, ArgumentFailure::InputTwice);
+    }
+    let bytes = match entries_of(rt, name, streams) {
+        Ok(bytes) => bytes,
+        Err(status) => return status,
+    };
+    let others = match entries_of(rt, other, streams) {
+        Ok(bytes) => bytes,
+        Err(status) => return status,
+    };
+    run_overlaps_of_two(
+        rt.alloc(),
+        ((name, bytes.as_slice()), (other, others.as_slice())),
+        grammar_of(matches),
+        &mut streams.answer,
+        &mut streams.faults,
+    )
+}
+
+/// Reads the list, or two lists, and prints the pairs of entries that share addresses.
+fn overlaps(rt: &HostRuntime, matches: &ArgMatches, streams: &mut Streams<'_>) -> u8 {
+    let name = matches.get_str(FIRST).unwrap_or(STANDARD_INPUT);
+    if let Some(other) = matches.get_str(OTHERS) {
+        return overlaps_of_two(rt, matches, (name, other), streams);
+    }
+    match entries_of(rt, name, streams) {
+        Ok(bytes) => run_overlaps(
+            rt.alloc(),
+            (name, bytes.as_slice()),
+            grammar_of(matches),
+            &mut streams.answer,
+            &mut streams.faults,
+        ),
+        Err(status) => status,
+    }
+}
+
 /// Runs the command if it is about entries, and returns the status. `None` if it is not.
 pub fn run_if_entries(
     rt: &HostRuntime,
@@ -80,6 +143,7 @@ pub fn run_if_entries(
     match matches.subcommand() {
         Some((name, matches)) if name == SUPERNET => Some(supernet(rt, matches, streams)),
         Some((name, matches)) if name == REDUNDANT => Some(redundant(rt, matches, streams)),
+        Some((name, matches)) if name == OVERLAPS => Some(overlaps(rt, matches, streams)),
         _ => None,
     }
 }

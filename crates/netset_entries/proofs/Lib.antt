@@ -6,3 +6,8 @@ pub mod CoverLaws
 pub mod SpanLaws
 pub mod RedundancyLaws
 pub mod PieceLaws
+pub mod OverlapLaws
+pub mod RunLaws
+pub mod PairLaws
+pub mod OverlapTextLaws
+pub mod TwoListLaws

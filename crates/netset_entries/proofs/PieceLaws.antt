@@ -3,7 +3,7 @@ use Rattle.std.proofs.Common.{◌≡◌, ℕ, ◌+◌, ◌-◌, ◌<◌, List, [
 use Rattle.std.proofs.Common.{refl, sym, ap, ◌∙◌, Option}
 use Rattle.std.proofs.Common.{append_assoc, append-nil, take-append-drop, subst, zero, suc, ◌≤◌, arith}
 use Rattle.std.specs.Io.KnownBytes.{Appends, Keeps}
-use Rattle.std.proofs.KnownBytes.{Appends-trans, Appends-kept}
+use Rattle.std.proofs.KnownBytes.{Appends-nil, Appends-trans, Appends-kept}
 use Rattle.std.proofs.lemmas.List.{map-append, take_all, take_more}
 use Rattle.ipnet_text.specs.Pieces.{IsInPieces}
 use Rattle.ipnet_text.proofs.WritingLaws.{front_written, all_written, whole_front}
@@ -16,6 +16,10 @@ use Rattle.netset_entries.specs.Covers.{dropped_of}
 use Rattle.netset_entries.specs.Spans.{for_family}
 use Rattle.netset_entries.specs.EntryTexts.{entry_text, entry_line_at, IsFront}
 use Rattle.netset_entries.specs.Redundancy.{Dropped, witness_lines, dropped_lines}
+
+-- nothing is written yet
+pub no_piece : (a : Option (List ℕ)) (piece text : List ℕ) → piece ≡ text → IsInPieces a a piece text
+no_piece a piece text same = record { done = []; written = Appends-nil a; is = same }
 
 -- more is put to the piece, and the piece may be written
 pub piece_more : (a b c : Option (List ℕ)) (piece mid new text chunk : List ℕ) → IsInPieces a b piece text

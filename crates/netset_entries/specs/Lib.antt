@@ -7,3 +7,5 @@ pub mod EntryTexts
 pub mod Redundancy
 pub mod Spans
 pub mod Covers
+pub mod Overlaps
+pub mod Sweeps

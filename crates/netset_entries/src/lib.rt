@@ -1,15 +1,20 @@
-//! Commands about the entries of lists: the smallest networks around them, and the entries that are unnecessary.
+//! Commands about the entries of lists: the smallest networks around them, the entries that are
+//! unnecessary, and the pairs of entries that share addresses.
 #![tactic(auto)]
 
 mod entry_list;
 mod lines;
+mod overlaps;
+pub mod overlaps_program;
 mod redundancy;
 mod redundant;
 pub mod redundant_program;
+mod runs;
 mod span;
 pub mod supernet;
 pub mod supernet_program;
 
+pub use overlaps_program::{run_overlaps, run_overlaps_of_two};
 pub use redundant_program::run_redundant;
 pub use supernet::supernet_text;
 pub use supernet_program::run_supernet;
