@@ -5,3 +5,10 @@ pub mod RangeLaws
 pub mod ItemLaws
 pub mod InputReading
 pub mod ExtractLaws
+pub mod Separators
+pub mod LogLaws
+pub mod LogSets
+pub mod LogFilterLaws
+pub mod LogBytes
+pub mod LogEntryLaws
+pub mod LogReading
