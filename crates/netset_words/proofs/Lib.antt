@@ -12,3 +12,5 @@ pub mod LogFilterLaws
 pub mod LogBytes
 pub mod LogEntryLaws
 pub mod LogReading
+pub mod LogParts
+pub mod LogRuns

@@ -66,18 +66,15 @@ pub record IsLogReading (more : Bool) (left left_now to to_now : Option (List �
   pub input : IsInputUpTo more left left_now bytes (held window)
   pub written : List ℕ
   pub out : Appends to to_now written
-  pub none : now.answers.text.items ≡ []
   pub log : (how : LinesRequest) → (set : IpSet) → IsLogUpTo how set [] [] start → IsLogUpTo how set written bytes now
 
 pub reading_begins : (more : Bool) (left left_now to : Option (List ℕ)) (f : LineFilter) (window : Window)
-    → IsPastMark more left left_now window → f.answers.text.items ≡ []
-    → IsLogReading more left left_now to to f f window
-reading_begins more left left_now to f window h none = record {
+    → IsPastMark more left left_now window → IsLogReading more left left_now to to f f window
+reading_begins more left left_now to f window h = record {
   bytes = [];
   input = input_begins more left left_now window h;
   written = [];
   out = Appends-nil to;
-  none = none;
   log = λ how set begun. begun;
 }
 
@@ -100,7 +97,6 @@ module _ (left left_now to to_now to_next : Option (List ℕ)) (start now taken 
         (sym is ∙ sym (append-nil shown)) h.input) read end);
     written = h.written ++ taken.answers.text.items;
     out = Appends-trans to to_now to_next h.written taken.answers.text.items h.out put;
-    none = p.text;
     log = λ how set begun. put_taken how set h.written taken next p true (h.bytes ++ shown)
         (reads how set h.written h.bytes (h.log how set begun));
   }

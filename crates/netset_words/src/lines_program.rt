@@ -1,14 +1,17 @@
 //! The command `filter --lines` of the program, over any readers and writers.
-ghost use Rattle.std.specs.Prelude.{◌≡◌, ◌≤◌, ◌==◌, ◌↔◌, ◌++◌, List, ℕ, [], IfOk, OnOk};
+ghost use Rattle.std.specs.Prelude.{◌≡◌, ◌≤◌, ◌==◌, ◌↔◌, ◌⊎◌, ◌++◌, List, ℕ, [], IfOk, IfErr, OnOk};
+ghost use Rattle.std.specs.Io.{StartsWith};
 ghost use Rattle.std.specs.Io.KnownBytes.{Appends, Keeps};
 ghost use Rattle.ipnet.specs.Lines.{lines_of};
+ghost use Rattle.ipnet_sets.specs.Members.{IsMember};
 ghost use Rattle.ipnet_sets.specs.declared.set.IpSet.{IpSet};
 ghost use Rattle.ipnet_text.specs.Inputs.{GaveWhole};
 ghost use Rattle.netset_lib.specs.Lists.{after_mark};
 ghost use Rattle.netset_lib.specs.declared.answer.Request.{Request};
 ghost use Rattle.netset_words.specs.declared.log_line.LinesRequest.{LinesRequest};
 ghost use Rattle.netset_words.specs.LogLines.{LogResult};
-ghost use Rattle.netset_words.specs.Logs.{IsLogFiltered, IsFilterFor, HasCounts};
+ghost use Rattle.netset_words.specs.Logs.{IsLogFiltered, IsLogFilteredButSome, IsLogFilteredInPart, IsFrontPrinted};
+ghost use Rattle.netset_words.specs.Logs.{IsFilterFor, HasCounts};
 ghost use Rattle.netset_words.specs.FilterSteps.{IsLogUpTo, IsTaken, IsStreamed};
 
 use crate::extract_program::report_since;
@@ -56,6 +59,8 @@ impl From<AllocError> for LogFailure {
 fn put<W: Write>(text: &mut Vec<u8>, out: &mut W) -> Result<(), LogFailure>
     ensures written { OnOk result (Appends (W.contents out.old) (W.contents out.new) text.old.items) }
     ensures none { OnOk result (text.new.items ≡ []) }
+    ensures front { (front : List ℕ) × StartsWith text.old.items front
+        × Appends (W.contents out.old) (W.contents out.new) front }
 {
     if !written(out, text.as_slice()) {
         return Err(LogFailure::Unwritable);
@@ -85,9 +90,12 @@ fn read_log<R: Read, W: Write, X: Write>(
     out: &mut W,
     faults: &mut X,
 ) -> Result<LineFilter, LogFailure>
-    ensures { IfOk result (λ f. (how : LinesRequest) → (set : IpSet)
+    ensures whole { IfOk result (λ f. (how : LinesRequest) → (set : IpSet)
         → IsLogUpTo how set [] [] filter → IsStreamed how set (R.remaining input.old) (R.remaining input.new)
         (W.contents out.old) (W.contents out.new) f) }
+    ensures part { IfErr result (λ _. (how : LinesRequest) → (set : IpSet)
+        → IsLogUpTo how set [] [] filter → IsFrontPrinted how (IsMember set) (R.remaining input.old)
+        (W.contents out.old) (W.contents out.new)) }
 {
     let mut filter = filter;
     let mut window = Window::new(filter.alloc)?;
@@ -123,10 +131,13 @@ pub fn filter_log<R: Read, W: Write, X: Write>(
     out: &mut W,
     faults: &mut X,
 ) -> Result<FilteredLog, LogFailure>
-    ensures { IfOk result (λ log. (request : Request) → (how : LinesRequest) → (lists : List (List ℕ))
+    ensures whole { IfOk result (λ log. (request : Request) → (how : LinesRequest) → (lists : List (List ℕ))
         → IsFilterFor request how lists filter
         → ((r : LogResult) × HasCounts log r × IsLogFiltered request how lists (R.remaining input.old)
         (R.remaining input.new) (W.contents out.old) (W.contents out.new) r)) }
+    ensures part { IfErr result (λ _. (request : Request) → (how : LinesRequest) → (lists : List (List ℕ))
+        → IsFilterFor request how lists filter → IsLogFilteredInPart request how lists (R.remaining input.old)
+        (W.contents out.old) (W.contents out.new)) }
 {
     let LineFilter {
         answers, undecided, ..
@@ -206,6 +217,11 @@ pub fn run_lines<R: Read, W: Write, X: Write>(
         → ((r : LogResult) × (r.undecided ≡ []) × (r.printed ≡ (result == 0))
         × IsLogFiltered request how lists (R.remaining input.old) (R.remaining input.new)
         (W.contents out.old) (W.contents out.new) r) }
+    ensures cut_short { result ≡ 2 → (request : Request) → (how : LinesRequest) → (lists : List (List ℕ))
+        → IsFilterFor request how lists filter
+        → IsLogFilteredButSome request how lists (R.remaining input.old) (R.remaining input.new)
+        (W.contents out.old) (W.contents out.new)
+        ⊎ IsLogFilteredInPart request how lists (R.remaining input.old) (W.contents out.old) (W.contents out.new) }
 {
     let name = names.get(1).copied().unwrap_or("log");
     match filter_log(filter, names, input, out, faults) {

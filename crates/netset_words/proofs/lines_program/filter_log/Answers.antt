@@ -1,0 +1,19 @@
+use Rattle.std.proofs.Common.{refl}
+use Rattle.netset_lib.proofs.StreamParts.{on_err}
+use Rattle.netset_words.proofs.LogRuns.{log_filtered, log_in_part}
+use Rattle.netset_words.proofs.lines_program.filter_log.Goals as goal
+
+pub returns-clause-whole : goal.returns-clause-whole
+returns-clause-whole g c = λ request how lists h.
+    let left = g.R.Read.remaining in
+    let to = g.W.Write.contents in
+    log_filtered request how lists (left c.args.input.now) (left c.read_log.new.input) (to c.args.out.now)
+    (to c.read_log.new.out) c.args.filter _ _ h (c.in_ok-read_log.ensures.whole how c.args.filter.set h.begun) refl refl
+    refl
+
+pub returns-in_err-read_log-clause-part : goal.returns-in_err-read_log-clause-part
+returns-in_err-read_log-clause-part g c =
+    on_err c.from_residual.result _
+    (λ request how lists h. log_in_part request how lists (g.R.Read.remaining c.args.input.now)
+    (g.R.Read.remaining c.args.input.now) (g.W.Write.contents c.args.out.now) (g.W.Write.contents c.read_log.new.out)
+    c.args.filter h (c.in_err-read_log.ensures.part how c.args.filter.set h.begun))
