@@ -6,11 +6,12 @@ pub mod ItemLaws
 pub mod InputReading
 pub mod ExtractLaws
 pub mod Separators
+pub mod LogEntryLaws
+pub mod Letters
 pub mod LogLaws
 pub mod LogSets
 pub mod LogFilterLaws
 pub mod LogBytes
-pub mod LogEntryLaws
 pub mod LogReading
 pub mod LogParts
 pub mod LogRuns

@@ -157,16 +157,19 @@ pub record IsWholeResult (how : LinesRequest) (chosen : IpSet) (written : List �
 
 pub whole_result : (how : LinesRequest) (chosen : IpSet) (written : List ℕ) (lines : List (List ℕ))
     (f : LineFilter) → IsFilterUpTo how chosen written lines [] f → IsWholeResult how chosen written lines f
-whole_result how chosen written lines f h = elim h.current [ inr d ↦ absurd (omega (arith, d.long)) | inl k ↦
-    record {
-      result = h.result;
-      are = h.are;
-      text = h.text ∙ ap (λ p. h.result.text ++ p.text) k.nothing ∙ append-nil h.result.text;
-      printed = h.printed ∙ ap (λ p. h.result.printed || p.printed) k.nothing ∙ sym (or_false h.result.printed);
-      nones = h.nones;
-      undecided = subst (AreAllRefusals f.undecided)
-          (ap (λ p. h.result.undecided ++ p.undecided) k.nothing ∙ append-nil h.result.undecided) h.undecided;
-    } ]
+whole_result how chosen written lines f h = elim h.current [
+  | inr d ↦ absurd (omega (arith, d.long))
+  | inl k ↦
+      record {
+        result = h.result;
+        are = h.are;
+        text = h.text ∙ ap (λ p. h.result.text ++ p.text) k.nothing ∙ append-nil h.result.text;
+        printed = h.printed ∙ ap (λ p. h.result.printed || p.printed) k.nothing ∙ sym (or_false h.result.printed);
+        nones = h.nones;
+        undecided = subst (AreAllRefusals f.undecided)
+            (ap (λ p. h.result.undecided ++ p.undecided) k.nothing ∙ append-nil h.result.undecided) h.undecided;
+      }
+]
 
 -- ---- the whole words of a front
 

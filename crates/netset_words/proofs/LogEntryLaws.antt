@@ -74,5 +74,6 @@ log_entry_utf8 grammar text range (inl is) = entry_utf8 grammar text range is
 log_entry_utf8 grammar text range (inr (within, is)) =
     IsUtf8-from_ascii text (IsAscii-from_all text (subst (All (λ b. b < 128)) (sym (cut_at 58 text within))
     (All-append (λ b. b < 128) _ (58 ∷ _)
-    (All-weaker IsAddressByte (λ b. b < 128) (λ b low. low.ascii) _ (ipv4_bytes grammar _ is.writes.octets is.writes.writes))
+    (All-weaker IsAddressByte (λ b. b < 128) (λ b low. low.ascii) _
+    (ipv4_bytes grammar _ is.writes.octets is.writes.writes))
     (All-cons (λ b. b < 128) 58 _ (omega arith) (digits_low _ is.digits)))))

@@ -20,7 +20,8 @@ use Rattle.netset_words.specs.declared.refused_word.WordCause.TheVariants as Cau
 use Rattle.netset_words.specs.Extracts.{WordRefusal}
 use Rattle.netset_words.specs.ExtractSteps.{AddsRefusals, AreAllRefusals}
 use Rattle.netset_words.specs.LogLines.{LogResult, no_result, joined, IsShortLine, IsLongLine, IsLogLine, AreLogLines}
-use Rattle.netset_words.specs.LogLines.{IsVerdict, treated, treated_front, is_printed, report_of, result_of, front_of, has_none}
+use Rattle.netset_words.specs.LogLines.{IsVerdict, treated, treated_front, is_printed, report_of, result_of, front_of}
+use Rattle.netset_words.specs.LogLines.{has_none}
 use Rattle.netset_words.specs.LogSteps.{AddsResult, IsCurrentLine, rest_of, after_front}
 use Rattle.netset_words.specs.FilterSteps.{IsFilterUpTo}
 use Rattle.netset_words.specs.Words.{cuts, words_of}
@@ -78,7 +79,7 @@ lines_and how InSet n (l ∷ lines) line result first (one, more, is_one, later,
 -- ---- treatments
 
 -- a whole line is decided
-pub whole_report : (others : Bool) (v : Verdict) (number : ℕ) (line : List ℕ)
+whole_report : (others : Bool) (v : Verdict) (number : ℕ) (line : List ℕ)
     → report_of number line (treated others v) ≡ []
 whole_report true Verdicts.Chosen number line = refl
 whole_report true Verdicts.Other number line = refl
@@ -173,39 +174,43 @@ module _ (how : LinesRequest) (chosen : IpSet) (written : List ℕ) (lines : Lis
       → new.undecided ≡ old.undecided → (old.rest ≡ Rests.Kept → ⊥) → new.rest ≡ old.rest
       → new.front.items ≡ old.front.items → IsFilterUpTo how chosen written lines (cur ++ piece) new
   long_grows same text printed nones undecided other rest front =
-      elim h.current [ inl k ↦ absurd (other k.rest_is) | inr d ↦
-      let number = length lines + 1 in
-      let t = treated_front how.any how.others d.verdict in
-      let was = result_of number 0 cur cur t in
-      let now = result_of number 0 (cur ++ piece) (cur ++ piece) t in
-      record {
-        same_request = same.request ∙ h.same_request;
-        same_set = same.set ∙ h.same_set;
-        line = same.line ∙ h.line;
-        result = h.result;
-        are = h.are;
-        partial = now;
-        current = inr (record {
-          long = omega (arith, d.long, length-append cur piece);
-          none = front ∙ d.none;
-          verdict = d.verdict;
-          right = rw (same_front cur piece (omega (arith, d.long))) d.right;
-          rest_is = rest ∙ d.rest_is;
-          is = refl;
-        });
-        text = ap (λ z. written ++ z) text
-            ∙ sym (append_assoc written old.answers.text.items (after_front old.rest piece))
-            ∙ ap (λ z. z ++ after_front old.rest piece) (h.text ∙ ap (λ p. h.result.text ++ p.text) d.is)
-            ∙ append_assoc h.result.text was.text (after_front old.rest piece)
-            ∙ ap (λ z. h.result.text ++ z) (sym (more_text number cur piece (cur ++ piece) t old.rest d.rest_is));
-        printed = printed ∙ h.printed ∙ ap (λ p. h.result.printed || p.printed) d.is;
-        nones = nones ∙ h.nones;
-        undecided = rw undecided
-            (subst (λ us. AreAllRefusals old.undecided (h.result.undecided ++ us))
-            (ap (λ p. p.undecided) d.is
-            ∙ sym (same_report number (cur ++ piece) cur t (take-append-le 101 cur piece (omega (arith, d.long)))))
-            h.undecided);
-      } ]
+      elim h.current [
+        | inl k ↦ absurd (other k.rest_is)
+        | inr d ↦
+            let number = length lines + 1 in
+            let t = treated_front how.any how.others d.verdict in
+            let was = result_of number 0 cur cur t in
+            let now = result_of number 0 (cur ++ piece) (cur ++ piece) t in
+            record {
+              same_request = same.request ∙ h.same_request;
+              same_set = same.set ∙ h.same_set;
+              line = same.line ∙ h.line;
+              result = h.result;
+              are = h.are;
+              partial = now;
+              current = inr (record {
+                long = omega (arith, d.long, length-append cur piece);
+                none = front ∙ d.none;
+                verdict = d.verdict;
+                right = rw (same_front cur piece (omega (arith, d.long))) d.right;
+                rest_is = rest ∙ d.rest_is;
+                is = refl;
+              });
+              text = ap (λ z. written ++ z) text
+                  ∙ sym (append_assoc written old.answers.text.items (after_front old.rest piece))
+                  ∙ ap (λ z. z ++ after_front old.rest piece) (h.text ∙ ap (λ p. h.result.text ++ p.text) d.is)
+                  ∙ append_assoc h.result.text was.text (after_front old.rest piece)
+                  ∙ ap (λ z. h.result.text ++ z) (sym (more_text number cur piece (cur ++ piece) t old.rest d.rest_is));
+              printed = printed ∙ h.printed ∙ ap (λ p. h.result.printed || p.printed) d.is;
+              nones = nones ∙ h.nones;
+              undecided = rw undecided
+                  (subst (λ us. AreAllRefusals old.undecided (h.result.undecided ++ us))
+                  (ap (λ p. p.undecided) d.is
+                  ∙ sym (same_report number (cur ++ piece) cur t
+                  (take-append-le 101 cur piece (omega (arith, d.long)))))
+                  h.undecided);
+            }
+      ]
 
   -- a line gets longer than 1 MiB
   pub front_passed : (last more : List ℕ) (verdict : Verdict) → IsSameFilter old new → piece ≡ last ++ more
@@ -221,57 +226,60 @@ module _ (how : LinesRequest) (chosen : IpSet) (written : List ℕ) (lines : Lis
       → old.rest ≡ Rests.Kept → new.rest ≡ rest_of (treated_front how.any how.others verdict)
       → new.front.items ≡ [] → IsFilterUpTo how chosen written lines (cur ++ piece) new
   front_passed last more verdict same cut full some right text printed nones undecided kept rest front =
-      elim h.current [ inr d ↦ absurd (not_kept (treated_front how.any how.others d.verdict) (sym d.rest_is ∙ kept))
-      | inl k ↦
-      let number = length lines + 1 in
-      let t = treated_front how.any how.others verdict in
-      let whole = old.front.items ++ last in
-      let all : cur ++ piece ≡ whole ++ more =
-      ap (λ z. z ++ piece) (sym k.kept) ∙ ap (λ z. old.front.items ++ z) cut
-      ∙ sym (append_assoc old.front.items last more) in
-      let long : 1048576 < length (cur ++ piece) =
-      omega (arith, full, some, ap length all, length-append whole more) in
-      let front_is : take 1048576 (cur ++ piece) ≡ whole =
-      ap (take 1048576) all ∙ take-append-le 1048576 whole more (omega (arith, full))
-      ∙ take_all 1048576 whole (omega (arith, full)) in
-      let partial = result_of number 0 (cur ++ piece) (cur ++ piece) t in
-      let none : h.partial ≡ no_result = k.nothing in
-      record {
-        same_request = same.request ∙ h.same_request;
-        same_set = same.set ∙ h.same_set;
-        line = same.line ∙ h.line;
-        result = h.result;
-        are = h.are;
-        partial = partial;
-        current = inr (record {
-          long = long;
-          none = front;
-          verdict = verdict;
-          right = subst (λ z. IsVerdict how (IsMember chosen) (words_of (take (length z - suffix_len (λ b. not (cuts b)) z) z)) verdict)
-              (sym front_is) right;
-          rest_is = rest;
-          is = refl;
-        });
-        text = ap (λ z. written ++ z) text
-            ∙ sym (append_assoc written old.answers.text.items (if is_printed t then whole ++ more else []))
-            ∙ ap (λ z. z ++ (if is_printed t then whole ++ more else []))
-            (h.text ∙ ap (λ p. h.result.text ++ p.text) none ∙ append-nil h.result.text)
-            ∙ ap (λ z. h.result.text ++ (if is_printed t then z else [])) (sym all);
-        printed = printed
-            ∙ ap (λ z. z || is_printed t) (h.printed ∙ ap (λ p. h.result.printed || p.printed) none
-            ∙ sym (or_false h.result.printed));
-        nones = nones ∙ h.nones;
-        undecided = subst (λ us. AreAllRefusals new.undecided us)
-            (ap (λ z. z ++ report_of number (cur ++ piece) t)
-            (ap (λ p. h.result.undecided ++ p.undecided) none ∙ append-nil h.result.undecided))
-            (all_refusals old.undecided new.undecided (h.result.undecided ++ h.partial.undecided)
-            (report_of number (cur ++ piece) t) h.undecided
-            (subst (AddsRefusals old.undecided new.undecided)
-            (ap (λ n. report_of (n + 1) whole t) h.line
-            ∙ sym (same_report number (cur ++ piece) whole t (ap (take 101) all
-            ∙ take-append-le 101 whole more (omega (arith, full)))))
-            undecided));
-      } ]
+      elim h.current [
+        | inr d ↦ absurd (not_kept (treated_front how.any how.others d.verdict) (sym d.rest_is ∙ kept))
+        | inl k ↦
+            let number = length lines + 1 in
+            let t = treated_front how.any how.others verdict in
+            let whole = old.front.items ++ last in
+            let all : cur ++ piece ≡ whole ++ more =
+            ap (λ z. z ++ piece) (sym k.kept) ∙ ap (λ z. old.front.items ++ z) cut
+            ∙ sym (append_assoc old.front.items last more) in
+            let long : 1048576 < length (cur ++ piece) =
+            omega (arith, full, some, ap length all, length-append whole more) in
+            let front_is : take 1048576 (cur ++ piece) ≡ whole =
+            ap (take 1048576) all ∙ take-append-le 1048576 whole more (omega (arith, full))
+            ∙ take_all 1048576 whole (omega (arith, full)) in
+            let partial = result_of number 0 (cur ++ piece) (cur ++ piece) t in
+            let none : h.partial ≡ no_result = k.nothing in
+            record {
+              same_request = same.request ∙ h.same_request;
+              same_set = same.set ∙ h.same_set;
+              line = same.line ∙ h.line;
+              result = h.result;
+              are = h.are;
+              partial = partial;
+              current = inr (record {
+                long = long;
+                none = front;
+                verdict = verdict;
+                right = subst (λ z. IsVerdict how (IsMember chosen)
+                    (words_of (take (length z - suffix_len (λ b. not (cuts b)) z) z)) verdict)
+                    (sym front_is) right;
+                rest_is = rest;
+                is = refl;
+              });
+              text = ap (λ z. written ++ z) text
+                  ∙ sym (append_assoc written old.answers.text.items (if is_printed t then whole ++ more else []))
+                  ∙ ap (λ z. z ++ (if is_printed t then whole ++ more else []))
+                  (h.text ∙ ap (λ p. h.result.text ++ p.text) none ∙ append-nil h.result.text)
+                  ∙ ap (λ z. h.result.text ++ (if is_printed t then z else [])) (sym all);
+              printed = printed
+                  ∙ ap (λ z. z || is_printed t) (h.printed ∙ ap (λ p. h.result.printed || p.printed) none
+                  ∙ sym (or_false h.result.printed));
+              nones = nones ∙ h.nones;
+              undecided = subst (λ us. AreAllRefusals new.undecided us)
+                  (ap (λ z. z ++ report_of number (cur ++ piece) t)
+                  (ap (λ p. h.result.undecided ++ p.undecided) none ∙ append-nil h.result.undecided))
+                  (all_refusals old.undecided new.undecided (h.result.undecided ++ h.partial.undecided)
+                  (report_of number (cur ++ piece) t) h.undecided
+                  (subst (AddsRefusals old.undecided new.undecided)
+                  (ap (λ n. report_of (n + 1) whole t) h.line
+                  ∙ sym (same_report number (cur ++ piece) whole t (ap (take 101) all
+                  ∙ take-append-le 101 whole more (omega (arith, full)))))
+                  undecided));
+            }
+      ]
 
   -- a whole line is added
   line_added : (line : List ℕ) (r : LogResult) → new.request ≡ old.request → new.set ≡ old.set
@@ -312,8 +320,8 @@ module _ (how : LinesRequest) (chosen : IpSet) (written : List ℕ) (lines : Lis
       elim h.current [
         | inr d ↦ absurd (not_kept (treated_front how.any how.others d.verdict) (sym d.rest_is ∙ kept))
         | inl k ↦ line_added (cur ++ piece) r request set next k.nothing
-            (inl (subst (λ z. IsShortLine how (IsMember chosen) (length lines + 1) (z ++ piece) r) k.kept is)) decided adds undecided
-            rest front
+            (inl (subst (λ z. IsShortLine how (IsMember chosen) (length lines + 1) (z ++ piece) r) k.kept is)) decided
+            adds undecided rest front
       ]
 
   -- a line of which nothing was read before
@@ -339,34 +347,37 @@ module _ (how : LinesRequest) (chosen : IpSet) (written : List ℕ) (lines : Lis
       → new.undecided ≡ old.undecided → new.rest ≡ Rests.Kept → new.front.items ≡ old.front.items
       → IsFilterUpTo how chosen written (lines ++ cur ∷ []) [] new
   long_ends request set next other text printed nones undecided rest front =
-      elim h.current [ inl k ↦ absurd (other k.rest_is) | inr d ↦
-      let number = length lines + 1 in
-      let t = treated_front how.any how.others d.verdict in
-      let r = result_of number 0 cur (cur ++ 10 ∷ []) t in
-      record {
-        same_request = request ∙ h.same_request;
-        same_set = set ∙ h.same_set;
-        line = next ∙ ap (λ n. n + 1) h.line ∙ sym (length-append lines (cur ∷ []));
-        result = joined h.result r;
-        are = lines_and how (IsMember chosen) 1 lines cur h.result r h.are
-            (subst (λ n. IsLogLine how (IsMember chosen) n cur r) (omega arith)
-            (inr (record { long = d.long; verdict = d.verdict; right = d.right; is = refl })));
-        partial = no_result;
-        current = inl (record { rest_is = rest; kept = front ∙ d.none; short = omega arith; nothing = refl });
-        text = ap (λ z. written ++ z) text
-            ∙ sym (append_assoc written old.answers.text.items (after_front old.rest (10 ∷ [])))
-            ∙ ap (λ z. z ++ after_front old.rest (10 ∷ [])) (h.text ∙ ap (λ p. h.result.text ++ p.text) d.is)
-            ∙ append_assoc h.result.text (result_of number 0 cur cur t).text (after_front old.rest (10 ∷ []))
-            ∙ ap (λ z. h.result.text ++ z) (sym (more_text number cur (10 ∷ []) cur t old.rest d.rest_is))
-            ∙ sym (append-nil (h.result.text ++ r.text));
-        printed = printed ∙ h.printed ∙ ap (λ p. h.result.printed || p.printed) d.is
-            ∙ or_false (h.result.printed || is_printed t);
-        nones = nones ∙ h.nones ∙ sym (add-zero h.result.nones);
-        undecided = subst (λ us. AreAllRefusals new.undecided us)
-            (ap (λ p. h.result.undecided ++ p.undecided) d.is
-            ∙ sym (append-nil (h.result.undecided ++ report_of number cur t)))
-            (rw undecided h.undecided);
-      } ]
+      elim h.current [
+        | inl k ↦ absurd (other k.rest_is)
+        | inr d ↦
+            let number = length lines + 1 in
+            let t = treated_front how.any how.others d.verdict in
+            let r = result_of number 0 cur (cur ++ 10 ∷ []) t in
+            record {
+              same_request = request ∙ h.same_request;
+              same_set = set ∙ h.same_set;
+              line = next ∙ ap (λ n. n + 1) h.line ∙ sym (length-append lines (cur ∷ []));
+              result = joined h.result r;
+              are = lines_and how (IsMember chosen) 1 lines cur h.result r h.are
+                  (subst (λ n. IsLogLine how (IsMember chosen) n cur r) (omega arith)
+                  (inr (record { long = d.long; verdict = d.verdict; right = d.right; is = refl })));
+              partial = no_result;
+              current = inl (record { rest_is = rest; kept = front ∙ d.none; short = omega arith; nothing = refl });
+              text = ap (λ z. written ++ z) text
+                  ∙ sym (append_assoc written old.answers.text.items (after_front old.rest (10 ∷ [])))
+                  ∙ ap (λ z. z ++ after_front old.rest (10 ∷ [])) (h.text ∙ ap (λ p. h.result.text ++ p.text) d.is)
+                  ∙ append_assoc h.result.text (result_of number 0 cur cur t).text (after_front old.rest (10 ∷ []))
+                  ∙ ap (λ z. h.result.text ++ z) (sym (more_text number cur (10 ∷ []) cur t old.rest d.rest_is))
+                  ∙ sym (append-nil (h.result.text ++ r.text));
+              printed = printed ∙ h.printed ∙ ap (λ p. h.result.printed || p.printed) d.is
+                  ∙ or_false (h.result.printed || is_printed t);
+              nones = nones ∙ h.nones ∙ sym (add-zero h.result.nones);
+              undecided = subst (λ us. AreAllRefusals new.undecided us)
+                  (ap (λ p. h.result.undecided ++ p.undecided) d.is
+                  ∙ sym (append-nil (h.result.undecided ++ report_of number cur t)))
+                  (rw undecided h.undecided);
+            }
+      ]
 
 -- a line that is kept ends
 pub kept_line_ends : (how : LinesRequest) (chosen : IpSet) (written : List ℕ) (lines : List (List ℕ)) (cur : List ℕ)
@@ -392,7 +403,8 @@ pub front_read : (how : LinesRequest) (chosen : IpSet) (written : List ℕ) (lin
     (cur piece : List ℕ) (old new : LineFilter) → IsFilterUpTo how chosen written lines cur old
     → (last more front : List ℕ) (k n number : ℕ) (verdict : Verdict) (t : Treatment) (printed : Bool)
     → IsSameFilter old new → last ≡ take k piece → more ≡ drop k piece → k + length old.front.items ≡ 1048576
-    → 1048576 < length old.front.items + length piece → front ≡ old.front.items ++ last → n ≡ length front - suffix_len (λ b. not (cuts b)) front
+    → 1048576 < length old.front.items + length piece → front ≡ old.front.items ++ last
+    → n ≡ length front - suffix_len (λ b. not (cuts b)) front
     → IsVerdict old.request (IsMember old.set) (words_of (take n front)) verdict
     → t ≡ treated_front old.request.any old.request.others verdict
     → new.answers.text.items ≡ old.answers.text.items ++ (if is_printed t then front ++ more else [])
@@ -400,8 +412,8 @@ pub front_read : (how : LinesRequest) (chosen : IpSet) (written : List ℕ) (lin
     → new.answers.nones ≡ old.answers.nones → number ≡ old.line + 1
     → AddsRefusals old.undecided new.undecided (report_of number front t) → old.rest ≡ Rests.Kept
     → new.rest ≡ rest_of t → new.front.items ≡ [] → IsFilterUpTo how chosen written lines (cur ++ piece) new
-front_read how chosen written lines cur piece old new h last more front k n number verdict t printed same last_is more_is
-    room long front_is n_is right is text shown any nones number_is reports kept rest empty =
+front_read how chosen written lines cur piece old new h last more front k n number verdict t printed same last_is
+    more_is room long front_is n_is right is text shown any nones number_is reports kept rest empty =
     let whole = old.front.items ++ last in
     let treatment = treated_front how.any how.others verdict in
     let t_is : t ≡ treatment = is ∙ ap (λ q. treated_front q.any q.others verdict) h.same_request in
@@ -411,8 +423,8 @@ front_read how chosen written lines cur piece old new h last more front k n numb
     front_passed how chosen written lines cur piece old new h last more verdict same
     (sym (take-append-drop k piece) ∙ ap (λ z. z ++ drop k piece) (sym last_is) ∙ ap (λ z. last ++ z) (sym more_is))
     (length-append old.front.items last ∙ omega (arith, room, last_len)) (omega (arith, room, long, more_len))
-    (subst (λ z. IsVerdict how (IsMember chosen) (words_of (take (length z - suffix_len (λ b. not (cuts b)) z) z)) verdict)
-    front_is
+    (subst (λ z. IsVerdict how (IsMember chosen)
+    (words_of (take (length z - suffix_len (λ b. not (cuts b)) z) z)) verdict) front_is
     (subst (λ m. IsVerdict how (IsMember chosen) (words_of (take m front)) verdict) n_is
     (subst (λ q. IsVerdict q (IsMember chosen) (words_of (take n front)) verdict) h.same_request
     (subst (λ q. IsVerdict old.request (IsMember q) (words_of (take n front)) verdict) h.same_set right))))

@@ -11,11 +11,11 @@ use Rattle.std.specs.declared.net.ip_addr.IpAddr.TheVariants as Ip
 use Rattle.ipnet.specs.AddressTexts.{IsIpv4AddressText, IsJoined}
 use Rattle.ipnet.specs.Numerals.{IsOctet}
 use Rattle.ipnet.specs.declared.parser.Grammar.TheVariants.{Strict}
-use Rattle.ipnet_base.specs.Address.{Address, IsAddress, ipv4_address}
+use Rattle.ipnet_base.specs.Address.{Address, IsAddress, address_at, ipv4_address}
 use Rattle.ipnet_base.specs.Ranges.{AddressRange}
 use Rattle.ipnet.specs.declared.parser.Grammar.{Grammar}
 use Rattle.ipnet_sets.specs.Members.{IsMember}
-use Rattle.ipnet_sets.specs.SetRanges.{IsInRange}
+use Rattle.ipnet_sets.specs.SetRanges.{IsInRange, range_of}
 use Rattle.ipnet_sets.specs.declared.set.IpSet.{IpSet}
 use Rattle.netset_lib.specs.declared.entry.Entry.TheVariants as Entries
 use Rattle.netset_lib.specs.Entries.{IsIpv4Text}
@@ -78,16 +78,14 @@ any_address grammar text a h =
     inl (inl (inr record { address = ipv4_address a; writes = inl writes; is = refl }))
 
 -- an address at the front of the bytes
-pub address_front : (grammar : Grammar) (bytes : List ℕ) (len n : ℕ) (a : Ipv4Addr) → n ≡ len → 0 < len
-    → n ≤ length bytes → ((k : ℕ) → k < n → cuts (get_or bytes k 0) ≡ false)
-    → (n < length bytes → cuts (get_or bytes n 0) ≡ true)
+pub address_front : (grammar : Grammar) (bytes : List ℕ) (len : ℕ) (a : Ipv4Addr) → 0 < len → len ≤ length bytes
+    → ((k : ℕ) → k < len → cuts (get_or bytes k 0) ≡ false)
+    → (len < length bytes → cuts (get_or bytes len 0) ≡ true)
     → IsIpv4AddressText Strict (take len bytes) (ipv4_octets a)
     → IsNextLogEntry grammar bytes (entry_range (Entries.Address (Ip.V4 a)))
     (take (length bytes - len) (drop len bytes))
-address_front grammar bytes len n a same some within letters next writes =
-    front_entry grammar bytes len (entry_range (Entries.Address (Ip.V4 a))) some (subst (λ m. m ≤ length bytes) same within)
-    (subst (λ m. (k : ℕ) → k < m → cuts (get_or bytes k 0) ≡ false) same letters)
-    (subst (λ m. m < length bytes → cuts (get_or bytes m 0) ≡ true) same next)
+address_front grammar bytes len a some within letters next writes =
+    front_entry grammar bytes len (entry_range (Entries.Address (Ip.V4 a))) some within letters next
     (any_address grammar (take len bytes) a writes)
 
 -- words that are not entries were passed
@@ -131,6 +129,19 @@ pub lies_so : (set : IpSet) (range : AddressRange) → HasAddresses range
     → ((x : Address) → IsInRange range x → IsMember set x) ↔ LiesIn (IsMember set) range
 lies_so set range fits = (λ all x is inside. all x inside, λ all x inside. all x (fits x inside) inside)
 
+-- a range of one address
+pub one_lies : (set : IpSet) (a : Address) (r : Bool) → IsAddress a → (IsTrue r ↔ IsMember set a)
+    → IsTrue r ↔ LiesIn (IsMember set) (range_of a.family a.number a.number)
+one_lies set a r fits h = (
+  λ t x is inside. subst (IsMember set) (only x inside) (h.0 t),
+  λ all. h.1 (all a fits record { of_family = refl; from_start = omega arith; to_end = omega arith }),
+)
+  where
+    only : (x : Address) → IsInRange (range_of a.family a.number a.number) x → a ≡ x
+    only x k =
+        let number : a.number ≡ x.number = omega (arith, k.from_start, k.to_end) in
+        ap (λ f. address_at f a.number) (sym k.of_family) ∙ ap (address_at x.family) number
+
 -- ---- the verdict
 
 -- words that do not choose their line
@@ -141,10 +152,10 @@ IsSoFar how InSet words Verdicts.NoEntry = All (IsNoEntryWord how.grammar) words
 
 -- words were judged, and they do not choose the line
 pub record IsJudged (how : LinesRequest) (InSet : Address → Type 0) (bytes rest : List ℕ) (verdict : Verdict) : Type 0
-    where
-  pub judged : List Word
-  pub cut : words_of bytes ≡ judged ++ words_of rest
-  pub so_far : IsSoFar how InSet judged verdict
+  where
+    pub judged : List Word
+    pub cut : words_of bytes ≡ judged ++ words_of rest
+    pub so_far : IsSoFar how InSet judged verdict
 
 pub none_judged : (how : LinesRequest) (InSet : Address → Type 0) (bytes : List ℕ)
     → IsJudged how InSet bytes bytes Verdicts.NoEntry
@@ -166,8 +177,10 @@ chosen_now how InSet judged bytes rest after verdict range cut so_far next lies 
   where
     all : words_of bytes ≡ (judged ++ next.before) ++ next.word ∷ words_of after
     all = cut ∙ ap (λ z. judged ++ z) next.cut ∙ sym (append_assoc judged next.before (next.word ∷ words_of after))
+
     inside : IsInsideWord how.grammar InSet next.word
     inside = (range, next.is, lies)
+
     choose : (any : Bool) (v : Verdict) → how.any ≡ any → IsSoFar how InSet judged v
         → AreChosen any how.grammar InSet (words_of bytes)
     choose true v is h = record {
@@ -219,22 +232,25 @@ judged_more how InSet bytes rest after verdict range h next out any = record {
   cut = h.cut ∙ ap (λ z. h.judged ++ z) next.cut
       ∙ sym (append_assoc h.judged next.before (next.word ∷ words_of after))
       ∙ sym (append_assoc (h.judged ++ next.before) (next.word ∷ []) (words_of after));
-  so_far = (any, (
-    record {
-      before = h.judged ++ next.before;
-      word = next.word;
-      after = [];
-      cut = refl;
-      is = (range, next.is, out);
-    },
-    All-append (λ w. IsNoEntryWord how.grammar w ⊎ IsOutsideWord how.grammar InSet w) (h.judged ++ next.before)
-        (next.word ∷ [])
-        (All-append (λ w. IsNoEntryWord how.grammar w ⊎ IsOutsideWord how.grammar InSet w) h.judged next.before
-        (passed verdict h.so_far) (none_are_passed how.grammar InSet next.before next.none))
-        (All-cons (λ w. IsNoEntryWord how.grammar w ⊎ IsOutsideWord how.grammar InSet w) next.word []
-        (inr (range, next.is, out))
-        (All-nil (λ w. IsNoEntryWord how.grammar w ⊎ IsOutsideWord how.grammar InSet w))),
-  ));
+  so_far = (
+    any,
+    (
+      record {
+        before = h.judged ++ next.before;
+        word = next.word;
+        after = [];
+        cut = refl;
+        is = (range, next.is, out);
+      },
+      All-append (λ w. IsNoEntryWord how.grammar w ⊎ IsOutsideWord how.grammar InSet w) (h.judged ++ next.before)
+          (next.word ∷ [])
+          (All-append (λ w. IsNoEntryWord how.grammar w ⊎ IsOutsideWord how.grammar InSet w) h.judged next.before
+          (passed verdict h.so_far) (none_are_passed how.grammar InSet next.before next.none))
+          (All-cons (λ w. IsNoEntryWord how.grammar w ⊎ IsOutsideWord how.grammar InSet w) next.word []
+          (inr (range, next.is, out))
+          (All-nil (λ w. IsNoEntryWord how.grammar w ⊎ IsOutsideWord how.grammar InSet w))),
+    ),
+  );
 }
   where
     passed : (v : Verdict) → IsSoFar how InSet h.judged v

@@ -1,5 +1,6 @@
 -- The part of a log's lines that was written, if the log was not read to its end.
-use Rattle.std.proofs.Common.{◌≡◌, ◌≢◌, ℕ, ◌+◌, ◌<◌, Bool, true, false, List, [], ◌∷◌, ◌++◌, All, Option, Some, None, IfSome}
+use Rattle.std.proofs.Common.{◌≡◌, ◌≢◌, ℕ, ◌+◌, ◌<◌, Bool, true, false, List, [], ◌∷◌, ◌++◌, All, Option, Some, None}
+use Rattle.std.proofs.Common.{IfSome}
 use Rattle.std.proofs.Common.{length, drop, refl, sym, ap, ◌∙◌, arith, inl, inr, subst, append_assoc, append-nil}
 use Rattle.std.proofs.Common.{length-append, ne_eqb, if◌then◌else◌}
 use Rattle.std.proofs.Math.Seq.{take-append_seam}
@@ -69,8 +70,7 @@ line_read_on (Some all) lines [] h some = absurd (omega (arith, some))
 line_read_on (Some all) lines (c ∷ cur) h some =
     let (more, is) = h.front in
     let first = first_part (lines_of more) in
-    let others = later (lines_of more) in
-    (
+    let others = later (lines_of more) in (
       first,
       others,
       is ∙ ap (λ z. lines ++ z) (line_goes c cur more h.no_end)
@@ -198,7 +198,7 @@ log_read more how set written bytes pending f (Some all) (Some rest) input h = r
   front = (
     pending ++ rest,
     ap lines_of (input_is more all rest bytes pending input ∙ ap (λ z. z ++ (pending ++ rest)) h.cut
-    ∙ append_assoc h.closed h.cur (pending ++ rest)) ∙ h.is_closed (h.cur ++ (pending ++ rest)),
+        ∙ append_assoc h.closed h.cur (pending ++ rest)) ∙ h.is_closed (h.cur ++ (pending ++ rest)),
   );
 }
 
@@ -212,7 +212,7 @@ all_read bytes (Some all) (Some rest) input = record {
   front = (
     [],
     ap lines_of (input_is false all rest bytes [] input ∙ ap (λ z. bytes ++ z) (input.end refl) ∙ append-nil bytes)
-    ∙ sym (append-nil (lines_of bytes)),
+        ∙ sym (append-nil (lines_of bytes)),
   );
 }
 
@@ -240,7 +240,8 @@ taken_part true left left_now to to_now to_next start now taken window shown fro
     (log_read true how set h.written (h.bytes ++ shown) [] taken left left_now
     (input_moves true left left_now h.bytes (held window) shown [] (sym is ∙ sym (append-nil shown)) h.input) log)
     begins (Appends-trans to to_now to_next h.written front h.out put)
-taken_part false left left_now to to_now to_next start now taken window shown front is h takes begins put how set begun =
+taken_part false left left_now to to_now to_next start now taken window shown front is h takes begins put how set
+    begun =
     part_of how set h.written front (lines_of (h.bytes ++ shown)) [] taken left to to_next
     (takes how set h.written h.bytes (h.log how set begun))
     (all_read (h.bytes ++ shown) left left_now

@@ -15,7 +15,7 @@ use Rattle.netset_words.specs.FilterSteps.{IsFilterUpTo, IsLogUpTo, IsTaken, IsS
 use Rattle.netset_words.proofs.InputReading.{IsInputUpTo, input_begins, input_moves, input_grows, input_ends}
 
 -- the same filter without the text that was written
-pub record IsPut (old new : LineFilter) : Type 0 where
+record IsPut (old new : LineFilter) : Type 0 where
   pub request : new.request ≡ old.request
   pub set : new.set ≡ old.set
   pub line : new.line ≡ old.line

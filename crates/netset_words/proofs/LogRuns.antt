@@ -1,5 +1,6 @@
 -- Runs of the filter of a log, by the lists of its set.
-use Rattle.std.proofs.Common.{◌≡◌, ◌≤◌, ◌==◌, ◌↔◌, ℕ, List, [], ◌∷◌, ◌++◌, length, Option, refl, sym, ap, ◌∙◌, subst, arith}
+use Rattle.std.proofs.Common.{◌≡◌, ◌≤◌, ◌==◌, ◌↔◌, ℕ, List, [], ◌∷◌, ◌++◌, length, Option, refl, sym, ap, ◌∙◌, subst}
+use Rattle.std.proofs.Common.{arith}
 use Rattle.std.proofs.Common.{append-nil}
 use Rattle.std.specs.Io.KnownBytes.{Appends}
 use Rattle.ipnet.specs.Lines.{lines_of}
@@ -20,7 +21,7 @@ use Rattle.netset_words.proofs.LogBytes.{whole_result}
 use Rattle.netset_words.proofs.LogSets.{same_lines}
 
 -- the result of a log, with the counts
-pub IsResultFor : Request → LinesRequest → List (List ℕ) → Option (List ℕ) → Option (List ℕ) → Option (List ℕ)
+IsResultFor : Request → LinesRequest → List (List ℕ) → Option (List ℕ) → Option (List ℕ) → Option (List ℕ)
     → Option (List ℕ) → FilteredLog → Type 0
 IsResultFor request how lists left left_after held held_after log =
     (r : LogResult) × HasCounts log r × IsLogFiltered request how lists left left_after held held_after r
@@ -34,8 +35,7 @@ module _ (request : Request) (how : LinesRequest) (lists : List (List ℕ)) (lef
       → IsResultFor request how lists left left_after held held_after log
   log_filtered filter f log h s printed nones undecided =
       let lines = lines_of (after_mark s.bytes) in
-      let w = whole_result how filter.set s.written lines f s.all in
-      (
+      let w = whole_result how filter.set s.written lines f s.all in (
         w.result,
         record {
           printed = printed ∙ w.printed;

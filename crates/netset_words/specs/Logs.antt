@@ -31,8 +31,8 @@ pub record IsLogFiltered (request : Request) (how : LinesRequest) (lists : List 
   pub right : IsLog how (IsOnSide how.side (IsInResult IsInEntries request.operation entries)) bytes result
   pub written : Appends held held_after result.text
 
--- A log was read up to its end, and some of its lines are not decided. Exactly the lines of the result were written: each
--- of the other lines that is to be printed.
+-- A log was read up to its end, and some of its lines are not decided. Exactly the lines of the result were written:
+-- each of the other lines that is to be printed.
 -- Example: of a line of 2 MiB without an entry, and `10.0.0.1`, only `10.0.0.1` was written.
 pub record IsLogFilteredButSome (request : Request) (how : LinesRequest) (lists : List (List ℕ))
     (left left_after held held_after : Option (List ℕ)) : Type 0 where

@@ -1,5 +1,6 @@
 //! The lines of a log, read one after another. A line longer than 1 MiB is decided by its front.
-ghost use Rattle.std.specs.Prelude.{◌≡◌, ◌≢◌, ◌≤◌, ◌<◌, ◌+◌, ◌-◌, ◌++◌, ◌∷◌, [], List, ℕ, All, length, take, OnOk, IfOk};
+ghost use Rattle.std.specs.Prelude.{◌≡◌, ◌≢◌, ◌≤◌, ◌<◌, ◌+◌, ◌-◌, ◌++◌, ◌∷◌, [], List, ℕ, All, length, take, OnOk};
+ghost use Rattle.std.specs.Prelude.{IfOk};
 ghost use Rattle.std.specs.Prelude.{if◌then◌else◌, not};
 ghost use Rattle.std.specs.List.{suffix_len};
 ghost use Rattle.ipnet_sets.specs.Members.{IsMember};
@@ -15,7 +16,9 @@ ghost use Rattle.netset_words.specs.LogLines.{LogResult, IsShortLine, has_none, 
 ghost use Rattle.netset_words.specs.LogSteps.{AddsResult, rest_of, after_front};
 ghost use Rattle.netset_words.specs.Words.{cuts};
 
-use crate::log_line::{LinesRequest, Treatment, Verdict, front_treatment, verdict_on, whole_treatment};
+use crate::log_line::{
+    LinesRequest, Treatment, Verdict, front_treatment, verdict_on, whole_treatment,
+};
 use crate::refused_word::{RefusedWords, WordCause};
 use crate::word::is_cut;
 use crate::word_reader::is_any;
@@ -196,9 +199,10 @@ fn report_front(
 
 /// Reads the lines of a log, and chooses those to print.
 ///
-/// A line is chosen if its first entry lies entirely inside a set, or entirely outside; with `any`, if any of its entries
-/// does. With `others`, the lines that are not chosen are printed. Words are cut as by `Extraction`. Here a netmask is an
-/// address, and ADDRESS:PORT is the ADDRESS. A line longer than 1 MiB is decided by the whole words of its first MiB.
+/// A line is chosen if its first entry lies entirely inside a set, or entirely outside; with `any`, if any of its
+/// entries does. With `others`, the lines that are not chosen are printed. Words are cut as by `Extraction`. Here a
+/// netmask is an address, and ADDRESS:PORT is the ADDRESS. A line longer than 1 MiB is decided by the whole words of
+/// its first MiB.
 #[derive(Drop)]
 pub struct LineFilter {
     pub(crate) alloc: Global,
@@ -216,7 +220,8 @@ pub struct LineFilter {
 
 impl LineFilter {
     ghost use Rattle.netset_words.specs.Logs.{IsFilterFor};
-    ghost use Rattle.netset_words.specs.FilterSteps.{IsFilterUpTo, IsLogUpTo, ReadsUpTo, GoesOn, EndsLine, ReadsEnd, EndsLog};
+    ghost use Rattle.netset_words.specs.FilterSteps.{IsFilterUpTo, IsLogUpTo, ReadsUpTo, GoesOn, EndsLine, ReadsEnd};
+    ghost use Rattle.netset_words.specs.FilterSteps.{EndsLog};
 
     /// Returns a filter that has read no line. The set is the result of the session. The error is a failure of the
     /// session, as `Session::into_set` has it.

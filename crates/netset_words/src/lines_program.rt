@@ -118,11 +118,11 @@ fn read_log<R: Read, W: Write, X: Write>(
 
 /// Reads a log up to its end. The lines to print are written to `out` before each read of more bytes.
 ///
-/// A line that its first MiB does not decide is left out, and reported on `faults`. `names` are the names of the set and
-/// of the log, for these reports. After an error, a part of the lines may be written.
+/// A line that its first MiB does not decide is left out, and reported on `faults`. `names` are the names of the set
+/// and of the log, for these reports. After an error, a part of the lines may be written.
 ///
 /// ```text
-/// by 10.0.0.0/8, of "10.0.0.1 GET /\n::1 GET /\nx\n": out gets "10.0.0.1 GET /\n"; printed, and one line without an entry
+/// by 10.0.0.0/8, of "10.0.0.1 GET /\n::1 GET /\nx\n": out gets "10.0.0.1 GET /\n"; printed, and one line has no entry
 /// ```
 pub fn filter_log<R: Read, W: Write, X: Write>(
     filter: LineFilter,
@@ -140,7 +140,9 @@ pub fn filter_log<R: Read, W: Write, X: Write>(
         (W.contents out.old) (W.contents out.new)) }
 {
     let LineFilter {
-        answers, undecided, ..
+        answers,
+        undecided,
+        ..
     } = read_log(filter, names, input, out, faults)?;
     Ok(FilteredLog {
         printed: answers.printed,

@@ -1,15 +1,17 @@
 //! Lines of a log, chosen by their entries.
-ghost use Rattle.std.specs.Prelude.{◌≡◌, ◌<◌, All, length, IfOk, IfSome, MatchOption};
+ghost use Rattle.std.specs.Prelude.{◌≡◌, ◌<◌, ◌↔◌, All, length, IsTrue, IfOk, IfSome, MatchOption};
+ghost use Rattle.ipnet_base.specs.Address.{IsAddress, ip_address};
 ghost use Rattle.ipnet_sets.specs.Members.{IsMember};
 ghost use Rattle.ipnet.specs.declared.parser.Grammar.{Grammar};
 ghost use Rattle.netset_lib.specs.EntryOf.{entry_range};
+ghost use Rattle.netset_lib.specs.declared.entry.Entry.TheVariants as Entries;
 ghost use Rattle.netset_words.specs.LogEntries.{IsNoEntryWord};
-ghost use Rattle.netset_words.specs.LogLines.{IsVerdict, treated, treated_front};
+ghost use Rattle.netset_words.specs.LogLines.{IsVerdict, LiesIn, treated, treated_front};
 ghost use Rattle.netset_words.specs.LogSteps.{IsNextLogEntry};
 ghost use Rattle.netset_words.specs.Words.{words_of};
 
 use crate::log_entry::read_log_entry;
-use crate::word::{next_word, word_len};
+use crate::word::{is_cut, next_word};
 use ipnet::{Grammar, IpAddr};
 use ipnet_sets::IpSet;
 use ipnet_text::ipv4_addr_at;
@@ -100,7 +102,7 @@ fn leading_address(bytes: &[u8]) -> Option<LineEntry<'_>>
         return None;
     }
     let (address, len) = ipv4_addr_at(bytes)?;
-    if word_len(bytes) != len {
+    if !is_cut(bytes[len]) {
         return None;
     }
     Some(LineEntry {
@@ -135,6 +137,42 @@ pub(crate) fn next_log_entry<'a>(
     Ok(None)
 }
 
+/// The number of an address fits in the width of its family. The law is the contract; the function only takes the
+/// number.
+#[inline]
+fn address_fits(address: IpAddr)
+    ensures { IsAddress (ip_address address) }
+{
+    match address {
+        IpAddr::V4(address) => {
+            let _ = address.to_bits();
+        }
+        IpAddr::V6(address) => {
+            let _ = address.to_bits();
+        }
+    }
+}
+
+/// Whether the address is in the set.
+#[inline]
+fn has_address(set: &IpSet, address: IpAddr) -> bool
+    ensures { IsTrue result ↔ LiesIn (IsMember set.now) (entry_range (Entries.Address address)) }
+{
+    address_fits(address);
+    set.contains(&address)
+}
+
+/// Whether every address of the entry is in the set. One address is looked up once.
+#[inline]
+fn lies_in(set: &IpSet, entry: Entry) -> bool
+    ensures { IsTrue result ↔ LiesIn (IsMember set.now) (entry_range entry) }
+{
+    match entry {
+        Entry::Address(address) => has_address(set, address),
+        _ => covers_entry(set, entry),
+    }
+}
+
 /// Returns the verdict on a whole text. Fails if memory runs out.
 pub(crate) fn verdict_on(
     room: &mut String,
@@ -147,7 +185,7 @@ pub(crate) fn verdict_on(
     let mut rest = text;
     let mut verdict = Verdict::NoEntry;
     'entries: while let Some(found) = next_log_entry(room, rest, request.grammar)? {
-        if covers_entry(set, found.entry) {
+        if lies_in(set, found.entry) {
             return Ok(Verdict::Chosen);
         }
         if !request.any {

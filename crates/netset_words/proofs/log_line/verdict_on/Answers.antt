@@ -6,14 +6,14 @@ use Rattle.netset_words.specs.LogSteps.{IsNextLogEntry}
 use Rattle.netset_words.specs.Words.{words_of}
 use Rattle.netset_words.proofs.ItemLaws.{match_some, match_none}
 use Rattle.netset_words.proofs.LogEntryLaws.{not_true, not_false}
-use Rattle.netset_words.proofs.LogLaws.{chosen_now, other_now, judged_more, judged_all, none_judged, lies_so}
+use Rattle.netset_words.proofs.LogLaws.{chosen_now, other_now, judged_more, judged_all, none_judged}
 use Rattle.netset_words.proofs.log_line.verdict_on.Goals as goal
 
 pub entries-init : goal.entries-init
 entries-init c = none_judged c.args.request (IsMember c.args.set.now) c.args.text.now
 
-pub returns-then-covers_entry : goal.returns-then-covers_entry
-returns-then-covers_entry c =
+pub returns-then-lies_in : goal.returns-then-lies_in
+returns-then-lies_in c =
     let h = c.entries.invariant in
     let found = c.in-Some.found in
     let rest = c.entries.rest.now in
@@ -23,8 +23,7 @@ returns-then-covers_entry c =
     c.in-Some.is in
     chosen_now c.args.request (IsMember c.args.set.now) h.judged c.args.text.now rest found.after.now
     c.entries.verdict range h.cut h.so_far next
-    ((lies_so c.args.set.now range c.covers_entry.ensures.fits).0
-    (c.covers_entry.ensures.covers.0 c.if-covers_entry.true))
+    (c.lies_in.ensures.0 c.if-lies_in.true)
 
 pub returns-then-not-request : goal.returns-then-not-request
 returns-then-not-request c =
@@ -37,9 +36,7 @@ returns-then-not-request c =
     c.in-Some.is in
     other_now c.args.request (IsMember c.args.set.now) h.judged c.args.text.now rest found.after.now
     c.entries.verdict range h.cut h.so_far next
-    (λ lies. let clash : true ≡ false =
-    sym (c.covers_entry.ensures.covers.1 ((lies_so c.args.set.now range c.covers_entry.ensures.fits).1 lies))
-    ∙ c.if-covers_entry.false in absurd cc)
+    (λ lies. let clash : true ≡ false = sym (c.lies_in.ensures.1 lies) ∙ c.if-lies_in.false in absurd cc)
     (not_true c.args.request.any c.if-not-request.true)
 
 pub entries-preserved : goal.entries-preserved
@@ -52,9 +49,7 @@ entries-preserved c =
     c.in-Some.is in
     judged_more c.args.request (IsMember c.args.set.now) c.args.text.now rest found.after.now c.entries.verdict range
     c.entries.invariant next
-    (λ lies. let clash : true ≡ false =
-    sym (c.covers_entry.ensures.covers.1 ((lies_so c.args.set.now range c.covers_entry.ensures.fits).1 lies))
-    ∙ c.if-covers_entry.false in absurd cc)
+    (λ lies. let clash : true ≡ false = sym (c.lies_in.ensures.1 lies) ∙ c.if-lies_in.false in absurd cc)
     (not_false c.args.request.any c.if-not-request.false)
 
 pub returns : goal.returns

@@ -13,7 +13,10 @@ returns-in-Ok c = λ request lists were.
     record {
       entries = s.entries;
       read = s.read;
-      same = λ x fits. subst (λ z. IsMember z x ↔ IsOnSide c.args.how.side (IsInResult IsInEntries request.operation s.entries) x) (sym c.new.ensures.set)
+      same = λ x fits.
+          subst
+          (λ z. IsMember z x ↔ IsOnSide c.args.how.side (IsInResult IsInEntries request.operation s.entries) x)
+          (sym c.new.ensures.set)
           (on_same_side c.args.how.side (IsMember c.in-Ok.set) (IsMember c.in_ok-set.set)
           (IsInResult IsInEntries request.operation s.entries) x (c.in-Ok.ensures x fits) (s.right x));
       begun = subst (λ z. IsLogUpTo c.args.how z [] [] c.new.result) (sym c.new.ensures.set) c.new.ensures.begun;

@@ -21,8 +21,14 @@ slice_bounds-whole-end c =
 
 pub invariant_of-self-in-Break-branch-2 : goal.invariant_of-self-in-Break-branch-2
 invariant_of-self-in-Break-branch-2 c = record {
-  short = omega (arith, c.in_ok-extend_from_slice.ensures.len, c.split_at.ensures.front_len, c.room_after.ensures, c.as_slice.ensures.len,
-      c.args.self.now.short);
+  short = omega (
+    arith,
+    c.in_ok-extend_from_slice.ensures.len,
+    c.split_at.ensures.front_len,
+    c.room_after.ensures,
+    c.as_slice.ensures.len,
+    c.args.self.now.short,
+  );
 }
 
 pub returns-in_err-verdict : goal.returns-in_err-verdict
@@ -31,8 +37,14 @@ returns-in_err-verdict c =
 
 pub invariant_of-self-in-Break-branch-3 : goal.invariant_of-self-in-Break-branch-3
 invariant_of-self-in-Break-branch-3 c = record {
-  short = omega (arith, c.in_ok-extend_from_slice.ensures.len, c.split_at.ensures.front_len, c.room_after.ensures, c.as_slice.ensures.len,
-      c.args.self.now.short);
+  short = omega (
+    arith,
+    c.in_ok-extend_from_slice.ensures.len,
+    c.split_at.ensures.front_len,
+    c.room_after.ensures,
+    c.as_slice.ensures.len,
+    c.args.self.now.short,
+  );
 }
 
 pub returns-in_err-printed : goal.returns-in_err-printed
@@ -41,13 +53,26 @@ returns-in_err-printed c =
 
 pub report_front-requires : goal.report_front-requires
 report_front-requires c =
-    omega (arith, c.as_slice-front.ensures.len, c.in_ok-extend_from_slice.ensures.len, c.split_at.ensures.front_len,
-    c.room_after.ensures, c.as_slice.ensures.len, c.args.self.now.short)
+    omega (
+      arith,
+      c.as_slice-front.ensures.len,
+      c.in_ok-extend_from_slice.ensures.len,
+      c.split_at.ensures.front_len,
+      c.room_after.ensures,
+      c.as_slice.ensures.len,
+      c.args.self.now.short,
+    )
 
 pub invariant_of-self-in-Break-branch-4 : goal.invariant_of-self-in-Break-branch-4
 invariant_of-self-in-Break-branch-4 c = record {
-  short = omega (arith, c.in_ok-extend_from_slice.ensures.len, c.split_at.ensures.front_len, c.room_after.ensures, c.as_slice.ensures.len,
-      c.args.self.now.short);
+  short = omega (
+    arith,
+    c.in_ok-extend_from_slice.ensures.len,
+    c.split_at.ensures.front_len,
+    c.room_after.ensures,
+    c.as_slice.ensures.len,
+    c.args.self.now.short,
+  );
 }
 
 pub returns-in_err-report_front : goal.returns-in_err-report_front
