@@ -60,12 +60,12 @@ to_end bytes i within found =
 
 -- ---- steps
 
-module _ (how : LinesRequest) (chosen : IpSet) (written before : List ℕ) (old : LineFilter)
-    (h : IsLogUpTo how chosen written before old) where
+module _ (how : LinesRequest) (chosen : IpSet) (written : List ℕ) (least : ℕ) (before : List ℕ) (old : LineFilter)
+    (h : IsLogUpTo how chosen written least before old) where
   -- bytes without the end of a line
   pub log_grows : (piece : List ℕ) (new : LineFilter) → All (λ b. b ≢ 10) piece
-      → IsFilterUpTo how chosen written (lines_of h.closed) (h.cur ++ piece) new
-      → IsLogUpTo how chosen written (before ++ piece) new
+      → IsFilterUpTo how chosen written least (lines_of h.closed) (h.cur ++ piece) new
+      → IsLogUpTo how chosen written least (before ++ piece) new
   log_grows piece new none up_to = record {
     closed = h.closed;
     cur = h.cur ++ piece;
@@ -77,8 +77,8 @@ module _ (how : LinesRequest) (chosen : IpSet) (written before : List ℕ) (old 
 
   -- the rest of a line, and its end
   pub line_closes : (piece : List ℕ) (new : LineFilter) → All (λ b. b ≢ 10) piece
-      → IsFilterUpTo how chosen written (lines_of h.closed ++ (h.cur ++ piece) ∷ []) [] new
-      → IsLogUpTo how chosen written (before ++ (piece ++ 10 ∷ [])) new
+      → IsFilterUpTo how chosen written least (lines_of h.closed ++ (h.cur ++ piece) ∷ []) [] new
+      → IsLogUpTo how chosen written least (before ++ (piece ++ 10 ∷ [])) new
   line_closes piece new none up_to =
       let line = h.cur ++ piece in
       let all = All-append (λ b. b ≢ 10) h.cur piece h.no_end none in
@@ -100,15 +100,15 @@ module _ (how : LinesRequest) (chosen : IpSet) (written before : List ℕ) (old 
   lines_are = ap lines_of h.cut ∙ h.is_closed h.cur
 
   -- nothing is left
-  pub no_line_left : h.cur ≡ [] → IsFilterUpTo how chosen written (lines_of before) [] old
+  pub no_line_left : h.cur ≡ [] → IsFilterUpTo how chosen written least (lines_of before) [] old
   no_line_left none =
       rw (lines_are, none, append-nil (lines_of h.closed))
-      (subst (λ z. IsFilterUpTo how chosen written (lines_of h.closed) z old) none h.up_to)
+      (subst (λ z. IsFilterUpTo how chosen written least (lines_of h.closed) z old) none h.up_to)
 
   -- a last line, without its end
   pub one_line_left : (new : LineFilter) → 0 < length h.cur
-      → IsFilterUpTo how chosen written (lines_of h.closed ++ h.cur ∷ []) [] new
-      → IsFilterUpTo how chosen written (lines_of before) [] new
+      → IsFilterUpTo how chosen written least (lines_of h.closed ++ h.cur ∷ []) [] new
+      → IsFilterUpTo how chosen written least (lines_of before) [] new
   one_line_left new some up_to =
       let last : lines_of h.cur ≡ h.cur ∷ [] = only h.cur some h.no_end in
       rw (lines_are, last) up_to
@@ -125,20 +125,20 @@ module _ (how : LinesRequest) (chosen : IpSet) (written before : List ℕ) (old 
 -- ---- the front of a line, as a filter has it
 
 -- nothing is kept
-pub is_nothing : (how : LinesRequest) (chosen : IpSet) (written : List ℕ) (lines : List (List ℕ))
-    (cur : List ℕ) (f : LineFilter) → IsFilterUpTo how chosen written lines cur f → f.rest ≡ Rests.Kept
+pub is_nothing : (how : LinesRequest) (chosen : IpSet) (written : List ℕ) (least : ℕ) (lines : List (List ℕ))
+    (cur : List ℕ) (f : LineFilter) → IsFilterUpTo how chosen written least lines cur f → f.rest ≡ Rests.Kept
     → f.front.items ≡ [] → cur ≡ []
-is_nothing how chosen written lines cur f h kept none =
+is_nothing how chosen written least lines cur f h kept none =
     elim h.current [
       | inl k ↦ sym k.kept ∙ none
       | inr d ↦ absurd (not_kept (treated_front how.any how.others d.verdict) (sym d.rest_is ∙ kept))
     ]
 
 -- something is
-pub is_something : (how : LinesRequest) (chosen : IpSet) (written : List ℕ) (lines : List (List ℕ))
-    (cur : List ℕ) (f : LineFilter) → IsFilterUpTo how chosen written lines cur f
+pub is_something : (how : LinesRequest) (chosen : IpSet) (written : List ℕ) (least : ℕ) (lines : List (List ℕ))
+    (cur : List ℕ) (f : LineFilter) → IsFilterUpTo how chosen written least lines cur f
     → (f.rest ≡ Rests.Kept → f.front.items ≡ [] → ⊥) → 0 < length cur
-is_something how chosen written lines cur f h some =
+is_something how chosen written least lines cur f h some =
     elim h.current [ inl k ↦ kept cur k.kept k.rest_is | inr d ↦ omega (arith, d.long) ]
   where
     kept : (cs : List ℕ) → f.front.items ≡ cs → f.rest ≡ Rests.Kept → 0 < length cs
@@ -146,7 +146,7 @@ is_something how chosen written lines cur f h some =
     kept (c ∷ cs) is rest = omega arith
 
 -- the result after all lines
-pub record IsWholeResult (how : LinesRequest) (chosen : IpSet) (written : List ℕ) (lines : List (List ℕ))
+pub record IsWholeResult (how : LinesRequest) (chosen : IpSet) (written : List ℕ) (least : ℕ) (lines : List (List ℕ))
     (f : LineFilter) : Type 0 where
   pub result : LogResult
   pub are : AreLogLines how (IsMember chosen) 1 lines result
@@ -155,9 +155,9 @@ pub record IsWholeResult (how : LinesRequest) (chosen : IpSet) (written : List �
   pub nones : f.answers.nones ≡ result.nones
   pub undecided : AreAllRefusals f.undecided result.undecided
 
-pub whole_result : (how : LinesRequest) (chosen : IpSet) (written : List ℕ) (lines : List (List ℕ))
-    (f : LineFilter) → IsFilterUpTo how chosen written lines [] f → IsWholeResult how chosen written lines f
-whole_result how chosen written lines f h = elim h.current [
+pub whole_result : (how : LinesRequest) (chosen : IpSet) (written : List ℕ) (least : ℕ) (lines : List (List ℕ))
+    (f : LineFilter) → IsFilterUpTo how chosen written least lines [] f → IsWholeResult how chosen written least lines f
+whole_result how chosen written least lines f h = elim h.current [
   | inr d ↦ absurd (omega (arith, d.long))
   | inl k ↦
       record {
@@ -187,8 +187,8 @@ pub none_read : (start : LineFilter) (bytes : List ℕ) → ReadsUpTo start star
 none_read start bytes = record {
   taken = [];
   cut = refl;
-  log = λ how set written before h.
-      subst (λ z. IsLogUpTo how set written z start) (sym (append-nil before)) h;
+  log = λ how set written least before h.
+      subst (λ z. IsLogUpTo how set written least z start) (sym (append-nil before)) h;
 }
 
 pub more_read : (start now next : LineFilter) (bytes rest after : List ℕ) → ReadsUpTo start now bytes rest
@@ -196,18 +196,18 @@ pub more_read : (start now next : LineFilter) (bytes rest after : List ℕ) → 
 more_read start now next bytes rest after h k = record {
   taken = h.taken ++ k.taken;
   cut = h.cut ∙ ap (λ z. h.taken ++ z) k.cut ∙ sym (append_assoc h.taken k.taken after);
-  log = λ how set written before begun.
-      subst (λ z. IsLogUpTo how set written z next) (append_assoc before h.taken k.taken)
-      (k.log how set written (before ++ h.taken) (h.log how set written before begun));
+  log = λ how set written least before begun.
+      subst (λ z. IsLogUpTo how set written least z next) (append_assoc before h.taken k.taken)
+      (k.log how set written least (before ++ h.taken) (h.log how set written least before begun));
 }
 
 -- all of them
 pub all_read : (start now : LineFilter) (bytes rest : List ℕ) → length rest ≡ 0 → ReadsUpTo start now bytes rest
-    → (how : LinesRequest) → (set : IpSet) → (written : List ℕ) → (before : List ℕ)
-    → IsLogUpTo how set written before start → IsLogUpTo how set written (before ++ bytes) now
-all_read start now bytes [] none h = λ how set written before begun.
-    subst (λ z. IsLogUpTo how set written (before ++ z) now) (sym (h.cut ∙ append-nil h.taken))
-    (h.log how set written before begun)
+    → (how : LinesRequest) → (set : IpSet) → (written : List ℕ) → (least : ℕ) → (before : List ℕ)
+    → IsLogUpTo how set written least before start → IsLogUpTo how set written least (before ++ bytes) now
+all_read start now bytes [] none h = λ how set written least before begun.
+    subst (λ z. IsLogUpTo how set written least (before ++ z) now) (sym (h.cut ∙ append-nil h.taken))
+    (h.log how set written least before begun)
 all_read start now bytes (b ∷ rest) none h = absurd (omega arith)
 
 -- bytes without the end of a line
@@ -216,9 +216,9 @@ pub piece_goes : (old new : LineFilter) (bytes rest : List ℕ) → Nowhere (Pas
 piece_goes old new bytes rest none goes empty = record {
   taken = bytes;
   cut = sym (append-nil bytes) ∙ ap (λ z. bytes ++ z) (sym empty);
-  log = λ how set written before h.
-      log_grows how set written before old h bytes new (no_end bytes none)
-      (goes how set written (lines_of h.closed) h.cur h.up_to);
+  log = λ how set written least before h.
+      log_grows how set written least before old h bytes new (no_end bytes none)
+      (goes how set written least (lines_of h.closed) h.cur h.up_to);
 }
 
 -- the bytes up to the end of a line
@@ -229,8 +229,8 @@ pub piece_ends : (old new : LineFilter) (bytes : List ℕ) (i : ℕ)
 piece_ends old new bytes i before found ends = record {
   taken = take i bytes ++ 10 ∷ [];
   cut = to_end bytes i before.high found;
-  log = λ how set written earlier h.
-      line_closes how set written earlier old h (take i bytes) new
+  log = λ how set written least earlier h.
+      line_closes how set written least earlier old h (take i bytes) new
       (before_end bytes i (omega (arith, before.high)) before)
-      (ends how set written (lines_of h.closed) h.cur h.up_to);
+      (ends how set written least (lines_of h.closed) h.cur h.up_to);
 }

@@ -2,7 +2,8 @@
 use Rattle.std.proofs.Common.{◌≡◌, ◌≤◌, ◌==◌, ◌↔◌, ℕ, List, [], ◌∷◌, ◌++◌, length, Option, refl, sym, ap, ◌∙◌, subst}
 use Rattle.std.proofs.Common.{arith}
 use Rattle.std.proofs.Common.{append-nil}
-use Rattle.std.specs.Io.KnownBytes.{Appends}
+use Rattle.std.specs.Io.KnownBytes.{Appends, Keeps}
+use Rattle.std.proofs.KnownBytes.{Keeps-trans}
 use Rattle.ipnet.specs.Lines.{lines_of}
 use Rattle.ipnet_sets.specs.Members.{IsMember}
 use Rattle.netset_lib.specs.declared.answer.Request.{Request}
@@ -35,7 +36,7 @@ module _ (request : Request) (how : LinesRequest) (lists : List (List ℕ)) (lef
       → IsResultFor request how lists left left_after held held_after log
   log_filtered filter f log h s printed nones undecided =
       let lines = lines_of (after_mark s.bytes) in
-      let w = whole_result how filter.set s.written lines f s.all in (
+      let w = whole_result how filter.set s.written 0 lines f s.all in (
         w.result,
         record {
           printed = printed ∙ w.printed;
@@ -80,13 +81,16 @@ module _ (request : Request) (how : LinesRequest) (lists : List (List ℕ)) (lef
 
   -- the status, if each line is decided
   pub all_decided : (log : FilteredLog) (status : ℕ) → status ≤ 1 → (status ≤ 1) ↔ (log.undecided.count ≡ 0)
-      → (status ≤ 1 → log.printed ≡ (status == 0)) → IsResultFor request how lists left left_after held held_after log
-      → ((r : LogResult) × (r.undecided ≡ []) × (r.printed ≡ (status == 0))
+      → (status ≤ 1 → log.printed ≡ (status == 0)) → (faults then after : Option (List ℕ))
+      → (log.undecided.count ≡ 0 → Keeps faults then) → (log.nones ≡ 0 → Keeps then after)
+      → IsResultFor request how lists left left_after held held_after log
+      → ((r : LogResult) × (r.undecided ≡ []) × (r.printed ≡ (status == 0)) × (r.nones ≡ 0 → Keeps faults after)
       × IsLogFiltered request how lists left left_after held held_after r)
-  all_decided log status few decided printed (r, counts, is) = (
+  all_decided log status few decided printed faults then after quiet report (r, counts, is) = (
     r,
     no_refusal r.undecided (sym counts.undecided.count ∙ decided.0 few),
     sym counts.printed ∙ printed few,
+    λ none. Keeps-trans faults then after (quiet (decided.0 few)) (report (counts.nones ∙ none)),
     is,
   )
 

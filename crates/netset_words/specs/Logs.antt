@@ -68,7 +68,7 @@ pub record IsFilterFor (request : Request) (how : LinesRequest) (lists : List (L
   pub read : AreListsRead request.grammar 0 lists entries []
   pub same : (x : Address) → IsAddress x
       → IsMember f.set x ↔ IsOnSide how.side (IsInResult IsInEntries request.operation entries) x
-  pub begun : IsLogUpTo how f.set [] [] f
+  pub begun : IsLogUpTo how f.set [] 0 [] f
 
 -- These are the counts of the result.
 pub record HasCounts (log : FilteredLog) (result : LogResult) : Type 0 where

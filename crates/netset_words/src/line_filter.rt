@@ -246,7 +246,7 @@ impl LineFilter {
 
     /// A filter by this set that has read no line.
     fn new(alloc: Global, request: LinesRequest, set: IpSet) -> LineFilter
-        ensures begun { IsLogUpTo request set [] [] result }
+        ensures begun { IsLogUpTo request set [] 0 [] result }
         ensures set { result.set ≡ set }
     {
         LineFilter {
@@ -425,9 +425,9 @@ impl LineFilter {
     /// Reads more bytes of the log. Fails if memory runs out, or if there are more lines than a `usize` counts.
     #[tactic(none)]
     pub(crate) fn read(&mut self, bytes: &[u8]) -> Result<(), AllocError>
-        ensures { OnOk result ((how : LinesRequest) → (set : IpSet) → (written : List ℕ)
-            → (before : List ℕ) → IsLogUpTo how set written before self.old
-            → IsLogUpTo how set written (before ++ bytes.now) self.new) }
+        ensures { OnOk result ((how : LinesRequest) → (set : IpSet) → (written : List ℕ) → (least : ℕ)
+            → (before : List ℕ) → IsLogUpTo how set written least before self.old
+            → IsLogUpTo how set written least (before ++ bytes.now) self.new) }
     {
         let mut rest = bytes;
         'pieces: while !rest.is_empty() {

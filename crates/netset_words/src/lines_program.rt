@@ -71,9 +71,9 @@ fn put<W: Write>(text: &mut Vec<u8>, out: &mut W) -> Result<(), LogFailure>
 
 /// Reads bytes of a log, and its end if no more may come.
 fn take_bytes(filter: &mut LineFilter, bytes: &[u8], more: bool) -> Result<(), AllocError>
-    ensures { OnOk result ((how : LinesRequest) → (set : IpSet) → (written : List ℕ)
-        → (before : List ℕ) → IsLogUpTo how set written before filter.old
-        → IsTaken more how set written (before ++ bytes.now) filter.new) }
+    ensures { OnOk result ((how : LinesRequest) → (set : IpSet) → (written : List ℕ) → (least : ℕ)
+        → (before : List ℕ) → IsLogUpTo how set written least before filter.old
+        → IsTaken more how set written least (before ++ bytes.now) filter.new) }
 {
     filter.read(bytes)?;
     if more {
@@ -91,11 +91,13 @@ fn read_log<R: Read, W: Write, X: Write>(
     faults: &mut X,
 ) -> Result<LineFilter, LogFailure>
     ensures whole { IfOk result (λ f. (how : LinesRequest) → (set : IpSet)
-        → IsLogUpTo how set [] [] filter → IsStreamed how set (R.remaining input.old) (R.remaining input.new)
+        → IsLogUpTo how set [] 0 [] filter → IsStreamed how set (R.remaining input.old) (R.remaining input.new)
         (W.contents out.old) (W.contents out.new) f) }
     ensures part { IfErr result (λ _. (how : LinesRequest) → (set : IpSet)
-        → IsLogUpTo how set [] [] filter → IsFrontPrinted how (IsMember set) (R.remaining input.old)
+        → IsLogUpTo how set [] 0 [] filter → IsFrontPrinted how (IsMember set) (R.remaining input.old)
         (W.contents out.old) (W.contents out.new)) }
+    ensures quiet { IfOk result (λ f. (how : LinesRequest) → (set : IpSet) → IsLogUpTo how set [] 0 [] filter
+        → f.undecided.count ≡ 0 → Keeps (X.contents faults.old) (X.contents faults.new)) }
 {
     let mut filter = filter;
     let mut window = Window::new(filter.alloc)?;
@@ -138,6 +140,9 @@ pub fn filter_log<R: Read, W: Write, X: Write>(
     ensures part { IfErr result (λ _. (request : Request) → (how : LinesRequest) → (lists : List (List ℕ))
         → IsFilterFor request how lists filter → IsLogFilteredInPart request how lists (R.remaining input.old)
         (W.contents out.old) (W.contents out.new)) }
+    ensures quiet { IfOk result (λ log. (request : Request) → (how : LinesRequest) → (lists : List (List ℕ))
+        → IsFilterFor request how lists filter → log.undecided.count ≡ 0
+        → Keeps (X.contents faults.old) (X.contents faults.new)) }
 {
     let LineFilter {
         answers,
@@ -217,6 +222,7 @@ pub fn run_lines<R: Read, W: Write, X: Write>(
     ensures filtered { result ≤ 1 → (request : Request) → (how : LinesRequest) → (lists : List (List ℕ))
         → IsFilterFor request how lists filter
         → ((r : LogResult) × (r.undecided ≡ []) × (r.printed ≡ (result == 0))
+        × (r.nones ≡ 0 → Keeps (X.contents faults.old) (X.contents faults.new))
         × IsLogFiltered request how lists (R.remaining input.old) (R.remaining input.new)
         (W.contents out.old) (W.contents out.new) r) }
     ensures cut_short { result ≡ 2 → (request : Request) → (how : LinesRequest) → (lists : List (List ℕ))

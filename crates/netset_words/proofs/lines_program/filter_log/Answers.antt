@@ -17,3 +17,6 @@ returns-in_err-read_log-clause-part g c =
     (λ request how lists h. log_in_part request how lists (g.R.Read.remaining c.args.input.now)
     (g.R.Read.remaining c.args.input.now) (g.W.Write.contents c.args.out.now) (g.W.Write.contents c.read_log.new.out)
     c.args.filter h (c.in_err-read_log.ensures.part how c.args.filter.set h.begun))
+
+pub returns-clause-quiet : goal.returns-clause-quiet
+returns-clause-quiet g c = λ request how lists h. c.in_ok-read_log.ensures.quiet how c.args.filter.set h.begun

@@ -6,7 +6,9 @@ pub returns-in-Ok-clause-filtered : goal.returns-in-Ok-clause-filtered
 returns-in-Ok-clause-filtered g c = λ few request how lists h.
     all_decided request how lists (g.R.Read.remaining c.args.input.now) (g.R.Read.remaining c.filter_log.new.input)
     (g.W.Write.contents c.args.out.now) (g.W.Write.contents c.filter_log.new.out) c.in-Ok.log c.log_status.result few
-    c.log_status.ensures.decided c.log_status.ensures.printed (c.in-Ok.ensures.whole request how lists h)
+    c.log_status.ensures.decided c.log_status.ensures.printed (g.X.Write.contents c.args.faults.now)
+    (g.X.Write.contents c.filter_log.new.faults) (g.X.Write.contents c.report_nones.new.faults)
+    (c.in-Ok.ensures.quiet request how lists h) c.report_nones.ensures (c.in-Ok.ensures.whole request how lists h)
 
 pub returns-in-Ok-clause-cut_short : goal.returns-in-Ok-clause-cut_short
 returns-in-Ok-clause-cut_short g c = λ two request how lists h.

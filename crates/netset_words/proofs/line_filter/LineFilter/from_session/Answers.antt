@@ -19,5 +19,5 @@ returns-in-Ok c = λ request lists were.
           (sym c.new.ensures.set)
           (on_same_side c.args.how.side (IsMember c.in-Ok.set) (IsMember c.in_ok-set.set)
           (IsInResult IsInEntries request.operation s.entries) x (c.in-Ok.ensures x fits) (s.right x));
-      begun = subst (λ z. IsLogUpTo c.args.how z [] [] c.new.result) (sym c.new.ensures.set) c.new.ensures.begun;
+      begun = subst (λ z. IsLogUpTo c.args.how z [] 0 [] c.new.result) (sym c.new.ensures.set) c.new.ensures.begun;
     }

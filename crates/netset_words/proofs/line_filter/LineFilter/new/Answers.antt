@@ -22,5 +22,6 @@ returns-clause-begun c = record {
     printed = refl;
     nones = refl;
     undecided = c.new-4.ensures;
+    least_count = omega arith;
   };
 }
