@@ -24,7 +24,8 @@ loop-preserved g c =
     let (given, window, read) = c.in_ok-more-2.ensures.read in
     let shown = c.held-held.result.now in
     record {
-      reading = reading_goes (left c.args.input.now) (left c.loop.input) (to c.args.out.now) (to c.loop.out) (to c.put.new.out)
+      reading = reading_goes
+          (left c.args.input.now) (left c.loop.input) (to c.args.out.now) (to c.loop.out) (to c.put.new.out)
           c.args.filter c.loop.filter c.take_bytes.new.filter _ c.loop.window c.take.new.self shown
           c.held-held.ensures.value
           (record {
@@ -41,7 +42,8 @@ loop-preserved g c =
           c.in_ok-put.ensures.written c.in_ok-more-2.more (left c.fill.new.input) c.take.new.self c.fill.new.self given
           (subst (λ m. IsLogReading m (left c.args.input.now) (left c.loop.input) (to c.args.out.now) (to c.loop.out)
           c.args.filter c.loop.filter c.loop.window) c.if-not-more.false c.loop.invariant.reading)
-          (λ how set written least before h. subst (λ m. IsTaken m how set written least _ c.take_bytes.new.filter) c.if-not-more.false
+          (λ how set written least before h.
+          subst (λ m. IsTaken m how set written least _ c.take_bytes.new.filter) c.if-not-more.false
           (c.in_ok-take_bytes.ensures how set written least before h))
           (c.take.ensures ∙ drop_of_length-le (held c.loop.window) (omega (arith, ap length c.held-held.ensures.value)))
           window read c.in_ok-more-2.ensures.end;
@@ -73,7 +75,8 @@ returns-then-not-more-clause-whole g c =
     c.in_ok-put.ensures.written
     (subst (λ m. IsLogReading m (left c.args.input.now) (left c.loop.input) (to c.args.out.now) (to c.loop.out)
     c.args.filter c.loop.filter c.loop.window) c.if-not-more.true c.loop.invariant.reading)
-    (λ how set written least before h. subst (λ m. IsTaken m how set written least _ c.take_bytes.new.filter) c.if-not-more.true
+    (λ how set written least before h.
+    subst (λ m. IsTaken m how set written least _ c.take_bytes.new.filter) c.if-not-more.true
     (c.in_ok-take_bytes.ensures how set written least before h))
 
 pub returns-then-not-more-clause-quiet : goal.returns-then-not-more-clause-quiet

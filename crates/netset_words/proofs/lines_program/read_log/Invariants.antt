@@ -6,7 +6,8 @@ use Rattle.netset_words.specs.FilterSteps.{IsLogUpTo}
 use Rattle.netset_words.proofs.LogReading.{IsLogReading}
 use Rattle.netset_words.proofs.lines_program.read_log.Given as goal
 
--- the log was read up to what is in the window, its lines were written, and if each line is decided, nothing was reported
+-- the log was read up to what is in the window, its lines were written, and if each line is decided, nothing was
+-- reported
 abbrev pub invariant-loop : goal.invariant-loop
 invariant-loop g l = record {
   reading : IsLogReading l.more (g.R.Read.remaining l.fn.input) (g.R.Read.remaining l.input)

@@ -11,6 +11,7 @@ returns-then-more c = λ how set written least before h.
 pub returns : goal.returns
 returns c =
     OnOk_then c.end.result c.end.ensures
-    (λ ends how set written least before h. subst (λ m. IsTaken m how set written least (before ++ c.args.bytes.now) c.end.new.self)
+    (λ ends how set written least before h.
+    subst (λ m. IsTaken m how set written least (before ++ c.args.bytes.now) c.end.new.self)
     (sym c.if-more.false)
     (ends how set written least (before ++ c.args.bytes.now) (c.in_ok-read.ensures how set written least before h)))

@@ -15,7 +15,8 @@ returns-then-len-eq0 c = λ how set written least bytes h.
 pub returns : goal.returns
 returns c =
     OnOk_then c.end_line.result c.end_line.ensures
-    (λ ends how set written least bytes h. one_line_left how set written least bytes c.args.self.now h c.end_line.new.self
+    (λ ends how set written least bytes h.
+    one_line_left how set written least bytes c.args.self.now h c.end_line.new.self
     (is_something how set written least (lines_of h.closed) h.cur c.args.self.now h.up_to
     (λ kept none. let size = ap length none in absurd (omega (arith, c.len.ensures, c.if-len-eq0.false, size))))
     (ends how set written least (lines_of h.closed) h.cur h.up_to))
