@@ -385,15 +385,16 @@ module _ (how : LinesRequest) (chosen : IpSet) (written : List ℕ) (least : ℕ
       ]
 
 -- a line that is kept ends
-pub kept_line_ends : (how : LinesRequest) (chosen : IpSet) (written : List ℕ) (least : ℕ) (lines : List (List ℕ)) (cur : List ℕ)
-    (old new : LineFilter) → IsFilterUpTo how chosen written least lines cur old → (line : List ℕ)
+pub kept_line_ends : (how : LinesRequest) (chosen : IpSet) (written : List ℕ) (least : ℕ) (lines : List (List ℕ))
+    (cur : List ℕ) (old new : LineFilter) → IsFilterUpTo how chosen written least lines cur old → (line : List ℕ)
     → line ≡ old.front.items → new.request ≡ old.request → new.set ≡ old.set → new.line ≡ old.line + 1
     → old.rest ≡ Rests.Kept
     → ((number : ℕ) → ((r : LogResult) × IsShortLine old.request (IsMember old.set) number line r
     × (r.undecided ≡ []) × AddsResult old.answers new.answers r))
     → new.undecided ≡ old.undecided → new.rest ≡ old.rest → new.front.items ≡ []
     → IsFilterUpTo how chosen written least (lines ++ cur ∷ []) [] new
-kept_line_ends how chosen written least lines cur old new h line front request set next kept reads undecided rest empty =
+kept_line_ends how chosen written least lines cur old new h line front request set next kept reads undecided rest
+    empty =
     let (r, is, decided, adds) = reads (length lines + 1) in
     subst (λ z. IsFilterUpTo how chosen written least (lines ++ z ∷ []) [] new) (append-nil cur)
     (kept_ends how chosen written least lines cur [] old new h r request set next kept
