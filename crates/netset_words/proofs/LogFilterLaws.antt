@@ -56,7 +56,7 @@ joined_more a b c =
     (or_assoc a.printed b.printed c.printed) (omega arith) (append_assoc a.undecided b.undecided c.undecided)
 
 -- one line more
-lines_and : (how : LinesRequest) (InSet : Address → Type 0) (n : ℕ) (lines : List (List ℕ)) (line : List ℕ)
+pub lines_and : (how : LinesRequest) (InSet : Address → Type 0) (n : ℕ) (lines : List (List ℕ)) (line : List ℕ)
     (result first : LogResult) → AreLogLines how InSet n lines result
     → IsLogLine how InSet (n + length lines) line first
     → AreLogLines how InSet n (lines ++ line ∷ []) (joined result first)
@@ -93,7 +93,7 @@ not_kept Treatments.Printed e = absurd cc
 not_kept Treatments.LeftOut e = absurd cc
 not_kept Treatments.Undecided e = absurd cc
 
-more_text : (number : ℕ) (cur piece line : List ℕ) (t : Treatment) (rest : Rest) → rest ≡ rest_of t
+pub more_text : (number : ℕ) (cur piece line : List ℕ) (t : Treatment) (rest : Rest) → rest ≡ rest_of t
     → (result_of number 0 line (cur ++ piece) t).text ≡ (result_of number 0 cur cur t).text ++ after_front rest piece
 more_text number cur piece line Treatments.Printed rest is = rw is refl
 more_text number cur piece line Treatments.LeftOut rest is = rw is refl
@@ -127,7 +127,7 @@ line_read how InSet old new line v t printed short right is text is_shown any no
 -- ---- fronts
 
 -- more bytes do not change the front of a long line
-same_front : (cur piece : List ℕ) → 1048576 ≤ length cur → front_of (cur ++ piece) ≡ front_of cur
+pub same_front : (cur piece : List ℕ) → 1048576 ≤ length cur → front_of (cur ++ piece) ≡ front_of cur
 same_front cur piece long =
     ap (λ front. take (length front - suffix_len (λ b. not (cuts b)) front) front)
     (take-append-le 1048576 cur piece long)

@@ -27,11 +27,11 @@ use Rattle.netset_words.proofs.LogReading.{IsLogReading}
 
 -- ---- the line with which a log goes on
 
-first_part : List (List ℕ) → List ℕ
+abbrev first_part : List (List ℕ) → List ℕ
 first_part [] = []
 first_part (line ∷ lines) = line
 
-later : List (List ℕ) → List (List ℕ)
+abbrev later : List (List ℕ) → List (List ℕ)
 later [] = []
 later (line ∷ lines) = lines
 

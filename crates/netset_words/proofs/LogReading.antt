@@ -15,7 +15,7 @@ use Rattle.netset_words.specs.FilterSteps.{IsFilterUpTo, IsLogUpTo, IsTaken, IsS
 use Rattle.netset_words.proofs.InputReading.{IsInputUpTo, input_begins, input_moves, input_grows, input_ends}
 
 -- the same filter without the text that was written
-record IsPut (old new : LineFilter) : Type 0 where
+pub record IsPut (old new : LineFilter) : Type 0 where
   pub request : new.request ≡ old.request
   pub set : new.set ≡ old.set
   pub line : new.line ≡ old.line
@@ -26,40 +26,37 @@ record IsPut (old new : LineFilter) : Type 0 where
   pub undecided : new.undecided ≡ old.undecided
   pub text : new.answers.text.items ≡ []
 
-module _ (how : LinesRequest) (set : IpSet) (written : List ℕ) (least : ℕ) (old new : LineFilter)
-    (p : IsPut old new) where
-  pub put_lines : (lines : List (List ℕ)) (cur : List ℕ) → IsFilterUpTo how set written least lines cur old
-      → IsFilterUpTo how set (written ++ old.answers.text.items) least lines cur new
-  put_lines lines cur h = record {
-    same_request = p.request ∙ h.same_request;
-    same_set = p.set ∙ h.same_set;
-    line = p.line ∙ h.line;
-    result = h.result;
-    are = h.are;
-    partial = h.partial;
-    current = rw (p.rest, p.front) h.current;
-    text = rw p.text (append-nil (written ++ old.answers.text.items) ∙ h.text);
-    printed = p.printed ∙ h.printed;
-    nones = p.nones ∙ h.nones;
-    undecided = rw p.undecided h.undecided;
-    least_count = rw p.undecided h.least_count;
-  }
+put_lines : (how : LinesRequest) (set : IpSet) (written : List ℕ) (least : ℕ) (old new : LineFilter)
+    (p : IsPut old new) (lines : List (List ℕ)) (cur : List ℕ) → IsFilterUpTo how set written least lines cur old
+    → IsFilterUpTo how set (written ++ old.answers.text.items) least lines cur new
+put_lines how set written least old new p lines cur h = record {
+  same_request = p.request ∙ h.same_request;
+  same_set = p.set ∙ h.same_set;
+  line = p.line ∙ h.line;
+  result = h.result;
+  are = h.are;
+  partial = h.partial;
+  current = rw (p.rest, p.front) h.current;
+  text = rw p.text (append-nil (written ++ old.answers.text.items) ∙ h.text);
+  printed = p.printed ∙ h.printed;
+  nones = p.nones ∙ h.nones;
+  undecided = rw p.undecided h.undecided;
+  least_count = rw p.undecided h.least_count;
+}
 
-  put_log : (bytes : List ℕ) → IsLogUpTo how set written least bytes old
-      → IsLogUpTo how set (written ++ old.answers.text.items) least bytes new
-  put_log bytes h = record {
-    closed = h.closed;
-    cur = h.cur;
-    cut = h.cut;
-    is_closed = h.is_closed;
-    no_end = h.no_end;
-    up_to = put_lines (lines_of h.closed) h.cur h.up_to;
-  }
-
-  pub put_taken : (more : Bool) (bytes : List ℕ) → IsTaken more how set written least bytes old
-      → IsTaken more how set (written ++ old.answers.text.items) least bytes new
-  put_taken true bytes h = put_log bytes h
-  put_taken false bytes h = put_lines (lines_of bytes) [] h
+put_taken : (how : LinesRequest) (set : IpSet) (written : List ℕ) (least : ℕ) (old new : LineFilter)
+    (p : IsPut old new) (more : Bool) (bytes : List ℕ) → IsTaken more how set written least bytes old
+    → IsTaken more how set (written ++ old.answers.text.items) least bytes new
+put_taken how set written least old new p true bytes h = record {
+  closed = h.closed;
+  cur = h.cur;
+  cut = h.cut;
+  is_closed = h.is_closed;
+  no_end = h.no_end;
+  up_to = put_lines how set written least old new p (lines_of h.closed) h.cur h.up_to;
+}
+put_taken how set written least old new p false bytes h =
+    put_lines how set written least old new p (lines_of bytes) [] h
 
 -- a log was read up to what is in the window, and its lines were written
 pub record IsLogReading (more : Bool) (left left_now to to_now : Option (List ℕ)) (start now : LineFilter)

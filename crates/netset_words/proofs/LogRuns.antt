@@ -22,7 +22,7 @@ use Rattle.netset_words.proofs.LogBytes.{whole_result}
 use Rattle.netset_words.proofs.LogSets.{same_lines}
 
 -- the result of a log, with the counts
-IsResultFor : Request → LinesRequest → List (List ℕ) → Option (List ℕ) → Option (List ℕ) → Option (List ℕ)
+abbrev IsResultFor : Request → LinesRequest → List (List ℕ) → Option (List ℕ) → Option (List ℕ) → Option (List ℕ)
     → Option (List ℕ) → FilteredLog → Type 0
 IsResultFor request how lists left left_after held held_after log =
     (r : LogResult) × HasCounts log r × IsLogFiltered request how lists left left_after held held_after r

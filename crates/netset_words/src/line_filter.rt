@@ -408,7 +408,6 @@ impl LineFilter {
     }
 
     /// Reads the bytes up to the end of the first line, or all of them, and returns the others.
-    #[tactic(none)]
     fn read_piece<'a>(&mut self, bytes: &'a [u8]) -> Result<&'a [u8], AllocError>
         requires { 0 < length bytes.now }
         ensures log { IfOk result (λ rest. ReadsUpTo self.old self.new bytes.now rest.now) }
@@ -423,7 +422,6 @@ impl LineFilter {
     }
 
     /// Reads more bytes of the log. Fails if memory runs out, or if there are more lines than a `usize` counts.
-    #[tactic(none)]
     pub(crate) fn read(&mut self, bytes: &[u8]) -> Result<(), AllocError>
         ensures { OnOk result ((how : LinesRequest) → (set : IpSet) → (written : List ℕ) → (least : ℕ)
             → (before : List ℕ) → IsLogUpTo how set written least before self.old

@@ -1,6 +1,16 @@
-use Rattle.std.proofs.Common.{refl}
+use Rattle.std.proofs.Common.{refl, length}
+use Rattle.memchr.specs.Find.{NoneBefore, Nowhere, Passes, is_byte}
+use Rattle.netset_words.proofs.ItemLaws.{match_none}
 use Rattle.netset_words.proofs.LogBytes.{piece_goes, piece_ends}
 use Rattle.netset_words.proofs.line_filter.LineFilter.read_piece.Goals as goal
+
+pub returns-in_default-clause-log : goal.returns-in_default-clause-log
+returns-in_default-clause-log c =
+    let bytes = c.args.bytes.now in
+    let none = match_none c.memchr.result (Nowhere (Passes (is_byte 10) bytes) 0 (length bytes))
+    (λ i. NoneBefore (Passes (is_byte 10) bytes) 0 (length bytes) i × Passes (is_byte 10) bytes i) c.memchr.ensures
+    c.in_default.not-Some in
+    piece_goes c.args.self.now c.go_on.new.self bytes _ none c.in_ok-go_on.ensures refl
 
 pub returns-clause-log : goal.returns-clause-log
 returns-clause-log c =
