@@ -1,7 +1,7 @@
 -- The bytes of an IPv4 address do not cut a line into words.
-use Rattle.std.proofs.Common.{◌≡◌, ◌⊎◌, ℕ, zero, suc, ◌+◌, ◌-◌, ◌<◌, ◌≤◌, Bool, true, false, not, ◌&&◌, List, [], ◌∷◌}
+use Rattle.std.proofs.Common.{◌≡◌, ℕ, zero, suc, ◌+◌, ◌-◌, ◌<◌, ◌≤◌, Bool, true, false, not, ◌&&◌, List, [], ◌∷◌}
 use Rattle.std.proofs.Common.{◌++◌}
-use Rattle.std.proofs.Common.{All, length, take, get_or, refl, sym, ap, ◌∙◌, arith, inl, inr, subst, length-take-le}
+use Rattle.std.proofs.Common.{All, length, take, get_or, refl, sym, arith, inl, inr, subst, length-take-le}
 use Rattle.std.proofs.Common.{get_or-take}
 use Rattle.std.specs.Char.{digit_value}
 use Rattle.std.proofs.lemmas.Bool.{cases_eq}

@@ -1,5 +1,5 @@
 -- The lines of a log, and the front of a line that is not complete.
-use Rattle.std.proofs.Common.{◌≡◌, ◌≢◌, ◌⊎◌, ℕ, ◌+◌, ◌-◌, ◌<◌, ◌≤◌, ◌||◌, Bool, true, false, List, [], ◌∷◌, ◌++◌, All}
+use Rattle.std.proofs.Common.{◌≡◌, ℕ, ◌+◌, ◌-◌, ◌<◌, ◌≤◌, ◌||◌, Bool, true, false, List, [], ◌∷◌, ◌++◌}
 use Rattle.std.proofs.Common.{length, take, drop, refl, sym, ap, ◌∙◌, arith, inl, inr, subst, append_assoc, append-nil}
 use Rattle.std.proofs.Common.{length-append, add-zero, if◌then◌else◌, not, take_all, length-take-le, length-drop}
 use Rattle.std.proofs.lemmas.List.{take-append-le, take-append-drop}
@@ -17,12 +17,11 @@ use Rattle.netset_words.specs.declared.log_line.Treatment.TheVariants as Treatme
 use Rattle.netset_words.specs.declared.log_line.Verdict.{Verdict}
 use Rattle.netset_words.specs.declared.log_line.Verdict.TheVariants as Verdicts
 use Rattle.netset_words.specs.declared.refused_word.WordCause.TheVariants as Causes
-use Rattle.netset_words.specs.Extracts.{WordRefusal}
 use Rattle.netset_words.specs.ExtractSteps.{AddsRefusals, AreAllRefusals}
-use Rattle.netset_words.specs.LogLines.{LogResult, no_result, joined, IsShortLine, IsLongLine, IsLogLine, AreLogLines}
+use Rattle.netset_words.specs.LogLines.{LogResult, no_result, joined, IsShortLine, IsLogLine, AreLogLines}
 use Rattle.netset_words.specs.LogLines.{IsVerdict, treated, treated_front, is_printed, report_of, result_of, front_of}
 use Rattle.netset_words.specs.LogLines.{has_none}
-use Rattle.netset_words.specs.LogSteps.{AddsResult, IsCurrentLine, rest_of, after_front}
+use Rattle.netset_words.specs.LogSteps.{AddsResult, rest_of, after_front}
 use Rattle.netset_words.specs.FilterSteps.{IsFilterUpTo}
 use Rattle.netset_words.specs.Words.{cuts, words_of}
 use Rattle.netset_words.proofs.ExtractLaws.{all_refusals}

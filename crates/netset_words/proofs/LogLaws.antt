@@ -1,5 +1,5 @@
 -- The entries of a line of a log, one after another, and the verdict on it.
-use Rattle.std.proofs.Common.{◌≡◌, ◌≢◌, ◌⊎◌, ◌↔◌, ℕ, ◌+◌, ◌-◌, ◌<◌, ◌≤◌, Bool, true, false, List, [], ◌∷◌, ◌++◌, All}
+use Rattle.std.proofs.Common.{◌≡◌, ◌⊎◌, ◌↔◌, ℕ, ◌-◌, ◌<◌, ◌≤◌, Bool, true, false, List, [], ◌∷◌, ◌++◌, All}
 use Rattle.std.proofs.Common.{length, take, drop, refl, sym, ap, ◌∙◌, arith, inl, inr, subst, append_assoc, append-nil}
 use Rattle.std.proofs.Common.{get_or, IsTrue}
 use Rattle.std.proofs.lemmas.List.{take_rest}
@@ -25,7 +25,7 @@ use Rattle.netset_words.specs.declared.log_line.LinesRequest.{LinesRequest}
 use Rattle.netset_words.specs.declared.log_line.Verdict.{Verdict}
 use Rattle.netset_words.specs.declared.log_line.Verdict.TheVariants as Verdicts
 use Rattle.netset_words.specs.LogEntries.{IsLogEntry, IsNoEntryWord}
-use Rattle.netset_words.specs.LogLines.{LiesIn, IsInsideWord, IsOutsideWord, IsOfFirst, IsOfOne, AreChosen}
+use Rattle.netset_words.specs.LogLines.{LiesIn, IsInsideWord, IsOutsideWord, AreChosen}
 use Rattle.netset_words.specs.LogLines.{AreNotChosen, IsVerdict}
 use Rattle.netset_words.specs.LogSteps.{IsNextLogEntry}
 use Rattle.netset_words.specs.Words.{Word, cuts, words_of}
@@ -104,17 +104,6 @@ one_passed grammar bytes rest after w h is none = record {
   cut = h.cut ∙ ap (λ z. h.passed ++ z) is ∙ sym (append_assoc h.passed (w ∷ []) (words_of after));
   none = All-append (IsNoEntryWord grammar) h.passed (w ∷ []) h.none
       (All-cons (IsNoEntryWord grammar) w [] none (All-nil (IsNoEntryWord grammar)));
-}
-
-pub entry_passed : (grammar : Grammar) (bytes rest after : List ℕ) (w : Word) (range : AddressRange)
-    → IsPassed grammar bytes rest → words_of rest ≡ w ∷ words_of after → IsLogEntry grammar w.text range
-    → IsNextLogEntry grammar bytes range after
-entry_passed grammar bytes rest after w range h is entry = record {
-  before = h.passed;
-  word = w;
-  cut = h.cut ∙ ap (λ z. h.passed ++ z) is;
-  none = h.none;
-  is = entry;
 }
 
 pub all_passed : (grammar : Grammar) (bytes rest : List ℕ) → IsPassed grammar bytes rest → words_of rest ≡ []

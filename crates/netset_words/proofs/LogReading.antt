@@ -1,13 +1,12 @@
 -- A log that is read through a window, and the lines that are written.
-use Rattle.std.proofs.Common.{◌≡◌, ◌↔◌, ◌≤◌, ℕ, Bool, true, false, List, [], ◌++◌, Option, refl, sym, ap, ◌∙◌, subst}
-use Rattle.std.proofs.Common.{append-nil, append_assoc, length, arith}
+use Rattle.std.proofs.Common.{◌≡◌, ◌≤◌, ℕ, Bool, true, false, List, [], ◌++◌, Option, sym, ap, ◌∙◌, subst}
+use Rattle.std.proofs.Common.{append-nil, arith}
 use Rattle.std.specs.Io.KnownBytes.{Appends, Consumes, IsAtEnd, Keeps}
 use Rattle.std.proofs.KnownBytes.{Appends-trans, Appends-nil, Keeps-trans}
 use Rattle.ipnet.specs.Lines.{lines_of}
 use Rattle.ipnet_sets.specs.declared.set.IpSet.{IpSet}
 use Rattle.ipnet_text.specs.declared.window.Window.{Window}
 use Rattle.ipnet_text.specs.Window.{held}
-use Rattle.netset_lib.specs.Lists.{after_mark}
 use Rattle.netset_lib.specs.Marks.{IsPastMark}
 use Rattle.netset_words.specs.declared.line_filter.LineFilter.{LineFilter}
 use Rattle.netset_words.specs.declared.log_line.LinesRequest.{LinesRequest}

@@ -1,5 +1,5 @@
 -- The lines of a log by two sets that have the same addresses.
-use Rattle.std.proofs.Common.{◌≡◌, ◌⊎◌, ◌↔◌, ℕ, ◌+◌, Bool, true, false, List, [], ◌∷◌, All, inl, inr}
+use Rattle.std.proofs.Common.{◌⊎◌, ◌↔◌, ℕ, ◌+◌, Bool, true, false, List, [], ◌∷◌, inl, inr}
 use Rattle.std.proofs.lemmas.List.Elements.{All-weaker}
 use Rattle.ipnet_base.specs.Address.{Address, IsAddress}
 use Rattle.netset_lib.specs.declared.filter.Side.{Side}

@@ -1,4 +1,4 @@
-use Rattle.std.proofs.Common.{refl, subst, sym, ◌∙◌, ◌++◌, length, drop, ap, arith}
+use Rattle.std.proofs.Common.{refl, subst, ◌∙◌, ◌++◌, length, ap, arith}
 use Rattle.std.proofs.Math.ListN.{drop_of_length-le}
 use Rattle.std.proofs.KnownBytes.{Keeps-refl}
 use Rattle.ipnet_sets.specs.Members.{IsMember}

@@ -1,4 +1,4 @@
-use Rattle.std.proofs.Common.{true, false, sym, subst, ◌++◌}
+use Rattle.std.proofs.Common.{sym, subst, ◌++◌}
 use Rattle.ipnet_text.proofs.ListsLaws.{OnOk_then}
 use Rattle.netset_words.specs.FilterSteps.{IsTaken}
 use Rattle.netset_words.proofs.lines_program.take_bytes.Goals as goal

@@ -1,4 +1,4 @@
-use Rattle.std.proofs.Common.{◌≡◌, sym, ◌∙◌, inl, inr}
+use Rattle.std.proofs.Common.{sym, ◌∙◌, inl, inr}
 use Rattle.netset_lib.specs.Entries.{IsEntryText}
 use Rattle.netset_lib.specs.EntryOf.{entry_range}
 use Rattle.netset_lib.proofs.EntryTexts.{none_of}

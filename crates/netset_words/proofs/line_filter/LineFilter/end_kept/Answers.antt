@@ -1,5 +1,4 @@
-use Rattle.std.proofs.Common.{◌≡◌, List, ℕ, refl, subst, ◌++◌, ◌∷◌, [], append-nil, length, ◌+◌, ◌<◌}
-use Rattle.ipnet_sets.specs.Members.{IsMember}
+use Rattle.std.proofs.Common.{refl}
 use Rattle.netset_words.proofs.LogFilterLaws.{kept_line_ends}
 use Rattle.netset_words.proofs.line_filter.LineFilter.end_kept.Goals as goal
 

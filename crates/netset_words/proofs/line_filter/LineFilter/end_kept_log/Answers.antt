@@ -1,4 +1,4 @@
-use Rattle.std.proofs.Common.{arith, ◌≡◌, length, ap}
+use Rattle.std.proofs.Common.{arith, length, ap}
 use Rattle.ipnet.specs.Lines.{lines_of}
 use Rattle.ipnet_text.proofs.ListsLaws.{OnOk_then}
 use Rattle.netset_words.proofs.LogBytes.{no_line_left, one_line_left, is_nothing, is_something}

@@ -1,4 +1,4 @@
-use Rattle.std.proofs.Common.{◌≢◌, ℕ, [], refl, inl, arith}
+use Rattle.std.proofs.Common.{◌≢◌, [], refl, inl, arith}
 use Rattle.std.proofs.lemmas.List.Elements.{All-nil}
 use Rattle.netset_words.specs.LogLines.{no_result}
 use Rattle.netset_words.proofs.line_filter.LineFilter.new.Goals as goal
