@@ -43,7 +43,8 @@ loop-preserved g c =
           (subst (λ m. IsLogReading m (left c.args.input.now) (left c.loop.input) (to c.args.out.now) (to c.loop.out)
           c.args.filter c.loop.filter c.loop.window) c.if-not-more.false c.loop.invariant.reading)
           (λ how set written least before h.
-          subst (λ m. IsTaken m how set written least (before ++ c.held-held.result.now) c.take_bytes.new.filter) c.if-not-more.false
+          subst (λ m. IsTaken m how set written least (before ++ c.held-held.result.now) c.take_bytes.new.filter)
+          c.if-not-more.false
           (c.in_ok-take_bytes.ensures how set written least before h))
           (c.take.ensures ∙ drop_of_length-le (held c.loop.window) (omega (arith, ap length c.held-held.ensures.value)))
           window read c.in_ok-more-2.ensures.end;
@@ -76,7 +77,8 @@ returns-then-not-more-clause-whole g c =
     (subst (λ m. IsLogReading m (left c.args.input.now) (left c.loop.input) (to c.args.out.now) (to c.loop.out)
     c.args.filter c.loop.filter c.loop.window) c.if-not-more.true c.loop.invariant.reading)
     (λ how set written least before h.
-    subst (λ m. IsTaken m how set written least (before ++ c.held-held.result.now) c.take_bytes.new.filter) c.if-not-more.true
+    subst (λ m. IsTaken m how set written least (before ++ c.held-held.result.now) c.take_bytes.new.filter)
+    c.if-not-more.true
     (c.in_ok-take_bytes.ensures how set written least before h))
 
 pub returns-then-not-more-clause-quiet : goal.returns-then-not-more-clause-quiet
