@@ -77,48 +77,49 @@ reading_begins more left left_now to f window h = record {
   log = λ how set begun. begun;
 }
 
-module _ (left left_now to to_now to_next : Option (List ℕ)) (start now taken next : LineFilter)
-    (window after : Window) (shown : List ℕ) (is : shown ≡ held window) (p : IsPut taken next)
-    (put : Appends to_now to_next taken.answers.text.items) where
-  -- more of it
-  pub reading_goes : (more : Bool) (left_next : Option (List ℕ)) (empty filled : Window) (given : List ℕ)
-      → IsLogReading true left left_now to to_now start now window
-      → ((how : LinesRequest) → (set : IpSet) → (written : List ℕ) → (least : ℕ) → (before : List ℕ)
-      → IsLogUpTo how set written least before now → IsTaken true how set written least (before ++ shown) taken)
-      → held empty ≡ [] → held filled ≡ held empty ++ given → Consumes left_now left_next given
-      → (more ≡ false → IsAtEnd left_next)
-      → IsLogReading more left left_next to to_next start next filled
-  reading_goes more left_next empty filled given h reads none window_is read end = record {
-    bytes = h.bytes ++ shown;
-    input = subst (IsInputUpTo more left left_next (h.bytes ++ shown)) (sym (window_is ∙ ap (λ z. z ++ given) none))
-        (input_grows more left left_now left_next (h.bytes ++ shown) [] given
-        (input_moves true left left_now h.bytes (held window) shown []
-        (sym is ∙ sym (append-nil shown)) h.input) read end);
-    written = h.written ++ taken.answers.text.items;
-    out = Appends-trans to to_now to_next h.written taken.answers.text.items h.out put;
-    log = λ how set begun. put_taken how set h.written 0 taken next p true (h.bytes ++ shown)
-        (reads how set h.written 0 h.bytes (h.log how set begun));
-  }
+-- more of it
+pub reading_goes : (left left_now to to_now to_next : Option (List ℕ)) (start now taken next : LineFilter)
+    (window : Window) (shown : List ℕ) → shown ≡ held window → IsPut taken next
+    → Appends to_now to_next taken.answers.text.items → (more : Bool) (left_next : Option (List ℕ))
+    (empty filled : Window) (given : List ℕ) → IsLogReading true left left_now to to_now start now window
+    → ((how : LinesRequest) → (set : IpSet) → (written : List ℕ) → (least : ℕ) → (before : List ℕ)
+    → IsLogUpTo how set written least before now → IsTaken true how set written least (before ++ shown) taken)
+    → held empty ≡ [] → held filled ≡ held empty ++ given → Consumes left_now left_next given
+    → (more ≡ false → IsAtEnd left_next) → IsLogReading more left left_next to to_next start next filled
+reading_goes left left_now to to_now to_next start now taken next window shown is p put more left_next empty filled
+    given h reads none window_is read end = record {
+      bytes = h.bytes ++ shown;
+      input = subst (IsInputUpTo more left left_next (h.bytes ++ shown)) (sym (window_is ∙ ap (λ z. z ++ given) none))
+          (input_grows more left left_now left_next (h.bytes ++ shown) [] given
+          (input_moves true left left_now h.bytes (held window) shown []
+          (sym is ∙ sym (append-nil shown)) h.input) read end);
+      written = h.written ++ taken.answers.text.items;
+      out = Appends-trans to to_now to_next h.written taken.answers.text.items h.out put;
+      log = λ how set begun. put_taken how set h.written 0 taken next p true (h.bytes ++ shown)
+          (reads how set h.written 0 h.bytes (h.log how set begun));
+    }
 
-  -- all of it
-  pub reading_ends : IsLogReading false left left_now to to_now start now window
-      → ((how : LinesRequest) → (set : IpSet) → (written : List ℕ) → (least : ℕ) → (before : List ℕ)
-      → IsLogUpTo how set written least before now → IsTaken false how set written least (before ++ shown) taken)
-      → (how : LinesRequest) → (set : IpSet) → IsLogUpTo how set [] 0 [] start
-      → IsStreamed how set left left_now to to_next next
-  reading_ends h reads how set begun =
-      let (bytes, given, body) = input_ends left left_now h.bytes (held window) h.input in
-      record {
-        bytes = bytes;
-        given = given;
-        written = h.written ++ taken.answers.text.items;
-        out = Appends-trans to to_now to_next h.written taken.answers.text.items h.out put;
-        none = p.text;
-        all = subst (λ z. IsFilterUpTo how set (h.written ++ taken.answers.text.items) 0 (lines_of z) [] next)
-            (ap (λ z. h.bytes ++ z) is ∙ sym body)
-            (put_taken how set h.written 0 taken next p false (h.bytes ++ shown)
-            (reads how set h.written 0 h.bytes (h.log how set begun)));
-      }
+-- all of it
+pub reading_ends : (left left_now to to_now to_next : Option (List ℕ)) (start now taken next : LineFilter)
+    (window : Window) (shown : List ℕ) → shown ≡ held window → IsPut taken next
+    → Appends to_now to_next taken.answers.text.items → IsLogReading false left left_now to to_now start now window
+    → ((how : LinesRequest) → (set : IpSet) → (written : List ℕ) → (least : ℕ) → (before : List ℕ)
+    → IsLogUpTo how set written least before now → IsTaken false how set written least (before ++ shown) taken)
+    → (how : LinesRequest) → (set : IpSet) → IsLogUpTo how set [] 0 [] start
+    → IsStreamed how set left left_now to to_next next
+reading_ends left left_now to to_now to_next start now taken next window shown is p put h reads how set begun =
+    let (bytes, given, body) = input_ends left left_now h.bytes (held window) h.input in
+    record {
+      bytes = bytes;
+      given = given;
+      written = h.written ++ taken.answers.text.items;
+      out = Appends-trans to to_now to_next h.written taken.answers.text.items h.out put;
+      none = p.text;
+      all = subst (λ z. IsFilterUpTo how set (h.written ++ taken.answers.text.items) 0 (lines_of z) [] next)
+          (ap (λ z. h.bytes ++ z) is ∙ sym body)
+          (put_taken how set h.written 0 taken next p false (h.bytes ++ shown)
+          (reads how set h.written 0 h.bytes (h.log how set begun)));
+    }
 
 -- ---- the lines that are not decided
 

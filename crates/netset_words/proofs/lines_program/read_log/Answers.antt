@@ -26,7 +26,7 @@ loop-preserved g c =
     record {
       reading = reading_goes
           (left c.args.input.now) (left c.loop.input) (to c.args.out.now) (to c.loop.out) (to c.put.new.out)
-          c.args.filter c.loop.filter c.take_bytes.new.filter _ c.loop.window c.take.new.self shown
+          c.args.filter c.loop.filter c.take_bytes.new.filter _ c.loop.window shown
           c.held-held.ensures.value
           (record {
             request = refl;
@@ -60,7 +60,7 @@ returns-then-not-more-clause-whole g c =
     let left = g.R.Read.remaining in
     let to = g.W.Write.contents in
     reading_ends (left c.args.input.now) (left c.loop.input) (to c.args.out.now) (to c.loop.out) (to c.put.new.out)
-    c.args.filter c.loop.filter c.take_bytes.new.filter _ c.loop.window c.take.new.self c.held-held.result.now
+    c.args.filter c.loop.filter c.take_bytes.new.filter _ c.loop.window c.held-held.result.now
     c.held-held.ensures.value
     (record {
       request = refl;
