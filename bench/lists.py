@@ -168,6 +168,26 @@ def addresses_ipv4():
         yield ipv4(numbers.bits() >> 32, 32)[:-3]
 
 
+# The requests of a log, and the programs that made them.
+REQUESTS = ("GET / HTTP/1.1", "GET /api/v1/items/%d HTTP/1.1", "GET /static/css/site.%d.css HTTP/1.1",
+            "GET /images/photo-%d.jpg HTTP/2.0", "POST /search?q=%d HTTP/1.1", "GET /login?next=/account/%d HTTP/1.1")
+AGENTS = ("Mozilla/5.0 (X11; Linux x86_64; rv:115.0) Gecko/20100101 Firefox/115.0", "curl/7.88.1",
+          "Mozilla/5.0 (compatible; Bot/2.1; +http://www.example.com/bot.html)",
+          "Mozilla/5.0 (Windows NT 10.0) Chrome/120.0")
+
+
+def access_log():
+    """The lines of an access log, in the combined format, of random clients."""
+    numbers = Numbers(14)
+    for second in itertools.count():
+        request = REQUESTS[numbers.below(len(REQUESTS))]
+        if "%" in request:
+            request %= numbers.below(MILLION)
+        time = "%02d:%02d:%02d" % (second // 3600 % 24, second // 60 % 60, second % 60)
+        yield '%s - - [26/Nov/2026:%s +0000] "%s" 200 %d "-" "%s"' % (
+            ipv4(numbers.bits() >> 32, 32)[:-3], time, request, numbers.below(MILLION), AGENTS[numbers.below(len(AGENTS))])
+
+
 # Real lists.
 
 def ranges(path, address):
@@ -258,7 +278,7 @@ def next_countries_ipv4():
 
 GENERATED = {make.__name__: make for make in (
     random_ipv4, random_ipv6, random_both, routing_table, consecutive_hosts, aggregated_ipv4, aggregated_ipv6,
-    routes_ipv4, descending_hosts, sites_ipv6, addresses_ipv4)}
+    routes_ipv4, descending_hosts, sites_ipv6, addresses_ipv4, access_log)}
 # The maximum lengths of lists.
 MOST = {"sites_ipv6": MILLION, "consecutive_hosts": 10 * MILLION, "descending_hosts": 10 * MILLION}
 REAL = {make.__name__: make for make in (

@@ -54,6 +54,8 @@ CALLS = [
          "compare {0} {1}", "{0} --diff {1} --quiet", None, models.compare, 1, 1),
     Call("filter, beside grepcidr: 10^6 addresses by countries 1 to 40", [FIRST, "addresses_ipv4"],
          "filter --stream {0} {1}", "-f {0} {1}", unchanged, bound=0.3, peak=12, program="grepcidr"),
+    Call("filter, whole lines, beside grepcidr: 10^6 lines of an access log by countries 1 to 40", [FIRST, "access_log"],
+         "filter --lines {0} {1}", "-f {0} {1}", unchanged, bound=0.4, peak=12, program="grepcidr"),
     Call("filter: of all ranges, those in countries 1 to 40", [FIRST, ALL],
          "filter {0} {1}", model=models.inside),
     Call("filter: of all ranges, those outside countries 1 to 40", [FIRST, ALL],

@@ -7,6 +7,7 @@ use crate::changes::changes_command;
 use crate::entries::with_entries;
 use crate::extract::extract_command;
 use crate::forms::with_forms;
+use crate::lines::with_lines;
 use crate::listing::with_listings;
 use crate::lists::{Empties, Reports};
 use crate::plan::plan_command;
@@ -237,7 +238,7 @@ fn filter_command<'a>(alloc: Global) -> Result<Command<'a>, AllocError> {
     let about =
         "The entries of FILE that lie entirely inside SET, as written; status 1 if there are none";
     let outside = "Print the entries that lie entirely outside SET instead";
-    command_of(alloc, "filter", about)?
+    with_lines(alloc, command_of(alloc, "filter", about)?)?
         .arg(flag(alloc, "outside", outside))?
         .arg(stream_flag(alloc)?)?
         .arg(first(alloc, "SET", "The list of the addresses to filter by"))?

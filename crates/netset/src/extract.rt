@@ -61,7 +61,7 @@ pub fn extracted(rt: &HostRuntime, matches: &ArgMatches, streams: &mut Streams<'
 }
 
 /// The grammar of the entries.
-fn grammar_of(matches: &ArgMatches) -> Grammar {
+pub fn grammar_of(matches: &ArgMatches) -> Grammar {
     if matches.get_flag("legacy") {
         Grammar::Legacy
     } else {

@@ -8,6 +8,7 @@ mod entries;
 mod extract;
 mod forms;
 mod leftovers;
+mod lines;
 mod listing;
 mod lists;
 mod output;
@@ -24,6 +25,7 @@ use crate::changes::{CHANGES, changed};
 use crate::entries::run_if_entries;
 use crate::extract::{EXTRACT, extracted};
 use crate::forms::form_of;
+use crate::lines::{LINES, filtered};
 use crate::listing::run_if_listing;
 use crate::lists::{read_lists, report_unread};
 use crate::output::{CLOSED, Streams};
@@ -130,6 +132,7 @@ fn ran(rt: &HostRuntime, matches: &ArgMatches, streams: &mut Streams<'_>) -> u8 
         Some((name, matches)) if name == APPLY => applied(rt, matches, streams),
         Some((name, matches)) if name == PREFIX_LIST => matched(rt, matches, streams),
         Some((name, matches)) if name == EXTRACT => extracted(rt, matches, streams),
+        Some((_, matches)) if matches.get_flag(LINES) => filtered(rt, matches, streams),
         _ => answered(rt, matches, streams),
     }
 }

@@ -47,7 +47,7 @@ refusals_more old mid new a b h k = record {
   count = omega (arith, k.count, h.count, length-append a b);
 }
 
-all_refusals : (old new : RefusedWords) (a b : List WordRefusal) → AreAllRefusals old a → AddsRefusals old new b
+pub all_refusals : (old new : RefusedWords) (a b : List WordRefusal) → AreAllRefusals old a → AddsRefusals old new b
     → AreAllRefusals new (a ++ b)
 all_refusals old new a b h k = record {
   shown = k.shown ∙ ap (λ l. take 10 (l ++ b)) h.shown ∙ take-take-append 10 a b;

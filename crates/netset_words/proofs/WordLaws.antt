@@ -28,7 +28,7 @@ one_letter b (c ∷ line) next =
     ∙ ap (λ z. record { before = []; text = b ∷ [] } ∷ z) (sym is)
 
 -- a word at the front
-word_front : (len : ℕ) (line : List ℕ) → 0 < len → len ≤ length line
+pub word_front : (len : ℕ) (line : List ℕ) → 0 < len → len ≤ length line
     → ((k : ℕ) → k < len → cuts (get_or line k 0) ≡ false) → (len < length line → cuts (get_or line len 0) ≡ true)
     → words_of line ≡ record { before = []; text = take len line } ∷ words_of (drop len line)
 word_front zero line some within letters next = absurd (omega arith)

@@ -5,3 +5,8 @@ pub mod Extracts
 pub mod WordSteps
 pub mod ExtractSteps
 pub mod Extractions
+pub mod LogEntries
+pub mod LogLines
+pub mod LogSteps
+pub mod FilterSteps
+pub mod Logs

@@ -49,7 +49,7 @@ pub fn run_extract<W: Write, X: Write>(
 {
     let words = extraction.words;
     if words.refused.count != 0 {
-        let _ = report_words(faults, names, &words.refused);
+        let _ = report_since(faults, names, &words.refused, (0, 0));
         return 2;
     }
     if !written(out, words.answer.as_slice()) {
@@ -59,12 +59,25 @@ pub fn run_extract<W: Write, X: Write>(
     0
 }
 
-/// Reports the first refused lines, and the number of the others.
-fn report_words<X: Write>(faults: &mut X, names: &[&str], words: &RefusedWords) -> io::Result<()> {
-    for word in words.shown.iter() {
-        report_word(faults, names, word)?;
+/// Reports the first refused lines, and the number of the others. `before` is how many of them are reported already,
+/// first of those that are kept, and then of all. Nothing is printed if these are all.
+pub(crate) fn report_since<X: Write>(
+    faults: &mut X,
+    names: &[&str],
+    words: &RefusedWords,
+    before: (usize, usize),
+) -> io::Result<()>
+    ensures { words.now.count ≡ before.1 → Keeps (X.contents faults.old) (X.contents faults.new) }
+{
+    let (shown, count) = before;
+    if words.count == count {
+        return Ok(());
     }
-    let more = words.count.saturating_sub(words.shown.len());
+    for index in shown..words.shown.len() {
+        report_word(faults, names, &words.shown[index])?;
+    }
+    let new = words.count.saturating_sub(count);
+    let more = new.saturating_sub(words.shown.len().saturating_sub(shown));
     if more != 0 {
         writeln!(faults, "netset: and {more} more")?;
     }

@@ -13,6 +13,8 @@ pub enum WordCause {
     NulByte,
     /// A word of the line is an IPv4 netmask of length 1 to 31, so its length belongs to an address.
     Netmask,
+    /// The first MiB of the line does not decide whether it is printed.
+    Undecided,
 }
 
 impl WordCause {
@@ -21,6 +23,7 @@ impl WordCause {
         match self {
             WordCause::NulByte => "a NUL byte: is the file UTF-16?",
             WordCause::Netmask => "a mask: write ADDRESS/LENGTH",
+            WordCause::Undecided => "undecided after 1 MiB",
         }
     }
 }

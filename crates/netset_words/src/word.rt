@@ -52,7 +52,7 @@ fn gap_len(bytes: &[u8]) -> usize
 
 /// The number of bytes before the first byte that cuts.
 #[inline]
-fn word_len(bytes: &[u8]) -> usize
+pub(crate) fn word_len(bytes: &[u8]) -> usize
     ensures word { (k : ℕ) → k < result → cuts (slice_index bytes.now k) ≡ false }
     ensures next { result < length bytes.now → cuts (slice_index bytes.now result) ≡ true }
     ensures within { result ≤ length bytes.now }

@@ -9,7 +9,7 @@ use netset_lib::{first_line, has_byte};
 use std::alloc::{AllocError, Global};
 
 /// Whether the text had an entry before, or has one now.
-fn is_any(before: bool, now: bool) -> bool
+pub(crate) fn is_any(before: bool, now: bool) -> bool
     ensures { result ≡ (before || now) }
 {
     before || now

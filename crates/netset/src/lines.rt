@@ -1,0 +1,95 @@
+//! The command `filter --lines`: its flags, and its run.
+use crate::arguments::{
+    ArgumentFailure, FIRST, OTHERS, STANDARD_INPUT, flag, flags_of, reads_input_twice,
+};
+use crate::extract::grammar_of;
+use crate::lists::{report_unread, unopened};
+use crate::output::Streams;
+use crate::{refused, session_of};
+use clap::{Arg, ArgAction, ArgMatches, Command};
+use netset_lib::{Side, report_failure};
+use netset_words::{LineFilter, LinesRequest, run_lines};
+use std::alloc::{AllocError, Global};
+use std::fs::File;
+
+/// The name of the flag for whole lines.
+pub const LINES: &str = "lines";
+
+/// The name of the flag for any entry of a line.
+const ANY: &str = "any";
+
+/// The id of the flag `--others`. The id `others` belongs to the lists after the first.
+const OTHER_LINES: &str = "other-lines";
+
+/// Adds the flags for whole lines to the command `filter`.
+pub fn with_lines<'a>(alloc: Global, command: Command<'a>) -> Result<Command<'a>, AllocError> {
+    let lines =
+        "Print the lines of a log whose first entry lies inside SET; FILE is any text with entries";
+    let any = "With --lines: the lines of which any entry lies inside SET";
+    let others = "With --lines: the lines that are not printed without this flag";
+    let others = Arg::new(alloc, OTHER_LINES)
+        .long("others")
+        .action(ArgAction::SetTrue)
+        .help(others)
+        .requires_arg(LINES)?;
+    command
+        .arg(flag(alloc, LINES, lines).conflicts_with("stream")?)?
+        .arg(flag(alloc, ANY, any).requires_arg(LINES)?)?
+        .arg(others)
+}
+
+/// Reads the set and the arguments, and prints the lines of the log while it is read. Returns the exit status.
+pub fn filtered(rt: &HostRuntime, matches: &ArgMatches, streams: &mut Streams<'_>) -> u8 {
+    let Some(set) = matches.get_str(FIRST) else {
+        return refused(rt, ArgumentFailure::NoCommand);
+    };
+    let log = matches.get_str(OTHERS).unwrap_or(STANDARD_INPUT);
+    let names = [set, log];
+    if reads_input_twice(&names) {
+        return refused(rt, ArgumentFailure::InputTwice);
+    }
+    let flags = flags_of(matches);
+    let how = LinesRequest {
+        grammar: grammar_of(matches),
+        side: if flags.outside {
+            Side::Outside
+        } else {
+            Side::Inside
+        },
+        any: matches.get_flag(ANY),
+        others: matches.get_flag(OTHER_LINES),
+    };
+    let work = netset_lib::Command::Union.work(flags);
+    let session = match session_of(rt, work, &names[..1], streams) {
+        Ok(session) => session,
+        Err(status) => return status,
+    };
+    match LineFilter::from_session(rt.alloc(), session, how) {
+        Ok(filter) => filter_named(rt, filter, &names, log, streams),
+        Err(failure) => {
+            let _ = report_failure(&mut streams.faults, &names, &failure);
+            2
+        }
+    }
+}
+
+/// Opens the log of this name, prints its lines, and returns the exit status.
+fn filter_named(
+    rt: &HostRuntime,
+    filter: LineFilter,
+    names: &[&str],
+    log: &str,
+    streams: &mut Streams<'_>,
+) -> u8 {
+    let (out, faults) = (&mut streams.answer, &mut streams.faults);
+    if log == STANDARD_INPUT {
+        return run_lines(filter, names, &mut rt.stdin(), out, faults);
+    }
+    match File::open(rt, log) {
+        Ok(mut file) => run_lines(filter, names, &mut file, out, faults),
+        Err(error) => {
+            report_unread(rt, log, &unopened(&error));
+            2
+        }
+    }
+}

@@ -1,0 +1,23 @@
+use Rattle.std.proofs.Common.{[], ◌↔◌, sym, subst}
+use Rattle.ipnet_sets.specs.Members.{IsMember}
+use Rattle.netset_lib.specs.Filters.{IsOnSide}
+use Rattle.netset_lib.specs.Lists.{IsInEntries}
+use Rattle.netset_lib.specs.Operations.{IsInResult}
+use Rattle.netset_words.specs.FilterSteps.{IsLogUpTo}
+use Rattle.netset_words.proofs.LogSets.{on_same_side}
+use Rattle.netset_words.proofs.line_filter.LineFilter.from_session.Goals as goal
+
+pub returns-in-Ok : goal.returns-in-Ok
+returns-in-Ok c = λ request lists were.
+    let s = c.in_ok-set.ensures.set request lists were in
+    record {
+      entries = s.entries;
+      read = s.read;
+      same = λ x fits.
+          subst
+          (λ z. IsMember z x ↔ IsOnSide c.args.how.side (IsInResult IsInEntries request.operation s.entries) x)
+          (sym c.new.ensures.set)
+          (on_same_side c.args.how.side (IsMember c.in-Ok.set) (IsMember c.in_ok-set.set)
+          (IsInResult IsInEntries request.operation s.entries) x (c.in-Ok.ensures x fits) (s.right x));
+      begun = subst (λ z. IsLogUpTo c.args.how z [] 0 [] c.new.result) (sym c.new.ensures.set) c.new.ensures.begun;
+    }

@@ -1,0 +1,86 @@
+-- The private steps of a filter that reads a log.
+-- Only private contracts use these.
+use Rattle.std.specs.Prelude.{◌≡◌, ◌≢◌, ◌≤◌, ◌+◌, ◌||◌, ℕ, Bool, true, false, List, [], ◌∷◌, ◌++◌, length, All, Option}
+use Rattle.std.specs.Io.KnownBytes.{Appends}
+use Rattle.ipnet.specs.Lines.{lines_of}
+use Rattle.ipnet_sets.specs.Members.{IsMember}
+use Rattle.ipnet_sets.specs.declared.set.IpSet.{IpSet}
+use Rattle.ipnet_text.specs.Inputs.{GaveWhole}
+use Rattle.netset_lib.specs.Lists.{after_mark}
+use Rattle.netset_words.specs.declared.line_filter.LineFilter.{LineFilter}
+use Rattle.netset_words.specs.declared.log_line.LinesRequest.{LinesRequest}
+use Rattle.netset_words.specs.ExtractSteps.{AreAllRefusals}
+use Rattle.netset_words.specs.LogLines.{AreLogLines, LogResult}
+use Rattle.netset_words.specs.LogSteps.{IsCurrentLine}
+
+-- The lines and the front of one more line were read. At least this number of lines are not decided.
+pub record IsFilterUpTo (how : LinesRequest) (set : IpSet) (written : List ℕ) (least : ℕ) (lines : List (List ℕ))
+    (cur : List ℕ) (f : LineFilter) : Type 0 where
+  pub same_request : f.request ≡ how
+  pub same_set : f.set ≡ set
+  pub line : f.line ≡ length lines
+  pub result : LogResult
+  pub are : AreLogLines how (IsMember set) 1 lines result
+  pub partial : LogResult
+  pub current : IsCurrentLine how (IsMember set) (length lines + 1) f.rest f.front.items cur partial
+  pub text : written ++ f.answers.text.items ≡ result.text ++ partial.text
+  pub printed : f.answers.printed ≡ (result.printed || partial.printed)
+  pub nones : f.answers.nones ≡ result.nones
+  pub undecided : AreAllRefusals f.undecided (result.undecided ++ partial.undecided)
+  pub least_count : least ≤ f.undecided.count
+
+-- More bytes of a line were read.
+abbrev pub GoesOn : LineFilter → LineFilter → List ℕ → Type 0
+GoesOn old new piece = (how : LinesRequest) → (set : IpSet) → (written : List ℕ) → (least : ℕ)
+    → (lines : List (List ℕ)) → (cur : List ℕ) → IsFilterUpTo how set written least lines cur old
+    → IsFilterUpTo how set written least lines (cur ++ piece) new
+
+-- A line ends.
+abbrev pub EndsLine : LineFilter → LineFilter → Type 0
+EndsLine old new = (how : LinesRequest) → (set : IpSet) → (written : List ℕ) → (least : ℕ) → (lines : List (List ℕ))
+    → (cur : List ℕ) → IsFilterUpTo how set written least lines cur old
+    → IsFilterUpTo how set written least (lines ++ cur ∷ []) [] new
+
+-- The rest of a line was read.
+abbrev pub ReadsEnd : LineFilter → LineFilter → List ℕ → Type 0
+ReadsEnd old new piece = (how : LinesRequest) → (set : IpSet) → (written : List ℕ) → (least : ℕ)
+    → (lines : List (List ℕ)) → (cur : List ℕ) → IsFilterUpTo how set written least lines cur old
+    → IsFilterUpTo how set written least (lines ++ (cur ++ piece) ∷ []) [] new
+
+-- The bytes of a log were read.
+pub record IsLogUpTo (how : LinesRequest) (set : IpSet) (written : List ℕ) (least : ℕ) (bytes : List ℕ)
+    (f : LineFilter) : Type 0 where
+  pub closed : List ℕ
+  pub cur : List ℕ
+  pub cut : bytes ≡ closed ++ cur
+  pub is_closed : (more : List ℕ) → lines_of (closed ++ more) ≡ lines_of closed ++ lines_of more
+  pub no_end : All (λ b. b ≢ 10) cur
+  pub up_to : IsFilterUpTo how set written least (lines_of closed) cur f
+
+-- The log ends.
+abbrev pub EndsLog : LineFilter → LineFilter → Type 0
+EndsLog old new = (how : LinesRequest) → (set : IpSet) → (written : List ℕ) → (least : ℕ) → (bytes : List ℕ)
+    → IsLogUpTo how set written least bytes old → IsFilterUpTo how set written least (lines_of bytes) [] new
+
+-- Some bytes of a log were read, up to a rest.
+pub record ReadsUpTo (old new : LineFilter) (bytes rest : List ℕ) : Type 0 where
+  pub taken : List ℕ
+  pub cut : bytes ≡ taken ++ rest
+  pub log : (how : LinesRequest) → (set : IpSet) → (written : List ℕ) → (least : ℕ) → (before : List ℕ)
+      → IsLogUpTo how set written least before old → IsLogUpTo how set written least (before ++ taken) new
+
+-- The bytes of a log were read, and all of its lines if no more may come.
+abbrev pub IsTaken : (more : Bool) → LinesRequest → IpSet → (written : List ℕ) → (least : ℕ) → (bytes : List ℕ)
+    → LineFilter → Type 0
+IsTaken true how set written least bytes f = IsLogUpTo how set written least bytes f
+IsTaken false how set written least bytes f = IsFilterUpTo how set written least (lines_of bytes) [] f
+
+-- A log was read up to its end, and its lines were written.
+pub record IsStreamed (how : LinesRequest) (set : IpSet) (left left_after held held_after : Option (List ℕ))
+    (f : LineFilter) : Type 0 where
+  pub bytes : List ℕ
+  pub given : GaveWhole left left_after bytes
+  pub written : List ℕ
+  pub out : Appends held held_after written
+  pub none : f.answers.text.items ≡ []
+  pub all : IsFilterUpTo how set written 0 (lines_of (after_mark bytes)) [] f

@@ -1,0 +1,245 @@
+//! The command `filter --lines` of the program, over any readers and writers.
+ghost use Rattle.std.specs.Prelude.{◌≡◌, ◌≤◌, ◌==◌, ◌↔◌, ◌⊎◌, ◌++◌, List, ℕ, [], IfOk, IfErr, OnOk};
+ghost use Rattle.std.specs.Io.{StartsWith};
+ghost use Rattle.std.specs.Io.KnownBytes.{Appends, Keeps};
+ghost use Rattle.ipnet.specs.Lines.{lines_of};
+ghost use Rattle.ipnet_sets.specs.Members.{IsMember};
+ghost use Rattle.ipnet_sets.specs.declared.set.IpSet.{IpSet};
+ghost use Rattle.ipnet_text.specs.Inputs.{GaveWhole};
+ghost use Rattle.netset_lib.specs.Lists.{after_mark};
+ghost use Rattle.netset_lib.specs.declared.answer.Request.{Request};
+ghost use Rattle.netset_words.specs.declared.log_line.LinesRequest.{LinesRequest};
+ghost use Rattle.netset_words.specs.LogLines.{LogResult};
+ghost use Rattle.netset_words.specs.Logs.{IsLogFiltered, IsLogFilteredButSome, IsLogFilteredInPart, IsFrontPrinted};
+ghost use Rattle.netset_words.specs.Logs.{IsFilterFor, HasCounts};
+ghost use Rattle.netset_words.specs.FilterSteps.{IsLogUpTo, IsTaken, IsStreamed};
+
+use crate::extract_program::report_since;
+use crate::line_filter::LineFilter;
+use crate::refused_word::RefusedWords;
+use ipnet_text::{ReadError, Window};
+use netset_lib::{MOST_READS, ReadFailure, begin_input, written};
+use std::alloc::AllocError;
+use std::io;
+use std::io::{Read, Write};
+
+/// A log that was read to its end.
+#[derive(Debug, Drop)]
+pub struct FilteredLog {
+    /// Whether a line was printed.
+    pub printed: bool,
+    /// The number of lines without an entry.
+    pub nones: usize,
+    /// The lines that their first MiB does not decide. They are left out.
+    pub undecided: RefusedWords,
+}
+
+/// Why a log was not read to its end.
+#[derive(Debug, Drop)]
+pub enum LogFailure {
+    /// The log could not be read, or memory ran out.
+    Read(ReadFailure),
+    /// A write failed, or the flush after it.
+    Unwritable,
+}
+
+impl From<ReadError> for LogFailure {
+    fn from(_: ReadError) -> LogFailure {
+        LogFailure::Read(ReadFailure::Unreadable)
+    }
+}
+
+impl From<AllocError> for LogFailure {
+    fn from(_: AllocError) -> LogFailure {
+        LogFailure::Read(ReadFailure::Memory)
+    }
+}
+
+/// Writes the text and flushes the writer. After that there is none.
+fn put<W: Write>(text: &mut Vec<u8>, out: &mut W) -> Result<(), LogFailure>
+    ensures written { OnOk result (Appends (W.contents out.old) (W.contents out.new) text.old.items) }
+    ensures none { OnOk result (text.new.items ≡ []) }
+    ensures front { (front : List ℕ) × StartsWith text.old.items front
+        × Appends (W.contents out.old) (W.contents out.new) front }
+{
+    if !written(out, text.as_slice()) {
+        return Err(LogFailure::Unwritable);
+    }
+    text.clear();
+    Ok(())
+}
+
+/// Reads bytes of a log, and its end if no more may come.
+fn take_bytes(filter: &mut LineFilter, bytes: &[u8], more: bool) -> Result<(), AllocError>
+    ensures { OnOk result ((how : LinesRequest) → (set : IpSet) → (written : List ℕ) → (least : ℕ)
+        → (before : List ℕ) → IsLogUpTo how set written least before filter.old
+        → IsTaken more how set written least (before ++ bytes.now) filter.new) }
+{
+    filter.read(bytes)?;
+    if more {
+        return Ok(());
+    }
+    filter.end()
+}
+
+/// Reads a log up to its end, and returns the filter.
+fn read_log<R: Read, W: Write, X: Write>(
+    filter: LineFilter,
+    names: &[&str],
+    input: &mut R,
+    out: &mut W,
+    faults: &mut X,
+) -> Result<LineFilter, LogFailure>
+    ensures whole { IfOk result (λ f. (how : LinesRequest) → (set : IpSet)
+        → IsLogUpTo how set [] 0 [] filter → IsStreamed how set (R.remaining input.old) (R.remaining input.new)
+        (W.contents out.old) (W.contents out.new) f) }
+    ensures part { IfErr result (λ _. (how : LinesRequest) → (set : IpSet)
+        → IsLogUpTo how set [] 0 [] filter → IsFrontPrinted how (IsMember set) (R.remaining input.old)
+        (W.contents out.old) (W.contents out.new)) }
+    ensures quiet { IfOk result (λ f. (how : LinesRequest) → (set : IpSet) → IsLogUpTo how set [] 0 [] filter
+        → f.undecided.count ≡ 0 → Keeps (X.contents faults.old) (X.contents faults.new)) }
+{
+    let mut filter = filter;
+    let mut window = Window::new(filter.alloc)?;
+    let mut more = begin_input(&mut window, input)?;
+    for _ in 0..MOST_READS {
+        let before = (filter.undecided.shown.len(), filter.undecided.count);
+        let held = window.held();
+        let all = held.len();
+        take_bytes(&mut filter, held, more)?;
+        window.take(all);
+        put(&mut filter.answers.text, out)?;
+        let _ = report_since(faults, names, &filter.undecided, before);
+        if !more {
+            return Ok(filter);
+        }
+        more = window.fill(input)?;
+    }
+    Err(LogFailure::Read(ReadFailure::Unreadable))
+}
+
+/// Reads a log up to its end. The lines to print are written to `out` before each read of more bytes.
+///
+/// A line that its first MiB does not decide is left out, and reported on `faults`. `names` are the names of the set
+/// and of the log, for these reports. After an error, a part of the lines may be written.
+///
+/// ```text
+/// by 10.0.0.0/8, of "10.0.0.1 GET /\n::1 GET /\nx\n": out gets "10.0.0.1 GET /\n"; printed, and one line has no entry
+/// ```
+pub fn filter_log<R: Read, W: Write, X: Write>(
+    filter: LineFilter,
+    names: &[&str],
+    input: &mut R,
+    out: &mut W,
+    faults: &mut X,
+) -> Result<FilteredLog, LogFailure>
+    ensures whole { IfOk result (λ log. (request : Request) → (how : LinesRequest) → (lists : List (List ℕ))
+        → IsFilterFor request how lists filter
+        → ((r : LogResult) × HasCounts log r × IsLogFiltered request how lists (R.remaining input.old)
+        (R.remaining input.new) (W.contents out.old) (W.contents out.new) r)) }
+    ensures part { IfErr result (λ _. (request : Request) → (how : LinesRequest) → (lists : List (List ℕ))
+        → IsFilterFor request how lists filter → IsLogFilteredInPart request how lists (R.remaining input.old)
+        (W.contents out.old) (W.contents out.new)) }
+    ensures quiet { IfOk result (λ log. (request : Request) → (how : LinesRequest) → (lists : List (List ℕ))
+        → IsFilterFor request how lists filter → log.undecided.count ≡ 0
+        → Keeps (X.contents faults.old) (X.contents faults.new)) }
+{
+    let LineFilter {
+        answers,
+        undecided,
+        ..
+    } = read_log(filter, names, input, out, faults)?;
+    Ok(FilteredLog {
+        printed: answers.printed,
+        nones: answers.nones,
+        undecided,
+    })
+}
+
+/// Reports why a log was not read to its end.
+fn report_failure<X: Write>(faults: &mut X, name: &str, failure: &LogFailure) -> io::Result<()> {
+    match failure {
+        LogFailure::Read(failure) => {
+            let name = name.as_bytes().escape_ascii();
+            writeln!(faults, "netset: {name}: {failure}")
+        }
+        LogFailure::Unwritable => writeln!(faults, "netset: output cannot be written"),
+    }
+}
+
+/// Reports the number of lines without an entry. Nothing is printed if there is none.
+fn report_nones<X: Write>(faults: &mut X, name: &str, nones: usize) -> io::Result<()>
+    ensures { nones ≡ 0 → Keeps (X.contents faults.old) (X.contents faults.new) }
+{
+    if nones == 0 {
+        return Ok(());
+    }
+    let lines = if nones == 1 { "line" } else { "lines" };
+    let name = name.as_bytes().escape_ascii();
+    writeln!(faults, "netset: {name}: {nones} {lines} without an entry")
+}
+
+/// The exit status for a log that was read to its end.
+fn log_status(log: &FilteredLog) -> u8
+    ensures status { result ≤ 2 }
+    ensures decided { (result ≤ 1) ↔ (log.now.undecided.count ≡ 0) }
+    ensures printed { result ≤ 1 → log.now.printed ≡ (result == 0) }
+{
+    if log.undecided.count != 0 {
+        2
+    } else if log.printed {
+        0
+    } else {
+        1
+    }
+}
+
+/// Writes the lines of a log that are chosen to `out`, while the log is read from `input`, and returns the exit status.
+/// `names` are the names of the set and of the log, for the reports on `faults`.
+///
+/// | Status | On `faults` | When |
+/// |---|---|---|
+/// | 2 | `NAME:LINE: undecided after 1 MiB: TEXT` | such a line is left out; the others are filtered |
+/// | 2 | `netset: NAME: cannot be read`, or `out of memory` | the log is filtered in part |
+/// | 2 | `netset: output cannot be written` | a write fails, or a flush |
+/// | 1 | nothing | no line is printed |
+/// | 0 | nothing | otherwise |
+///
+/// If lines have no entry, and the log was read to its end, `netset: NAME: N lines without an entry` is reported too.
+///
+/// ```text
+/// by 10.0.0.0/8, of "10.0.0.1 GET /\nx\n", named log: status 0, out gets "10.0.0.1 GET /\n", and faults gets
+///     "netset: log: 1 line without an entry\n"
+/// ```
+pub fn run_lines<R: Read, W: Write, X: Write>(
+    filter: LineFilter,
+    names: &[&str],
+    input: &mut R,
+    out: &mut W,
+    faults: &mut X,
+) -> u8
+    ensures status { result ≤ 2 }
+    ensures filtered { result ≤ 1 → (request : Request) → (how : LinesRequest) → (lists : List (List ℕ))
+        → IsFilterFor request how lists filter
+        → ((r : LogResult) × (r.undecided ≡ []) × (r.printed ≡ (result == 0))
+        × (r.nones ≡ 0 → Keeps (X.contents faults.old) (X.contents faults.new))
+        × IsLogFiltered request how lists (R.remaining input.old) (R.remaining input.new)
+        (W.contents out.old) (W.contents out.new) r) }
+    ensures cut_short { result ≡ 2 → (request : Request) → (how : LinesRequest) → (lists : List (List ℕ))
+        → IsFilterFor request how lists filter
+        → IsLogFilteredButSome request how lists (R.remaining input.old) (R.remaining input.new)
+        (W.contents out.old) (W.contents out.new)
+        ⊎ IsLogFilteredInPart request how lists (R.remaining input.old) (W.contents out.old) (W.contents out.new) }
+{
+    let name = names.get(1).copied().unwrap_or("log");
+    match filter_log(filter, names, input, out, faults) {
+        Ok(log) => {
+            let _ = report_nones(faults, name, log.nones);
+            log_status(&log)
+        }
+        Err(failure) => {
+            let _ = report_failure(faults, name, &failure);
+            2
+        }
+    }
+}

@@ -1,0 +1,198 @@
+//! Lines of a log, chosen by their entries.
+ghost use Rattle.std.specs.Prelude.{◌≡◌, ◌<◌, ◌↔◌, All, length, IsTrue, IfOk, IfSome, MatchOption};
+ghost use Rattle.ipnet_base.specs.Address.{IsAddress, ip_address};
+ghost use Rattle.ipnet_sets.specs.Members.{IsMember};
+ghost use Rattle.ipnet.specs.declared.parser.Grammar.{Grammar};
+ghost use Rattle.netset_lib.specs.EntryOf.{entry_range};
+ghost use Rattle.netset_lib.specs.declared.entry.Entry.TheVariants as Entries;
+ghost use Rattle.netset_words.specs.LogEntries.{IsNoEntryWord};
+ghost use Rattle.netset_words.specs.LogLines.{IsVerdict, LiesIn, treated, treated_front};
+ghost use Rattle.netset_words.specs.LogSteps.{IsNextLogEntry};
+ghost use Rattle.netset_words.specs.Words.{words_of};
+
+use crate::log_entry::read_log_entry;
+use crate::word::{is_cut, next_word};
+use ipnet::{Grammar, IpAddr};
+use ipnet_sets::IpSet;
+use ipnet_text::ipv4_addr_at;
+use netset_lib::filter::covers_entry;
+use netset_lib::{Entry, Side};
+use std::alloc::AllocError;
+
+/// The lines of a log to print.
+#[derive(Clone, Copy, Debug, PartialEq, Eq)]
+pub struct LinesRequest {
+    /// The grammar of the entries.
+    pub grammar: Grammar,
+    /// Whether an entry has to lie inside the set or outside it.
+    pub side: Side,
+    /// Whether any entry of a line may choose it, or only the first.
+    pub any: bool,
+    /// Whether the lines that are not chosen are printed, instead of those that are.
+    pub others: bool,
+}
+
+/// Whether a text is chosen by its entries.
+#[derive(Clone, Copy)]
+pub(crate) enum Verdict {
+    /// Its first entry lies in the set; or any entry, if that is enough.
+    Chosen,
+    /// It has entries, and they do not choose it.
+    Other,
+    /// It has no entry.
+    NoEntry,
+}
+
+/// An entry of a line, and the bytes after its word.
+#[derive(Clone, Copy)]
+pub(crate) struct LineEntry<'a> {
+    pub(crate) entry: Entry,
+    pub(crate) after: &'a [u8],
+}
+
+/// The treatment of a line.
+#[derive(Clone, Copy)]
+pub(crate) enum Treatment {
+    /// It is printed.
+    Printed,
+    /// It is left out.
+    LeftOut,
+    /// It is left out and reported, because its front does not decide.
+    Undecided,
+}
+
+/// Returns the treatment of a whole line with this verdict.
+pub(crate) fn whole_treatment(others: bool, verdict: Verdict) -> Treatment
+    ensures { result ≡ treated others verdict }
+{
+    match (verdict, others) {
+        (Verdict::Chosen, false) => Treatment::Printed,
+        (Verdict::Chosen, true) => Treatment::LeftOut,
+        (Verdict::Other, false) => Treatment::LeftOut,
+        (Verdict::Other, true) => Treatment::Printed,
+        (Verdict::NoEntry, false) => Treatment::LeftOut,
+        (Verdict::NoEntry, true) => Treatment::Printed,
+    }
+}
+
+/// Returns the treatment of a longer line, whose front has this verdict.
+pub(crate) fn front_treatment(any: bool, others: bool, verdict: Verdict) -> Treatment
+    ensures { result ≡ treated_front any others verdict }
+{
+    match (verdict, any) {
+        (Verdict::Chosen, _) => whole_treatment(others, Verdict::Chosen),
+        (Verdict::Other, false) => whole_treatment(others, Verdict::Other),
+        (Verdict::Other, true) => Treatment::Undecided,
+        (Verdict::NoEntry, _) => Treatment::Undecided,
+    }
+}
+
+/// The number of bytes that `leading_address` looks at.
+const LONGEST: usize = "255.255.255.255 ".len();
+
+/// Returns the IPv4 address that the bytes begin with, if a byte that cuts follows. `None` says nothing about the
+/// bytes: this is a quick test.
+#[inline]
+fn leading_address(bytes: &[u8]) -> Option<LineEntry<'_>>
+    ensures entry { IfSome result (λ e. (grammar : Grammar)
+        → IsNextLogEntry grammar bytes.now (entry_range e.entry) e.after.now) }
+    ensures shorter { IfSome result (λ e. length e.after.now < length bytes.now) }
+{
+    if bytes.len() < LONGEST {
+        return None;
+    }
+    let (address, len) = ipv4_addr_at(bytes)?;
+    if !is_cut(bytes[len]) {
+        return None;
+    }
+    Some(LineEntry {
+        entry: Entry::Address(IpAddr::V4(address)),
+        after: &bytes[len..],
+    })
+}
+
+/// Returns the first entry of the bytes, or `None` if they have none. Fails if memory runs out.
+pub(crate) fn next_log_entry<'a>(
+    room: &mut String,
+    bytes: &'a [u8],
+    grammar: Grammar,
+) -> Result<Option<LineEntry<'a>>, AllocError>
+    ensures entry { IfOk result (λ found. MatchOption found (All (IsNoEntryWord grammar) (words_of bytes.now))
+        (λ e. IsNextLogEntry grammar bytes.now (entry_range e.entry) e.after.now)) }
+    ensures shorter { IfOk result (λ found. IfSome found (λ e. length e.after.now < length bytes.now)) }
+{
+    if let Some(found) = leading_address(bytes) {
+        return Ok(Some(found));
+    }
+    let mut rest = bytes;
+    'words: while let Some(word) = next_word(rest) {
+        if let Some(entry) = read_log_entry(room, word.text, grammar)? {
+            return Ok(Some(LineEntry {
+                entry,
+                after: word.after,
+            }));
+        }
+        rest = word.after;
+    }
+    Ok(None)
+}
+
+/// The number of an address fits in the width of its family. The law is the contract; the function only takes the
+/// number.
+#[inline]
+fn address_fits(address: IpAddr)
+    ensures { IsAddress (ip_address address) }
+{
+    match address {
+        IpAddr::V4(address) => {
+            let _ = address.to_bits();
+        }
+        IpAddr::V6(address) => {
+            let _ = address.to_bits();
+        }
+    }
+}
+
+/// Whether the address is in the set.
+#[inline]
+fn has_address(set: &IpSet, address: IpAddr) -> bool
+    ensures { IsTrue result ↔ LiesIn (IsMember set.now) (entry_range (Entries.Address address)) }
+{
+    address_fits(address);
+    set.contains(&address)
+}
+
+/// Whether every address of the entry is in the set. One address is looked up once.
+#[inline]
+fn lies_in(set: &IpSet, entry: Entry) -> bool
+    ensures { IsTrue result ↔ LiesIn (IsMember set.now) (entry_range entry) }
+{
+    match entry {
+        Entry::Address(address) => has_address(set, address),
+        _ => covers_entry(set, entry),
+    }
+}
+
+/// Returns the verdict on a whole text. Fails if memory runs out.
+pub(crate) fn verdict_on(
+    room: &mut String,
+    set: &IpSet,
+    request: LinesRequest,
+    text: &[u8],
+) -> Result<Verdict, AllocError>
+    ensures { IfOk result (IsVerdict request (IsMember set.now) (words_of text.now)) }
+{
+    let mut rest = text;
+    let mut verdict = Verdict::NoEntry;
+    'entries: while let Some(found) = next_log_entry(room, rest, request.grammar)? {
+        if lies_in(set, found.entry) {
+            return Ok(Verdict::Chosen);
+        }
+        if !request.any {
+            return Ok(Verdict::Other);
+        }
+        verdict = Verdict::Other;
+        rest = found.after;
+    }
+    Ok(verdict)
+}
