@@ -157,7 +157,20 @@ fn others<'a>(alloc: Global) -> Arg<'a> {
         .action(ArgAction::Append)
 }
 
+/// Adds the flags for files without an entry, and the option for the output.
+fn with_files<'a>(alloc: Global, command: Command<'a>) -> Result<Command<'a>, AllocError> {
+    let allow_empty = "Do not report files without an entry";
+    let no_empty = "Fail if a file has no entry: status 2, and nothing is written";
+    let no_empty = flag(alloc, NO_EMPTY, no_empty).conflicts_with(ALLOW_EMPTY)?;
+    command
+        .arg(flag(alloc, ALLOW_EMPTY, allow_empty))?
+        .arg(no_empty)?
+        .arg(output_option(alloc))
+}
+
 /// A command with the flags that all commands have.
+//
+// The time of a proof grows faster than the number of the steps that can fail, so each function here has few.
 pub fn command_of<'a>(
     alloc: Global,
     name: &'a str,
@@ -165,16 +178,11 @@ pub fn command_of<'a>(
 ) -> Result<Command<'a>, AllocError> {
     let legacy = "Accept leading zeros (numbers stay decimal), and a :: that replaces no group";
     let progress = "Print the number of bytes read from each list to standard error";
-    let allow_empty = "Do not report files without an entry";
-    let no_empty = "Fail if a file has no entry: status 2, and nothing is written";
-    let no_empty = flag(alloc, NO_EMPTY, no_empty).conflicts_with(ALLOW_EMPTY)?;
-    Command::new(alloc, name)
+    let command = Command::new(alloc, name)
         .about(about)
         .arg(flag(alloc, "legacy", legacy))?
-        .arg(flag(alloc, "progress", progress))?
-        .arg(flag(alloc, ALLOW_EMPTY, allow_empty))?
-        .arg(no_empty)?
-        .arg(output_option(alloc))
+        .arg(flag(alloc, "progress", progress))?;
+    with_files(alloc, command)
 }
 
 /// The command of an operation; its lists are still missing.
@@ -208,21 +216,34 @@ fn complement_command<'a>(alloc: Global) -> Result<Command<'a>, AllocError> {
         .arg(one_file(alloc))
 }
 
-/// Adds the commands whose result is a list of addresses.
-fn with_operations<'a>(alloc: Global, command: Command<'a>) -> Result<Command<'a>, AllocError> {
-    let union = "The addresses of all lists";
-    let union = operation_command(alloc, "union", union)?.arg(any_files(alloc))?;
+/// The command `union`.
+fn union_command<'a>(alloc: Global) -> Result<Command<'a>, AllocError> {
+    operation_command(alloc, "union", "The addresses of all lists")?.arg(any_files(alloc))
+}
+
+/// The command `symmetric-difference`.
+fn symmetric_command<'a>(alloc: Global) -> Result<Command<'a>, AllocError> {
+    let about = "The addresses that are in exactly one of two lists";
+    operation_command(alloc, "symmetric-difference", about)?
+        .arg(first_file(alloc))?
+        .arg(other(alloc, "The other list"))
+}
+
+/// Adds the commands whose result is a list of addresses, of any number of lists.
+fn with_many<'a>(alloc: Global, command: Command<'a>) -> Result<Command<'a>, AllocError> {
     let intersection = "The addresses that are in every list";
     let difference = "The addresses of the first list that are in none of the others";
-    let symmetric = "The addresses that are in exactly one of two lists";
-    let symmetric = operation_command(alloc, "symmetric-difference", symmetric)?
-        .arg(first_file(alloc))?
-        .arg(other(alloc, "The other list"))?;
+    let intersection = on_two_and_more(alloc, "intersection", intersection)?;
+    let command = command
+        .subcommand(union_command(alloc)?)?
+        .subcommand(intersection)?;
+    command.subcommand(on_two_and_more(alloc, "difference", difference)?)
+}
+
+/// Adds the commands whose result is a list of addresses, of one list or of two.
+fn with_few<'a>(alloc: Global, command: Command<'a>) -> Result<Command<'a>, AllocError> {
     command
-        .subcommand(union)?
-        .subcommand(on_two_and_more(alloc, "intersection", intersection)?)?
-        .subcommand(on_two_and_more(alloc, "difference", difference)?)?
-        .subcommand(symmetric)?
+        .subcommand(symmetric_command(alloc)?)?
         .subcommand(complement_command(alloc)?)
 }
 
@@ -238,8 +259,13 @@ fn filter_command<'a>(alloc: Global) -> Result<Command<'a>, AllocError> {
     let about =
         "The entries of FILE that lie entirely inside SET, as written; status 1 if there are none";
     let outside = "Print the entries that lie entirely outside SET instead";
-    with_lines(alloc, command_of(alloc, "filter", about)?)?
-        .arg(flag(alloc, "outside", outside))?
+    let command = with_lines(alloc, command_of(alloc, "filter", about)?)?;
+    with_set(alloc, command.arg(flag(alloc, "outside", outside))?)
+}
+
+/// Adds the flag `--stream` and the lists of `filter`.
+fn with_set<'a>(alloc: Global, command: Command<'a>) -> Result<Command<'a>, AllocError> {
+    command
         .arg(stream_flag(alloc)?)?
         .arg(first(alloc, "SET", "The list of the addresses to filter by"))?
         .arg(other(alloc, "The list to filter; standard input if it is omitted").required(false))
@@ -276,18 +302,40 @@ fn route_command<'a>(alloc: Global) -> Result<Command<'a>, AllocError> {
 fn with_comparisons<'a>(alloc: Global, command: Command<'a>) -> Result<Command<'a>, AllocError> {
     command
         .subcommand(count_command(alloc)?)?
-        .subcommand(compare_command(alloc)?)?
+        .subcommand(compare_command(alloc)?)
+}
+
+/// Adds the commands about changes of a list.
+fn with_changes<'a>(alloc: Global, command: Command<'a>) -> Result<Command<'a>, AllocError> {
+    command
         .subcommand(changes_command(alloc)?)?
         .subcommand(apply_command(alloc)?)
 }
 
-/// Adds the commands that search a text or a list, and `plan`.
+/// Adds the commands that search a text or a list.
 fn with_searches<'a>(alloc: Global, command: Command<'a>) -> Result<Command<'a>, AllocError> {
     command
         .subcommand(extract_command(alloc)?)?
-        .subcommand(filter_command(alloc)?)?
+        .subcommand(filter_command(alloc)?)
+}
+
+/// Adds the commands `route` and `plan`.
+fn with_networks<'a>(alloc: Global, command: Command<'a>) -> Result<Command<'a>, AllocError> {
+    command
         .subcommand(route_command(alloc)?)?
         .subcommand(plan_command(alloc)?)
+}
+
+/// Adds the commands that read lists of rules.
+fn with_rule_lists<'a>(alloc: Global, command: Command<'a>) -> Result<Command<'a>, AllocError> {
+    with_rules(alloc, command)?.subcommand(prefix_command(alloc)?)
+}
+
+/// Adds the commands in the order in which help lists them.
+fn with_all<'a>(alloc: Global, command: Command<'a>) -> Result<Command<'a>, AllocError> {
+    let command = with_few(alloc, with_many(alloc, command)?)?;
+    let command = with_changes(alloc, with_comparisons(alloc, command)?)?;
+    with_networks(alloc, with_searches(alloc, command)?)
 }
 
 /// The command line of the program.
@@ -297,9 +345,8 @@ fn command<'a>(alloc: Global) -> Result<Command<'a>, AllocError> {
         .about("Combines and compares lists of networks, addresses and ranges")
         .subcommand_required(true)
         .arg_required_else_help(true);
-    let command = with_comparisons(alloc, with_operations(alloc, command)?)?;
-    let command = with_entries(alloc, with_searches(alloc, command)?)?;
-    with_rules(alloc, with_listings(alloc, command)?)?.subcommand(prefix_command(alloc)?)
+    let command = with_entries(alloc, with_all(alloc, command)?)?;
+    with_rule_lists(alloc, with_listings(alloc, command)?)
 }
 
 /// Parses the command line. The error is the text to print: help, the version, or what is wrong.

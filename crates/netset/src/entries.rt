@@ -28,18 +28,25 @@ fn overlaps_command<'a>(alloc: Global) -> Result<Command<'a>, AllocError> {
         .arg(other(alloc, help).required(false))
 }
 
+/// The command of this name, about one list.
+fn on_one_list<'a>(
+    alloc: Global,
+    name: &'a str,
+    about: &'a str,
+) -> Result<Command<'a>, AllocError> {
+    command_of(alloc, name, about)?.arg(one_file(alloc))
+}
+
 /// Adds the commands about entries.
 pub fn with_entries<'a>(alloc: Global, command: Command<'a>) -> Result<Command<'a>, AllocError> {
     let supernet =
         "The smallest network that contains all addresses of the list, for each address family that occurs in it";
     let redundant =
         "The entries that the others make unnecessary, and the fewest that cover each; status 1 if there are any";
-    let supernet = command_of(alloc, SUPERNET, supernet)?.arg(one_file(alloc))?;
-    let redundant = command_of(alloc, REDUNDANT, redundant)?.arg(one_file(alloc))?;
-    command
-        .subcommand(supernet)?
-        .subcommand(redundant)?
-        .subcommand(overlaps_command(alloc)?)
+    let supernet = on_one_list(alloc, SUPERNET, supernet)?;
+    let redundant = on_one_list(alloc, REDUNDANT, redundant)?;
+    let command = command.subcommand(supernet)?.subcommand(redundant)?;
+    command.subcommand(overlaps_command(alloc)?)
 }
 
 /// Reads the list, and prints the smallest networks around its addresses.

@@ -64,18 +64,23 @@ pub fn with_forms<'a>(alloc: Global, command: Command<'a>) -> Result<Command<'a>
     let ranges = "Print the fewest ranges, such as 10.0.0.0-10.0.0.5, instead of networks";
     let format = "How the answer is written; ranges is --ranges";
     let prefix = "Print TEXT before each line, for plain and ranges";
+    let format = option(alloc, FORMAT, "FORM", format)
+        .value_parser(FORMATS)
+        .conflicts_with(RANGES)?;
+    let command = command.arg(flag(alloc, RANGES, ranges))?.arg(format)?.arg(option(
+        alloc, PREFIX, "TEXT", prefix,
+    ).allow_hyphen_values(true))?;
+    with_sets(alloc, command)
+}
+
+/// Adds the options for the lengths of networks, and for the sets of `nft` and `ipset`.
+fn with_sets<'a>(alloc: Global, command: Command<'a>) -> Result<Command<'a>, AllocError> {
     let min_length =
         "Print networks of at least this prefix length: a shorter one as its subnets of length LEN";
     let ipv4_set =
         "The set of the IPv4 networks: for nft its family, table and name, as in 'inet filter allowed'";
     let ipv6_set = "The set of the IPv6 networks, for nft and ipset";
-    let format = option(alloc, FORMAT, "FORM", format)
-        .value_parser(FORMATS)
-        .conflicts_with(RANGES)?;
     command
-        .arg(flag(alloc, RANGES, ranges))?
-        .arg(format)?
-        .arg(option(alloc, PREFIX, "TEXT", prefix).allow_hyphen_values(true))?
         .arg(option(alloc, MIN_LENGTH, "LEN", min_length))?
         .arg(option(alloc, IPV4_SET, "SET", ipv4_set))?
         .arg(option(alloc, IPV6_SET, "SET", ipv6_set))

@@ -21,28 +21,37 @@ fn network<'a>(alloc: Global) -> Arg<'a> {
     )
 }
 
-/// Adds the commands that list what a network contains.
-pub fn with_listings<'a>(alloc: Global, command: Command<'a>) -> Result<Command<'a>, AllocError> {
+/// A command that lists what a network contains.
+fn listing_command<'a>(
+    alloc: Global,
+    name: &'a str,
+    about: &'a str,
+) -> Result<Command<'a>, AllocError> {
     let legacy = "Accept leading zeros (numbers stay decimal), and a :: that replaces no group";
-    let split = "The subnets of a network that have this prefix length";
-    let hosts =
-        "The hosts of a network: its addresses, without both ends if it is IPv4 and larger than /31";
+    Command::new(alloc, name)
+        .about(about)
+        .arg(flag(alloc, "legacy", legacy))?
+        .arg(output_option(alloc))?
+        .arg(network(alloc))
+}
+
+/// The command `split`.
+fn split_command<'a>(alloc: Global) -> Result<Command<'a>, AllocError> {
+    let about = "The subnets of a network that have this prefix length";
     let length = Arg::new(alloc, OTHERS)
         .value_name("LEN")
         .required(true)
         .help("The prefix length of the subnets, such as 26 or /26");
-    let split = Command::new(alloc, SPLIT)
-        .about(split)
-        .arg(flag(alloc, "legacy", legacy))?
-        .arg(output_option(alloc))?
-        .arg(network(alloc))?
-        .arg(length)?;
-    let hosts = Command::new(alloc, HOSTS)
-        .about(hosts)
-        .arg(flag(alloc, "legacy", legacy))?
-        .arg(output_option(alloc))?
-        .arg(network(alloc))?;
-    command.subcommand(split)?.subcommand(hosts)
+    listing_command(alloc, SPLIT, about)?.arg(length)
+}
+
+/// Adds the commands that list what a network contains.
+pub fn with_listings<'a>(alloc: Global, command: Command<'a>) -> Result<Command<'a>, AllocError> {
+    let hosts =
+        "The hosts of a network: its addresses, without both ends if it is IPv4 and larger than /31";
+    command
+        .subcommand(split_command(alloc)?)?
+        .subcommand(listing_command(alloc, HOSTS, hosts)?)
 }
 
 /// Reads the network. If the word is not one, it is reported, and the result is `None`.

@@ -31,11 +31,9 @@ fn rules_file<'a>(alloc: Global) -> Arg<'a> {
     first(alloc, "RULES", help).required(false)
 }
 
-/// Adds the commands that read a list of rules.
-pub fn with_rules<'a>(alloc: Global, command: Command<'a>) -> Result<Command<'a>, AllocError> {
-    let permitted = "The addresses whose first matching rule in RULES permits them";
-    let unreached =
-        "The rules of RULES that decide on no address, and the rules that do; status 1 if any";
+/// The command `permitted`.
+fn permitted_command<'a>(alloc: Global) -> Result<Command<'a>, AllocError> {
+    let about = "The addresses whose first matching rule in RULES permits them";
     let default = "What happens to the addresses that no rule matches";
     let default = Arg::new(alloc, DEFAULT)
         .long(DEFAULT)
@@ -43,11 +41,19 @@ pub fn with_rules<'a>(alloc: Global, command: Command<'a>) -> Result<Command<'a>
         .value_parser(ACTIONS)
         .default_value("deny")
         .help(default);
-    let permitted = operation_command(alloc, PERMITTED, permitted)?
+    operation_command(alloc, PERMITTED, about)?
         .arg(default)?
-        .arg(rules_file(alloc))?;
+        .arg(rules_file(alloc))
+}
+
+/// Adds the commands that read a list of rules.
+pub fn with_rules<'a>(alloc: Global, command: Command<'a>) -> Result<Command<'a>, AllocError> {
+    let unreached =
+        "The rules of RULES that decide on no address, and the rules that do; status 1 if any";
     let unreached = command_of(alloc, UNREACHED, unreached)?.arg(rules_file(alloc))?;
-    command.subcommand(permitted)?.subcommand(unreached)
+    command
+        .subcommand(permitted_command(alloc)?)?
+        .subcommand(unreached)
 }
 
 /// Returns what the command of this name asks of a list of rules, or `None` if it reads no such list.
