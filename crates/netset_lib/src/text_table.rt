@@ -1,141 +1,97 @@
-//! Tables of routes with texts, read line by line.
-ghost use Rattle.std.specs.Prelude.{◌≡◌, [], ◌∷◌, ◌<◌, length, IfOk, OnOk, List, ℕ};
+//! Tables of networks with texts, read line by line.
+ghost use Rattle.std.specs.Prelude.{map, IfOk, OnOk};
 ghost use Rattle.ipnet.specs.SubnetsLeft.{ip_subnets_left};
 ghost use Rattle.ipnet_base.specs.Blocks.{AreMaximalBlocks};
 ghost use Rattle.ipnet_sets.specs.Routes.{ip_routes};
 ghost use Rattle.ipnet_sets.specs.SetRanges.{IsInRange};
+ghost use Rattle.netset_lib.specs.ContentLineOf.{line_of};
 ghost use Rattle.netset_lib.specs.EntryOf.{entry_range};
-ghost use Rattle.netset_lib.specs.TextTables.{no_lines};
-ghost use Rattle.netset_lib.specs.TextSteps.{AddsBlocks, AddsRoutes, IsTextTableOf};
+ghost use Rattle.netset_lib.specs.TextSteps.{AddsBlocks, AddsTableLine, AreTextsRead};
 
+use crate::cause::Cause;
+use crate::content_line::{ContentLine, RefusedText, content_lines};
 use crate::entry::Entry;
-use crate::reader::{contents_of, first_line};
-use crate::refused::RefusedLines;
-use crate::rule_list::skip_mark;
-use crate::text_line::{read_text_line, text_cause};
+use crate::text_line::{TableLine, read_table_line};
 use ipnet::{Grammar, IpAddr, IpNet, IpSubnets, Ipv4Addr, Ipv4Subnets, Ipv6Subnets};
-use ipnet_sets::RouteTable;
 use std::alloc::{AllocError, Global};
 
-/// A table of routes whose values are the indexes of texts.
+/// The routes of a table in the order of its lines, and its refused lines.
 #[derive(Drop)]
-pub(crate) struct TextTable {
-    pub(crate) routes: RouteTable<usize>,
-    pub(crate) texts: Vec<String>,
+pub(crate) struct TextRoutes<'a> {
+    pub(crate) routes: Vec<(IpNet, &'a str)>,
+    pub(crate) refused: Vec<RefusedText<Option<Cause>>>,
 }
 
-/// The walk over the addresses of the entry.
+/// The walk over the fewest networks with the addresses of the entry.
 fn walk_of(entry: Entry) -> IpSubnets
     ensures { AreMaximalBlocks (IsInRange (entry_range entry)) 0 (ip_subnets_left result) }
 {
     match entry.ends() {
         (IpAddr::V4(first), IpAddr::V4(last)) => IpSubnets::V4(Ipv4Subnets::new(first, last, 0)),
         (IpAddr::V6(first), IpAddr::V6(last)) => IpSubnets::V6(Ipv6Subnets::new(first, last, 0)),
-        _ => IpSubnets::V4(Ipv4Subnets::new(Ipv4Addr::from_bits(1), Ipv4Addr::from_bits(0), 0)),
+        _ => {
+            let address = Ipv4Addr::from_bits(0);
+            IpSubnets::V4(Ipv4Subnets::new(address, address, 0))
+        }
     }
 }
 
-/// Puts the networks of the entry at the end of the routes, each with this index.
-fn push_blocks(
-    routes: &mut Vec<(IpNet, usize)>,
+/// Puts the networks of the entry at the end of the routes, each with this text.
+fn push_blocks<'a>(
+    routes: &mut Vec<(IpNet, &'a str)>,
     entry: Entry,
-    index: usize,
+    text: &'a str,
 ) -> Result<(), AllocError>
     ensures { OnOk result
-        (AddsBlocks (ip_routes routes.old.items) (entry_range entry) index (ip_routes routes.new.items)) }
+        (AddsBlocks (ip_routes routes.old.items) (entry_range entry) text (ip_routes routes.new.items)) }
 {
     for network in walk_of(entry) {
-        routes.push((network, index))?;
+        routes.push((network, text))?;
     }
     Ok(())
 }
 
-/// Reads the lines of a table.
-#[derive(Drop)]
-pub(crate) struct TextReader {
-    pub(crate) alloc: Global,
-    pub(crate) grammar: Grammar,
-    room: String,
-    /// The number of lines that were read.
-    pub(crate) number: usize,
-    pub(crate) routes: Vec<(IpNet, usize)>,
-    pub(crate) texts: Vec<String>,
-    pub(crate) refused: RefusedLines,
+/// Adds the routes of the line that was read, or the line as a refused one. Fails if memory runs out.
+fn add_line<'a>(
+    alloc: Global,
+    made: &mut TextRoutes<'a>,
+    line: ContentLine<'_>,
+    read: Result<TableLine<'a>, Option<Cause>>,
+) -> Result<(), AllocError>
+    ensures { OnOk result (AddsTableLine (line_of line.entry) read made.old made.new) }
+{
+    match read {
+        Ok(found) => push_blocks(&mut made.routes, found.entry, found.text),
+        Err(cause) => {
+            let text = line.text.to_vec(alloc)?;
+            let number = line.number;
+            made.refused.push(RefusedText {
+                number,
+                text,
+                cause,
+            })?;
+            Ok(())
+        }
+    }
 }
 
-impl TextReader {
-    ghost use Rattle.netset_lib.specs.TextSteps.{AddsTextOf, AddsTextLine, AreTextsReadUpTo, IsMadeOfLines};
-
-    /// A reader that has read no line.
-    pub(crate) fn new(alloc: Global, grammar: Grammar) -> TextReader
-        ensures grammar { result.grammar ≡ grammar }
-        ensures number { result.number ≡ 0 }
-        ensures none { IsMadeOfLines result no_lines }
-    {
-        TextReader {
-            alloc,
-            grammar,
-            room: String::new(alloc),
-            number: 0,
-            routes: Vec::new(alloc),
-            texts: Vec::new(alloc),
-            refused: RefusedLines::new(alloc),
-        }
+/// Reads the lines of a table. Fails if memory runs out.
+pub(crate) fn read_text_routes<'a>(
+    alloc: Global,
+    bytes: &'a [u8],
+    grammar: Grammar,
+) -> Result<TextRoutes<'a>, AllocError>
+    ensures { IfOk result (AreTextsRead grammar bytes.now) }
+{
+    let lines = content_lines(alloc, bytes, grammar)?;
+    let mut room = String::new(alloc);
+    let mut made = TextRoutes {
+        routes: Vec::new(alloc),
+        refused: Vec::new(alloc),
+    };
+    for line in lines.as_slice() {
+        let read = read_table_line(&mut room, line.text, grammar)?;
+        add_line(alloc, &mut made, *line, read)?;
     }
-
-    /// Adds a line. Fails if memory runs out.
-    fn push_line(&mut self, entry: Entry, text: &str) -> Result<(), AllocError>
-        ensures adds { OnOk result (AddsRoutes self.old self.new (entry_range entry) text.now) }
-    {
-        let text = String::from_str(self.alloc, text)?;
-        let index = self.texts.len();
-        push_blocks(&mut self.routes, entry, index)?;
-        self.texts.push(text)?;
-        Ok(())
-    }
-
-    /// Adds what the contents of the line with this number are. Fails if memory runs out.
-    fn add_text(&mut self, number: usize, contents: &[u8]) -> Result<(), AllocError>
-        ensures adds { OnOk result (AddsTextOf self.old.grammar number contents.now self.old self.new) }
-        ensures same_grammar { self.new.grammar ≡ self.old.grammar }
-        ensures same_number { self.new.number ≡ self.old.number }
-    {
-        if contents.is_empty() {
-            return Ok(());
-        }
-        match read_text_line(&mut self.room, contents, self.grammar)? {
-            Some(line) => self.push_line(line.entry, line.text),
-            None => {
-                let cause = text_cause(&mut self.room, contents, self.grammar)?;
-                self.refused.push(self.alloc, 0, number, contents, cause)
-            }
-        }
-    }
-
-    /// Reads a line. Fails if memory runs out, or if there are more lines than a `usize` counts.
-    fn read_line(&mut self, line: &[u8]) -> Result<(), AllocError>
-        ensures { OnOk result (AddsTextLine self.old self.new line.now) }
-    {
-        let Some(number) = self.number.checked_add(1) else {
-            return Err(AllocError);
-        };
-        self.number = number;
-        let contents = contents_of(&mut self.room, line, self.grammar)?;
-        self.add_text(number, contents)
-    }
-
-    /// Reads the lines of a table. Fails as `read_line` does.
-    pub(crate) fn read_lines(&mut self, bytes: &[u8]) -> Result<(), AllocError>
-        requires number { self.old.number ≡ 0 }
-        requires none { IsMadeOfLines self.old no_lines }
-        ensures { OnOk result (AreTextsReadUpTo self.old self.new bytes.now []) }
-    {
-        let mut rest = skip_mark(bytes);
-        'lines: while !rest.is_empty() {
-            let (line, after) = first_line(rest);
-            self.read_line(line)?;
-            rest = after;
-        }
-        Ok(())
-    }
+    Ok(made)
 }
