@@ -17,6 +17,7 @@ use Rattle.ipnet_sets.specs.SetRanges.{IsInRange}
 use Rattle.ipnet_sets.specs.declared.routes.RouteTable.{RouteTable}
 use Rattle.netset_lib.specs.declared.answerer.Answers.{Answers}
 use Rattle.netset_lib.specs.declared.cause.Cause.{Cause}
+use Rattle.netset_lib.specs.declared.refused.RefusedLines.{RefusedLines}
 use Rattle.netset_lib.specs.declared.text_line.TableLine.{TableLine}
 use Rattle.netset_lib.specs.declared.text_table.TextRoutes.{TextRoutes}
 use Rattle.netset_lib.specs.Causes.{Has, HasMaskWord}
@@ -24,7 +25,8 @@ use Rattle.netset_lib.specs.ContentLineOf.{refused_of}
 use Rattle.netset_lib.specs.ContentLines as content
 use Rattle.netset_lib.specs.EntryAnswers.{AreAnswers, IsFoundIn}
 use Rattle.netset_lib.specs.EntryOf.{entry_range}
-use Rattle.netset_lib.specs.Lists.{ListEntry, IsCommentAt}
+use Rattle.netset_lib.specs.Lists.{ListEntry, Refusal, IsCommentAt, IsListRead}
+use Rattle.netset_lib.specs.RefusedLines.{AreRefused}
 use Rattle.netset_lib.specs.RouteAnswers.{IsLongest, HaveNone}
 use Rattle.netset_lib.specs.Routing.{InTable, HoldsEnds}
 use Rattle.netset_lib.specs.TextTables.{TextLine, IsLinesNetwork, IsTextOf, IsTextTable, text_part}
@@ -111,3 +113,12 @@ pub record AddsTextAnswer (table : RouteTable (Bor (List ℕ))) (old new : Answe
   pub answer : IsTextAnswerBy table e line
   pub text : string_bytes new.text ≡ string_bytes old.text ++ line
   pub found : (IsMissingBy table e × (new.found ≡ true)) ⊎ ((¬ (IsMissingBy table e)) × (new.found ≡ old.found))
+
+-- Something was made of the entries of the list, and these are its refused lines.
+pub record IsMadeList (grammar : Grammar) (bytes : List ℕ) (IsMade : List ListEntry → Type 0) (refused : RefusedLines)
+    : Type 0 where
+  pub entries : List ListEntry
+  pub refusals : List Refusal
+  pub read : IsListRead grammar 0 bytes entries refusals
+  pub made : IsMade entries
+  pub kept : AreRefused refused refusals

@@ -7,7 +7,6 @@ use Rattle.ipnet_base.specs.Ranges.{AddressRange}
 use Rattle.ipnet.specs.CanonicalTexts.{canonical_text}
 use Rattle.ipnet.specs.declared.parser.Grammar.{Grammar}
 use Rattle.ipnet_sets.specs.SetRanges.{IsInRange}
-use Rattle.ipnet_text.specs.Inputs.{GaveWhole}
 use Rattle.netset_lib.specs.declared.cause.Cause.{Cause}
 use Rattle.netset_lib.specs.Causes.{Has, HasMaskWord, IsCauseTold}
 use Rattle.netset_lib.specs.ContentLines.{ContentLine, RefusedContent, AreContentLines, AreItems}
@@ -112,11 +111,6 @@ pub record IsTextRouteAnswer (grammar : Grammar) (table list : List ℕ) (missin
   pub right : AreAnswers (IsTextRouteLine lines) entries text
   pub is_missing : IsFoundIn (HasNoTextRoute lines) missing entries
 
--- The answer over the table and a list that was read up to its end.
-abbrev pub IsTextRouteReply : Grammar → List ℕ → (left left_after : Option (List ℕ)) → Bool → List ℕ → Type 0
-IsTextRouteReply grammar table left left_after missing text =
-    (list : List ℕ) × GaveWhole left left_after list × IsTextRouteAnswer grammar table list missing text
-
 -- Some lines of the table are refused, and these are all of them.
 pub record HasRefusedTextLines (grammar : Grammar) (table : List ℕ) (refused : List (RefusedContent (Option Cause)))
     : Type 0 where
@@ -124,11 +118,8 @@ pub record HasRefusedTextLines (grammar : Grammar) (table : List ℕ) (refused :
   pub read : IsTextTable grammar table lines refused
   pub some : refused ≢ []
 
--- Some lines of the list are refused, and these are all of them. The list was read up to its end.
-pub record HasRefusedEntries (grammar : Grammar) (left left_after : Option (List ℕ)) (refusals : List Refusal)
-    : Type 0 where
-  pub list : List ℕ
-  pub given : GaveWhole left left_after list
+-- Some lines of the list are refused, and these are all of them.
+pub record HasRefusedEntries (grammar : Grammar) (list : List ℕ) (refusals : List Refusal) : Type 0 where
   pub entries : List ListEntry
   pub read : IsListRead grammar 0 list entries refusals
   pub some : refusals ≢ []

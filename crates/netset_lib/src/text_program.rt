@@ -2,51 +2,48 @@
 ghost use Rattle.std.specs.Prelude.{◌≡◌, ◌≤◌, ◌⊎◌, true, false};
 ghost use Rattle.std.specs.Io.KnownBytes.{Keeps};
 ghost use Rattle.netset_lib.specs.RuleAnswers.{IsWritten, IsFrontWritten};
-ghost use Rattle.netset_lib.specs.TextTables.{IsTextRouteReply};
+ghost use Rattle.netset_lib.specs.TextTables.{IsTextRouteAnswer};
 
 use crate::answer::Failure;
 use crate::cause::Cause;
 use crate::content_line::RefusedText;
 use crate::program::{report_failure, report_text, written};
-use crate::reading::ReadFailure;
 use crate::rule_program::MOST_LINES;
 use crate::text_route::{TextFailure, text_route_answers};
 use ipnet::Grammar;
 use std::alloc::Global;
 use std::io;
-use std::io::{Read, Write};
+use std::io::Write;
 
 /// The words of a report for a line of a table.
 const NO_TEXT_LINE: &str = "not an entry with a text";
 
-/// A table with texts, the grammar of its entries and of those of the list, and the names of both for reports.
+/// A table with texts, a list of entries to look up, and the grammar of both.
 #[derive(Clone, Copy)]
 pub struct TextRequest<'a> {
-    /// The bytes of the table.
+    /// The table.
     pub table: &'a [u8],
-    /// The grammar of the entries in the table and in the list.
+    /// The list.
+    pub list: &'a [u8],
+    /// The grammar of the entries in both.
     pub grammar: Grammar,
-    /// The name of the table.
-    pub table_name: &'a str,
-    /// The name of the list.
-    pub list_name: &'a str,
 }
 
-/// Writes a line for each entry of the list that `input` has to `out`, and returns the exit status: the entry as it is
-/// written, the longest network of the table that contains the whole entry, and the text of that network; or "-" after
-/// the entry if no network contains it.
+/// Writes a line for each entry of the list to `out`, and returns the exit status: the entry as it is written, the
+/// longest network of the table that contains the whole entry, and the text of that network; or "-" after the entry if
+/// no network contains it.
 ///
 /// A line of the table is an entry, or an entry, blanks and a text. The text ends before a comment, and begins with
 /// another byte than "-". Blanks and comments are as in lists of entries. An entry of the table counts as the fewest
 /// networks with its addresses. If several lines have one network, the last of them counts.
 ///
-/// If a report cannot be written, the status is the same.
+/// `names` are the names of the table and of the list, for the reports on `faults`. If a report cannot be written, the
+/// status is the same.
 ///
 /// | Status | On `faults` | When |
 /// |---|---|---|
 /// | 2 | `NAME:LINE: not an entry with a text: TEXT (CAUSE)`, ten at most | some lines of the table are not such lines |
 /// | 2 | `NAME:LINE: not a network, an address or a range: TEXT (CAUSE)`, ten at most | so it is in the list |
-/// | 2 | `netset: NAME: cannot be read` | a read of the list fails |
 /// | 2 | `netset: out of memory` | memory runs out |
 /// | 2 | `netset: output cannot be written` | a write fails, or the flush after it; the answer may be out in part |
 /// | 1 | nothing | an entry has no route; `out` has all answers |
@@ -57,31 +54,31 @@ pub struct TextRequest<'a> {
 ///     out gets "10.1.2.3 10.1.0.0/16 192.0.2.2\n10.9.9.9 10.0.0.0/8 192.0.2.1\n"
 /// the same table, and the list "::1\n": status 1, and out gets "::1 -\n"
 /// ```
-pub fn run_text_routes<R: Read, W: Write, X: Write>(
+pub fn run_text_routes<W: Write, X: Write>(
     alloc: Global,
     request: TextRequest<'_>,
-    input: &mut R,
+    names: (&str, &str),
     out: &mut W,
     faults: &mut X,
 ) -> u8
     ensures status { result ≤ 2 }
     ensures missing { let r = request.entry in result ≡ 1
-        → IsWritten (IsTextRouteReply r.grammar r.table.now (R.remaining input.old) (R.remaining input.new) true)
+        → IsWritten (IsTextRouteAnswer r.grammar r.table.now r.list.now true)
         (W.contents out.old) (W.contents out.new) }
     ensures answered { let r = request.entry in result ≡ 0
-        → IsWritten (IsTextRouteReply r.grammar r.table.now (R.remaining input.old) (R.remaining input.new) false)
+        → IsWritten (IsTextRouteAnswer r.grammar r.table.now r.list.now false)
         (W.contents out.old) (W.contents out.new) }
     ensures cut_short { let r = request.entry in result ≡ 2 → Keeps (W.contents out.old) (W.contents out.new)
-        ⊎ IsFrontWritten (IsTextRouteReply r.grammar r.table.now (R.remaining input.old) (R.remaining input.new) true)
+        ⊎ IsFrontWritten (IsTextRouteAnswer r.grammar r.table.now r.list.now true)
         (W.contents out.old) (W.contents out.new)
-        ⊎ IsFrontWritten (IsTextRouteReply r.grammar r.table.now (R.remaining input.old) (R.remaining input.new) false)
+        ⊎ IsFrontWritten (IsTextRouteAnswer r.grammar r.table.now r.list.now false)
         (W.contents out.old) (W.contents out.new) }
     ensures faultless { result ≤ 1 → Keeps (X.contents faults.old) (X.contents faults.new) }
 {
-    let answers = match text_route_answers(alloc, request.table, request.grammar, input) {
+    let answers = match text_route_answers(alloc, request.table, request.list, request.grammar) {
         Ok(answers) => answers,
         Err(failure) => {
-            let _ = report(faults, request, failure);
+            let _ = report(faults, names, failure);
             return 2;
         }
     };
@@ -95,19 +92,15 @@ pub fn run_text_routes<R: Read, W: Write, X: Write>(
 /// Reports the failure.
 fn report<X: Write>(
     faults: &mut X,
-    request: TextRequest<'_>,
+    names: (&str, &str),
     failure: TextFailure,
 ) -> io::Result<()> {
     match failure {
-        TextFailure::Table(lines) => report_lines(faults, request.table_name, lines.as_slice()),
+        TextFailure::Table(lines) => report_lines(faults, names.0, lines.as_slice()),
         TextFailure::List(lines) => {
-            report_failure(faults, &[request.list_name], &Failure::Refused(lines))
+            report_failure(faults, &[names.1], &Failure::Refused(lines))
         }
-        TextFailure::Read(ReadFailure::Memory) => writeln!(faults, "netset: out of memory"),
-        TextFailure::Read(failure) => {
-            let name = request.list_name.as_bytes().escape_ascii();
-            writeln!(faults, "netset: {name}: {failure}")
-        }
+        TextFailure::Memory => writeln!(faults, "netset: out of memory"),
     }
 }
 

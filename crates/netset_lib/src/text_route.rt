@@ -1,24 +1,23 @@
 //! For each entry of a list the longest network of a table that contains the whole of it, and the text of that network.
 ghost use Rattle.std.specs.Prelude.{◌≡◌, ◌++◌, IfErr, IfOk, OnOk, string_bytes};
 ghost use Rattle.netset_lib.specs.FoundEntry.{entry_of};
-ghost use Rattle.netset_lib.specs.Reading.{WasMadeOf};
-ghost use Rattle.netset_lib.specs.TextReplies.{IsTextRouteFailure};
-ghost use Rattle.netset_lib.specs.TextSteps.{AddsTextAnswer, AreTextAnswersBy, text_route_line};
-ghost use Rattle.netset_lib.specs.TextTables.{IsTextRouteReply};
+ghost use Rattle.netset_lib.specs.TextReplies.{IsTextFailure};
+ghost use Rattle.netset_lib.specs.TextSteps.{AddsTextAnswer, AreTextAnswersBy, IsMadeList, text_route_line};
+ghost use Rattle.netset_lib.specs.TextTables.{IsTextRouteAnswer};
+ghost use Rattle.netset_lib.specs.declared.text_route.TextFailure.TheVariants.{Memory};
 
 use crate::answerer::{Answers, push_missing};
 use crate::cause::Cause;
 use crate::content_line::RefusedText;
 use crate::entry::Entry;
-use crate::reader::Collector;
-use crate::reading::{ReadFailure, Reading};
+use crate::reader::{Collector, LineReader};
 use crate::refused::RefusedLines;
 use crate::route::longest_holding;
+use crate::rule_list::skip_mark;
 use crate::text_table::{TextRoutes, read_text_routes};
 use ipnet::{Grammar, IpNet};
 use ipnet_sets::RouteTable;
 use std::alloc::{AllocError, Global};
-use std::io::Read;
 
 /// Why there are no answers.
 #[derive(Debug, Drop)]
@@ -27,19 +26,15 @@ pub(crate) enum TextFailure {
     Table(Vec<RefusedText<Option<Cause>>>),
     /// Lines of the list are not entries.
     List(RefusedLines),
-    /// The list was not read, or memory ran out.
-    Read(ReadFailure),
+    /// Memory ran out.
+    Memory,
 }
 
 impl From<AllocError> for TextFailure {
-    fn from(_: AllocError) -> TextFailure {
-        TextFailure::Read(ReadFailure::Memory)
-    }
-}
+    ghost from_gives = { λ _ result. result ≡ Memory };
 
-impl From<ReadFailure> for TextFailure {
-    fn from(failure: ReadFailure) -> TextFailure {
-        TextFailure::Read(failure)
+    fn from(_: AllocError) -> TextFailure {
+        TextFailure::Memory
     }
 }
 
@@ -95,32 +90,39 @@ impl<'a> Collector<Answers> for TextTable<'a> {
     }
 }
 
-/// Reads one list, and makes the answer to each of its entries.
-fn read_text_answers<R: Read>(
-    table: &TextTable<'_>,
-    reading: &mut Reading,
-    input: &mut R,
-) -> Result<Answers, ReadFailure>
-    ensures { IfOk result (λ answers. WasMadeOf (R.remaining input.old) (R.remaining input.new)
-        reading.old reading.new (AreTextAnswersBy table.now.table answers)) }
-{
-    let mut answers = Answers::new(reading.lines.alloc);
-    reading.read_list(input, table, &mut answers)?;
-    Ok(answers)
+/// The answers to the entries of a list, and the refused lines of the list.
+#[derive(Drop)]
+struct AnsweredList {
+    answers: Answers,
+    refused: RefusedLines,
 }
 
-/// Returns the answers to the entries of the list that `input` has, by the table.
-pub(crate) fn text_route_answers<R: Read>(
+/// Reads the bytes of a list, and makes the answer to each of its entries.
+fn answer_list(
+    alloc: Global,
+    table: &TextTable<'_>,
+    list: &[u8],
+    grammar: Grammar,
+) -> Result<AnsweredList, AllocError>
+    ensures { IfOk result (λ a. IsMadeList grammar list.now (AreTextAnswersBy table.now.table a.answers) a.refused) }
+{
+    let mut lines = LineReader::new(alloc, grammar);
+    let mut answers = Answers::new(alloc);
+    lines.read(skip_mark(list), table, &mut answers)?;
+    let LineReader { refused, .. } = lines;
+    Ok(AnsweredList { answers, refused })
+}
+
+/// Returns the answers to the entries of the list, by the table.
+pub(crate) fn text_route_answers(
     alloc: Global,
     table: &[u8],
+    list: &[u8],
     grammar: Grammar,
-    input: &mut R,
 ) -> Result<Answers, TextFailure>
     ensures answers { IfOk result (λ a.
-        IsTextRouteReply grammar table.now (R.remaining input.old) (R.remaining input.new) a.found
-        (string_bytes a.text)) }
-    ensures failure { IfErr result
-        (IsTextRouteFailure grammar table.now (R.remaining input.old) (R.remaining input.new)) }
+        IsTextRouteAnswer grammar table.now list.now a.found (string_bytes a.text)) }
+    ensures failure { IfErr result (IsTextFailure grammar table.now list.now) }
 {
     let TextRoutes { routes, refused } = read_text_routes(alloc, table, grammar)?;
     if !refused.is_empty() {
@@ -129,9 +131,7 @@ pub(crate) fn text_route_answers<R: Read>(
     let table = TextTable {
         table: RouteTable::from_routes(alloc, routes)?,
     };
-    let mut reading = Reading::new(alloc, grammar)?;
-    let answers = read_text_answers(&table, &mut reading, input)?;
-    let refused = reading.lines.refused;
+    let AnsweredList { answers, refused } = answer_list(alloc, &table, list, grammar)?;
     if refused.count != 0 {
         return Err(TextFailure::List(refused));
     }
