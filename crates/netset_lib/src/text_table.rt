@@ -43,7 +43,7 @@ fn push_blocks<'a>(
     text: &'a str,
 ) -> Result<(), AllocError>
     ensures { OnOk result
-        (AddsBlocks (ip_routes routes.old.items) (entry_range entry) text (ip_routes routes.new.items)) }
+        (AddsBlocks (ip_routes routes.old.items) (entry_range entry) text.entry (ip_routes routes.new.items)) }
 {
     for network in walk_of(entry) {
         routes.push((network, text))?;
@@ -58,7 +58,7 @@ fn add_line<'a>(
     line: ContentLine<'_>,
     read: Result<TableLine<'a>, Option<Cause>>,
 ) -> Result<(), AllocError>
-    ensures { OnOk result (AddsTableLine (line_of line.entry) read made.old made.new) }
+    ensures { OnOk result (AddsTableLine (line_of line.entry) read.entry made.old made.new) }
 {
     match read {
         Ok(found) => push_blocks(&mut made.routes, found.entry, found.text),

@@ -1,0 +1,33 @@
+use Rattle.std.proofs.Common.{IfSome, IsNone, ap, refl, sym, ◌∙◌, subst, inl, inr}
+use Rattle.std.proofs.lemmas.Result.{IfOk-weaker}
+use Rattle.netset_lib.specs.Causes.{IsCauseTold}
+use Rattle.netset_lib.specs.Entries.{IsEntryText, IsNoEntry}
+use Rattle.netset_lib.specs.EntryOf.{entry_range}
+use Rattle.netset_lib.specs.FoundEntry.{found_range}
+use Rattle.netset_lib.specs.TextTables.{IsTextCause}
+use Rattle.netset_lib.proofs.text_line.text_cause.Goals as goal
+
+pub returns-in-Some : goal.returns-in-Some
+returns-in-Some c =
+    let grammar = c.args.grammar in
+    let range = entry_range c.in-Some.field-0.entry in
+    IfOk-weaker c.cause_of.result (IsCauseTold grammar c.args.contents.now) (IsTextCause grammar c.args.contents.now)
+    (λ cause told. inl (
+    (range, subst (λ z. IsEntryText grammar z range) c.cut_word.ensures.word
+        (subst (λ o. IfSome o (λ v. IsEntryText grammar c.cut_word.result.0.now (found_range v))) c.in-Some.is
+        c.in_ok-read_text.ensures.reads.some)),
+    told,
+    ))
+    c.cause_of.ensures.told
+
+pub returns-in-None : goal.returns-in-None
+returns-in-None c =
+    let grammar = c.args.grammar in
+    let word = c.cut_word.ensures.word in
+    IfOk-weaker c.cause_of-in-None.result (IsCauseTold grammar c.cut_word.result.0.now)
+    (IsTextCause grammar c.args.contents.now)
+    (λ cause told. inr (
+    subst (IsNoEntry grammar) word (c.in_ok-read_text.ensures.reads.none.0 (subst IsNone (sym c.in-None.is) refl)),
+    subst (λ z. IsCauseTold grammar z cause) word told,
+    ))
+    c.cause_of-in-None.ensures.told
