@@ -11,7 +11,7 @@ use Rattle.ipnet.specs.CanonicalTexts.{canonical_text}
 use Rattle.ipnet.specs.NetworkOf.{ip_network}
 use Rattle.ipnet.specs.declared.net.IpNet.{IpNet}
 use Rattle.ipnet.specs.declared.parser.Grammar.{Grammar}
-use Rattle.ipnet_sets.specs.Routes.{Route, networks_of, ip_routes, without_host_bits}
+use Rattle.ipnet_sets.specs.Routes.{Route, networks_of, without_host_bits}
 use Rattle.ipnet_sets.specs.RoutesOf.{routes_of}
 use Rattle.ipnet_sets.specs.SetRanges.{IsInRange}
 use Rattle.ipnet_sets.specs.declared.routes.RouteTable.{RouteTable}
@@ -44,9 +44,9 @@ pub record IsAllowed (contents text : List ℕ) : Type 0 where
   pub no_mask : ¬ (HasMaskWord contents)
   pub no_comment : IsCommentAt contents (length contents)
 
--- A route with a text.
-abbrev pub TextRoute : Type 0
-TextRoute = Route (Bor (List ℕ))
+-- The routes with their texts.
+abbrev pub texts_in : List (IpNet × Bor (List ℕ)) → List (Route (List ℕ))
+texts_in routes = map (λ r. (ip_network r.0, r.1.now)) routes
 
 -- The last of the routes with this network has this value.
 abbrev pub IsLastOf : {V : Type 0} → List (Route V) → Network → V → Type 0
@@ -60,16 +60,16 @@ AddsBlocks old range value new = (blocks : List Network) × AreMaximalBlocks (Is
     × (new ≡ old ++ map (λ n. (n, value)) blocks)
 
 -- The routes are those of these lines: they have their networks, and the last of a network has its text.
-pub record AreRoutesOf (lines : List TextLine) (routes : List TextRoute) : Type 0 where
+pub record AreRoutesOf (lines : List TextLine) (routes : List (Route (List ℕ))) : Type 0 where
   pub networks : (n : Network) → Contains (networks_of routes) n ↔ IsLinesNetwork lines n
-  pub texts : (n : Network) (text : Bor (List ℕ)) → IsLastOf routes n text → IsTextOf lines n text.now
+  pub texts : (n : Network) (text : List ℕ) → IsLastOf routes n text → IsTextOf lines n text
 
 -- The routes of the line, or the line as a refused one, are added.
 abbrev pub AddsTableLine : content.ContentLine → Result TableLine (Option Cause) → TextRoutes → TextRoutes → Type 0
 AddsTableLine line (Ok l) old new =
-    AddsBlocks (ip_routes old.routes.items) (entry_range l.entry) l.text (ip_routes new.routes.items)
+    AddsBlocks (texts_in old.routes.items) (entry_range l.entry) l.text.now (texts_in new.routes.items)
     × (map refused_of new.refused.items ≡ map refused_of old.refused.items)
-AddsTableLine line (Err cause) old new = (ip_routes new.routes.items ≡ ip_routes old.routes.items)
+AddsTableLine line (Err cause) old new = (texts_in new.routes.items ≡ texts_in old.routes.items)
     × (map refused_of new.refused.items
     ≡ map refused_of old.refused.items ++ record { number = line.number; text = line.text; cause = cause } ∷ [])
 
@@ -77,7 +77,7 @@ AddsTableLine line (Err cause) old new = (ip_routes new.routes.items ≡ ip_rout
 abbrev pub AreTextsRead : Grammar → List ℕ → TextRoutes → Type 0
 AreTextsRead grammar bytes made = (lines : List TextLine)
     × IsTextTable grammar bytes lines (map refused_of made.refused.items)
-    × AreRoutesOf lines (without_host_bits (ip_routes made.routes.items))
+    × AreRoutesOf lines (without_host_bits (texts_in made.routes.items))
 
 -- The table has the networks of these lines, and their texts.
 pub record IsTableOfLines (lines : List TextLine) (table : RouteTable (Bor (List ℕ))) : Type 0 where

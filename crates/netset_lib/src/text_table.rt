@@ -1,12 +1,11 @@
 //! Tables of networks with texts, read line by line.
-ghost use Rattle.std.specs.Prelude.{map, IfOk, OnOk};
+ghost use Rattle.std.specs.Prelude.{IfOk, OnOk};
 ghost use Rattle.ipnet.specs.SubnetsLeft.{ip_subnets_left};
 ghost use Rattle.ipnet_base.specs.Blocks.{AreMaximalBlocks};
-ghost use Rattle.ipnet_sets.specs.Routes.{ip_routes};
 ghost use Rattle.ipnet_sets.specs.SetRanges.{IsInRange};
 ghost use Rattle.netset_lib.specs.ContentLineOf.{line_of};
 ghost use Rattle.netset_lib.specs.EntryOf.{entry_range};
-ghost use Rattle.netset_lib.specs.TextSteps.{AddsBlocks, AddsTableLine, AreTextsRead};
+ghost use Rattle.netset_lib.specs.TextSteps.{AddsBlocks, AddsTableLine, AreTextsRead, texts_in};
 
 use crate::cause::Cause;
 use crate::content_line::{ContentLine, RefusedText, content_lines};
@@ -43,7 +42,7 @@ fn push_blocks<'a>(
     text: &'a str,
 ) -> Result<(), AllocError>
     ensures { OnOk result
-        (AddsBlocks (ip_routes routes.old.items) (entry_range entry) text.entry (ip_routes routes.new.items)) }
+        (AddsBlocks (texts_in routes.old.items) (entry_range entry) text.now (texts_in routes.new.items)) }
 {
     for network in walk_of(entry) {
         routes.push((network, text))?;
