@@ -102,7 +102,7 @@ pub greatest_is_last : (n : Network) (x : Address) → IsGreatestOf n x → x �
 greatest_is_last n x h = address_from_parts x n.family (last_of n) h.inside.same_family (last_from_greatest n x h)
 
 -- a network has all of a range with an address where it has its two ends
-ends_hold : (range : AddressRange) (n : Network) → range.start ≤ range.end
+pub ends_hold : (range : AddressRange) (n : Network) → range.start ≤ range.end
     → HasEnds range n ↔ ((x : Address) → IsInRange range x → InBlock n x)
 ends_hold range n some = (
   λ ends x h.
