@@ -1,7 +1,11 @@
-//! Changes that are applied to a list, and the verdicts of a prefix list: writers that fail, and refused memory.
+//! Changes that are applied to a list, the verdicts of a prefix list, and routes with texts: writers that fail, and
+//! refused memory.
 use crate::support::{NAMES, WINDOW, session_of};
 use ipnet::Grammar;
-use netset_lib::{Form, Operation, PrefixRequest, Request, Work, run_apply, run_prefix_list};
+use netset_lib::{
+    Form, Operation, PrefixRequest, Request, TextRequest, Work, run_apply, run_prefix_list,
+    run_text_routes,
+};
 use std::alloc::Global;
 use std::test::Fail;
 use test_support::devices::{ArrayWriter, NEVER, WHOLE};
@@ -39,6 +43,16 @@ fn run_verdicts(alloc: Global, out: &mut ArrayWriter, faults: &mut ArrayWriter) 
     run_prefix_list(alloc, request, ("prefixes", "networks"), out, faults)
 }
 
+/// The status of the routes of two addresses, of which the second has none.
+fn run_routes(alloc: Global, out: &mut ArrayWriter, faults: &mut ArrayWriter) -> u8 {
+    let request = TextRequest {
+        table: b"10.0.0.0/8 eth0 # x\n",
+        list: b"10.0.0.1\n::1\n",
+        grammar: Grammar::Strict,
+    };
+    run_text_routes(alloc, request, ("table", "list"), out, faults)
+}
+
 #[test]
 fn writers(rt: HostRuntime) -> Result<(), Fail> {
     let alloc = rt.alloc();
@@ -64,10 +78,18 @@ fn writers(rt: HostRuntime) -> Result<(), Fail> {
             "verdicts: {label}: status"
         );
         assert!(&rt; out.held() == front, "verdicts: {label}: output");
+        let mut out = ArrayWriter::new(most, fails_at);
+        let status = run_routes(alloc, &mut out, &mut faults);
+        let front = &b"10.0.0.1 10.0.0.0/8 eth0\n::1 -\n"[..held.unwrap_or(31)];
+        assert!(&rt;
+            status == if held.is_none() { 1 } else { 2 },
+            "routes: {label}: status"
+        );
+        assert!(&rt; out.held() == front, "routes: {label}: output");
         let reports = if held.is_none() {
             0
         } else {
-            2 * UNWRITABLE.len()
+            3 * UNWRITABLE.len()
         };
         assert!(&rt; faults.held().len() == reports, "{label}: reports");
     }
@@ -100,6 +122,18 @@ fn verdicts_outcome(alloc: Global) -> Outcome {
     }
 }
 
+/// The outcome of the routes, if the ends of the run are right.
+fn routes_outcome(alloc: Global) -> Outcome {
+    let mut out = ArrayWriter::whole();
+    let mut faults = ArrayWriter::whole();
+    let status = run_routes(alloc, &mut out, &mut faults);
+    match (status, out.held(), faults.held()) {
+        (1, b"10.0.0.1 10.0.0.0/8 eth0\n::1 -\n", b"") => Outcome::Answered,
+        (2, b"", b"netset: out of memory\n") => Outcome::Refused,
+        _ => Outcome::Wrong,
+    }
+}
+
 #[test]
 fn memory(rt: HostRuntime) -> Result<(), Fail> {
     grow_stack(rt.alloc())?;
@@ -109,6 +143,10 @@ fn memory(rt: HostRuntime) -> Result<(), Fail> {
     assert!(&rt;
         is_refused(alloc, || verdicts_outcome(alloc))?,
         "memory: verdicts"
+    );
+    assert!(&rt;
+        is_refused(alloc, || routes_outcome(alloc))?,
+        "memory: routes"
     );
     Ok(())
 }
