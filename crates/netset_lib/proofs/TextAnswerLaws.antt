@@ -1,5 +1,5 @@
 -- The answers by a table with texts, one by one, and by its lines.
-use Rattle.std.proofs.Common.{◌≡◌, ◌↔◌, ◌⊎◌, Bool, true, false, ℕ, List, [], ◌∷◌, ◌++◌, All, length, Option, Some, None}
+use Rattle.std.proofs.Common.{◌≡◌, true, false, ℕ, List, [], ◌∷◌, ◌++◌, length, Some, None}
 use Rattle.std.proofs.Common.{refl, sym, ap, ◌∙◌, ◌+◌, subst, inl, inr, append-nil, string_bytes}
 use Rattle.std.specs.Borrow.{Bor}
 use Rattle.ipnet.specs.NetworkOf.{ip_network}
@@ -12,11 +12,10 @@ use Rattle.std.proofs.Common.{Contains}
 use Rattle.netset_lib.specs.declared.answerer.Answers.{Answers}
 use Rattle.netset_lib.specs.declared.reader.LineReader.{LineReader}
 use Rattle.netset_lib.specs.declared.refused.RefusedLines.{RefusedLines}
-use Rattle.netset_lib.specs.EntryAnswers.{AreAnswers, IsFoundIn}
+use Rattle.netset_lib.specs.EntryAnswers.{AreAnswers}
 use Rattle.netset_lib.specs.Lists.{ListEntry, Refusal, IsListRead, AreRead, AreContents, after_mark}
 use Rattle.netset_lib.specs.Reading.{ReadsLines}
 use Rattle.netset_lib.specs.RefusedLines.{AreRefused}
-use Rattle.netset_lib.specs.RouteAnswers.{Holds, IsLongest, HaveNone}
 use Rattle.netset_lib.specs.Routing.{InTable, HoldsEnds, IsLongestIfAny, route_line}
 use Rattle.netset_lib.specs.TextTables.{TextLine, IsLinesNetwork, IsTextRouteLine, HasNoTextRoute, IsTextTable}
 use Rattle.netset_lib.specs.TextTables.{IsTextRouteAnswer, HasRefusedEntries}

@@ -1,12 +1,11 @@
 -- Lines of tables with texts, the routes that they give, and the answers by these.
-use Rattle.std.proofs.Common.{◌≡◌, ◌≢◌, ◌⊎◌, ◌↔◌, ℕ, ◌<◌, ◌≤◌, Bool, true, false, List, [], ◌∷◌, ◌++◌, Contains}
-use Rattle.std.proofs.Common.{length, map, take, get_or, zero, suc, refl, sym, ap, ◌∙◌, subst, subst₂, inl, inr, arith, append_assoc, ◌+◌}
-use Rattle.std.proofs.Common.{append-nil, string_bytes, Option, Some, None, Result, Ok, Err, Any, All, IfOk, IfErr, codes}
-use Rattle.std.proofs.lemmas.Bool.{cases_order}
+use Rattle.std.proofs.Common.{◌≡◌, ◌≢◌, ◌⊎◌, ℕ, ◌<◌, ◌≤◌, List, [], ◌∷◌, ◌++◌, Contains}
+use Rattle.std.proofs.Common.{length, map, take, get_or, zero, suc, refl, sym, ap, ◌∙◌, subst, inl, inr, arith, append_assoc, ◌+◌}
+use Rattle.std.proofs.Common.{Option, Result, Ok, Err, IfOk, IfErr}
 use Rattle.std.proofs.lemmas.List.{map-append, length-map, map_push}
 use Rattle.std.proofs.lemmas.List.Elements.{Contains-append_left, Contains-append_right, Contains-append_cases}
 use Rattle.std.specs.Borrow.{Bor}
-use Rattle.ipnet_base.specs.Address.{Address, address_at, IsBetween, IPv4, IPv6}
+use Rattle.ipnet_base.specs.Address.{Address, address_at, IsBetween}
 use Rattle.ipnet_base.specs.Network.{Network, truncation}
 use Rattle.ipnet_base.specs.Blocks.{IsMaximal, AreMaximalBlocks}
 use Rattle.ipnet_base.specs.Ranges.{AddressRange}
@@ -29,7 +28,7 @@ use Rattle.netset_lib.specs.ContentLineOf.{line_of, refused_of}
 use Rattle.netset_lib.specs.ContentLines as content
 use Rattle.netset_lib.specs.ContentLines.{AreContentLines, AreItems}
 use Rattle.netset_lib.specs.EntryOf.{entry_range}
-use Rattle.netset_lib.specs.TextTables.{TextLine, IsLinesNetwork, IsTextOf, IsTextLine, IsNoTextLine}
+use Rattle.netset_lib.specs.TextTables.{TextLine, IsTextOf, IsTextLine, IsNoTextLine}
 use Rattle.netset_lib.specs.TextSteps.{IsLastOf, AddsBlocks, AreRoutesOf, IsTableOfLines, AddsTableLine, AreTextsRead}
 use Rattle.netset_lib.specs.TextSteps.{line_in, texts_in}
 use Rattle.netset_lib.proofs.ContentLaws.{read_next, read_all, items_map}
@@ -322,7 +321,7 @@ table_of_lines lines given table h are =
             let (v, there) = some_route (routes_of table) n c in
             let latest = (h.members (n, v)).0 there in
             (are.networks n).0 (subst (λ z. Contains z n) same
-                (network_of_route cut (n, v) (latest.place, latest.within, latest.is))),
+            (network_of_route cut (n, v) (latest.place, latest.within, latest.is))),
         λ one.
             let (v, latest) = latest_of cut n (subst (λ z. Contains z n) (sym same) ((are.networks n).1 one)) in
             network_of_route (routes_of table) (n, v) ((h.members (n, v)).1 latest),

@@ -90,16 +90,10 @@ pub fn run_text_routes<W: Write, X: Write>(
 }
 
 /// Reports the failure.
-fn report<X: Write>(
-    faults: &mut X,
-    names: (&str, &str),
-    failure: TextFailure,
-) -> io::Result<()> {
+fn report<X: Write>(faults: &mut X, names: (&str, &str), failure: TextFailure) -> io::Result<()> {
     match failure {
         TextFailure::Table(lines) => report_lines(faults, names.0, lines.as_slice()),
-        TextFailure::List(lines) => {
-            report_failure(faults, &[names.1], &Failure::Refused(lines))
-        }
+        TextFailure::List(lines) => { report_failure(faults, &[names.1], &Failure::Refused(lines)) }
         TextFailure::Memory => writeln!(faults, "netset: out of memory"),
     }
 }

@@ -1,10 +1,10 @@
-use Rattle.std.proofs.Common.{◌≡◌, IsNone, IfSome, refl, sym, ◌∙◌, subst, true, false}
+use Rattle.std.proofs.Common.{IsNone, IfSome, refl, sym, ◌∙◌, subst}
 use Rattle.std.specs.Str.{IsUtf8}
 use Rattle.netset_lib.specs.Entries.{IsEntryText}
 use Rattle.netset_lib.specs.EntryOf.{entry_range}
 use Rattle.netset_lib.specs.FoundEntry.{found_range}
 use Rattle.netset_lib.specs.TextSteps.{line_in}
-use Rattle.netset_lib.specs.TextTables.{IsTextLine, MayFollow}
+use Rattle.netset_lib.specs.TextTables.{IsTextLine}
 use Rattle.netset_lib.proofs.TextLineLaws.{none_read, some_read, no_line_word, no_line_text, line_with_text}
 use Rattle.netset_lib.proofs.TextLineLaws.{allowed_of, may_follow}
 use Rattle.netset_lib.proofs.text_line.read_after.Goals as goal

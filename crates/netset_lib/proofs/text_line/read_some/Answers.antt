@@ -13,7 +13,7 @@ pub returns-in-Some : goal.returns-in-Some
 returns-in-Some c =
     some_read line_in (IsTextLine c.args.grammar) c.args.contents.now _
     (inl (
-    subst (λ o. IfSome o (λ v. IsEntryText c.args.grammar c.args.contents.now (found_range v))) c.in-Some.is
-        c.in_ok-found.ensures.reads.some,
-    refl,
+      subst (λ o. IfSome o (λ v. IsEntryText c.args.grammar c.args.contents.now (found_range v))) c.in-Some.is
+          c.in_ok-found.ensures.reads.some,
+      refl,
     ))

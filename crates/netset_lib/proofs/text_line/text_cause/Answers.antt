@@ -1,4 +1,4 @@
-use Rattle.std.proofs.Common.{IfSome, IsNone, ap, refl, sym, ◌∙◌, subst, inl, inr}
+use Rattle.std.proofs.Common.{IfSome, IsNone, refl, sym, subst, inl, inr}
 use Rattle.std.proofs.lemmas.Result.{IfOk-weaker}
 use Rattle.netset_lib.specs.Causes.{IsCauseTold}
 use Rattle.netset_lib.specs.Entries.{IsEntryText, IsNoEntry}
@@ -13,10 +13,13 @@ returns-in-Some c =
     let range = entry_range c.in-Some.field-0.entry in
     IfOk-weaker c.cause_of.result (IsCauseTold grammar c.args.contents.now) (IsTextCause grammar c.args.contents.now)
     (λ cause told. inl (
-    (range, subst (λ z. IsEntryText grammar z range) c.cut_word.ensures.word
-        (subst (λ o. IfSome o (λ v. IsEntryText grammar c.cut_word.result.0.now (found_range v))) c.in-Some.is
-        c.in_ok-read_text.ensures.reads.some)),
-    told,
+      (
+        range,
+        subst (λ z. IsEntryText grammar z range) c.cut_word.ensures.word
+            (subst (λ o. IfSome o (λ v. IsEntryText grammar c.cut_word.result.0.now (found_range v))) c.in-Some.is
+            c.in_ok-read_text.ensures.reads.some),
+      ),
+      told,
     ))
     c.cause_of.ensures.told
 
@@ -27,7 +30,7 @@ returns-in-None c =
     IfOk-weaker c.cause_of-in-None.result (IsCauseTold grammar c.cut_word.result.0.now)
     (IsTextCause grammar c.args.contents.now)
     (λ cause told. inr (
-    subst (IsNoEntry grammar) word (c.in_ok-read_text.ensures.reads.none.0 (subst IsNone (sym c.in-None.is) refl)),
-    subst (λ z. IsCauseTold grammar z cause) word told,
+      subst (IsNoEntry grammar) word (c.in_ok-read_text.ensures.reads.none.0 (subst IsNone (sym c.in-None.is) refl)),
+      subst (λ z. IsCauseTold grammar z cause) word told,
     ))
     c.cause_of-in-None.ensures.told

@@ -1,6 +1,5 @@
 use Rattle.std.proofs.Common.{Contains, refl, sym, subst}
 use Rattle.std.proofs.lemmas.Result.{on_ok_weaker}
-use Rattle.ipnet_base.specs.Network.{truncation}
 use Rattle.ipnet_base.proofs.NetworkLaws.{truncation_of_truncated}
 use Rattle.ipnet.specs.NetworkOf.{ip_network}
 use Rattle.ipnet_sets.specs.RoutesOf.{routes_of}

@@ -1,4 +1,4 @@
-use Rattle.std.proofs.Common.{◌≡◌, ◌++◌, map, length}
+use Rattle.std.proofs.Common.{◌≡◌, ◌++◌, map}
 use Rattle.ipnet.specs.SubnetsLeft.{ip_subnets_left}
 use Rattle.netset_lib.specs.TextSteps.{texts_in}
 use Rattle.netset_lib.proofs.text_table.push_blocks.Given as goal
