@@ -176,7 +176,7 @@ some_route ((k, v) ∷ routes) n h = elim (contains_cases k (networks_of routes)
 ]
 
 -- a route without a value is its network
-pub plain_route : (routes : List Plain) (n : Network) → Contains routes (n, tt) ↔ Contains (networks_of routes) n
+plain_route : (routes : List Plain) (n : Network) → Contains routes (n, tt) ↔ Contains (networks_of routes) n
 plain_route [] n = (λ h. absurd (contains_nil (n, tt) h), λ h. absurd (contains_nil n h))
 plain_route ((k, tt) ∷ routes) n =
     let rest = plain_route routes n in (

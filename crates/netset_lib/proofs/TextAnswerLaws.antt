@@ -1,4 +1,4 @@
--- The answers by a table with texts, one by one, and by its lines.
+-- What a table with texts makes of the entries of a list, one by one, and by the lines of the table.
 use Rattle.std.proofs.Common.{◌≡◌, true, false, ℕ, List, [], ◌∷◌, ◌++◌, length, Some, None}
 use Rattle.std.proofs.Common.{refl, sym, ap, ◌∙◌, ◌+◌, subst, inl, inr, append-nil, string_bytes}
 use Rattle.std.specs.Borrow.{Bor}
@@ -55,17 +55,6 @@ text_some table old new e network text longest there is same = record {
   found = inr (λ none. none (ip_network network) longest.network longest.holds, same);
 }
 
-pub text_none : (table : RouteTable (Bor (List ℕ))) (old new : Answers) (e : ListEntry)
-    → IsLongestIfAny (InTable table) (HoldsEnds e) None
-    → string_bytes new.text ≡ string_bytes old.text ++ route_line e.text None → new.found ≡ true
-    → AddsTextAnswer table old new e
-text_none table old new e none is now = record {
-  line = route_line e.text None;
-  answer = inr (none, refl);
-  text = is;
-  found = inl (none, now);
-}
-
 -- ---- by the lines of the table
 
 line_by_lines : (lines : List TextLine) (table : RouteTable (Bor (List ℕ))) → IsTableOfLines lines table
@@ -117,8 +106,9 @@ made_list grammar bytes rest old new IsMade IsMadeNow same list line none is (te
 
 -- the answers to a list without refused lines
 pub text_answer : (grammar : Grammar) (bytes list : List ℕ) (lines : List TextLine)
-    (table : RouteTable (Bor (List ℕ))) (answers : Answers) (refused : RefusedLines) → IsTextTable grammar bytes lines []
-    → IsTableOfLines lines table → IsMadeList grammar list (AreTextAnswersBy table answers) refused
+    (table : RouteTable (Bor (List ℕ))) (answers : Answers) (refused : RefusedLines)
+    → IsTextTable grammar bytes lines [] → IsTableOfLines lines table
+    → IsMadeList grammar list (AreTextAnswersBy table answers) refused
     → refused.count ≡ 0 → IsTextRouteAnswer grammar bytes list answers.found (string_bytes answers.text)
 text_answer grammar bytes list lines table answers refused read of_lines h none =
     let empty : h.refusals ≡ [] = none_of_length h.refusals (sym h.kept.count ∙ none) in
@@ -136,13 +126,3 @@ text_answer grammar bytes list lines table answers refused read of_lines h none 
           (λ e has. none_same (InTable table) (IsLinesNetwork lines) e of_lines.networks has) answers.found h.entries
           some h.made.found;
     }
-
--- a list with refused lines
-pub refused_entries : (grammar : Grammar) (list : List ℕ) (IsMade : List ListEntry → Type 0) (refused : RefusedLines)
-    → IsMadeList grammar list IsMade refused → (refused.count ≡ 0 → ⊥)
-    → (refusals : List Refusal) × HasRefusedEntries grammar list refusals × AreRefused refused refusals
-refused_entries grammar list IsMade refused h some = (
-  h.refusals,
-  record { entries = h.entries; read = h.read; some = λ none. some (h.kept.count ∙ ap length none) },
-  h.kept,
-)

@@ -1,11 +1,11 @@
--- Lines of tables with texts, the routes that they give, and the answers by these.
+-- Lines of tables with texts, their routes, and the table of these.
 use Rattle.std.proofs.Common.{◌≡◌, ◌≢◌, ◌⊎◌, ℕ, ◌<◌, ◌≤◌, List, [], ◌∷◌, ◌++◌, Contains}
-use Rattle.std.proofs.Common.{length, map, take, get_or, zero, suc, refl, sym, ap, ◌∙◌, subst, inl, inr, arith, append_assoc, ◌+◌}
+use Rattle.std.proofs.Common.{length, map, take, get_or, zero, suc, refl, sym, ap, ◌∙◌, subst, inl, inr, arith}
+use Rattle.std.proofs.Common.{append_assoc, ◌+◌}
 use Rattle.std.proofs.Common.{Option, Result, Ok, Err, IfOk, IfErr}
 use Rattle.std.proofs.lemmas.List.{map-append, length-map, map_push}
 use Rattle.std.proofs.lemmas.List.Elements.{Contains-append_left, Contains-append_right, Contains-append_cases}
 use Rattle.std.specs.Borrow.{Bor}
-use Rattle.ipnet_base.specs.Address.{Address, address_at, IsBetween}
 use Rattle.ipnet_base.specs.Network.{Network, truncation}
 use Rattle.ipnet_base.specs.Blocks.{IsMaximal, AreMaximalBlocks}
 use Rattle.ipnet_base.specs.Ranges.{AddressRange}
@@ -34,25 +34,14 @@ use Rattle.netset_lib.specs.TextSteps.{line_in, texts_in}
 use Rattle.netset_lib.proofs.ContentLaws.{read_next, read_all, items_map}
 use Rattle.netset_lib.proofs.TableLaws.{network_of_route, some_route, contained_or_not}
 
--- ---- the blocks of an entry
-
--- the blocks between its ends are those of its range
-pub blocks_between : (range : AddressRange) (first last : Address) (blocks : List Network)
-    → first ≡ address_at range.family range.start → last ≡ address_at range.family range.end
-    → AreMaximalBlocks (IsBetween first.family first.number last.number) 0 blocks
-    → AreMaximalBlocks (IsInRange range) 0 blocks
-blocks_between range first last blocks a b h =
-    subst (λ e. AreMaximalBlocks (IsBetween range.family range.start e) 0 blocks) (ap (λ x. x.number) b)
-    (subst (λ x. AreMaximalBlocks (IsBetween x.family x.number last.number) 0 blocks) a h)
-
 -- ---- the texts of networks, line by line
 
-pub text_of_last : (lines : List TextLine) (l : TextLine) (n : Network) → IsMaximal (IsInRange l.range) 0 n
+text_of_last : (lines : List TextLine) (l : TextLine) (n : Network) → IsMaximal (IsInRange l.range) 0 n
     → IsTextOf (lines ++ l ∷ []) n l.text
 text_of_last [] l n h = inr (h, any_nil (λ z. IsMaximal (IsInRange z.range) 0 n), refl)
 text_of_last (k ∷ lines) l n h = inl (text_of_last lines l n h)
 
-pub text_of_others : (lines : List TextLine) (l : TextLine) (n : Network) (text : List ℕ)
+text_of_others : (lines : List TextLine) (l : TextLine) (n : Network) (text : List ℕ)
     → ¬ (IsMaximal (IsInRange l.range) 0 n) → IsTextOf lines n text → IsTextOf (lines ++ l ∷ []) n text
 text_of_others [] l n text not h = absurd h
 text_of_others (k ∷ lines) l n text not (inl h) = inl (text_of_others lines l n text not h)
@@ -65,7 +54,7 @@ text_of_others (k ∷ lines) l n text not (inr (is, none, same)) = inr (
   same,
 )
 
--- ---- routes, and blocks with one text behind them
+-- ---- routes, and then blocks with one text
 
 block_networks : {V : Type 0} (blocks : List Network) (value : V) → networks_of (map (λ n. (n, value)) blocks) ≡ blocks
 block_networks [] value = refl
@@ -82,7 +71,7 @@ last_of_blocks (k ∷ blocks) value n w (inr (none, is)) = (
   sym (ap (λ z. z.1) is),
 )
 
--- a last route of the routes with the blocks behind them
+-- a last route of the routes and then the blocks
 last_with_blocks : {V : Type 0} (routes : List (Route V)) (blocks : List Network) (value : V) (n : Network) (w : V)
     → IsLastOf (routes ++ map (λ n. (n, value)) blocks) n w
     → (Contains blocks n × (w ≡ value)) ⊎ ((¬ (Contains blocks n)) × IsLastOf routes n w)
@@ -105,7 +94,7 @@ last_with_blocks (r ∷ routes) blocks value n w (inr (none, is)) =
 
 -- ---- the routes of the lines
 
-pub no_routes_yet : AreRoutesOf [] []
+no_routes_yet : AreRoutesOf [] []
 no_routes_yet = record {
   networks = λ n. (λ h. absurd (contains_nil n h), λ h. absurd (any_nil _ h));
   texts = λ n text h. absurd h;
@@ -170,7 +159,7 @@ routes_more lines range text old new (blocks, maximal, is) h =
 
 -- ---- the lines that were read
 
--- The routes and the refused lines are those of these lines.
+-- These lines have these routes and refused lines.
 pub record IsReadTo (grammar : Grammar) (lines : List content.ContentLine) (made : TextRoutes) : Type 0 where
   pub items : List TableLine
   pub read : AreItems (λ text l. IsTextLine grammar text (line_in l)) (IsNoTextLine grammar) lines items

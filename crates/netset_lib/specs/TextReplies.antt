@@ -1,4 +1,4 @@
--- Why the entries of a list have no answers by a table with texts.
+-- Why a table with texts has no answers to the entries of a list.
 -- Only private contracts use this.
 use Rattle.std.specs.Prelude.{ℕ, List, map}
 use Rattle.ipnet.specs.declared.parser.Grammar.{Grammar}

@@ -1,4 +1,4 @@
--- The private steps of reading tables with texts, and of the answers by them.
+-- The private steps of reading tables with texts, and of looking up entries in them.
 -- Only private contracts use these.
 use Rattle.std.specs.Prelude.{◌≡◌, ◌≢◌, ◌⊎◌, ◌↔◌, ℕ, true, List, [], ◌∷◌, ◌++◌, codes, length, map, slice_index}
 use Rattle.std.specs.Prelude.{string_bytes, Contains, Option, Result, Ok, Err}
@@ -59,7 +59,7 @@ abbrev pub AddsBlocks : {V : Type 0} → List (Route V) → AddressRange → V �
 AddsBlocks old range value new = (blocks : List Network) × AreMaximalBlocks (IsInRange range) 0 blocks
     × (new ≡ old ++ map (λ n. (n, value)) blocks)
 
--- The routes are those of these lines: they have their networks, and the last of a network has its text.
+-- The routes have the networks of these lines, and the last route of a network has the text of the network.
 pub record AreRoutesOf (lines : List TextLine) (routes : List (Route (List ℕ))) : Type 0 where
   pub networks : (n : Network) → Contains (networks_of routes) n ↔ IsLinesNetwork lines n
   pub texts : (n : Network) (text : List ℕ) → IsLastOf routes n text → IsTextOf lines n text

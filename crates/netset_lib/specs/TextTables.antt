@@ -48,7 +48,7 @@ abbrev pub IsTextLine : Grammar → List ℕ → TextLine → Type 0
 IsTextLine grammar contents line = (IsEntryText grammar contents line.range × (line.text ≡ []))
     ⊎ HasTextAfter grammar contents line
 
--- Why contents are not such a line: the cause of the first word if that is not an entry, and else of the whole contents.
+-- Why contents are not such a line: the cause of the first word if that is not an entry, and else of all contents.
 -- Example: `LengthAbove32` for `10.0.0.0/33 eth0`; `MaskAfterBlank` for `10.0.0.0 255.0.0.0`.
 abbrev pub IsTextCause : Grammar → List ℕ → Option Cause → Type 0
 IsTextCause grammar contents cause =
@@ -75,7 +75,7 @@ pub record IsTextTable (grammar : Grammar) (bytes : List ℕ) (lines : List Text
 abbrev pub IsLinesNetwork : List TextLine → Network → Type 0
 IsLinesNetwork lines n = Any (λ l. IsMaximal (IsInRange l.range) 0 n) lines
 
--- The text of a network of the table: that of the last line with this network.
+-- The text of a network of the table: the text of the last line with this network.
 -- Example: in `10.0.0.0/8 a`, `10.0.0.0-10.255.255.255 b`, the text of 10.0.0.0/8 is `b`.
 abbrev pub IsTextOf : List TextLine → Network → List ℕ → Type 0
 IsTextOf [] n text = ⊥

@@ -42,8 +42,8 @@ pub struct TextRequest<'a> {
 ///
 /// | Status | On `faults` | When |
 /// |---|---|---|
-/// | 2 | `NAME:LINE: not an entry, with or without text: TEXT (CAUSE)`, ten at most | some lines of the table are refused |
-/// | 2 | `NAME:LINE: not a network, an address or a range: TEXT (CAUSE)`, ten at most | some lines of the list are refused |
+/// | 2 | `NAME:LINE: not an entry, with or without text: TEXT (CAUSE)`, at most ten | lines of the table are refused |
+/// | 2 | `NAME:LINE: not a network, an address or a range: TEXT (CAUSE)`, at most ten | lines of the list are refused |
 /// | 2 | `netset: out of memory` | memory runs out |
 /// | 2 | `netset: output cannot be written` | a write fails, or the flush after it; the answer may be out in part |
 /// | 1 | nothing | an entry has no route; `out` has all answers |

@@ -40,9 +40,11 @@ pub returns : goal.returns
 returns c =
     let contents = c.args.contents.now in
     let (same, utf8) = c.in-Ok.ensures.cases in
-    some_read line_in (IsTextLine c.args.grammar) contents (record { entry = c.in-Some.found.entry; text = c.in-Ok.text })
+    some_read line_in (IsTextLine c.args.grammar) contents
+    (record { entry = c.in-Some.found.entry; text = c.in-Ok.text })
     (line_with_text c.args.grammar contents c.cut_word.result.0.now c.in-Ok.text.now c.cut_word.ensures.word
     (same ∙ c.cut_word.ensures.rest) c.requires (entry_range c.in-Some.found.entry)
     (subst (λ o. IfSome o (λ v. IsEntryText c.args.grammar c.cut_word.result.0.now (found_range v))) c.in-Some.is
     c.in_ok-found.ensures.reads.some)
-    (may_follow contents c.in-Ok.text.now (subst IsUtf8 (sym same) utf8) (c.in_ok-is_allowed.ensures.0 c.if-not-branch.false)))
+    (may_follow contents c.in-Ok.text.now (subst IsUtf8 (sym same) utf8)
+    (c.in_ok-is_allowed.ensures.0 c.if-not-branch.false)))

@@ -18,6 +18,6 @@ pub returns : goal.returns
 returns c =
     let items = c.as_slice-line-items.result.now in
     read_whole c.args.grammar c.args.bytes.now items c.loop-line.line-index c.loop-line.made c.loop-line-test.false
-    (subst (λ z. AreContentLines c.args.grammar c.args.bytes.now (map line_of z)) (sym c.as_slice-line-items.ensures.value)
-    c.in_ok-lines.ensures)
+    (subst (λ z. AreContentLines c.args.grammar c.args.bytes.now (map line_of z))
+    (sym c.as_slice-line-items.ensures.value) c.in_ok-lines.ensures)
     c.loop-line.invariant
