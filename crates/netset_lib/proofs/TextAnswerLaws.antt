@@ -1,5 +1,5 @@
 -- What a table with texts makes of the entries of a list, one by one, and by the lines of the table.
-use Rattle.std.proofs.Common.{◌≡◌, true, false, ℕ, List, [], ◌∷◌, ◌++◌, length, Some, None}
+use Rattle.std.proofs.Common.{◌≡◌, false, ℕ, List, [], ◌∷◌, ◌++◌, Some, Contains}
 use Rattle.std.proofs.Common.{refl, sym, ap, ◌∙◌, ◌+◌, subst, inl, inr, append-nil, string_bytes}
 use Rattle.std.specs.Borrow.{Bor}
 use Rattle.ipnet.specs.NetworkOf.{ip_network}
@@ -8,17 +8,16 @@ use Rattle.ipnet.specs.declared.parser.Grammar.{Grammar}
 use Rattle.ipnet.specs.Lines.{lines_of}
 use Rattle.ipnet_sets.specs.RoutesOf.{routes_of}
 use Rattle.ipnet_sets.specs.declared.routes.RouteTable.{RouteTable}
-use Rattle.std.proofs.Common.{Contains}
 use Rattle.netset_lib.specs.declared.answerer.Answers.{Answers}
 use Rattle.netset_lib.specs.declared.reader.LineReader.{LineReader}
 use Rattle.netset_lib.specs.declared.refused.RefusedLines.{RefusedLines}
 use Rattle.netset_lib.specs.EntryAnswers.{AreAnswers}
-use Rattle.netset_lib.specs.Lists.{ListEntry, Refusal, IsListRead, AreRead, AreContents, after_mark}
+use Rattle.netset_lib.specs.Lists.{ListEntry, IsListRead, AreRead, AreContents, after_mark}
 use Rattle.netset_lib.specs.Reading.{ReadsLines}
 use Rattle.netset_lib.specs.RefusedLines.{AreRefused}
-use Rattle.netset_lib.specs.Routing.{InTable, HoldsEnds, IsLongestIfAny, route_line}
+use Rattle.netset_lib.specs.Routing.{InTable, HoldsEnds, IsLongestIfAny}
 use Rattle.netset_lib.specs.TextTables.{TextLine, IsLinesNetwork, IsTextRouteLine, HasNoTextRoute, IsTextTable}
-use Rattle.netset_lib.specs.TextTables.{IsTextRouteAnswer, HasRefusedEntries}
+use Rattle.netset_lib.specs.TextTables.{IsTextRouteAnswer}
 use Rattle.netset_lib.specs.TextSteps.{IsTextAnswerBy, IsMissingBy, AreTextAnswersBy, AddsTextAnswer, IsTableOfLines}
 use Rattle.netset_lib.specs.TextSteps.{IsMadeList, text_route_line}
 use Rattle.netset_lib.proofs.EntryAnswerLaws.{answers_append, answers_same, found_same, found_none, found_push}
