@@ -13,6 +13,7 @@ use crate::lists::{Empties, Reports};
 use crate::plan::plan_command;
 use crate::prefixes::prefix_command;
 use crate::rules::with_rules;
+use crate::texts::{ROUTE, text_flag};
 use crate::version::VERSION;
 use clap::{Arg, ArgAction, ArgMatches, Command, Error};
 use netset_lib::{Flags, Query, Work};
@@ -291,9 +292,16 @@ fn compare_command<'a>(alloc: Global) -> Result<Command<'a>, AllocError> {
 fn route_command<'a>(alloc: Global) -> Result<Command<'a>, AllocError> {
     let about =
         "For each entry of FILE, the longest network of TABLE that contains it, or - and status 1";
-    let asked = "The list of entries to look up; standard input if it is omitted";
-    command_of(alloc, "route", about)?
+    let command = command_of(alloc, ROUTE, about)?
         .arg(stream_flag(alloc)?)?
+        .arg(text_flag(alloc)?)?;
+    with_table(alloc, command)
+}
+
+/// Adds the lists of `route`.
+fn with_table<'a>(alloc: Global, command: Command<'a>) -> Result<Command<'a>, AllocError> {
+    let asked = "The list of entries to look up; standard input if it is omitted";
+    command
         .arg(first(alloc, "TABLE", "The list of networks to choose from"))?
         .arg(other(alloc, asked).required(false))
 }

@@ -17,6 +17,7 @@ mod prefixes;
 mod replacement;
 mod rules;
 mod stream;
+mod texts;
 mod version;
 
 use crate::apply::{APPLY, applied};
@@ -33,6 +34,7 @@ use crate::plan::{PLAN, planned};
 use crate::prefixes::{PREFIX_LIST, matched};
 use crate::rules::run_if_rules;
 use crate::stream::stream_list;
+use crate::texts::{ROUTE, has_text_flag, routed};
 use clap::ArgMatches;
 use netset_forms::run_form;
 use netset_lib::{Session, Work, run};
@@ -133,6 +135,9 @@ fn ran(rt: &HostRuntime, matches: &ArgMatches, streams: &mut Streams<'_>) -> u8 
         Some((name, matches)) if name == PREFIX_LIST => matched(rt, matches, streams),
         Some((name, matches)) if name == EXTRACT => extracted(rt, matches, streams),
         Some((_, matches)) if matches.get_flag(LINES) => filtered(rt, matches, streams),
+        Some((name, matches)) if name == ROUTE && has_text_flag(matches) => {
+            routed(rt, matches, streams)
+        }
         _ => answered(rt, matches, streams),
     }
 }

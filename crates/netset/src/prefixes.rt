@@ -26,7 +26,7 @@ pub fn prefix_command<'a>(alloc: Global) -> Result<Command<'a>, AllocError> {
 
 /// Reads the bytes of the list of this name. If that fails, it is reported, and the error is the exit status. So it is
 /// if a file has no line, and that is to be refused.
-fn bytes_of(
+pub fn bytes_of(
     rt: &HostRuntime,
     name: &str,
     what: &str,

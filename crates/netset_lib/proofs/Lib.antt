@@ -46,3 +46,6 @@ pub mod ScriptLaws
 pub mod ChangeTexts
 pub mod AppliedLaws
 pub mod PrefixLaws
+pub mod TextLaws
+pub mod TextAnswerLaws
+pub mod TextLineLaws

@@ -15,7 +15,7 @@ use Rattle.ipnet_base.proofs.NetworkLaws.{same_from_block, truncation_of_truncat
 use Rattle.ipnet.specs.NetworkOf.{ip_network}
 use Rattle.ipnet.specs.declared.net.IpNet.{IpNet}
 use Rattle.ipnet.specs.declared.parser.Grammar.{Grammar}
-use Rattle.ipnet_sets.specs.Routes.{IsLongestMatch}
+use Rattle.ipnet_sets.specs.Routes.{Route, IsLongestMatch}
 use Rattle.ipnet_sets.specs.RoutesOf.{routes_of}
 use Rattle.ipnet_sets.specs.SetRanges.{IsInRange}
 use Rattle.ipnet_sets.specs.declared.routes.RouteTable.{RouteTable}
@@ -23,7 +23,7 @@ use Rattle.netset_lib.specs.Entries.{IsEntryText}
 use Rattle.netset_lib.specs.Lists.{ListEntry, Refusal, AreRead}
 use Rattle.netset_lib.specs.RouteAnswers.{IsTableNetwork, Holds, HaveNone, IsRouteLine}
 use Rattle.netset_lib.specs.Routing.{AreTableNetworks, InTable, HasEnds, HoldsEnds, IsLongestIfAny, route_line}
-use Rattle.netset_lib.proofs.TableLaws.{plain_route, table_good}
+use Rattle.netset_lib.proofs.TableLaws.{network_of_route, some_route, table_good}
 
 -- ---- the climb
 
@@ -34,18 +34,19 @@ pub record IsClimbedTo (IsOne : Network → Type 0) (range : AddressRange) (n : 
   pub no_longer : (k : Network) → IsOne k → HasEnds range k → k.prefix_len ≤ n.prefix_len
 
 -- it begins at the longest network with the first end
-pub climb_start : (table : RouteTable (Unit {0})) (range : AddressRange) (x : Address) (n : Network)
-    → x ≡ address_at range.family range.start → IsLongestMatch (routes_of table) x (n, tt)
-    → IsClimbedTo (InTable table) range n
-climb_start table range x n is h = record {
-  truncated = (table_good table n ((plain_route (routes_of table) n).0 h.member)).1;
-  first = subst (InBlock n) is h.holds;
+pub climb_start : {V : Type 0} (table : RouteTable V) (range : AddressRange) (x : Address) (r : Route V)
+    → x ≡ address_at range.family range.start → IsLongestMatch (routes_of table) x r
+    → IsClimbedTo (InTable table) range r.0
+climb_start table range x r is h = record {
+  truncated = (table_good table r.0 (network_of_route (routes_of table) r h.member)).1;
+  first = subst (InBlock r.0) is h.holds;
   no_longer = λ k one ends.
-      h.longest (k, tt) ((plain_route (routes_of table) k).1 one) (subst (InBlock k) (sym is) ends.0);
+      let route = some_route (routes_of table) k one in
+      h.longest (k, route.0) route.1 (subst (InBlock k) (sym is) ends.0);
 }
 
 -- a network that the test of a holder refuses has not both ends, or is none of the table's
-pub not_holder : (table : RouteTable (Unit {0})) (range : AddressRange) (n : Network) (x : Address) (r : Bool)
+pub not_holder : {V : Type 0} (table : RouteTable V) (range : AddressRange) (n : Network) (x : Address) (r : Bool)
     → IsTruncated n → x ≡ address_at range.family range.end
     → (IsTrue r ↔ (InBlock n x × InTable table (truncation n))) → r ≡ false → HasEnds range n → InTable table n → ⊥
 not_holder table range n x r truncated is tested refused ends one =
@@ -55,7 +56,7 @@ not_holder table range n x r truncated is tested refused ends one =
     ) in
     true≢false (sym holds ∙ refused)
 
-module _ (table : RouteTable (Unit {0})) (range : AddressRange) (n : Network) (valid : IsNetwork n)
+module _ {V : Type 0} (table : RouteTable V) (range : AddressRange) (n : Network) (valid : IsNetwork n)
     (climbed : IsClimbedTo (InTable table) range n) (unfit : HasEnds range n → InTable table n → ⊥) where
   -- one of the table with both ends that is as long is this one
   as_long : (k : Network) → InTable table k → HasEnds range k → k.prefix_len ≡ n.prefix_len → k ≡ n
@@ -101,7 +102,7 @@ pub greatest_is_last : (n : Network) (x : Address) → IsGreatestOf n x → x �
 greatest_is_last n x h = address_from_parts x n.family (last_of n) h.inside.same_family (last_from_greatest n x h)
 
 -- a network has all of a range with an address where it has its two ends
-ends_hold : (range : AddressRange) (n : Network) → range.start ≤ range.end
+pub ends_hold : (range : AddressRange) (n : Network) → range.start ≤ range.end
     → HasEnds range n ↔ ((x : Address) → IsInRange range x → InBlock n x)
 ends_hold range n some = (
   λ ends x h.

@@ -147,7 +147,7 @@ network_same_or_not n k = elim (cases_family n.family k.family) [
   ]
 ]
 
-contained_or_not : (networks : List Network) (n : Network) → Contains networks n ⊎ (Contains networks n → ⊥)
+pub contained_or_not : (networks : List Network) (n : Network) → Contains networks n ⊎ (Contains networks n → ⊥)
 contained_or_not [] n = inr (contains_nil n)
 contained_or_not (k ∷ networks) n = elim (network_same_or_not k n) [
   | inl e ↦ inl (subst (Contains (k ∷ networks)) e (contains_here k networks))
@@ -157,8 +157,26 @@ contained_or_not (k ∷ networks) n = elim (network_same_or_not k n) [
   ]
 ]
 
+-- the network of a route
+pub network_of_route : {V : Type 0} (routes : List (Route V)) (r : Route V) → Contains routes r
+    → Contains (networks_of routes) r.0
+network_of_route [] r h = absurd (contains_nil r h)
+network_of_route (q ∷ routes) r h = elim (contains_cases q routes r h) [
+  | inl e ↦ subst (Contains (q.0 ∷ networks_of routes)) (ap (λ z. z.0) e) (contains_here q.0 (networks_of routes))
+  | inr there ↦ contains_there q.0 (networks_of routes) r.0 (network_of_route routes r there)
+]
+
+-- a network of the routes has a route
+pub some_route : {V : Type 0} (routes : List (Route V)) (n : Network) → Contains (networks_of routes) n
+    → (value : V) × Contains routes (n, value)
+some_route [] n h = absurd (contains_nil n h)
+some_route ((k, v) ∷ routes) n h = elim (contains_cases k (networks_of routes) n h) [
+  | inl e ↦ (v, subst (λ z. Contains ((k, v) ∷ routes) (z, v)) e (contains_here (k, v) routes))
+  | inr there ↦ let rest = some_route routes n there in (rest.0, contains_there (k, v) routes (n, rest.0) rest.1)
+]
+
 -- a route without a value is its network
-pub plain_route : (routes : List Plain) (n : Network) → Contains routes (n, tt) ↔ Contains (networks_of routes) n
+plain_route : (routes : List Plain) (n : Network) → Contains routes (n, tt) ↔ Contains (networks_of routes) n
 plain_route [] n = (λ h. absurd (contains_nil (n, tt) h), λ h. absurd (contains_nil n h))
 plain_route ((k, tt) ∷ routes) n =
     let rest = plain_route routes n in (
@@ -241,7 +259,7 @@ table_of_entries given routes entries h same n =
     (λ c. (same n).0 (one.0 c), λ k. one.1 ((same n).1 k))
 
 -- each network of a table is one without host bits
-pub table_good : (table : RouteTable (Unit {0})) (n : Network) → InTable table n → IsNetwork n × IsTruncated n
+pub table_good : {V : Type 0} (table : RouteTable V) (n : Network) → InTable table n → IsNetwork n × IsTruncated n
 table_good table n one =
     let list = table.routes.items in
     let at = subst (λ z. Contains z n) (same_networks list) one in (
@@ -250,8 +268,8 @@ table_good table n one =
     )
 
 -- a search that gives the value of a network tells whether the table has it
-pub got_or_not : {A : Type 0} (o : Option A) (value : A → Unit {0}) (routes : List Plain) (t : Network)
+pub got_or_not : {A V : Type 0} (o : Option A) (value : A → V) (routes : List (Route V)) (t : Network)
     → (IsNone o ↔ ¬ (Contains (networks_of routes) t)) → IfSome o (λ v. Contains routes (t, value v))
     → IsSome o ↔ Contains (networks_of routes) t
 got_or_not None value routes t none some = (λ e. absurd cc, λ c. absurd (none.0 refl c))
-got_or_not (Some v) value routes t none some = (λ e. (plain_route routes t).0 some, λ c. refl)
+got_or_not (Some v) value routes t none some = (λ e. network_of_route routes (t, value v) some, λ c. refl)

@@ -49,3 +49,6 @@ pub mod PrefixLines
 pub mod PrefixSteps
 pub mod PrefixAnswers
 pub mod PrefixReading
+pub mod TextTables
+pub mod TextSteps
+pub mod TextReplies

@@ -29,7 +29,7 @@ abbrev pub AreTableNetworks : (Network → Type 0) → List ListEntry → Type 0
 AreTableNetworks IsOne entries = (n : Network) → IsOne n ↔ IsTableNetwork entries n
 
 -- The network is in the table.
-abbrev pub InTable : RouteTable (Unit {0}) → Network → Type 0
+abbrev pub InTable : {V : Type 0} → RouteTable V → Network → Type 0
 InTable table n = Contains (networks_of (routes_of table)) n
 
 -- The network's block contains both ends of the range, and so all of it if it has an address.

@@ -60,7 +60,7 @@ fn push_kept(answers: &mut Answers, set: &IpSet, text: &str, entry: Entry) -> Re
 }
 
 /// Adds the line of an entry without a route.
-fn push_missing(answers: &mut Answers, text: &str) -> Result<(), AllocError>
+pub(crate) fn push_missing(answers: &mut Answers, text: &str) -> Result<(), AllocError>
     ensures text { OnOk result
         (string_bytes answers.new.text ≡ string_bytes answers.old.text ++ route_line text.now None) }
     ensures found { answers.new.found ≡ true }

@@ -44,6 +44,10 @@ pub mod rule_list;
 pub mod rule_program;
 pub mod script_laws;
 pub mod session;
+mod text_line;
+pub mod text_program;
+mod text_route;
+mod text_table;
 mod word;
 
 pub use answer::{Answer, Failure, Form, Request, lines_of_networks};
@@ -83,3 +87,4 @@ pub use rule_list::{RefusedRule, RuleLine, RuleList};
 pub use rule_program::{MOST_LINES, report_rule_failure, run_rules};
 pub use session::Session;
 pub use session::stream::{StreamFailure, Streamed};
+pub use text_program::{TextRequest, run_text_routes};

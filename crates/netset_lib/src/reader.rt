@@ -123,7 +123,7 @@ fn opens_comment(line: &[u8], index: usize) -> bool
 }
 
 /// The index at which the comment of the line begins, or the length of the line if it has none.
-fn comment_start(line: &[u8]) -> usize
+pub(crate) fn comment_start(line: &[u8]) -> usize
     ensures { IsCommentAt line.now result }
 {
     if memchr2(b'#', b';', line).is_none() {

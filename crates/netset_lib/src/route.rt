@@ -74,7 +74,7 @@ pub(crate) fn read_table<R: Read>(
 }
 
 /// Whether the network holds the address and is one of the table's.
-fn is_holder(table: &RouteTable<()>, network: &IpNet, address: &IpAddr) -> bool
+fn is_holder<V>(table: &RouteTable<V>, network: &IpNet, address: &IpAddr) -> bool
     ensures { IsTrue result ↔ (InBlock (ip_network network.now) (ip_address address.now)
         × InTable table.now (truncation (ip_network network.now))) }
 {
@@ -83,7 +83,7 @@ fn is_holder(table: &RouteTable<()>, network: &IpNet, address: &IpAddr) -> bool
 
 /// The longest network of the table that holds the first and the last address of the entry: the longest that holds the
 /// first one, or the nearest around it that holds the last one too.
-pub(crate) fn longest_holding(table: &RouteTable<()>, entry: Entry) -> Option<IpNet>
+pub(crate) fn longest_holding<V>(table: &RouteTable<V>, entry: Entry) -> Option<IpNet>
     ensures { IsLongestIfAny (InTable table.now) (HasEnds (entry_range entry)) result }
 {
     let (first, last) = entry.ends();

@@ -1,7 +1,11 @@
-//! Changes that are applied to a list, and the verdicts of a prefix list: writers that fail, and refused memory.
+//! Changes that are applied to a list, the verdicts of a prefix list, and routes with texts: writers that fail, and
+//! refused memory.
 use crate::support::{NAMES, WINDOW, session_of};
 use ipnet::Grammar;
-use netset_lib::{Form, Operation, PrefixRequest, Request, Work, run_apply, run_prefix_list};
+use netset_lib::{
+    Form, Operation, PrefixRequest, Request, TextRequest, Work, run_apply, run_prefix_list,
+    run_text_routes,
+};
 use std::alloc::Global;
 use std::test::Fail;
 use test_support::devices::{ArrayWriter, NEVER, WHOLE};
@@ -39,6 +43,16 @@ fn run_verdicts(alloc: Global, out: &mut ArrayWriter, faults: &mut ArrayWriter) 
     run_prefix_list(alloc, request, ("prefixes", "networks"), out, faults)
 }
 
+/// The status of the routes of two addresses, of which the second has none.
+fn run_routes(alloc: Global, out: &mut ArrayWriter, faults: &mut ArrayWriter) -> u8 {
+    let request = TextRequest {
+        table: b"10.0.0.0/8 eth0 # x\n",
+        list: b"10.0.0.1\n::1\n",
+        grammar: Grammar::Strict,
+    };
+    run_text_routes(alloc, request, ("table", "list"), out, faults)
+}
+
 #[test]
 fn writers(rt: HostRuntime) -> Result<(), Fail> {
     let alloc = rt.alloc();
@@ -74,6 +88,31 @@ fn writers(rt: HostRuntime) -> Result<(), Fail> {
     Ok(())
 }
 
+#[test]
+fn writers_of_routes(rt: HostRuntime) -> Result<(), Fail> {
+    // label, bytes at a time, the write that fails, how many bytes are out
+    let rows = [
+        ("no failure", 1, NEVER, None),
+        ("the first write fails", WHOLE, 1, Some(0)),
+        ("a later write fails", 1, 3, Some(2)),
+    ];
+    for (label, most, fails_at, held) in rows {
+        let mut out = ArrayWriter::new(most, fails_at);
+        let mut faults = ArrayWriter::whole();
+        let status = run_routes(rt.alloc(), &mut out, &mut faults);
+        let front = &b"10.0.0.1 10.0.0.0/8 eth0\n::1 -\n"[..held.unwrap_or(31)];
+        let (wanted, report) = if held.is_none() {
+            (1, b"".as_slice())
+        } else {
+            (2, UNWRITABLE)
+        };
+        assert!(&rt; status == wanted, "routes: {label}: status");
+        assert!(&rt; out.held() == front, "routes: {label}: output");
+        assert!(&rt; faults.held() == report, "routes: {label}: reports");
+    }
+    Ok(())
+}
+
 /// The outcome of changes that are applied, if the ends of the run are right.
 fn changes_outcome(alloc: Global) -> Outcome {
     let mut out = ArrayWriter::whole();
@@ -100,6 +139,18 @@ fn verdicts_outcome(alloc: Global) -> Outcome {
     }
 }
 
+/// The outcome of the routes, if the ends of the run are right.
+fn routes_outcome(alloc: Global) -> Outcome {
+    let mut out = ArrayWriter::whole();
+    let mut faults = ArrayWriter::whole();
+    let status = run_routes(alloc, &mut out, &mut faults);
+    match (status, out.held(), faults.held()) {
+        (1, b"10.0.0.1 10.0.0.0/8 eth0\n::1 -\n", b"") => Outcome::Answered,
+        (2, b"", b"netset: out of memory\n") => Outcome::Refused,
+        _ => Outcome::Wrong,
+    }
+}
+
 #[test]
 fn memory(rt: HostRuntime) -> Result<(), Fail> {
     grow_stack(rt.alloc())?;
@@ -109,6 +160,10 @@ fn memory(rt: HostRuntime) -> Result<(), Fail> {
     assert!(&rt;
         is_refused(alloc, || verdicts_outcome(alloc))?,
         "memory: verdicts"
+    );
+    assert!(&rt;
+        is_refused(alloc, || routes_outcome(alloc))?,
+        "memory: routes"
     );
     Ok(())
 }

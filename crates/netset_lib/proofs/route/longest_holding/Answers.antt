@@ -10,12 +10,12 @@ use Rattle.netset_lib.proofs.RouteLaws.{climb_start, climbed_on, none_above, not
 use Rattle.netset_lib.proofs.route.longest_holding.Goals as goal
 
 pub climb-init : goal.climb-init
-climb-init c =
+climb-init g c =
     climb_start c.args.table.now (entry_range c.args.entry) (ip_address c.ends-first.result.0)
-    (ip_network c.in-Some.route.now.0) c.ends-first.ensures.first c.in-Some.ensures.some
+    (ip_network c.in-Some.route.now.0, c.in-Some.route.now.1) c.ends-first.ensures.first c.in-Some.ensures.some
 
 pub climb-preserved : goal.climb-preserved
-climb-preserved c =
+climb-preserved g c =
     let n = ip_network c.climb.network in
     climbed_on c.args.table.now (entry_range c.args.entry) n (ip_valid c.climb.network) c.climb.invariant
     (not_holder c.args.table.now (entry_range c.args.entry) n (ip_address c.ends-first.result.1) c.is_holder.result
@@ -23,7 +23,7 @@ climb-preserved c =
     (ip_network c.in-Some-supernet.around) c.in-Some-supernet.ensures.some
 
 pub returns-in-None : goal.returns-in-None
-returns-in-None c =
+returns-in-None g c =
     let n = ip_network c.climb.network in
     none_above c.args.table.now (entry_range c.args.entry) n (ip_valid c.climb.network) c.climb.invariant
     (not_holder c.args.table.now (entry_range c.args.entry) n (ip_address c.ends-first.result.1) c.is_holder.result
@@ -31,7 +31,7 @@ returns-in-None c =
     (c.in-None.ensures.none.0 refl)
 
 pub returns : goal.returns
-returns c =
+returns g c =
     let n = ip_network c.climb.network in
     let holds = c.is_holder.ensures.0 c.climb-test.false in
     record {

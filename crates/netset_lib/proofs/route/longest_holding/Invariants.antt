@@ -5,7 +5,7 @@ use Rattle.netset_lib.proofs.RouteLaws.{IsClimbedTo}
 use Rattle.netset_lib.proofs.route.longest_holding.Given as goal
 
 abbrev pub invariant-climb : goal.invariant-climb
-invariant-climb l = IsClimbedTo (InTable l.table) (entry_range l.fn.entry) (ip_network l.network)
+invariant-climb g l = IsClimbedTo (InTable l.table) (entry_range l.fn.entry) (ip_network l.network)
 
 abbrev pub decreases-climb : goal.decreases-climb
-decreases-climb l = (ip_network l.network).prefix_len
+decreases-climb g l = (ip_network l.network).prefix_len

@@ -1,0 +1,66 @@
+//! The command `route --with-text`: its flag, and its run.
+ghost use Rattle.std.specs.Prelude.{codes};
+ghost use Rattle.netset.specs.Arguments.{IsFlag};
+
+use crate::arguments::{
+    ArgumentFailure, FIRST, OTHERS, STANDARD_INPUT, flag, flags_of, reads_input_twice,
+};
+use crate::output::Streams;
+use crate::prefixes::bytes_of;
+use crate::refused;
+use clap::{Arg, ArgMatches};
+use ipnet::Grammar;
+use netset_lib::{TextRequest, run_text_routes};
+use std::alloc::{AllocError, Global};
+
+/// The name of the command.
+pub const ROUTE: &str = "route";
+
+/// The flag by which the texts of the table are read and printed.
+pub fn text_flag<'a>(alloc: Global) -> Result<Arg<'a>, AllocError> {
+    let help =
+        "In TABLE, text may follow the entry of a line; print it after the network. Not with --stream";
+    flag(alloc, "with-text", help).conflicts_with("stream")
+}
+
+/// Whether the texts of the table are asked for.
+pub fn has_text_flag(matches: &ArgMatches) -> bool
+    ensures { IsFlag matches.now (codes "with-text") result }
+{
+    matches.get_flag("with-text")
+}
+
+/// Reads the arguments, the table and the list, prints the answers, and returns the exit status.
+pub fn routed(rt: &HostRuntime, matches: &ArgMatches, streams: &mut Streams<'_>) -> u8 {
+    let Some(table) = matches.get_str(FIRST) else {
+        return refused(rt, ArgumentFailure::NoCommand);
+    };
+    let file = matches.get_str(OTHERS).unwrap_or(STANDARD_INPUT);
+    if reads_input_twice(&[table, file]) {
+        return refused(rt, ArgumentFailure::InputTwice);
+    }
+    let bytes = match bytes_of(rt, table, "entries", streams) {
+        Ok(bytes) => bytes,
+        Err(status) => return status,
+    };
+    let list = match bytes_of(rt, file, "entries", streams) {
+        Ok(list) => list,
+        Err(status) => return status,
+    };
+    let request = TextRequest {
+        table: bytes.as_slice(),
+        list: list.as_slice(),
+        grammar: if flags_of(matches).legacy {
+            Grammar::Legacy
+        } else {
+            Grammar::Strict
+        },
+    };
+    run_text_routes(
+        rt.alloc(),
+        request,
+        (table, file),
+        &mut streams.answer,
+        &mut streams.faults,
+    )
+}

@@ -1,0 +1,19 @@
+-- Why a table with texts has no answers to the entries of a list.
+-- Only private contracts use this.
+use Rattle.std.specs.Prelude.{ℕ, List, map}
+use Rattle.ipnet.specs.declared.parser.Grammar.{Grammar}
+use Rattle.netset_lib.specs.declared.text_route.TextFailure.{TextFailure}
+use Rattle.netset_lib.specs.declared.text_route.TextFailure.TheVariants as Failures
+use Rattle.netset_lib.specs.ContentLineOf.{refused_of}
+use Rattle.netset_lib.specs.Lists.{Refusal}
+use Rattle.netset_lib.specs.RefusedLines.{AreRefused}
+use Rattle.netset_lib.specs.TextTables.{HasRefusedTextLines, HasRefusedEntries}
+
+-- Why there are no answers: refused lines of the table; refused lines of the list; or out of memory. When memory runs
+-- out is not specified.
+abbrev pub IsTextFailure : Grammar → (table list : List ℕ) → TextFailure → Type 0
+IsTextFailure grammar table list (Failures.Table lines) =
+    HasRefusedTextLines grammar table (map refused_of lines.items)
+IsTextFailure grammar table list (Failures.List lines) =
+    (refusals : List Refusal) × HasRefusedEntries grammar list refusals × AreRefused lines refusals
+IsTextFailure grammar table list Failures.Memory = Unit {0}
