@@ -8,23 +8,22 @@ use Rattle.ipnet_sets.specs.declared.set.builder.IpSetBuilder.{IpSetBuilder}
 use Rattle.ipnet_sets.specs.Members.{IsMember}
 use Rattle.ipnet_sets.specs.Pushed.{IsPushed}
 use Rattle.netset_lib.specs.declared.reader.LineReader.{LineReader}
-use Rattle.netset_lib.specs.Lists.{AreRead, AreContents, IsListRead, HaveAddresses, after_mark}
+use Rattle.netset_lib.specs.Lists.{ListEntry, AreRead, AreContents, IsListRead, HaveAddresses, after_mark}
 use Rattle.netset_lib.specs.ListTexts.{IsReadList}
 use Rattle.netset_lib.specs.Reading.{ReadsLines}
 use Rattle.netset_lib.specs.RefusedLines.{AreRefused}
+use Rattle.netset_lib.specs.TextSteps.{IsMadeList}
 use Rattle.netset_lib.proofs.RangeCovers.{has_none}
 use Rattle.netset_lib.proofs.RefusalLaws.{more_refused}
 
-pub whole_list : (grammar : Grammar) (bytes rest : List ℕ) (old new : LineReader) (empty builder : IpSetBuilder)
-    (set : IpSet) → old.grammar ≡ grammar → old.list ≡ 0 → old.line ≡ 0 → AreRefused old.refused []
-    → rest ≡ after_mark bytes
-    → ReadsLines old new (lines_of rest) (HaveAddresses (IsPushed empty)) (HaveAddresses (IsPushed builder))
-    → ((x : Address) → ¬ (IsPushed empty x)) → ((x : Address) → IsMember set x ↔ IsPushed builder x)
-    → IsReadList grammar bytes set new.refused
-whole_list grammar bytes rest old new empty builder set same list line none is (texts, are, lines) nothing made =
+-- what was made of the entries of a list
+pub made_list : (grammar : Grammar) (bytes rest : List ℕ) (old new : LineReader)
+    (IsMade IsMadeNow : List ListEntry → Type 0) → old.grammar ≡ grammar → old.list ≡ 0 → old.line ≡ 0
+    → AreRefused old.refused [] → rest ≡ after_mark bytes → ReadsLines old new (lines_of rest) IsMade IsMadeNow
+    → IsMade [] → IsMadeList grammar bytes IsMadeNow new.refused
+made_list grammar bytes rest old new IsMade IsMadeNow same list line none is (texts, are, lines) start =
     let whole : AreRead old.grammar old.list (old.line + 1) (texts ++ []) (lines.entries ++ [])
     (lines.refusals ++ []) = lines.read [] [] [] (refl, refl) in
-    let pushed = lines.made [] (has_none (IsPushed empty) nothing) in
     record {
       entries = lines.entries;
       refusals = lines.refusals;
@@ -42,6 +41,24 @@ whole_list grammar bytes rest old new empty builder set same list line none is (
             (subst (λ ts. AreRead old.grammar old.list (old.line + 1) ts (lines.entries ++ []) (lines.refusals ++ []))
             (append-nil texts) whole))))),
       );
-      addresses = λ x. (λ m. (pushed x).0 ((made x).0 m), λ e. (made x).1 ((pushed x).1 e));
+      made = lines.made [] start;
       kept = more_refused old.refused new.refused [] lines.refusals none lines.added;
+    }
+
+-- the addresses of a list
+pub whole_list : (grammar : Grammar) (bytes rest : List ℕ) (old new : LineReader) (empty builder : IpSetBuilder)
+    (set : IpSet) → old.grammar ≡ grammar → old.list ≡ 0 → old.line ≡ 0 → AreRefused old.refused []
+    → rest ≡ after_mark bytes
+    → ReadsLines old new (lines_of rest) (HaveAddresses (IsPushed empty)) (HaveAddresses (IsPushed builder))
+    → ((x : Address) → ¬ (IsPushed empty x)) → ((x : Address) → IsMember set x ↔ IsPushed builder x)
+    → IsReadList grammar bytes set new.refused
+whole_list grammar bytes rest old new empty builder set same list line none is lines nothing made =
+    let all = made_list grammar bytes rest old new (HaveAddresses (IsPushed empty)) (HaveAddresses (IsPushed builder))
+    same list line none is lines (has_none (IsPushed empty) nothing) in
+    record {
+      entries = all.entries;
+      refusals = all.refusals;
+      read = all.read;
+      addresses = λ x. (λ m. (all.made x).0 ((made x).0 m), λ e. (made x).1 ((all.made x).1 e));
+      kept = all.kept;
     }

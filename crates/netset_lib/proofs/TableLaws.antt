@@ -3,7 +3,7 @@
 use Rattle.std.proofs.Common.{◌≡◌, ℕ, zero, suc, ◌<◌, ◌⊎◌, ◌↔◌, List, [], ◌∷◌, ◌++◌, length, map, get_or, Contains}
 use Rattle.std.proofs.Common.{Option, Some, None, IsNone, IsSome, IfSome, refl, sym, ap, ◌∙◌, subst, arith, inl, inr}
 use Rattle.std.proofs.lemmas.Bool.{cases_order}
-use Rattle.std.proofs.lemmas.List.{map-append}
+use Rattle.std.proofs.lemmas.List.{map-append, length-map}
 use Rattle.std.proofs.lemmas.List.Elements.{Contains-append_left, Contains-append_right, Contains-append_cases}
 use Rattle.ipnet_base.specs.Address.{Address, width}
 use Rattle.ipnet_base.specs.Network.{Network, IsNetwork, IsTruncated, truncation}
@@ -198,37 +198,57 @@ network_in (r ∷ routes) zero d l = contains_here r.0 (networks_of routes)
 network_in (r ∷ routes) (suc j) d l =
     contains_there r.0 (networks_of routes) (get_or routes j d).0 (network_in routes j d (omega (arith, l)))
 
--- each network of the routes has its latest route
-latest_there : (routes : List Plain) (n : Network) → Contains (networks_of routes) n → IsLatest routes (n, tt)
-latest_there [] n h = absurd (contains_nil n h)
-latest_there ((k, tt) ∷ routes) n h = elim (contained_or_not (networks_of routes) n) [
+-- a network of the routes has a latest route
+pub latest_of : {V : Type 0} (routes : List (Route V)) (n : Network) → Contains (networks_of routes) n
+    → (v : V) × IsLatest routes (n, v)
+latest_of [] n h = absurd (contains_nil n h)
+latest_of ((k, v) ∷ routes) n h = elim (contained_or_not (networks_of routes) n) [
   | inl there ↦
-      let rest = latest_there routes n there in
-      record {
-        place = suc rest.place;
-        within = omega (arith, rest.within);
-        is = rest.is;
-        last = elim [
-          | zero ↦ λ d lt l. absurd (omega (arith, lt))
-          | suc j ↦ λ d lt l. rest.last j d (omega (arith, lt)) (omega (arith, l))
-        ];
-      }
+      let (w, rest) = latest_of routes n there in (
+        w,
+        record {
+          place = suc rest.place;
+          within = omega (arith, rest.within);
+          is = rest.is;
+          last = elim [
+            | zero ↦ λ d lt l. absurd (omega (arith, lt))
+            | suc j ↦ λ d lt l. rest.last j d (omega (arith, lt)) (omega (arith, l))
+          ];
+        },
+      )
   | inr none ↦
       let here : k ≡ n = elim (contains_cases k (networks_of routes) n h) [
         | inl e ↦ e
         | inr there ↦ absurd (none there)
-      ] in
-      record {
-        place = 0;
-        within = omega arith;
-        is = ap (λ z. (z, tt)) here;
-        last = elim [
-          | zero ↦ λ d lt l. absurd (omega (arith, lt))
-          | suc j ↦ λ d lt l e. none (subst (Contains (networks_of routes)) e
-              (network_in routes j d (omega (arith, l))))
-        ];
-      }
+      ] in (
+        v,
+        record {
+          place = 0;
+          within = omega arith;
+          is = ap (λ z. (z, v)) here;
+          last = elim [
+            | zero ↦ λ d lt l. absurd (omega (arith, lt))
+            | suc j ↦ λ d lt l e. none (
+              j,
+              omega (arith, l, length-map routes (λ z. z.0)),
+              same_at routes j d n (omega (arith, l)) e,
+            )
+          ];
+        },
+      )
 ]
+  where
+    same_at : {V : Type 0} (routes : List (Route V)) (j : ℕ) (d : Route V) (n : Network) → j < length routes
+        → (get_or routes j d).0 ≡ n → get_or (networks_of routes) j n ≡ n
+    same_at [] j d n l e = absurd (omega (arith, l))
+    same_at (r ∷ routes) zero d n l e = e
+    same_at (r ∷ routes) (suc j) d n l e = same_at routes j d n (omega (arith, l)) e
+
+latest_there : (routes : List Plain) (n : Network) → Contains (networks_of routes) n → IsLatest routes (n, tt)
+latest_there routes n h = let (v, latest) = latest_of routes n h in only v latest
+  where
+    only : (v : Unit {0}) → IsLatest routes (n, v) → IsLatest routes (n, tt)
+    only tt latest = latest
 
 from_latest : (routes : List Plain) (n : Network) → IsLatest routes (n, tt) → Contains (networks_of routes) n
 from_latest routes n h =

@@ -74,35 +74,6 @@ line_by_lines lines table h e line some (inr (none, is)) =
 
 -- ---- the list
 
--- what was made of the entries of a list
-pub made_list : (grammar : Grammar) (bytes rest : List ℕ) (old new : LineReader)
-    (IsMade IsMadeNow : List ListEntry → Type 0) → old.grammar ≡ grammar → old.list ≡ 0 → old.line ≡ 0
-    → AreRefused old.refused [] → rest ≡ after_mark bytes → ReadsLines old new (lines_of rest) IsMade IsMadeNow
-    → IsMade [] → IsMadeList grammar bytes IsMadeNow new.refused
-made_list grammar bytes rest old new IsMade IsMadeNow same list line none is (texts, are, lines) start =
-    let whole : AreRead old.grammar old.list (old.line + 1) (texts ++ []) (lines.entries ++ [])
-    (lines.refusals ++ []) = lines.read [] [] [] (refl, refl) in
-    record {
-      entries = lines.entries;
-      refusals = lines.refusals;
-      read = (
-        texts,
-        subst (λ b. AreContents grammar (lines_of b) texts) is
-            (subst (λ g. AreContents g (lines_of rest) texts) same are),
-        subst (λ g. AreRead g 0 1 texts lines.entries lines.refusals) same
-            (subst (λ n. AreRead old.grammar n 1 texts lines.entries lines.refusals) list
-            (subst (λ n. AreRead old.grammar old.list (n + 1) texts lines.entries lines.refusals) line
-            (subst (λ rs. AreRead old.grammar old.list (old.line + 1) texts lines.entries rs)
-            (append-nil lines.refusals)
-            (subst (λ es. AreRead old.grammar old.list (old.line + 1) texts es (lines.refusals ++ []))
-            (append-nil lines.entries)
-            (subst (λ ts. AreRead old.grammar old.list (old.line + 1) ts (lines.entries ++ []) (lines.refusals ++ []))
-            (append-nil texts) whole))))),
-      );
-      made = lines.made [] start;
-      kept = more_refused old.refused new.refused [] lines.refusals none lines.added;
-    }
-
 -- the answers to a list without refused lines
 pub text_answer : (grammar : Grammar) (bytes list : List ℕ) (lines : List TextLine)
     (table : RouteTable (Bor (List ℕ))) (answers : Answers) (refused : RefusedLines)

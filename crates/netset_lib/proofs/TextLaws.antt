@@ -3,7 +3,7 @@ use Rattle.std.proofs.Common.{◌≡◌, ◌≢◌, ◌⊎◌, ℕ, ◌<◌, ◌
 use Rattle.std.proofs.Common.{length, map, take, get_or, zero, suc, refl, sym, ap, ◌∙◌, subst, inl, inr, arith}
 use Rattle.std.proofs.Common.{append_assoc, ◌+◌}
 use Rattle.std.proofs.Common.{Option, Result, Ok, Err, IfOk, IfErr}
-use Rattle.std.proofs.lemmas.List.{map-append, length-map, map_push}
+use Rattle.std.proofs.lemmas.List.{map-append, map_push}
 use Rattle.std.proofs.lemmas.List.Elements.{Contains-append_left, Contains-append_right, Contains-append_cases}
 use Rattle.std.specs.Borrow.{Bor}
 use Rattle.ipnet_base.specs.Network.{Network, truncation}
@@ -32,7 +32,7 @@ use Rattle.netset_lib.specs.TextTables.{TextLine, IsTextOf, IsTextLine, IsNoText
 use Rattle.netset_lib.specs.TextSteps.{IsLastOf, AddsBlocks, AreRoutesOf, IsTableOfLines, AddsTableLine, AreTextsRead}
 use Rattle.netset_lib.specs.TextSteps.{line_in, texts_in}
 use Rattle.netset_lib.proofs.ContentLaws.{read_next, read_all, items_map}
-use Rattle.netset_lib.proofs.TableLaws.{network_of_route, some_route, contained_or_not}
+use Rattle.netset_lib.proofs.TableLaws.{network_of_route, some_route, latest_of}
 
 -- ---- the texts of networks, line by line
 
@@ -238,52 +238,6 @@ last_at (r ∷ routes) n v (suc place) within is last =
 latest_is_last : {V : Type 0} (routes : List (Route V)) (n : Network) (v : V) → IsLatest routes (n, v)
     → IsLastOf routes n v
 latest_is_last routes n v h = last_at routes n v h.place h.within h.is h.last
-
--- a network of the routes has a latest route
-latest_of : {V : Type 0} (routes : List (Route V)) (n : Network) → Contains (networks_of routes) n
-    → (v : V) × IsLatest routes (n, v)
-latest_of [] n h = absurd (contains_nil n h)
-latest_of ((k, v) ∷ routes) n h = elim (contained_or_not (networks_of routes) n) [
-  | inl there ↦
-      let (w, rest) = latest_of routes n there in (
-        w,
-        record {
-          place = suc rest.place;
-          within = omega (arith, rest.within);
-          is = rest.is;
-          last = elim [
-            | zero ↦ λ d lt l. absurd (omega (arith, lt))
-            | suc j ↦ λ d lt l. rest.last j d (omega (arith, lt)) (omega (arith, l))
-          ];
-        },
-      )
-  | inr none ↦
-      let here : k ≡ n = elim (contains_cases k (networks_of routes) n h) [
-        | inl e ↦ e
-        | inr there ↦ absurd (none there)
-      ] in (
-        v,
-        record {
-          place = 0;
-          within = omega arith;
-          is = ap (λ z. (z, v)) here;
-          last = elim [
-            | zero ↦ λ d lt l. absurd (omega (arith, lt))
-            | suc j ↦ λ d lt l e. none (
-              j,
-              omega (arith, l, length-map routes (λ z. z.0)),
-              network_at routes j d n (omega (arith, l)) e,
-            )
-          ];
-        },
-      )
-]
-  where
-    network_at : {V : Type 0} (routes : List (Route V)) (j : ℕ) (d : Route V) (n : Network) → j < length routes
-        → (get_or routes j d).0 ≡ n → get_or (networks_of routes) j n ≡ n
-    network_at [] j d n l e = absurd (omega (arith, l))
-    network_at (r ∷ routes) zero d n l e = e
-    network_at (r ∷ routes) (suc j) d n l e = network_at routes j d n (omega (arith, l)) e
 
 -- the same, with texts in place of references
 text_networks : (given : List (IpNet × Bor (List ℕ)))

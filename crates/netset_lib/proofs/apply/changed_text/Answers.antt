@@ -1,4 +1,4 @@
-use Rattle.std.proofs.Common.{All, map, sym, ap, ◌∙◌, subst, string_bytes, ◌↔◌, ◌≡◌, arith}
+use Rattle.std.proofs.Common.{All, map, sym, subst, string_bytes, ◌↔◌, ◌≡◌, arith}
 use Rattle.ipnet_base.specs.Address.{Address}
 use Rattle.ipnet_sets.specs.Members.{IsMember}
 use Rattle.ipnet_text.proofs.LineCuts.{no_bytes}

@@ -1,5 +1,5 @@
 -- Each line gives one change or one refused line.
-use Rattle.std.proofs.Common.{map, take, ap, sym, subst}
+use Rattle.std.proofs.Common.{map, ap, sym, subst}
 use Rattle.ipnet_sets.specs.Members.{IsMember}
 use Rattle.netset_lib.specs.ChangeLists.{IsAnswerNetwork, IsFittingChange, IsChangeCause}
 use Rattle.netset_lib.specs.ChangeSteps.{change_of}

@@ -1,4 +1,4 @@
-use Rattle.std.proofs.Common.{◌≡◌, inr, sym, subst, true, ◌∙◌}
+use Rattle.std.proofs.Common.{inr, sym, subst}
 use Rattle.std.proofs.lemmas.List.{drop_more}
 use Rattle.netset_lib.specs.Causes.{IsFirstOf}
 use Rattle.netset_lib.proofs.cause.first_cause.Goals as goal

@@ -1,5 +1,5 @@
 -- Each turn writes the change of the first networks, if they differ; in the end both lists are empty.
-use Rattle.std.proofs.Common.{◌≡◌, ◌++◌, map, Some, sym, ap, ◌∙◌, append-nil, string_bytes}
+use Rattle.std.proofs.Common.{◌≡◌, ◌++◌, map, sym, ap, ◌∙◌, append-nil, string_bytes}
 use Rattle.ipnet.specs.NetworkOf.{ip_network}
 use Rattle.netset_lib.proofs.ChangeLaws.{line_of, step_ascending, step_written, written_end}
 use Rattle.netset_lib.proofs.changes.push_changes.Goals as goal

@@ -1,4 +1,4 @@
-use Rattle.std.proofs.Common.{◌≡◌, ◌+◌, ◌++◌, ◌∷◌, [], ℕ, refl, sym, ap, ◌∙◌}
+use Rattle.std.proofs.Common.{◌≡◌, ◌+◌, ◌++◌, ◌∷◌, [], refl, sym, ap, ◌∙◌}
 use Rattle.std.proofs.Common.{subst, take, take_all, append_assoc}
 use Rattle.std.proofs.Common.{append-nil, string_bytes}
 use Rattle.std.proofs.lemmas.List.{take_more}

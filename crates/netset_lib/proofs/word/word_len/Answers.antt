@@ -1,4 +1,4 @@
-use Rattle.std.proofs.Common.{◌≡◌, ◌≤◌, length, sym, ◌∙◌, arith}
+use Rattle.std.proofs.Common.{sym, ◌∙◌, arith}
 use Rattle.netset_lib.proofs.CommentLaws.{word_ends, word_is_all}
 use Rattle.netset_lib.proofs.word.word_len.Goals as goal
 

@@ -1,4 +1,4 @@
-use Rattle.std.proofs.Common.{ℕ, length}
+use Rattle.std.proofs.Common.{length}
 use Rattle.netset_lib.proofs.ListReading.{AreReadUpTo}
 use Rattle.netset_lib.proofs.reader.LineReader.read.Given as goal
 

@@ -1,4 +1,4 @@
-use Rattle.std.proofs.Common.{◌≡◌, ◌++◌, length, drop, arith, ap, ◌∙◌, sym}
+use Rattle.std.proofs.Common.{◌++◌, length, arith, ap, ◌∙◌, sym}
 use Rattle.std.proofs.lemmas.List.{length-drop}
 use Rattle.ipnet_text.specs.Window.{held}
 use Rattle.netset_lib.proofs.WindowReading.{spilled}

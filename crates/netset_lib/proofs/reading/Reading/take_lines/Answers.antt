@@ -1,5 +1,4 @@
-use Rattle.std.proofs.Common.{◌≡◌, ◌<◌, ◌≤◌, true, false, [], ◌++◌, length, take, refl, sym, ap, ◌∙◌, arith, subst}
-use Rattle.std.proofs.lemmas.List.{length-take}
+use Rattle.std.proofs.Common.{◌≡◌, true, false, [], ◌++◌, take, refl, sym, ap, ◌∙◌, subst}
 use Rattle.ipnet_text.specs.Window.{held}
 use Rattle.ipnet_text.proofs.ClosedLines.{IsClosed, closed_behind}
 use Rattle.ipnet.specs.Lines.{lines_of}

@@ -1,4 +1,4 @@
-use Rattle.std.proofs.Common.{refl, sym, ◌∙◌, subst}
+use Rattle.std.proofs.Common.{refl, ◌∙◌, subst}
 use Rattle.netset_lib.specs.Sessions.{IsReplyOf}
 use Rattle.netset_lib.proofs.SessionLaws.{right_answer, count_taken, no_family}
 use Rattle.netset_lib.proofs.session.Session.answer.Goals as goal
