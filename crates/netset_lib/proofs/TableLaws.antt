@@ -147,7 +147,7 @@ network_same_or_not n k = elim (cases_family n.family k.family) [
   ]
 ]
 
-pub contained_or_not : (networks : List Network) (n : Network) → Contains networks n ⊎ (Contains networks n → ⊥)
+contained_or_not : (networks : List Network) (n : Network) → Contains networks n ⊎ (Contains networks n → ⊥)
 contained_or_not [] n = inr (contains_nil n)
 contained_or_not (k ∷ networks) n = elim (network_same_or_not k n) [
   | inl e ↦ inl (subst (Contains (k ∷ networks)) e (contains_here k networks))
