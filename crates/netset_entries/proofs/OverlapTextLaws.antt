@@ -1,16 +1,17 @@
 -- The lines of the pairs of both families, one family after the other.
-use Rattle.std.proofs.Common.{◌≡◌, ℕ, Bool, true, false, ◌||◌, List, [], ◌++◌, Option, refl, sym, ap₂, ◌∙◌, subst}
+use Rattle.std.proofs.Common.{◌≡◌, ℕ, Bool, true, false, ◌||◌, List, [], ◌++◌, Option, refl, sym, ap, ap₂, ◌∙◌, subst}
+use Rattle.std.proofs.Common.{◌≤◌, arith, inl, inr}
 use Rattle.std.proofs.Common.{append-nil, Result, Ok}
 use Rattle.std.specs.Io.KnownBytes.{Appends, Keeps}
 use Rattle.std.proofs.KnownBytes.{Appends-kept}
-use Rattle.ipnet_base.specs.Address.{IPv4, IPv6}
+use Rattle.ipnet_base.specs.Address.{IPv4, IPv6, family_index}
 use Rattle.ipnet_text.specs.Pieces.{IsInPieces}
 use Rattle.ipnet_text.proofs.WritingLaws.{all_written, whole_front}
 use Rattle.netset_lib.specs.RuleAnswers.{IsWritten, IsFrontWritten}
 use Rattle.netset_entries.specs.declared.span.Span.{Span}
 use Rattle.netset_entries.specs.EntryTexts.{IsFront}
 use Rattle.netset_entries.specs.NumberedEntries.{NumberedEntry}
-use Rattle.netset_entries.specs.Overlaps.{Pair, pair_lines, IsOverlapText, HasOverlap}
+use Rattle.netset_entries.specs.Overlaps.{Pair, IsOverlap, shared, IsSharedOf, pair_lines, IsOverlapText, HasOverlap}
 use Rattle.netset_entries.specs.Sweeps.{pairs_of, has_some, AreAllSpans}
 use Rattle.netset_entries.proofs.OverlapLaws.{overlaps_found, some_overlap, no_overlap}
 use Rattle.netset_entries.proofs.PairLaws.{lines_append, some_append}
@@ -21,6 +22,43 @@ ok_is true true ok = refl
 ok_is true false ok = absurd cc
 ok_is false true ok = absurd cc
 ok_is false false ok = refl
+
+-- two entries share what is from the later start to the earlier end
+exact_shared : (entries : List NumberedEntry) (count : Option ℕ) (p : Pair) → IsOverlap entries count p
+    → IsSharedOf p (shared p.first.entry.range p.second.entry.range)
+exact_shared entries count p h x = (
+  λ inside. (
+    record {
+      of_family = inside.of_family ∙ sym one_family;
+      from_start = omega (arith, inside.from_start, ordered);
+      to_end = omega (arith, inside.to_end);
+    },
+    record {
+      of_family = inside.of_family;
+      from_start = inside.from_start;
+      to_end = omega (arith, inside.to_end);
+    },
+  ),
+  λ both. record {
+    of_family = both.1.of_family;
+    from_start = both.1.from_start;
+    to_end = omega (arith, both.0.to_end, both.1.to_end);
+  },
+)
+  where
+    one_family : p.first.entry.range.family ≡ p.second.entry.range.family
+    one_family = sym h.in_first.of_family ∙ h.in_second.of_family
+
+    ordered : p.first.entry.range.start ≤ p.second.entry.range.start
+    ordered = elim h.begins [
+      | inl other ↦
+          let wrong : ⊥ = omega (arith, other, ap family_index one_family) in
+          absurd wrong
+      | inr same ↦ elim same.1 [
+        | inl lt ↦ omega (arith, lt)
+        | inr tie ↦ omega (arith, tie.0)
+      ]
+    ]
 
 module _ (entries : List NumberedEntry) (count : Option ℕ) (ipv4 ipv6 : List Span)
     (ipv4_all : AreAllSpans entries IPv4 ipv4) (ipv6_all : AreAllSpans entries IPv6 ipv6) where
@@ -47,6 +85,8 @@ module _ (entries : List NumberedEntry) (count : Option ℕ) (ipv4 ipv6 : List S
   whole_right = record {
     pairs = ipv4_pairs ++ ipv6_pairs;
     are = overlaps_found entries count ipv4 ipv6 ipv4_all ipv6_all;
+    exact = λ p c. exact_shared entries count p
+        ((overlaps_found entries count ipv4 ipv6 ipv4_all ipv6_all).each p c);
     spelled = refl;
   }
 

@@ -1,6 +1,6 @@
 -- The pairs of entries that share addresses, and their lines.
-use Rattle.std.specs.Prelude.{◌≡◌, ◌⊎◌, ◌<◌, ℕ, Bool, true, if◌then◌else◌, nat_lt, nat_le, min, List, [], ◌∷◌, ◌++◌}
-use Rattle.std.specs.Prelude.{Option, Some, None, AllPairs, Contains, length}
+use Rattle.std.specs.Prelude.{◌≡◌, ◌↔◌, ◌⊎◌, ◌<◌, ℕ, Bool, true, if◌then◌else◌, nat_lt, nat_le, min, List, [], ◌∷◌}
+use Rattle.std.specs.Prelude.{◌++◌, Option, Some, None, AllPairs, Contains, length}
 use Rattle.ipnet_base.specs.Address.{Address, family_index}
 use Rattle.ipnet_base.specs.Ranges.{AddressRange}
 use Rattle.ipnet.specs.declared.parser.Grammar.{Grammar}
@@ -80,10 +80,16 @@ abbrev pub pair_lines : List Pair → List ℕ
 pair_lines [] = []
 pair_lines (p ∷ pairs) = pair_text p ++ pair_lines pairs
 
--- The text has the lines of the pairs that share an address.
+-- The range has exactly the addresses that both entries of the pair have.
+abbrev pub IsSharedOf : Pair → AddressRange → Type 0
+IsSharedOf p r = (x : Address)
+    → IsInRange r x ↔ (IsInRange p.first.entry.range x × IsInRange p.second.entry.range x)
+
+-- The text has the lines of the pairs that share an address, and each line has the addresses that its pair shares.
 pub record IsOverlapText (entries : List NumberedEntry) (count : Option ℕ) (text : List ℕ) : Type 0 where
   pub pairs : List Pair
   pub are : AreOverlaps entries count pairs
+  pub exact : (p : Pair) → Contains pairs p → IsSharedOf p (shared p.first.entry.range p.second.entry.range)
   pub spelled : text ≡ pair_lines pairs
 
 -- Some two entries share an address.
