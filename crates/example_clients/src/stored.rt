@@ -8,10 +8,10 @@ ghost use Rattle.ipnet_sets.specs.RoutesOf.{routes_of};
 
 use ipnet::Ipv4Net;
 use ipnet_sets::routes::laws::a_table_has_one_image;
-use ipnet_sets::{IpSet, RouteTable, TableImageError};
-use std::alloc::Global;
+use ipnet_sets::{IpSet, RouteTable};
+use std::alloc::{AllocError, Global};
 
-/// Returns whether all IPv4 addresses of the set are in the block.
+/// Returns true only if all IPv4 addresses of the set are in the block.
 ///
 /// ```text
 /// 10.1.0.0/16 and 10.2.0.0/16 fit into 10.0.0.0/8, and not into 10.0.0.0/15
@@ -25,17 +25,15 @@ pub fn fits_in(addresses: &IpSet, block: &Ipv4Net) -> bool
     }
 }
 
-/// Returns the table that was written and read again.
+/// Returns the table that was written and read again. Fails if memory runs out, and if there are 2^32 routes or more.
 ///
 /// ```text
 /// of the table of 10.0.0.0/8 with 7: the table of 10.0.0.0/8 with 7
 /// ```
-pub fn restored(alloc: Global, table: &RouteTable<u32>) -> Result<RouteTable<u32>, TableImageError>
+pub fn restored(alloc: Global, table: &RouteTable<u32>) -> Result<RouteTable<u32>, AllocError>
     ensures { IfOk result (λ copy. routes_of copy ≡ routes_of table.now) }
 {
     a_table_has_one_image();
-    let Ok(image) = table.to_bytes(alloc) else {
-        return Err(TableImageError::Memory);
-    };
-    RouteTable::from_bytes(alloc, image.as_slice())
+    let image = table.to_bytes(alloc)?;
+    RouteTable::from_bytes(alloc, image.as_slice()).map_err(|_| AllocError)
 }

@@ -96,7 +96,7 @@ pub record IsOverlapText (entries : List NumberedEntry) (count : Option ℕ) (te
 abbrev pub HasOverlap : List NumberedEntry → Option ℕ → Type 0
 HasOverlap entries count = (p : Pair) × IsOverlap entries count p
 
--- No two entries do.
+-- No two entries share an address.
 abbrev pub HasNoOverlap : List NumberedEntry → Option ℕ → Type 0
 HasNoOverlap entries count = ¬ (HasOverlap entries count)
 
@@ -114,7 +114,7 @@ HoldsOfTwo grammar bytes other Holds = HoldsOfEntries grammar bytes (λ entries.
 abbrev pub IsOverlapAnswer : Grammar → List ℕ → List ℕ → Type 0
 IsOverlapAnswer grammar bytes text = HoldsOfOne grammar bytes (λ entries count. IsOverlapText entries count text)
 
--- The same of an entry of one list and an entry of the other.
+-- No line of the two lists is refused, and the text has the pairs of an entry of one list and an entry of the other.
 abbrev pub IsOverlapAnswerOfTwo : Grammar → List ℕ → List ℕ → List ℕ → Type 0
 IsOverlapAnswerOfTwo grammar bytes other text =
     HoldsOfTwo grammar bytes other (λ entries count. IsOverlapText entries count text)

@@ -57,7 +57,7 @@ fn asked_status<W: Write, X: Write>(
 /// Writes the pairs of entries of the list that share an address to `out`, and returns the exit status. A line has the
 /// entry that is first in the list, the other entry, and the range of addresses that they share, with tabs between. The
 /// lines come in the order of the addresses at which the entries begin: first of the entry that begins first, and then
-/// of the other. Memory is taken for the entries, and not for the pairs.
+/// of the other. Keeps the entries in memory, and not the pairs.
 ///
 /// `list` is the name of the list and its bytes. If a report cannot be written, the status is the same.
 ///
@@ -108,7 +108,8 @@ pub fn run_overlaps<W: Write, X: Write>(
 /// Writes the pairs of an entry of the first list and an entry of the second that share an address to `out`, as
 /// `run_overlaps` does, and returns the exit status.
 ///
-/// `lists` are the names and the bytes of the lists. The statuses and the reports are as `run_overlaps` says.
+/// `lists` are the names and the bytes of the lists. The statuses and the reports are as `run_overlaps` says; at most
+/// ten lines of each list are reported.
 ///
 /// ```text
 /// "10.0.0.0/8\n10.0.0.0/9\n" and "10.1.0.0/16\n":  status 1, and out gets

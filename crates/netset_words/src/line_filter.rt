@@ -1,11 +1,12 @@
 //! The lines of a log, read one after another. A line longer than 1 MiB is decided by its front.
 ghost use Rattle.std.specs.Prelude.{◌≡◌, ◌≢◌, ◌≤◌, ◌<◌, ◌+◌, ◌-◌, ◌++◌, ◌∷◌, [], List, ℕ, All, length, take, OnOk};
-ghost use Rattle.std.specs.Prelude.{IfOk};
+ghost use Rattle.std.specs.Prelude.{Err, IfErr, IfOk};
 ghost use Rattle.std.specs.Prelude.{if◌then◌else◌, not};
 ghost use Rattle.std.specs.List.{suffix_len};
 ghost use Rattle.ipnet_sets.specs.Members.{IsMember};
 ghost use Rattle.ipnet_sets.specs.declared.set.IpSet.{IpSet};
 ghost use Rattle.ipnet.specs.Lines.{lines_of};
+ghost use Rattle.netset_lib.specs.Replies.{IsWorkFailure, TakesCount};
 ghost use Rattle.netset_lib.specs.Sessions.{WereRead};
 ghost use Rattle.netset_lib.specs.declared.answer.Request.{Request};
 ghost use Rattle.netset_lib.specs.declared.command.Work.TheVariants.{Combine};
@@ -234,8 +235,12 @@ impl LineFilter {
         session: Session,
         how: LinesRequest,
     ) -> Result<LineFilter, Failure>
-        ensures { IfOk result (λ f. (request : Request) → (lists : List (List ℕ))
+        ensures filter { IfOk result (λ f. (request : Request) → (lists : List (List ℕ))
             → WereRead (Combine request) lists session → IsFilterFor request how lists f) }
+        ensures failure { IfErr result (λ failure. (request : Request) → (lists : List (List ℕ))
+            → WereRead (Combine request) lists session → IsWorkFailure (Combine request) lists failure) }
+        ensures count { (request : Request) → (lists : List (List ℕ)) → WereRead (Combine request) lists session
+            → ¬ (TakesCount (Combine request) (length lists)) → result ≡ Err Failure.Count }
     {
         let set = session.into_set()?;
         match side_set(alloc, how.side, set) {

@@ -19,7 +19,7 @@ use netset_lib::filter::covers_entry;
 use netset_lib::{Entry, Side};
 use std::alloc::AllocError;
 
-/// The lines of a log to print.
+/// Which lines of a log are printed.
 #[derive(Clone, Copy, Debug, PartialEq, Eq)]
 pub struct LinesRequest {
     /// The grammar of the entries.

@@ -35,11 +35,12 @@ impl WordCause {
 /// ```
 #[derive(Debug, Drop)]
 pub struct RefusedWord {
-    /// The index of its text among the texts that were read, from 0.
+    /// The index of its text among the texts that were read, from 0; for a log 1.
     pub list: usize,
     /// Its line number, from 1.
     pub line: usize,
-    /// The part that is refused: the first netmask, or the whole line if it has a NUL byte.
+    /// The part that is refused: the first netmask, or the whole line if it has a NUL byte; of an undecided line of a
+    /// log the first 101 bytes.
     pub text: Vec<u8>,
     /// Why it is refused.
     pub cause: WordCause,

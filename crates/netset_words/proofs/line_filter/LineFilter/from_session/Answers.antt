@@ -7,8 +7,8 @@ use Rattle.netset_words.specs.FilterSteps.{IsLogUpTo}
 use Rattle.netset_words.proofs.LogSets.{on_same_side}
 use Rattle.netset_words.proofs.line_filter.LineFilter.from_session.Goals as goal
 
-pub returns-in-Ok : goal.returns-in-Ok
-returns-in-Ok c = λ request lists were.
+pub returns-in-Ok-clause-filter : goal.returns-in-Ok-clause-filter
+returns-in-Ok-clause-filter c = λ request lists were.
     let s = c.in_ok-set.ensures.set request lists were in
     record {
       entries = s.entries;
