@@ -259,7 +259,7 @@ fn stream_flag<'a>(alloc: Global) -> Result<Arg<'a>, AllocError> {
 fn filter_command<'a>(alloc: Global) -> Result<Command<'a>, AllocError> {
     let about =
         "The entries of FILE that lie entirely inside SET, as written; status 1 if there are none";
-    let outside = "Print the entries that lie entirely outside SET instead";
+    let outside = "Choose by entries that lie entirely outside SET instead";
     let command = with_lines(alloc, command_of(alloc, "filter", about)?)?;
     with_set(alloc, command.arg(flag(alloc, "outside", outside))?)
 }
@@ -291,7 +291,7 @@ fn compare_command<'a>(alloc: Global) -> Result<Command<'a>, AllocError> {
 /// The command `route`.
 fn route_command<'a>(alloc: Global) -> Result<Command<'a>, AllocError> {
     let about =
-        "For each entry of FILE, the longest network of TABLE that contains it, or - and status 1";
+        "For each entry of FILE, the most specific network of TABLE that contains it, or - and status 1";
     let command = command_of(alloc, ROUTE, about)?
         .arg(stream_flag(alloc)?)?
         .arg(text_flag(alloc)?)?;

@@ -21,7 +21,7 @@ const OVERLAPS: &str = "overlaps";
 /// The command `overlaps`.
 fn overlaps_command<'a>(alloc: Global) -> Result<Command<'a>, AllocError> {
     let about =
-        "The pairs of entries that share addresses, or of an entry of each list; status 1 if there are any";
+        "The pairs of entries that share an address; of two lists, of an entry of each; status 1 if there are any";
     let help = "The other list; the pairs are then of an entry of each";
     command_of(alloc, OVERLAPS, about)?
         .arg(one_file(alloc))?

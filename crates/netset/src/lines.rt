@@ -24,9 +24,10 @@ const OTHER_LINES: &str = "other-lines";
 /// Adds the flags for whole lines to the command `filter`.
 pub fn with_lines<'a>(alloc: Global, command: Command<'a>) -> Result<Command<'a>, AllocError> {
     let lines =
-        "Print the lines of a log whose first entry lies inside SET; FILE is any text with entries";
-    let any = "With --lines: the lines of which any entry lies inside SET";
-    let others = "With --lines: the lines that are not printed without this flag";
+        "Print the whole lines of FILE, any text, whose first entry lies inside SET; not with --stream";
+    let any =
+        "With --lines: the lines of which any entry lies inside SET, or outside it with --outside";
+    let others = "With --lines: the other lines, with those that have no entry";
     let others = Arg::new(alloc, OTHER_LINES)
         .long("others")
         .action(ArgAction::SetTrue)
