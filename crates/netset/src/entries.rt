@@ -3,11 +3,11 @@ use crate::arguments::{
     ArgumentFailure, FIRST, OTHERS, STANDARD_INPUT, command_of, flags_of, one_file, other,
     reads_input_twice,
 };
-use crate::lists::{read_filled, report_unread};
+use crate::extract::grammar_of;
 use crate::output::Streams;
+use crate::prefixes::bytes_of;
 use crate::{refused, session_of};
 use clap::{ArgMatches, Command};
-use ipnet::Grammar;
 use netset_entries::{run_overlaps, run_overlaps_of_two, run_redundant, run_supernet};
 use std::alloc::{AllocError, Global};
 
@@ -59,32 +59,10 @@ fn supernet(rt: &HostRuntime, matches: &ArgMatches, streams: &mut Streams<'_>) -
     }
 }
 
-/// Reads the bytes of the list of this name. If that fails, it is reported, and the error is the exit status. So it is
-/// if a file has no line, and that is to be refused.
-fn entries_of(rt: &HostRuntime, name: &str, streams: &Streams<'_>) -> Result<Vec<u8>, u8> {
-    match read_filled(rt, name, "entries", streams.reports) {
-        Ok(Some(bytes)) => Ok(bytes),
-        Ok(None) => Err(2),
-        Err(unread) => {
-            report_unread(rt, name, &unread);
-            Err(2)
-        }
-    }
-}
-
-/// The grammar of the entries.
-fn grammar_of(matches: &ArgMatches) -> Grammar {
-    if matches.get_flag("legacy") {
-        Grammar::Legacy
-    } else {
-        Grammar::Strict
-    }
-}
-
 /// Reads the list, and prints the entries that the others make unnecessary.
 fn redundant(rt: &HostRuntime, matches: &ArgMatches, streams: &mut Streams<'_>) -> u8 {
     let name = matches.get_str(FIRST).unwrap_or(STANDARD_INPUT);
-    match entries_of(rt, name, streams) {
+    match bytes_of(rt, name, "entries", streams) {
         Ok(bytes) => run_redundant(
             rt.alloc(),
             (name, bytes.as_slice()),
@@ -106,11 +84,11 @@ fn overlaps_of_two(
     if reads_input_twice(&[name, other]) {
         return refused(rt, ArgumentFailure::InputTwice);
     }
-    let bytes = match entries_of(rt, name, streams) {
+    let bytes = match bytes_of(rt, name, "entries", streams) {
         Ok(bytes) => bytes,
         Err(status) => return status,
     };
-    let others = match entries_of(rt, other, streams) {
+    let others = match bytes_of(rt, other, "entries", streams) {
         Ok(bytes) => bytes,
         Err(status) => return status,
     };
@@ -129,7 +107,7 @@ fn overlaps(rt: &HostRuntime, matches: &ArgMatches, streams: &mut Streams<'_>) -
     if let Some(other) = matches.get_str(OTHERS) {
         return overlaps_of_two(rt, matches, (name, other), streams);
     }
-    match entries_of(rt, name, streams) {
+    match bytes_of(rt, name, "entries", streams) {
         Ok(bytes) => run_overlaps(
             rt.alloc(),
             (name, bytes.as_slice()),

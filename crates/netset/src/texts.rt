@@ -2,14 +2,12 @@
 ghost use Rattle.std.specs.Prelude.{codes};
 ghost use Rattle.netset.specs.Arguments.{IsFlag};
 
-use crate::arguments::{
-    ArgumentFailure, FIRST, OTHERS, STANDARD_INPUT, flag, flags_of, reads_input_twice,
-};
+use crate::arguments::{ArgumentFailure, FIRST, OTHERS, STANDARD_INPUT, flag, reads_input_twice};
+use crate::extract::grammar_of;
 use crate::output::Streams;
 use crate::prefixes::bytes_of;
 use crate::refused;
 use clap::{Arg, ArgMatches};
-use ipnet::Grammar;
 use netset_lib::{TextRequest, run_text_routes};
 use std::alloc::{AllocError, Global};
 
@@ -50,11 +48,7 @@ pub fn routed(rt: &HostRuntime, matches: &ArgMatches, streams: &mut Streams<'_>)
     let request = TextRequest {
         table: bytes.as_slice(),
         list: list.as_slice(),
-        grammar: if flags_of(matches).legacy {
-            Grammar::Legacy
-        } else {
-            Grammar::Strict
-        },
+        grammar: grammar_of(matches),
     };
     run_text_routes(
         rt.alloc(),

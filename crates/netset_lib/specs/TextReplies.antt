@@ -9,8 +9,8 @@ use Rattle.netset_lib.specs.Lists.{Refusal}
 use Rattle.netset_lib.specs.RefusedLines.{AreRefused}
 use Rattle.netset_lib.specs.TextTables.{HasRefusedTextLines, HasRefusedEntries}
 
--- Why there are no answers: refused lines of the table; refused lines of the list; or out of memory. When memory runs
--- out is not specified.
+-- Why not all entries were looked up: refused lines of the table; refused lines of the list; or out of memory. When
+-- memory runs out is not specified.
 abbrev pub IsTextFailure : Grammar → (table list : List ℕ) → TextFailure → Type 0
 IsTextFailure grammar table list (Failures.Table lines) =
     HasRefusedTextLines grammar table (map refused_of lines.items)

@@ -17,8 +17,8 @@ use Rattle.netset_lib.specs.RouteAnswers.{Holds, IsLongest, HaveNone}
 use Rattle.netset_lib.specs.RuleLines.{leading_word, after_word}
 
 -- This text may follow the entry in these contents of a line. It does not begin with "-" (45), which may be the sign of
--- a range. The contents have no NUL byte, their second word is not a mask, and they have no comment: they only have one
--- if an entry is the first word of the comment.
+-- a range. The contents have no NUL byte, and their second word is not a mask. They have no comment. Contents keep a
+-- comment only if its first word is an entry.
 -- Example: `192.0.2.1 eth0` in `10.0.0.0/8 192.0.2.1 eth0`; not `- 10.0.0.9 eth0` in `10.0.0.1 - 10.0.0.9 eth0`, nor
 -- `255.0.0.0` in `10.0.0.0 255.0.0.0`.
 pub record MayFollow (contents text : List ℕ) : Type 0 where

@@ -21,9 +21,9 @@ pub enum Side {
     Outside,
 }
 
-/// The number of an address fits in the width of its family. The law is the contract; the function only takes the
-/// number.
-fn address_fits(address: IpAddr)
+/// The number of an address fits in the width of its family. The contract says so; the function has nothing to do.
+#[inline]
+pub fn address_fits(address: IpAddr)
     ensures { IsAddress (ip_address address) }
 {
     match address {

@@ -33,12 +33,13 @@ pub struct TextRequest<'a> {
 /// longest network of the table that contains the whole entry, and the text of that network; or "-" after the entry if
 /// no network contains it.
 ///
-/// A line of the table is an entry, or an entry, blanks and a text. The text ends before a comment, and begins with
-/// another byte than "-". Blanks and comments are as in lists of entries. An entry of the table counts as the fewest
-/// networks with its addresses. If several lines have one network, the last of them counts.
+/// A line of the table is an entry, or an entry, blanks and a text. The text ends before a comment. It is UTF-8, does
+/// not begin with "-", has no NUL byte, and after an IPv4 address does not begin with a mask. A comment after ";" does
+/// not begin with an entry. An entry of the table counts as the fewest networks with its addresses. If several lines
+/// have one network, the last of them counts.
 ///
-/// `names` are the names of the table and of the list, for the reports on `faults`. If a report cannot be written, the
-/// status is the same.
+/// `names` are the names of the table and of the list, for the reports on `faults`. If lines of the table are refused,
+/// refused lines of the list are not reported. If a report cannot be written, the status is the same.
 ///
 /// | Status | On `faults` | When |
 /// |---|---|---|

@@ -19,7 +19,7 @@ use ipnet::{Grammar, IpNet};
 use ipnet_sets::RouteTable;
 use std::alloc::{AllocError, Global};
 
-/// Why there are no answers.
+/// Why no entry was looked up, or not all entries.
 #[derive(Debug, Drop)]
 pub(crate) enum TextFailure {
     /// These lines of the table are not an entry with a text.

@@ -1,6 +1,6 @@
 //! Lines of a log, chosen by their entries.
 ghost use Rattle.std.specs.Prelude.{◌≡◌, ◌<◌, ◌↔◌, All, length, IsTrue, IfOk, IfSome, MatchOption};
-ghost use Rattle.ipnet_base.specs.Address.{IsAddress, ip_address};
+ghost use Rattle.ipnet_base.specs.Address.{ip_address};
 ghost use Rattle.ipnet_sets.specs.Members.{IsMember};
 ghost use Rattle.ipnet.specs.declared.parser.Grammar.{Grammar};
 ghost use Rattle.netset_lib.specs.EntryOf.{entry_range};
@@ -15,7 +15,7 @@ use crate::word::{is_cut, next_word};
 use ipnet::{Grammar, IpAddr};
 use ipnet_sets::IpSet;
 use ipnet_text::ipv4_addr_at;
-use netset_lib::filter::covers_entry;
+use netset_lib::filter::{address_fits, covers_entry};
 use netset_lib::{Entry, Side};
 use std::alloc::AllocError;
 
@@ -135,22 +135,6 @@ pub(crate) fn next_log_entry<'a>(
         rest = word.after;
     }
     Ok(None)
-}
-
-/// The number of an address fits in the width of its family. The law is the contract; the function only takes the
-/// number.
-#[inline]
-fn address_fits(address: IpAddr)
-    ensures { IsAddress (ip_address address) }
-{
-    match address {
-        IpAddr::V4(address) => {
-            let _ = address.to_bits();
-        }
-        IpAddr::V6(address) => {
-            let _ = address.to_bits();
-        }
-    }
 }
 
 /// Whether the address is in the set.
