@@ -6,11 +6,11 @@
  * that the caller supplies, so the caller never frees anything.
  *
  * The caller must ensure:
- * - A pointer is NULL only if its length is 0. Pointers without a length (`count`, `same`, `covered`, `line`) are never
- *   NULL.
+ * - A pointer is NULL only if its length is 0. Pointers without a length (`count`, `same`, `covered`, `line`, `bad`,
+ *   `value`) are never NULL.
  * - A length is at most the number of bytes that may be read, or written, at its pointer.
- * - The memory that a call writes (`buffer`, `count`, `same`, `covered`, `line`, `answers`, `counts`) does not overlap any other
- *   argument.
+ * - The memory that a call writes (`buffer`, `count`, `same`, `covered`, `line`, `answers`, `counts`, `bad`, `network`,
+ *   `value`, `values`, and `families` and `octets` if they are not const) does not overlap any other argument.
  * - malloc, realloc and free belong to the same allocator. It aligns a block to each power of two up to 16 that divides
  *   the size of the block. The allocators of Linux do so.
  * - No call is made from a signal handler, nor in the child of a process that had several threads when it forked.
@@ -62,7 +62,8 @@ typedef enum ipnet_status {
     IPNET_OTHER_NOT_UTF8 = 10,    /* `other` is not UTF-8 */
     IPNET_NOT_A_SET = 11,         /* the bytes are not the image of a set */
     IPNET_OTHER_NOT_A_SET = 12,   /* `other`, the second image, is not the image of a set */
-    IPNET_NOT_A_TABLE = 13        /* the bytes are not the image of a table */
+    IPNET_NOT_A_TABLE = 13,       /* the bytes are not the image of a table */
+    IPNET_BAD_OFFSETS = 14        /* an offset is less than the offset before it, or more than the length of the text */
 } ipnet_status;
 
 /* Returns the meaning of a status, in English. The text is constant; nothing is allocated. */
@@ -83,6 +84,7 @@ static inline const char *ipnet_status_text(ipnet_status status)
     case IPNET_NOT_A_SET: return "the bytes are not the image of a set";
     case IPNET_OTHER_NOT_A_SET: return "the other bytes are not the image of a set";
     case IPNET_NOT_A_TABLE: return "the bytes are not the image of a table";
+    case IPNET_BAD_OFFSETS: return "the offsets are not ascending places in the text";
     }
     return "unknown status";
 }
@@ -275,6 +277,14 @@ ipnet_status ipnet_set_from_list_legacy(const char *text, size_t text_len, void 
  */
 ipnet_status ipnet_set_to_text(const void *set, size_t set_len, char *buffer, size_t buffer_len, size_t *count);
 
+/* Writes the fewest ranges of a set, given by its image, as text. Each line has the first and the last address of a
+ * range, joined by "-", in canonical text, and ends with "\n". The ranges ascend, IPv4 first, and no two of them overlap
+ * or touch. A range of one address is written with both ends. Returns the same statuses as ipnet_set_to_text.
+ *
+ *     the image of 10.0.0.0/30, 10.0.0.4/31 and fd00::1/128   OK, 34, "10.0.0.0-10.0.0.5\nfd00::1-fd00::1\n"
+ */
+ipnet_status ipnet_set_to_ranges(const void *set, size_t set_len, char *buffer, size_t buffer_len, size_t *count);
+
 /* Returns OK if the bytes are the image of a set, and NOT_A_SET if they are not. Reads all of them once. */
 ipnet_status ipnet_set_check(const void *set, size_t set_len);
 
@@ -371,6 +381,47 @@ ipnet_status ipnet_set_symmetric_difference(const void *set, size_t set_len, con
  * ipnet_set_to_text. A buffer that is 20 bytes longer than the image of the set is always long enough. */
 ipnet_status ipnet_set_complement(const void *set, size_t set_len, void *buffer, size_t buffer_len, size_t *count);
 
+/* ---- Rows from text
+ *
+ * A column of texts becomes rows, which "Columns of addresses" below defines. The text of a row is an address in the
+ * strict grammar, such as 10.0.0.1 or fd00::1, and nothing else: no prefix length, no zone, no blanks. Any other text,
+ * UTF-8 or not, is a row that is not an address. ::ffff:10.0.0.1 is an IPv6 address. The calls allocate nothing, and their texts, offsets and rows need no alignment. */
+
+/* Reads rows from a text that has one row on each line. Each line ends with "\n", the last one too.
+ *
+ * OK                `families` and `octets` have a row for each line, and `*bad` is the number of rows that are not
+ *                   addresses
+ * WRONG_LENGTH      if and only if the text is not `families_len` lines, or `octets_len` is not 16 times `families_len`
+ *
+ * `families`, `octets` and `*bad` are modified only on OK.
+ *
+ *     "10.0.0.1\nx\nfd00::1\n" and 3 rows   OK, 4, 0, 6 as the families, and 1 bad row
+ *     "10.0.0.1\nx" and 2 rows               WRONG_LENGTH
+ */
+ipnet_status ipnet_rows_from_lines(const char *text, size_t text_len, uint8_t *families, size_t families_len,
+                                   uint8_t *octets, size_t octets_len, size_t *bad);
+
+/* Reads rows from texts that lie one after the other in `text`, as Arrow keeps a column of strings. There is one offset
+ * more than there are rows. Row i is read from the bytes of `text` from offset i up to offset i + 1, without the byte at
+ * offset i + 1. Each offset has 4 or 8 bytes, the least significant first; `offsets_len` is the number of bytes of all
+ * offsets. The first offset need not be 0, nor the last the length of `text`.
+ *
+ * OK                `families` and `octets` have a row for each text, and `*bad` is the number of rows that are not
+ *                   addresses
+ * WRONG_LENGTH      if and only if `offsets_len` is neither 4 nor 8 times `families_len` + 1, or `octets_len` is not 16
+ *                   times `families_len`
+ * BAD_OFFSETS       if and only if the lengths are right, and an offset is less than the offset before it, or more than
+ *                   `text_len`
+ *
+ * `families`, `octets` and `*bad` are modified only on OK.
+ *
+ *     "10.0.0.1fd00::1", the offsets 0, 8, 15, and 2 rows   OK, 4, 6 as the families, and no bad row
+ *     "10.0.0.1fd00::1", the offsets 0, 8, 16, and 2 rows   BAD_OFFSETS
+ */
+ipnet_status ipnet_rows_from_offsets(const char *text, size_t text_len, const void *offsets, size_t offsets_len,
+                                     uint8_t *families, size_t families_len, uint8_t *octets, size_t octets_len,
+                                     size_t *bad);
+
 /* ---- Tables of routes
  *
  * A table has networks with a number each, its value, and finds the longest network that contains an address. It is kept
@@ -422,6 +473,21 @@ ipnet_status ipnet_table_check(const void *table, size_t table_len);
 uint32_t ipnet_table_longest_match(const void *table, size_t table_len, const uint8_t *address, size_t address_len,
                                    uint32_t *value);
 
+/* Like ipnet_table_longest_match, and also writes the longest network, in byte form and without host bits, to the start
+ * of `network`, which has 18 bytes or more. The byte form has 6 bytes for an IPv4 address and 18 for an IPv6 address.
+ * Returns 1 or 0, or
+ *
+ * WRONG_LENGTH      if and only if there are neither 4 nor 16 octets
+ * BUFFER_TOO_SHORT  if and only if there are 4 or 16 octets, and `network_len` is less than 18
+ * NOT_A_TABLE       as ipnet_table_count; checked after the lengths
+ *
+ * `network` and `*value` are modified only on 1, and `network` only up to the end of the byte form.
+ *
+ *     the image of 10.0.0.0/8 with 1 and 10.1.0.0/16 with 2, and 10, 1, 2, 3   1, the network 0, 10, 1, 0, 0, 16, and 2
+ */
+uint32_t ipnet_table_longest_route(const void *table, size_t table_len, const uint8_t *address, size_t address_len,
+                                   uint8_t *network, size_t network_len, uint32_t *value);
+
 /* Writes for each of many addresses the value of the longest network of the table that contains it, or `missing` if none
  * does. `addresses` has `width` octets for each address, 4 or 16, one address after the other.
  *
@@ -435,6 +501,97 @@ uint32_t ipnet_table_longest_match(const void *table, size_t table_len, const ui
 ipnet_status ipnet_table_longest_match_all(const void *table, size_t table_len, const void *addresses,
                                            size_t addresses_len, size_t width, uint32_t missing, uint32_t *values,
                                            size_t values_len);
+
+/* ---- Columns of addresses
+ *
+ * A column has one address in each row. There are two forms:
+ * - Numbers, for columns of IPv4 addresses only (the calls whose names end in _u32): a number of 32 bits for each row,
+ *   in the byte order of the machine. 10.0.0.1 is 0x0a000001.
+ * - Rows, for columns of both families (the calls whose names end in _rows): two arrays. `families` has one byte for
+ *   each row: 4, 6, or 0 for a row that is not an address. `octets` has 16 bytes for each row, the most significant
+ *   octet first: the 4 octets of an IPv4 address and 12 zeros; the 16 octets of an IPv6 address; or 16 zeros.
+ *
+ * A family that is neither 4 nor 6 is read as 0, and the 12 bytes after the octets of an IPv4 address are not read.
+ * `octets_len` counts bytes, so it is 16 times `families_len`. Numbers are aligned as uint32_t; bytes need no
+ * alignment. The calls allocate nothing, and test only the header of an image. */
+
+/* Writes for each IPv4 address 1 if the set contains it, and 0 if it does not.
+ *
+ * OK                all answers are written
+ * WRONG_LENGTH      if and only if `answers_len` is not `addresses_len`
+ * NOT_A_SET         as ipnet_set_contains; checked after the lengths
+ *
+ * `answers` is modified only on OK.
+ *
+ *     the image of 10.0.0.0/30 and 0x0a000001, 0x0a000004   OK, 1, 0
+ */
+ipnet_status ipnet_set_contains_u32(const void *set, size_t set_len, const uint32_t *addresses, size_t addresses_len,
+                                    uint8_t *answers, size_t answers_len);
+
+/* Writes for each row 1 if the set contains its address, 0 if it does not, and 2 if the row is not an address.
+ *
+ * OK                all answers are written
+ * WRONG_LENGTH      if and only if `octets_len` is not 16 times `families_len`, or `answers_len` is not `families_len`
+ * NOT_A_SET         as ipnet_set_contains; checked after the lengths
+ *
+ * `answers` is modified only on OK.
+ */
+ipnet_status ipnet_set_contains_rows(const void *set, size_t set_len, const uint8_t *families, size_t families_len,
+                                     const uint8_t *octets, size_t octets_len, uint8_t *answers, size_t answers_len);
+
+/* Writes for each IPv4 address the value of the longest network of the table that contains it, or `missing` if none
+ * does.
+ *
+ * OK                all values are written
+ * WRONG_LENGTH      if and only if `values_len` is not `addresses_len`
+ * NOT_A_TABLE       as ipnet_table_count; checked after the lengths
+ *
+ * `values` is modified only on OK.
+ *
+ *     the image of 10.0.0.0/8 with 7, 0x0a000001, 0x0b000001, and 9 as `missing`   OK, 7, 9
+ */
+ipnet_status ipnet_table_longest_match_u32(const void *table, size_t table_len, const uint32_t *addresses,
+                                           size_t addresses_len, uint32_t missing, uint32_t *values,
+                                           size_t values_len);
+
+/* Writes for each row the value of the longest network of the table that contains its address, or `missing` if none
+ * does, or if the row is not an address.
+ *
+ * OK                all values are written
+ * WRONG_LENGTH      if and only if `octets_len` is not 16 times `families_len`, or `values_len` is not `families_len`
+ * NOT_A_TABLE       as ipnet_table_count; checked after the lengths
+ *
+ * `values` is modified only on OK.
+ */
+ipnet_status ipnet_table_longest_match_rows(const void *table, size_t table_len, const uint8_t *families,
+                                            size_t families_len, const uint8_t *octets, size_t octets_len,
+                                            uint32_t missing, uint32_t *values, size_t values_len);
+
+/* Makes an IPv4 row of each row of an IPv4-mapped address, ::ffff:0:0/96: of its last four octets. All other rows keep
+ * their bytes.
+ *
+ * OK                all rows are written
+ * WRONG_LENGTH      if and only if `octets_len` is not 16 times `families_len`
+ *
+ * `families` and `octets` are modified only on OK.
+ *
+ *     6 and ::ffff:10.0.0.1   OK, 4 and 10, 0, 0, 1 and 12 zeros
+ */
+ipnet_status ipnet_unmap_rows(uint8_t *families, size_t families_len, uint8_t *octets, size_t octets_len);
+
+/* Replaces each address by the first address of its network of a prefix length: `ipv4_length` for IPv4, `ipv6_length`
+ * for IPv6. The row of an IPv4 address then ends with 12 zeros. Rows that are not an address keep their bytes.
+ *
+ * OK                all rows are written
+ * PREFIX_TOO_LONG   if and only if `ipv4_length` is above 32 or `ipv6_length` is above 128
+ * WRONG_LENGTH      if and only if `octets_len` is not 16 times `families_len`; checked after the prefix lengths
+ *
+ * `octets` is modified only on OK.
+ *
+ *     24 for IPv4, and the row of 10.1.2.3   OK, the row of 10.1.2.0
+ */
+ipnet_status ipnet_truncate_rows(uint32_t ipv4_length, uint32_t ipv6_length, const uint8_t *families,
+                                 size_t families_len, uint8_t *octets, size_t octets_len);
 
 #ifdef __cplusplus
 }

@@ -56,6 +56,7 @@ static const char part[] = "10.0.0.0/24\nfd00::/33\n";
 static const uint8_t network[] = {0, 10, 0, 0, 0, 23};
 static const char whole[] = "10.0.0.0/23\nfd00::/32\n";
 static const char rest[] = "10.0.1.0/24\nfd00:0:8000::/33\n";
+static const char part_ranges[] = "10.0.0.0-10.0.0.255\nfd00::-fd00:0:7fff:ffff:ffff:ffff:ffff:ffff\n";
 /* The memory that is passed to a call. */
 struct lent {
     char buffer[64];
@@ -166,6 +167,11 @@ static ipnet_status set_to_text(struct lent *lent)
     return ipnet_set_to_text(list_set.bytes, list_set.len, lent->buffer, sizeof lent->buffer, &lent->number);
 }
 
+static ipnet_status set_to_ranges(struct lent *lent)
+{
+    return ipnet_set_to_ranges(part_set.bytes, part_set.len, lent->buffer, sizeof lent->buffer, &lent->number);
+}
+
 static ipnet_status set_union(struct lent *lent)
 {
     uint8_t image[128];
@@ -201,7 +207,8 @@ static const struct {
     {"union_text", union_of, whole},        {"intersection_text", intersection, part},
     {"difference_text", difference, rest},  {"same_addresses", same_addresses, NULL},
     {"is_covered", is_covered, NULL},       {"set_from_text", set_from_text, NULL},
-    {"set_to_text", set_to_text, whole},    {"set_union", set_union, NULL},
+    {"set_to_text", set_to_text, whole},    {"set_to_ranges", set_to_ranges, part_ranges},
+    {"set_union", set_union, NULL},
     {"set_complement", set_complement, NULL}, {"set_is_subset", set_is_subset, NULL},
     {"set_from_list", set_from_list, NULL}, {"set_counts", set_counts, NULL},
     {"set_from_list_legacy", set_from_list_legacy, NULL}, {"set_from_text_legacy", set_from_text_legacy, NULL},
@@ -239,7 +246,8 @@ static long least_growths(ipnet_status (*call)(struct lent *), const char *answe
     return -1;
 }
 
-/* parse, parse_legacy and print as functions that write text, and is_covered as one that takes it */
+/* parse, parse_legacy and print as functions that write text, and is_covered as one that takes it; rows_from_lines and
+ * rows_from_offsets for one row */
 static ipnet_status parse(const char *text, size_t text_len, char *buffer, size_t buffer_len, size_t *count)
 {
     return ipnet_parse(text, text_len, (uint8_t *)buffer, buffer_len, count);
@@ -253,6 +261,19 @@ static ipnet_status parse_legacy(const char *text, size_t text_len, char *buffer
 static ipnet_status print(const char *text, size_t text_len, char *buffer, size_t buffer_len, size_t *count)
 {
     return ipnet_print((const uint8_t *)text, text_len, buffer, buffer_len, count);
+}
+
+static ipnet_status lines(const char *text, size_t text_len, char *buffer, size_t buffer_len, size_t *count)
+{
+    (void)buffer_len;
+    return ipnet_rows_from_lines(text, text_len, (uint8_t *)buffer, 1, (uint8_t *)buffer + 16, 16, count);
+}
+
+static ipnet_status offsets(const char *text, size_t text_len, char *buffer, size_t buffer_len, size_t *count)
+{
+    const uint8_t bytes[] = {0, 0, 0, 0, (uint8_t)text_len, 0, 0, 0};
+    (void)buffer_len;
+    return ipnet_rows_from_offsets(text, text_len, bytes, 8, (uint8_t *)buffer, 1, (uint8_t *)buffer + 16, 16, count);
 }
 
 static ipnet_status covers(const char *text, size_t text_len, const char *bytes, size_t bytes_len, uint8_t *covered,
@@ -302,6 +323,10 @@ static const struct {
     {"parse", parse, NULL, NULL, TEXT("10.0.0.7/24"), TEXT(""), IPNET_OK},
     {"parse legacy", parse_legacy, NULL, NULL, TEXT("010.0.0.7/24"), TEXT(""), IPNET_OK},
     {"print", print, NULL, NULL, TEXT("\0\12\0\0\0\27"), TEXT(""), IPNET_OK},
+    {"rows from lines, IPv4", lines, NULL, NULL, TEXT("10.0.0.1\n"), TEXT(""), IPNET_OK},
+    {"rows from lines, IPv6", lines, NULL, NULL, TEXT("fd00::1\n"), TEXT(""), IPNET_OK},
+    {"rows from lines, a bad row", lines, NULL, NULL, TEXT("x\n"), TEXT(""), IPNET_OK},
+    {"rows from offsets, IPv6", offsets, NULL, NULL, TEXT("fd00::1"), TEXT(""), IPNET_OK},
 };
 
 /* How many of the calls above break a rule. */

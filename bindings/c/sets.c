@@ -230,6 +230,39 @@ static void try_statuses(void)
     free(set.at);
 }
 
+/* A list of networks, and the text of its ranges. */
+static const struct {
+    const char *list, *ranges;
+} ranges[] = {
+    {"", ""},
+    {"10.0.0.7/32", "10.0.0.7-10.0.0.7\n"},
+    {"10.0.0.0/30\n10.0.0.4/31", "10.0.0.0-10.0.0.5\n"},
+    {"10.0.0.0/31\n10.0.0.3/32", "10.0.0.0-10.0.0.1\n10.0.0.3-10.0.0.3\n"},
+    {"0.0.0.0/0\n::/0", "0.0.0.0-255.255.255.255\n::-ffff:ffff:ffff:ffff:ffff:ffff:ffff:ffff\n"},
+    {"fd00::/127\n255.255.255.255/32\n::/128", "255.255.255.255-255.255.255.255\n::-::\nfd00::-fd00::1\n"},
+};
+
+static void try_ranges(void)
+{
+    for (size_t i = 0; i < sizeof ranges / sizeof *ranges; i++) {
+        struct bytes set = image_of(ranges[i].list);
+        const size_t needed = strlen(ranges[i].ranges);
+        for (size_t len = needed > 0 ? needed - 1 : 0; len <= needed + 1; len++) {
+            size_t count = 0;
+            char *buffer = malloc(len > 0 ? len : 1);
+            memset(buffer, UNTOUCHED, len);
+            ipnet_status status = ipnet_set_to_ranges(set.at, set.len, buffer, len, &count);
+            expect(status == (len < needed ? IPNET_BUFFER_TOO_SHORT : IPNET_OK) && count == needed, ranges[i].list);
+            expect(len < needed || memcmp(buffer, ranges[i].ranges, needed) == 0, ranges[i].ranges);
+            expect(len == 0 || len == needed || (uint8_t)buffer[len - 1] == UNTOUCHED, "nothing else is modified");
+            free(buffer);
+        }
+        size_t count = 99;
+        expect(ipnet_set_to_ranges(set.at, set.len - 1, NULL, 0, &count) == IPNET_NOT_A_SET && count == 99, "no ranges");
+        free(set.at);
+    }
+}
+
 /* Lists as people keep them: the same set as a strict list, or the number of the first bad line. */
 static const struct {
     const char *list, *strict;
@@ -354,6 +387,7 @@ int main(void)
     try_many_networks();
     try_statuses();
     try_lists();
+    try_ranges();
     try_legacy();
     try_counts();
     try_hostile();

@@ -83,6 +83,43 @@ static void questions(const uint8_t *table, size_t len)
     }
 }
 
+/* The network of each address of `asked` in byte form; its length is 0 if there is none. */
+static const struct {
+    uint8_t bytes[18];
+    size_t len;
+} routes[] = {
+    {{0, 10, 1, 2, 0, 24}, 6},  {{0, 10, 1, 0, 0, 16}, 6}, {{0, 10, 0, 0, 0, 8}, 6},
+    {{0, 0, 0, 0, 0, 0}, 6},    {{0, 0, 0, 0, 0, 0}, 6},   {{1, 0xfd, [17] = 32}, 18},
+    {{0}, 0},                   {{0}, 0},                  {{0}, 0},
+};
+
+static void longest_routes(const uint8_t *table, size_t len)
+{
+    for (size_t i = 0; i < sizeof asked / sizeof asked[0]; i++) {
+        for (size_t room = 17; room < 20; room++) {
+            uint32_t value = UNTOUCHED;
+            uint8_t *octets = copied(asked[i].octets, asked[i].len), *network = malloc(room);
+            memset(network, 0xa5, room);
+            uint32_t status = ipnet_table_longest_route(table, len, octets, asked[i].len, network, room, &value);
+            bool is_short = room < 18 && asked[i].status != IPNET_WRONG_LENGTH, found = status == 1;
+            expect(status == (is_short ? (uint32_t)IPNET_BUFFER_TOO_SHORT : asked[i].status), "the status of a route");
+            expect(value == (found ? asked[i].value : UNTOUCHED), "the value of a route");
+            expect(!found || memcmp(network, routes[i].bytes, routes[i].len) == 0, "the network of a route");
+            for (size_t k = found ? routes[i].len : 0; k < room; k++) {
+                expect(network[k] == 0xa5, "the bytes after the network");
+            }
+            free(octets);
+            free(network);
+        }
+    }
+    uint8_t network[18] = {0};
+    uint32_t value = UNTOUCHED;
+    expect(ipnet_table_longest_route(table, 31, asked[0].octets, 4, network, 18, &value) == IPNET_NOT_A_TABLE
+           && value == UNTOUCHED, "no header, no route");
+    expect(ipnet_table_longest_route(table, 31, asked[0].octets, 4, NULL, 0, &value) == IPNET_BUFFER_TOO_SHORT,
+           "the length is checked before the table");
+}
+
 static void bulk(const uint8_t *table, size_t len)
 {
     static const uint8_t four[] = {10, 1, 2, 3, 10, 2, 0, 1, 11, 0, 0, 1};
@@ -106,7 +143,7 @@ static void hostile(const uint8_t *table, size_t len)
 {
     for (size_t i = 0; i < len; i++) {
         for (unsigned flip = 1; flip < 256; flip = flip * 2 + 1) {
-            uint8_t *changed = copied(table, len);
+            uint8_t *changed = copied(table, len), network[18];
             uint32_t value = 0;
             changed[i] ^= (uint8_t)flip;
             bool is_header = i < 32;
@@ -114,6 +151,7 @@ static void hostile(const uint8_t *table, size_t len)
             expect(status == IPNET_NOT_A_TABLE || (status == IPNET_OK && !is_header), "a changed byte");
             for (size_t k = 0; k < sizeof asked / sizeof asked[0]; k++) {
                 ipnet_table_longest_match(changed, len, asked[k].octets, asked[k].len, &value);
+                ipnet_table_longest_route(changed, len, asked[k].octets, asked[k].len, network, sizeof network, &value);
             }
             free(changed);
         }
@@ -181,6 +219,7 @@ int main(void)
     expect(ipnet_table_from_text(list, strlen(list), numbers, 6, buffer, sizeof buffer, &len) == IPNET_OK, "the table");
     uint8_t *table = copied(buffer, len);
     questions(table, len);
+    longest_routes(table, len);
     bulk(table, len);
     hostile(table, len);
     free(table);

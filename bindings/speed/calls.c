@@ -4,8 +4,10 @@
 #define _POSIX_C_SOURCE 200112L
 #include "ipnet.h"
 
+#include <arpa/inet.h>
 #include <stdio.h>
 #include <stdlib.h>
+#include <string.h>
 #include <time.h>
 
 enum { ROUNDS = 5, WIDTH = 4 };
@@ -16,7 +18,10 @@ typedef struct bytes {
 } bytes;
 
 static bytes set, list, other, addresses, image, table, room;
-static uint32_t *values;
+static bytes families, octets;
+/* The addresses as lines of text, as many IPv6 addresses, the addresses without line ends, and their offsets. */
+static bytes lines, ipv6_lines, joined, offsets;
+static uint32_t *values, *numbers;
 static size_t routes;
 
 /* The processor time of this process in seconds. */
@@ -116,6 +121,55 @@ static void contains_all(void)
                                  addresses.len / WIDTH));
 }
 
+/* The addresses as numbers, and as rows. */
+static void make_columns(void)
+{
+    size_t count = addresses.len / WIDTH;
+    numbers = malloc(addresses.len);
+    families = memory(count);
+    octets = memory(count * 16);
+    memset(families.at, 4, count);
+    memset(octets.at, 0, octets.len);
+    for (size_t row = 0; row < count; row++) {
+        const uint8_t *four = (const uint8_t *)addresses.at + row * WIDTH;
+        numbers[row] = (uint32_t)four[0] << 24 | (uint32_t)four[1] << 16 | (uint32_t)four[2] << 8 | four[3];
+        memcpy(octets.at + row * 16, four, WIDTH);
+    }
+}
+
+static void contains_numbers(void)
+{
+    needs(ipnet_set_contains_u32(image.at, image.len, numbers, families.len, (uint8_t *)room.at, families.len));
+}
+
+static void contains_rows(void)
+{
+    needs(ipnet_set_contains_rows(image.at, image.len, (uint8_t *)families.at, families.len, (uint8_t *)octets.at,
+                                  octets.len, (uint8_t *)room.at, families.len));
+}
+
+static void match_numbers(void)
+{
+    needs(ipnet_table_longest_match_u32(table.at, table.len, numbers, families.len, 0, (uint32_t *)room.at,
+                                        families.len));
+}
+
+static void match_rows(void)
+{
+    needs(ipnet_table_longest_match_rows(table.at, table.len, (uint8_t *)families.at, families.len,
+                                         (uint8_t *)octets.at, octets.len, 0, (uint32_t *)room.at, families.len));
+}
+
+static void truncate_rows(void)
+{
+    needs(ipnet_truncate_rows(24, 48, (uint8_t *)families.at, families.len, (uint8_t *)octets.at, octets.len));
+}
+
+static void unmap_rows(void)
+{
+    needs(ipnet_unmap_rows((uint8_t *)families.at, families.len, (uint8_t *)octets.at, octets.len));
+}
+
 static void compile_table(void)
 {
     size_t count;
@@ -138,6 +192,79 @@ static void match_all(void)
                                         addresses.len / WIDTH));
 }
 
+static void longest_route(void)
+{
+    uint8_t network[IPNET_MAX_BYTES];
+    uint32_t value;
+    for (size_t at = 0; at < addresses.len; at += WIDTH) {
+        if (ipnet_table_longest_route(table.at, table.len, (const uint8_t *)addresses.at + at, WIDTH, network,
+                                      sizeof network, &value) > 1) {
+            stop("longest_route");
+        }
+    }
+}
+
+/* The lines of the addresses, or of IPv6 addresses whose last 8 or 4 octets are taken from them. */
+static void put_lines(void)
+{
+    size_t rows = addresses.len / WIDTH;
+    lines = memory(rows * INET_ADDRSTRLEN);
+    ipv6_lines = memory(rows * INET6_ADDRSTRLEN);
+    joined = memory(rows * INET_ADDRSTRLEN);
+    offsets = memory((rows + 1) * 4);
+    lines.len = ipv6_lines.len = joined.len = 0;
+    for (size_t row = 0; row < rows; row++) {
+        const char *octets = addresses.at + row * WIDTH;
+        uint8_t ipv6[16] = {0x20, 0x01, 0x0d, 0xb8};
+        uint32_t offset = (uint32_t)joined.len;
+        memcpy(offsets.at + row * 4, &offset, 4);
+        memcpy(ipv6 + 12, octets, WIDTH);
+        memcpy(ipv6 + 8, octets, row % 2 * WIDTH);
+        if (inet_ntop(AF_INET, octets, lines.at + lines.len, INET_ADDRSTRLEN) == NULL
+            || inet_ntop(AF_INET6, ipv6, ipv6_lines.at + ipv6_lines.len, INET6_ADDRSTRLEN) == NULL) {
+            stop("inet_ntop");
+        }
+        size_t len = strlen(lines.at + lines.len);
+        memcpy(joined.at + joined.len, lines.at + lines.len, len);
+        joined.len += len;
+        lines.len += len;
+        lines.at[lines.len++] = '\n';
+        ipv6_lines.len += strlen(ipv6_lines.at + ipv6_lines.len);
+        ipv6_lines.at[ipv6_lines.len++] = '\n';
+    }
+    uint32_t offset = (uint32_t)joined.len;
+    memcpy(offsets.at + rows * 4, &offset, 4);
+}
+
+static void read_lines(bytes text)
+{
+    size_t rows = addresses.len / WIDTH, bad;
+    needs(ipnet_rows_from_lines(text.at, text.len, (uint8_t *)room.at, rows, (uint8_t *)room.at + rows, rows * 16, &bad));
+    if (bad != 0) {
+        stop("rows_from_lines");
+    }
+}
+
+static void rows_from_lines(void)
+{
+    read_lines(lines);
+}
+
+static void rows_from_ipv6_lines(void)
+{
+    read_lines(ipv6_lines);
+}
+
+static void rows_from_offsets(void)
+{
+    size_t rows = addresses.len / WIDTH, bad;
+    needs(ipnet_rows_from_offsets(joined.at, joined.len, offsets.at, offsets.len, (uint8_t *)room.at, rows,
+                                  (uint8_t *)room.at + rows, rows * 16, &bad));
+    if (bad != 0) {
+        stop("rows_from_offsets");
+    }
+}
+
 static const struct {
     const char *name;
     void (*work)(void);
@@ -147,7 +274,12 @@ static const struct {
     {"same_addresses", same}, {"is_covered", covered},
     {"set_contains", contains}, {"set_contains_all", contains_all},
     {"table_from_text", compile_table}, {"table_longest_match", match},
-    {"table_longest_match_all", match_all},
+    {"table_longest_match_all", match_all}, {"table_longest_route", longest_route},
+    {"set_contains_u32", contains_numbers}, {"set_contains_rows", contains_rows},
+    {"table_longest_match_u32", match_numbers}, {"table_longest_match_rows", match_rows},
+    {"truncate_rows", truncate_rows}, {"unmap_rows", unmap_rows},
+    {"rows_from_lines", rows_from_lines}, {"rows_from_lines, IPv6", rows_from_ipv6_lines},
+    {"rows_from_offsets", rows_from_offsets},
 };
 
 int main(int words, char **word)
@@ -171,6 +303,8 @@ int main(int words, char **word)
     table = memory((size_t)1 << 27);
     needs(ipnet_set_from_text(set.at, set.len, image.at, image.len, &image.len));
     needs(ipnet_table_from_text(list.at, list.len, values, routes, table.at, table.len, &table.len));
+    make_columns();
+    put_lines();
     for (size_t call = 0; call < sizeof CALLS / sizeof *CALLS; call++) {
         double least = 1e9;
         for (int round = 0; round < ROUNDS; round++) {

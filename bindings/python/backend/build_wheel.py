@@ -3,6 +3,9 @@
 The library comes from the folder IPNET_LIB, else from ../build, which builds it if it is not built. Equal files give
 equal wheels: the dates are SOURCE_DATE_EPOCH, or 1980. From Python 3.10 on, and if a C compiler and Python.h are there,
 the module _quick is built too; without it the package gives the same answers, more slowly.
+
+    python3 build_wheel.py FOLDER FILE    writes only _quick, for the library in FOLDER, to FILE; if it cannot be built,
+                                          the status is 1
 """
 import base64
 import hashlib
@@ -95,3 +98,17 @@ def build_wheel(wheel_directory, config_settings=None, metadata_directory=None):
             entry.external_attr = 0o100644 << 16
             archive.writestr(entry, files[name], zipfile.ZIP_DEFLATED)
     return wheel
+
+
+def write_quick(folder, path):
+    """Writes the module _quick to the path, and returns the status: 1 if it cannot be built here."""
+    module = quick(folder)
+    if module is None:
+        return 1
+    with open(path, "wb") as file:
+        file.write(module)
+    return 0
+
+
+if __name__ == "__main__":
+    sys.exit(write_quick(*sys.argv[1:3]))

@@ -8,7 +8,8 @@ library in bindings/out; to use a library in another folder, set the environment
 A network is a text, such as "10.1.1.0/24" or "10.1.1.7", or an object of the standard module ipaddress: a network, an
 interface (an address with host bits and a prefix length), or an address. An address is a network of full length. A list
 is a text with one network per line, an iterable of networks, or one network. Texts are str, or UTF-8 in bytes,
-bytearray or memoryview. IPv6 addresses with a zone, as fe80::1%eth0, are refused.
+bytearray or memoryview. IPv6 addresses with a zone, as fe80::1%eth0, are refused. Sets and tables are also asked about
+whole columns: lists, buffers, arrays of NumPy and Series of pandas (docs/DATA.md).
 
 >>> aggregate_text("10.0.1.0/24\\n10.0.0.0/24\\n")
 '10.0.0.0/23\\n'
@@ -23,6 +24,8 @@ True
 >>> allowed = IpSet(["10.0.0.0/8"]) - IpSet("10.1.0.0/16")
 >>> "10.2.0.1" in allowed, "10.1.0.1" in allowed
 (True, False)
+>>> allowed.contains_all(["10.2.0.1", None, "10.1.0.1"])
+[True, None, False]
 >>> aggregate_text("10.0.0.0/24\\n\\nx\\n")
 Traceback (most recent call last):
     ...
@@ -32,9 +35,12 @@ import ipaddress
 from typing import List
 
 from . import _library as library
+from ._bulk import parse_all, text_all, truncate_all
+from ._columns import Addresses, ArrowText
 from ._library import version as library_version
 from ._networks import (BadLine, Interface, Network, Networks, NotANetwork, OneNetwork, answered, bytes_of,
                         interface_of, text_of)
+from ._rows import BadRow
 from ._sets import IpSet, NotASet
 from ._tables import NotATable, RouteTable
 
@@ -42,13 +48,14 @@ __all__ = [
     "IpSet", "NotASet", "RouteTable", "NotATable",
     "aggregate", "aggregate_text", "union", "union_text", "intersection", "intersection_text", "difference",
     "difference_text", "same_addresses", "is_covered", "parse", "canonical_text", "library_version", "BadLine",
-    "NotANetwork",
+    "NotANetwork", "Addresses", "ArrowText", "BadRow", "parse_all", "text_all", "truncate_all",
 ]
 
 __version__ = "1.0.0"
 
 BadLine.__module__ = NotANetwork.__module__ = NotASet.__module__ = IpSet.__module__ = __name__
 RouteTable.__module__ = NotATable.__module__ = __name__
+Addresses.__module__ = ArrowText.__module__ = BadRow.__module__ = __name__
 
 
 def aggregate_text(networks: Networks, legacy: bool = False) -> str:

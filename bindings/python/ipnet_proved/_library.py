@@ -17,6 +17,7 @@ OTHER_NOT_UTF8 = 10
 NOT_A_SET = 11
 OTHER_NOT_A_SET = 12
 NOT_A_TABLE = 13
+BAD_OFFSETS = 14
 
 MAX_BYTES = 18
 MAX_TEXT = 43
@@ -69,6 +70,7 @@ def _load() -> ctypes.CDLL:
         "ipnet_set_from_list": into_buffer,
         "ipnet_set_from_list_legacy": into_buffer,
         "ipnet_set_to_text": into_buffer,
+        "ipnet_set_to_ranges": into_buffer,
         "ipnet_set_check": [read, size],
         "ipnet_set_contains": [read, size, read, size],
         "ipnet_set_covers": [read, size, read, size],
@@ -81,11 +83,20 @@ def _load() -> ctypes.CDLL:
         "ipnet_set_difference": [read, size, read, size, read, size, number],
         "ipnet_set_symmetric_difference": [read, size, read, size, read, size, number],
         "ipnet_set_complement": into_buffer,
+        "ipnet_rows_from_lines": [read, size, read, size, read, size, number],
+        "ipnet_rows_from_offsets": [read, size, read, size, read, size, read, size, number],
         "ipnet_table_from_text": [read, size, words, size, read, size, number],
         "ipnet_table_check": [read, size],
         "ipnet_table_count": [read, size, number],
         "ipnet_table_longest_match": [read, size, read, size, word],
+        "ipnet_table_longest_route": [read, size, read, size, read, size, word],
         "ipnet_table_longest_match_all": [read, size, read, size, size, value, words, size],
+        "ipnet_set_contains_u32": [read, size, words, size, read, size],
+        "ipnet_set_contains_rows": [read, size, read, size, read, size, read, size],
+        "ipnet_table_longest_match_u32": [read, size, words, size, value, words, size],
+        "ipnet_table_longest_match_rows": [read, size, read, size, read, size, value, words, size],
+        "ipnet_unmap_rows": [read, size, read, size],
+        "ipnet_truncate_rows": [value, value, read, size, read, size],
     }
     try:
         for name, types in declared.items():

@@ -5,6 +5,8 @@ from ipaddress import IPv4Address, IPv6Address, ip_network
 from typing import Any, Callable, Iterator, List, Optional, Sequence, Tuple, Union
 
 from . import _library as library
+from ._bulk import RAISE, Options, contained
+from ._columns import ArrowText
 from ._networks import (Address, BadLine, Network, Networks, OneNetwork, Text, answered, as_bytes, bytes_of,
                         cause_of_entry, shown, text_of)
 
@@ -134,13 +136,39 @@ class IpSet:
         wanted = bytes_of(network)
         return _covers(self._image, len(self._image), wanted, len(wanted)) == 1
 
-    def contains_all(self, addresses: Sequence[Union[str, Address]]) -> List[bool]:
-        """Whether the set contains each of the addresses, in order.
+    def contains_all(self, column: Any, *, invalid: str = RAISE, mapped: bool = False, out: Any = None) -> Any:
+        """Whether the set contains each address of a column. docs/DATA.md lists the kinds of columns.
 
-        >>> IpSet("10.0.0.0/31").contains_all(["10.0.0.1", ipaddress.ip_address("10.0.0.2"), "::1"])
-        [True, False, False]
+        A list, or another iterable, of texts and objects gives a list of True, False, and None for a missing row. A
+        buffer gives bytes of 1, 0, and 2 for a missing row. An array of NumPy gives an array of bool, masked at missing
+        rows, and a Series of pandas one of boolean. `out` may lend a byte for each row, and is returned; it is changed
+        also if an exception is raised.
+
+        A row that is not an address raises BadRow; if `invalid` is "missing", it is a missing row, and the result has
+        the number of such rows as `invalid` (a Series in `attrs["invalid"]`). If `mapped` is true, IPv4-mapped rows
+        as ::ffff:10.0.0.1 are IPv4 addresses; else they are IPv6 addresses as all others.
+
+        >>> IpSet("10.0.0.0/31").contains_all(["10.0.0.1", ipaddress.ip_address("10.0.0.2"), None])
+        [True, False, None]
+        >>> IpSet("10.0.0.0/31").contains_all("10.0.0.1\\n10.0.0.2\\n")
+        b'\\x01\\x00'
+        >>> IpSet("10.0.0.0/31").contains_all(["10.0.0.1", "10.0.0.01"])
+        Traceback (most recent call last):
+            ...
+        ipnet_proved.BadRow: row 1: '10.0.0.01': the IPv4 address is not valid
         """
-        return [address in self for address in addresses]
+        return contained(self._image, column, Options(invalid, mapped), out)
+
+    def contains_arrow(self, data: Any, offsets: Any, validity: Any = None, *, invalid: str = RAISE,
+                       mapped: bool = False, out: Any = None) -> Any:
+        """As contains_all, for the buffers of a column of texts in Arrow's layout. For offsets in a buffer of bytes,
+        and for a column that begins in the middle of its buffers, pass an ArrowText to contains_all.
+
+        >>> import array
+        >>> IpSet("10.0.0.0/31").contains_arrow(b"10.0.0.110.0.0.2", array.array("q", [0, 8, 16]), b"\\1")
+        b'\\x01\\x02'
+        """
+        return self.contains_all(ArrowText(data, offsets, validity), invalid=invalid, mapped=mapped, out=out)
 
     def covers_all(self, networks: Sequence[OneNetwork]) -> List[bool]:
         """Whether the set contains every address of each of the networks, in order.

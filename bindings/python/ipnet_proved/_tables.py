@@ -1,10 +1,14 @@
 """Tables of routes, kept as images: bytes that can be stored and sent."""
 import array
 import ctypes
-from typing import Any, Iterable, Mapping, Optional, Tuple, Union
+import struct
+from ipaddress import IPv4Network, IPv6Network
+from typing import Any, Iterable, Iterator, List, Mapping, Optional, Tuple, Union
 
 from . import _library as library
-from ._networks import OneNetwork, bytes_of, refuse, text_of, with_lengths
+from ._bulk import RAISE, Options, matched
+from ._columns import ArrowText
+from ._networks import Network, OneNetwork, bytes_of, refuse, text_of, with_lengths
 
 try:
     from ._quick import longest_match
@@ -15,6 +19,7 @@ except ImportError:
 
 LARGEST = 2 ** 32 - 1
 WIDTHS = (4, 16)
+HEADER = struct.Struct("<8sQQQ")
 
 _from_text = library.question("ipnet_table_from_text")
 _check = library.question("ipnet_table_check")
@@ -49,8 +54,10 @@ class RouteTable:
     (2, None, 2)
     """
 
-    __slots__ = ("_image",)
+    __slots__ = ("_image", "_absent", "_numbered")
     _image: bytes
+    _absent: int
+    _numbered: bytes
 
     def __init__(self, routes: Routes = ()) -> None:
         pairs = list(routes.items() if isinstance(routes, Mapping) else routes)
@@ -121,6 +128,54 @@ class RouteTable:
         """Whether a network of the table contains the address."""
         return self.get(address) is not None
 
+    def match_all(self, column: Any, *, default: Optional[int] = None, invalid: str = RAISE,
+                  mapped: bool = False) -> Any:
+        """The number of the longest network that contains each address of a column, or `default` if none does, and
+        nothing for a missing row. The columns, `invalid` and `mapped` are as for IpSet.contains_all.
+
+        A list or a buffer gives a list, with None for a missing row. An array of NumPy gives an array of uint32, masked
+        at missing rows, and at rows without a route if there is no default; a Series of pandas gives one of UInt32.
+        Raises OverflowError if the default does not fit.
+
+        >>> table = RouteTable({"10.0.0.0/8": 1, "10.1.0.0/16": 2})
+        >>> table.match_all(["10.1.0.1", "11.0.0.1", None, "10.0.0.1"], default=0)
+        [2, 0, None, 1]
+        """
+        return matched(self._image, column, Options(invalid, mapped), self._unused(), default)
+
+    def match_arrow(self, data: Any, offsets: Any, validity: Any = None, *, default: Optional[int] = None,
+                    invalid: str = RAISE, mapped: bool = False) -> Any:
+        """As match_all, for the buffers of a column of texts in Arrow's layout, as IpSet.contains_arrow takes them."""
+        return self.match_all(ArrowText(data, offsets, validity), default=default, invalid=invalid, mapped=mapped)
+
+    def route_all(self, column: Any, *, default: Optional[int] = None, invalid: str = RAISE,
+                  mapped: bool = False) -> Any:
+        """As match_all, with the place in routes() of the longest network that contains the address, in place of its
+        number. The first call makes a second image, with the places as values.
+
+        >>> table = RouteTable({"10.0.0.0/8": 7, "10.1.0.0/16": 7})
+        >>> [table.routes()[place] for place in table.route_all("10.1.0.1\\n10.2.0.1\\n")]
+        [(IPv4Network('10.1.0.0/16'), 7), (IPv4Network('10.0.0.0/8'), 7)]
+        """
+        try:
+            numbered = self._numbered
+        except AttributeError:
+            numbered = self._numbered = with_values(self._image, range(len(self)))
+        return matched(numbered, column, Options(invalid, mapped), LARGEST, default)
+
+    def routes(self) -> List[Tuple[Network, int]]:
+        """The networks, each with its number, IPv4 first, ascending, a network before those that it contains."""
+        return list(routes_of(self._image))
+
+    def _unused(self) -> int:
+        """A number that no route has: the first whose four bytes are nowhere in the image."""
+        try:
+            return self._absent
+        except AttributeError:
+            self._absent = next(number for number in range(LARGEST, -1, -1)
+                                if number.to_bytes(4, "little") not in self._image)
+            return self._absent
+
     def get_packed(self, octets: Union[bytes, bytearray, memoryview], width: int,
                    missing: int = LARGEST) -> "array.array[int]":
         """The number of the longest network for each of many addresses, of which `octets` has `width` bytes each: 4 for
@@ -137,6 +192,35 @@ class RouteTable:
         place, count = values.buffer_info()
         _longest_match_all(self._image, len(self._image), data, len(data), width, missing, place, count)
         return values
+
+
+def rows_of(image: bytes) -> Tuple[int, int]:
+    """How many IPv4 routes and IPv6 routes the image has."""
+    _, _, ipv4, ipv6 = HEADER.unpack_from(image)
+    return ipv4, ipv6
+
+
+def routes_of(image: bytes) -> Iterator[Tuple[Network, int]]:
+    """The routes of an image: a number, a prefix length and a value each, and a link."""
+    ipv4, ipv6 = rows_of(image)
+    end = HEADER.size + 16 * ipv4
+    for number, length, value, _ in struct.iter_unpack("<IIII", image[HEADER.size:end]):
+        yield IPv4Network((number, length)), value
+    for low, high, length, value, _ in struct.iter_unpack("<QQIIQ", image[end:end + 32 * ipv6]):
+        yield IPv6Network((high << 64 | low, length)), value
+
+
+def with_values(image: bytes, values: Iterable[int]) -> bytes:
+    """The image with these values, in the order of its routes."""
+    ipv4, ipv6 = rows_of(image)
+    changed, numbers = bytearray(image), array.array("I", values)
+    words, given = memoryview(changed).cast("I"), memoryview(numbers)
+    first, second = HEADER.size // 4 + 2, HEADER.size // 4 + 4 * ipv4 + 5
+    if ipv4:
+        words[first:first + 4 * ipv4:4] = given[:ipv4]
+    if ipv6:
+        words[second:second + 8 * ipv6:8] = given[ipv4:]
+    return bytes(changed)
 
 
 def _written(text: bytes, values: "array.array[int]") -> Tuple[int, int, bytes]:

@@ -18,10 +18,14 @@
 
 #![deny(missing_docs)]
 
+mod column;
 mod raw;
+mod rows;
 mod set;
 mod table;
 
+pub use column::Rows;
+pub use raw::Offset;
 pub use set::IpSet;
 pub use table::RouteTable;
 
@@ -45,6 +49,10 @@ pub enum Error {
     NotASet,
     /// The bytes are not the image of a table.
     NotATable,
+    /// The text does not end with a line end, or there is no offset.
+    WrongLength,
+    /// An offset is less than the offset before it, or greater than the length of the text.
+    BadOffsets,
     /// `malloc` or `realloc` failed.
     OutOfMemory,
 }
@@ -60,6 +68,8 @@ impl fmt::Display for Error {
             Error::PrefixTooLong => f.write_str("invalid IP prefix length"),
             Error::NotASet => f.write_str("not the image of a set"),
             Error::NotATable => f.write_str("not the image of a table"),
+            Error::WrongLength => f.write_str("wrong length"),
+            Error::BadOffsets => f.write_str("the offsets are not ascending places in the text"),
             Error::OutOfMemory => f.write_str("out of memory"),
         }
     }
@@ -127,7 +137,7 @@ impl Network {
         bytes
     }
 
-    fn from_bytes(bytes: &[u8]) -> Result<Network, Error> {
+    pub(crate) fn from_bytes(bytes: &[u8]) -> Result<Network, Error> {
         match bytes {
             [0, a, b, c, d, prefix_len] => Network::new(Ipv4Addr::new(*a, *b, *c, *d).into(), *prefix_len),
             [1, octets @ .., prefix_len] => match <[u8; 16]>::try_from(octets) {

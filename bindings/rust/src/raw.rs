@@ -2,15 +2,17 @@
 use crate::Error;
 use std::{fmt, str};
 
-const OK: u32 = 0;
+pub const OK: u32 = 0;
 const BAD_LINE: u32 = 1;
 const OUT_OF_MEMORY: u32 = 3;
 const BUFFER_TOO_SHORT: u32 = 4;
 const NOT_A_NETWORK: u32 = 5;
+const WRONG_LENGTH: u32 = 6;
 const PREFIX_TOO_LONG: u32 = 8;
 const BAD_LINE_IN_OTHER: u32 = 9;
 const NOT_A_SET: u32 = 11;
 const NOT_A_TABLE: u32 = 13;
+const BAD_OFFSETS: u32 = 14;
 
 /// The maximum number of bytes in the byte form of a network, and in its text.
 const MAX_BYTES: usize = 18;
@@ -137,6 +139,13 @@ extern "C" {
         buffer_len: usize,
         count: *mut usize,
     ) -> u32;
+    pub fn ipnet_set_to_ranges(
+        set: *const u8,
+        set_len: usize,
+        buffer: *mut u8,
+        buffer_len: usize,
+        count: *mut usize,
+    ) -> u32;
     pub fn ipnet_set_complement(
         set: *const u8,
         set_len: usize,
@@ -203,6 +212,26 @@ extern "C" {
     ) -> u32;
     fn ipnet_set_counts(set: *const u8, set_len: usize, counts: *mut u64, counts_len: usize) -> u32;
     fn ipnet_set_is_subset(set: *const u8, set_len: usize, other: *const u8, other_len: usize) -> u32;
+    fn ipnet_rows_from_lines(
+        text: *const u8,
+        text_len: usize,
+        families: *mut u8,
+        families_len: usize,
+        octets: *mut u8,
+        octets_len: usize,
+        bad: *mut usize,
+    ) -> u32;
+    fn ipnet_rows_from_offsets(
+        text: *const u8,
+        text_len: usize,
+        offsets: *const u8,
+        offsets_len: usize,
+        families: *mut u8,
+        families_len: usize,
+        octets: *mut u8,
+        octets_len: usize,
+        bad: *mut usize,
+    ) -> u32;
     fn ipnet_table_from_text(
         text: *const u8,
         text_len: usize,
@@ -221,6 +250,15 @@ extern "C" {
         address_len: usize,
         value: *mut u32,
     ) -> u32;
+    fn ipnet_table_longest_route(
+        table: *const u8,
+        table_len: usize,
+        address: *const u8,
+        address_len: usize,
+        network: *mut u8,
+        network_len: usize,
+        value: *mut u32,
+    ) -> u32;
     fn ipnet_table_longest_match_all(
         table: *const u8,
         table_len: usize,
@@ -230,6 +268,53 @@ extern "C" {
         missing: u32,
         values: *mut u32,
         values_len: usize,
+    ) -> u32;
+    pub fn ipnet_set_contains_u32(
+        set: *const u8,
+        set_len: usize,
+        addresses: *const u32,
+        addresses_len: usize,
+        answers: *mut u8,
+        answers_len: usize,
+    ) -> u32;
+    pub fn ipnet_set_contains_rows(
+        set: *const u8,
+        set_len: usize,
+        families: *const u8,
+        families_len: usize,
+        octets: *const u8,
+        octets_len: usize,
+        answers: *mut u8,
+        answers_len: usize,
+    ) -> u32;
+    pub fn ipnet_table_longest_match_u32(
+        table: *const u8,
+        table_len: usize,
+        addresses: *const u32,
+        addresses_len: usize,
+        missing: u32,
+        values: *mut u32,
+        values_len: usize,
+    ) -> u32;
+    pub fn ipnet_table_longest_match_rows(
+        table: *const u8,
+        table_len: usize,
+        families: *const u8,
+        families_len: usize,
+        octets: *const u8,
+        octets_len: usize,
+        missing: u32,
+        values: *mut u32,
+        values_len: usize,
+    ) -> u32;
+    pub fn ipnet_unmap_rows(families: *mut u8, families_len: usize, octets: *mut u8, octets_len: usize) -> u32;
+    pub fn ipnet_truncate_rows(
+        ipv4_length: u32,
+        ipv6_length: u32,
+        families: *const u8,
+        families_len: usize,
+        octets: *mut u8,
+        octets_len: usize,
     ) -> u32;
 }
 
@@ -263,7 +348,7 @@ impl Bytes {
 }
 
 /// The error for a status and the line number reported with it. The statuses for invalid UTF-8 cannot occur for a
-/// `str`, and the statuses for invalid bytes cannot occur for a [`crate::Network`].
+/// `str`, and the statuses for invalid bytes, except a wrong length, cannot occur for a [`crate::Network`].
 fn error_of(status: u32, line: usize) -> Error {
     match status {
         BAD_LINE => Error::BadLine(line),
@@ -272,6 +357,8 @@ fn error_of(status: u32, line: usize) -> Error {
         PREFIX_TOO_LONG => Error::PrefixTooLong,
         NOT_A_SET => Error::NotASet,
         NOT_A_TABLE => Error::NotATable,
+        WRONG_LENGTH => Error::WrongLength,
+        BAD_OFFSETS => Error::BadOffsets,
         _ => Error::NotANetwork,
     }
 }
@@ -345,7 +432,7 @@ pub fn combine(text: &[u8], other: &[u8], into_buffer: BothIntoBuffer) -> Result
 }
 
 /// Extends the buffer to `len` bytes.
-fn grow(buffer: &mut Vec<u8>, len: usize) -> Result<(), Error> {
+pub fn grow(buffer: &mut Vec<u8>, len: usize) -> Result<(), Error> {
     buffer.try_reserve_exact(len - buffer.len()).map_err(|_| Error::OutOfMemory)?;
     buffer.resize(len, 0);
     Ok(())
@@ -522,6 +609,89 @@ pub fn table_longest_match(table: &[u8], octets: &[u8]) -> Option<u32> {
         ipnet_table_longest_match(table.as_ptr(), table.len(), octets.as_ptr(), octets.len(), &mut value)
     };
     (status == 1).then_some(value)
+}
+
+/// The byte form and the value of the longest network that contains the address with these octets, 4 or 16.
+pub fn table_longest_route(table: &[u8], octets: &[u8]) -> Option<(Bytes, u32)> {
+    let mut network = Bytes::default();
+    let mut value = 0;
+    // SAFETY: as in `call`.
+    let status = unsafe {
+        ipnet_table_longest_route(
+            table.as_ptr(),
+            table.len(),
+            octets.as_ptr(),
+            octets.len(),
+            network.bytes.as_mut_ptr(),
+            network.bytes.len(),
+            &mut value,
+        )
+    };
+    network.len = if network.bytes[0] == 0 { 6 } else { MAX_BYTES };
+    (status == 1).then_some((network, value))
+}
+
+/// Reads a row from each line of the text: a byte of `families` and 16 of `octets`. Returns the number of rows that are
+/// not an address.
+pub fn rows_from_lines(text: &[u8], families: &mut [u8], octets: &mut [u8]) -> Result<usize, Error> {
+    let mut bad = 0;
+    // SAFETY: as in `call`.
+    let status = unsafe {
+        ipnet_rows_from_lines(
+            text.as_ptr(),
+            text.len(),
+            families.as_mut_ptr(),
+            families.len(),
+            octets.as_mut_ptr(),
+            octets.len(),
+            &mut bad,
+        )
+    };
+    match status {
+        OK => Ok(bad),
+        status => Err(error_of(status, 0)),
+    }
+}
+
+/// Reads a row from each text between two offsets, as [`rows_from_lines`] does from lines. The offsets have 4 or 8 bytes
+/// each, in the order of x86-64, on which the library runs.
+pub fn rows_from_offsets<T: Offset>(
+    text: &[u8],
+    offsets: &[T],
+    families: &mut [u8],
+    octets: &mut [u8],
+) -> Result<usize, Error> {
+    let mut bad = 0;
+    // SAFETY: as in `call`. `Offset` is `u32` or `u64`, so the bytes of the offsets may be read.
+    let status = unsafe {
+        ipnet_rows_from_offsets(
+            text.as_ptr(),
+            text.len(),
+            offsets.as_ptr().cast(),
+            std::mem::size_of_val(offsets),
+            families.as_mut_ptr(),
+            families.len(),
+            octets.as_mut_ptr(),
+            octets.len(),
+            &mut bad,
+        )
+    };
+    match status {
+        OK => Ok(bad),
+        status => Err(error_of(status, 0)),
+    }
+}
+
+/// The types of offsets: `u32` and `u64`.
+pub trait Offset: sealed::Sealed {}
+
+impl Offset for u32 {}
+impl Offset for u64 {}
+
+mod sealed {
+    pub trait Sealed {}
+    impl Sealed for u32 {}
+    impl Sealed for u64 {}
 }
 
 /// Writes the value of the longest match for each address of `width` octets, or `missing`. The lengths fit.

@@ -249,6 +249,19 @@ impl IpSet {
         raw::text_from(&self.image, raw::ipnet_set_to_text)
     }
 
+    /// The fewest ranges of the set as text, one per line, IPv4 first, ascending: the first and the last address of each.
+    ///
+    /// ```
+    /// use ipnet_proved::{Error, IpSet};
+    ///
+    /// let set: IpSet = "10.0.0.0/31\n10.0.0.2/32\nfd00::1/128".parse()?;
+    /// assert_eq!(set.to_ranges()?, "10.0.0.0-10.0.0.2\nfd00::1-fd00::1\n");
+    /// # Ok::<(), Error>(())
+    /// ```
+    pub fn to_ranges(&self) -> Result<String, Error> {
+        raw::text_from(&self.image, raw::ipnet_set_to_ranges)
+    }
+
     /// The fewest networks of the set, IPv4 first, ascending.
     ///
     /// ```

@@ -69,6 +69,25 @@ impl RouteTable {
         }
     }
 
+    /// The longest network that contains the address, and its number, or `None` if none does. Allocates nothing.
+    ///
+    /// ```
+    /// use ipnet_proved::{Error, Network, RouteTable};
+    /// use std::net::Ipv4Addr;
+    ///
+    /// let table = RouteTable::from_routes(&[("10.0.0.0/8".parse()?, 1), ("10.1.0.9/16".parse()?, 2)])?;
+    /// assert_eq!(table.longest_route(Ipv4Addr::new(10, 1, 2, 3)), Some(("10.1.0.0/16".parse()?, 2)));
+    /// assert_eq!(table.longest_route(Ipv4Addr::new(11, 0, 0, 1)), None);
+    /// # Ok::<(), Error>(())
+    /// ```
+    pub fn longest_route(&self, address: impl Into<IpAddr>) -> Option<(Network, u32)> {
+        let (network, value) = match address.into() {
+            IpAddr::V4(address) => raw::table_longest_route(&self.image, &address.octets()),
+            IpAddr::V6(address) => raw::table_longest_route(&self.image, &address.octets()),
+        }?;
+        Some((Network::from_bytes(network.as_slice()).ok()?, value))
+    }
+
     /// The number of the longest network for each of the addresses, in order, or `missing`.
     ///
     /// ```

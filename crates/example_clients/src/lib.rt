@@ -7,6 +7,7 @@
 
 pub mod lists;
 pub mod networks;
+pub mod pictures;
 pub mod plans;
 pub mod routes;
 pub mod stored;

@@ -8,7 +8,7 @@ use Rattle.std.specs.Hash.{le_bytes}
 use Rattle.ipnet_base.specs.Network.{Network, IsBefore}
 use Rattle.ipnet_base.proofs.NetworkLaws.{same_network}
 use Rattle.ipnet_base.proofs.DigitLaws.{same_by_bytes}
-use Rattle.ipnet_base.proofs.ValueLaws.{families_fed_apart}
+use Rattle.ipnet_base.proofs.ValueLaws.{FeedsByFamily, same_view}
 use Rattle.ipnet.specs.declared.net.IpNet.{IpNet}
 use Rattle.ipnet.specs.declared.net.ipv4_net.Ipv4Net.{Ipv4Net}
 use Rattle.ipnet.specs.declared.net.ipv6_net.Ipv6Net.{Ipv6Net}
@@ -137,16 +137,13 @@ ipv6_hash x y = (to, λ e. ap ipv6_fed (ipv6_one_to_one x y e))
         same_network (ipv6_network x) (ipv6_network y) refl (omega arith)
         (same_by_bytes 8 x.prefix_len y.prefix_len (omega (arith, x.prefix_fits)) (omega (arith, y.prefix_fits)) len)
 
--- For either family, a hasher is fed the family's place first.
-pub ip_hash : (fed : IpNet → List (List ℕ)) → ((n : Ipv4Net) → fed (Ip.V4 n) ≡ le_bytes 8 0 ∷ ipv4_fed n)
-    → ((n : Ipv6Net) → fed (Ip.V6 n) ≡ le_bytes 8 1 ∷ ipv6_fed n)
+either_family : (n : IpNet) → ((a : Ipv4Net) × (n ≡ Ip.V4 a)) ⊎ ((b : Ipv6Net) × (n ≡ Ip.V6 b))
+either_family (Ip.V4 n) = inl (n, refl)
+either_family (Ip.V6 n) = inr (n, refl)
+
+pub ip_hash : (fed : IpNet → List (List ℕ)) → FeedsByFamily Ip.V4 Ip.V6 ipv4_fed ipv6_fed fed
     → (x y : IpNet) → (fed x ≡ fed y) ↔ (ip_network x ≡ ip_network y)
-ip_hash fed four six x y = (to x y, λ e. ap fed (ip_one_to_one x y e))
-  where
-    to : (x y : IpNet) → fed x ≡ fed y → ip_network x ≡ ip_network y
-    to (Ip.V4 m) (Ip.V4 n) e =
-        let both = sym (four m) ∙ e ∙ four n in let rest : ipv4_fed m ≡ ipv4_fed n = cc in (ipv4_hash m n).0 rest
-    to (Ip.V4 m) (Ip.V6 n) e = absurd (families_fed_apart (ipv4_fed m) (ipv6_fed n) (sym (four m) ∙ e ∙ six n))
-    to (Ip.V6 m) (Ip.V4 n) e = absurd (families_fed_apart (ipv4_fed n) (ipv6_fed m) (sym (four n) ∙ sym e ∙ six m))
-    to (Ip.V6 m) (Ip.V6 n) e =
-        let both = sym (six m) ∙ e ∙ six n in let rest : ipv6_fed m ≡ ipv6_fed n = cc in (ipv6_hash m n).0 rest
+ip_hash fed f x y = (
+  same_view either_family f ip_network (λ a b. (ipv4_hash a b).0) (λ a b. (ipv6_hash a b).0) x y,
+  λ e. ap fed (ip_one_to_one x y e),
+)

@@ -9,7 +9,7 @@ use Rattle.std.specs.declared.net.ipv6_addr.Ipv6Addr.{Ipv6Addr}
 use Rattle.std.specs.Net.Addr.{segments_of, octets_of, ipv4_octets, ipv6_segments, ipv4_bits, ipv6_bits, IsIpv4Addr}
 use Rattle.std.specs.Net.Addr.{IsIpv6Addr}
 use Rattle.ipnet_base.proofs.DigitLaws.{value, value_below, below_all, byte_at_below, pairs, halves}
-use Rattle.ipnet_base.proofs.DigitLaws.{value-bytes_high_first}
+use Rattle.ipnet_base.proofs.DigitLaws.{value-bytes_high_first, sixteen_octets, length-octets_of}
 
 -- the octets of a number are bytes
 pub octet_fits : (len n : ℕ) → (k : ℕ) → get_or (bytes_high_first len n) k 0 < 2 ^ 8
@@ -60,40 +60,17 @@ same_octets (x ∷ xs) (y ∷ ys) len fit fit' e =
     let later = same_octets xs ys same (λ k. fit (suc k)) (λ k. fit' (suc k)) rest in
     cc
 
-octets_again : (bytes : List ℕ) → length bytes ≡ 16 → AreOctets bytes → from_be_bytes w128 bytes ≡ value 256 bytes
+-- sixteen octets are the octets of the number that they write
+pub sixteen_again : (bytes : List ℕ) → length bytes ≡ 16 → ((k : ℕ) → get_or bytes k 0 < 2 ^ 8)
     → to_be_bytes w128 (from_be_bytes w128 bytes) ≡ bytes
 unfolding AreOctets
-octets_again bytes sixteen fit whole =
+sixteen_again bytes sixteen fit =
+    let whole = sixteen_octets bytes sixteen in
     let low : value 256 bytes < 256 ^ 16 = rw sixteen at (number_below bytes fit) in
     let e : value 256 (to_be_bytes w128 (from_be_bytes w128 bytes)) ≡ value 256 bytes =
     ap (λ n. value 256 (to_be_bytes w128 n)) whole ∙ value-bytes_high_first 16 (value 256 bytes) ∙ mod-eq_of_lt low in
     same_octets (to_be_bytes w128 (from_be_bytes w128 bytes)) bytes (sym sixteen)
     (octet_fits 16 (from_be_bytes w128 bytes)) fit e
-
--- sixteen octets are the octets of the number that they write
-pub sixteen_again : (bytes : List ℕ) → length bytes ≡ 16 → ((k : ℕ) → get_or bytes k 0 < 2 ^ 8)
-    → to_be_bytes w128 (from_be_bytes w128 bytes) ≡ bytes
-unfolding AreOctets
-sixteen_again [] sixteen fit = absurd (omega arith)
-sixteen_again (a ∷ []) sixteen fit = absurd (omega arith)
-sixteen_again (a ∷ b ∷ []) sixteen fit = absurd (omega arith)
-sixteen_again (a ∷ b ∷ c ∷ []) sixteen fit = absurd (omega arith)
-sixteen_again (a ∷ b ∷ c ∷ d ∷ []) sixteen fit = absurd (omega arith)
-sixteen_again (a ∷ b ∷ c ∷ d ∷ e ∷ []) sixteen fit = absurd (omega arith)
-sixteen_again (a ∷ b ∷ c ∷ d ∷ e ∷ f ∷ []) sixteen fit = absurd (omega arith)
-sixteen_again (a ∷ b ∷ c ∷ d ∷ e ∷ f ∷ g ∷ []) sixteen fit = absurd (omega arith)
-sixteen_again (a ∷ b ∷ c ∷ d ∷ e ∷ f ∷ g ∷ h ∷ []) sixteen fit = absurd (omega arith)
-sixteen_again (a ∷ b ∷ c ∷ d ∷ e ∷ f ∷ g ∷ h ∷ i ∷ []) sixteen fit = absurd (omega arith)
-sixteen_again (a ∷ b ∷ c ∷ d ∷ e ∷ f ∷ g ∷ h ∷ i ∷ j ∷ []) sixteen fit = absurd (omega arith)
-sixteen_again (a ∷ b ∷ c ∷ d ∷ e ∷ f ∷ g ∷ h ∷ i ∷ j ∷ k ∷ []) sixteen fit = absurd (omega arith)
-sixteen_again (a ∷ b ∷ c ∷ d ∷ e ∷ f ∷ g ∷ h ∷ i ∷ j ∷ k ∷ l ∷ []) sixteen fit = absurd (omega arith)
-sixteen_again (a ∷ b ∷ c ∷ d ∷ e ∷ f ∷ g ∷ h ∷ i ∷ j ∷ k ∷ l ∷ m ∷ []) sixteen fit = absurd (omega arith)
-sixteen_again (a ∷ b ∷ c ∷ d ∷ e ∷ f ∷ g ∷ h ∷ i ∷ j ∷ k ∷ l ∷ m ∷ n ∷ []) sixteen fit = absurd (omega arith)
-sixteen_again (a ∷ b ∷ c ∷ d ∷ e ∷ f ∷ g ∷ h ∷ i ∷ j ∷ k ∷ l ∷ m ∷ n ∷ o ∷ []) sixteen fit = absurd (omega arith)
-sixteen_again (a ∷ b ∷ c ∷ d ∷ e ∷ f ∷ g ∷ h ∷ i ∷ j ∷ k ∷ l ∷ m ∷ n ∷ o ∷ p ∷ []) sixteen fit =
-    octets_again (a ∷ b ∷ c ∷ d ∷ e ∷ f ∷ g ∷ h ∷ i ∷ j ∷ k ∷ l ∷ m ∷ n ∷ o ∷ p ∷ []) refl fit (omega arith)
-sixteen_again (a ∷ b ∷ c ∷ d ∷ e ∷ f ∷ g ∷ h ∷ i ∷ j ∷ k ∷ l ∷ m ∷ n ∷ o ∷ p ∷ q ∷ more) sixteen fit =
-    absurd (omega arith)
 
 segments_of-octets_of : (groups : List ℕ) → segments_of (octets_of groups) ≡ groups
 segments_of-octets_of [] = refl
@@ -106,24 +83,6 @@ octets_of-octets (g ∷ groups) fit zero = let low = fit 0 in omega arith
 octets_of-octets (g ∷ groups) fit (suc zero) = mod_below g 256 (omega arith)
 octets_of-octets (g ∷ groups) fit (suc (suc k)) = octets_of-octets groups (λ j. fit (suc j)) k
 
-length-octets_of : (groups : List ℕ) → length (octets_of groups) ≡ 2 * length groups
-length-octets_of [] = refl
-length-octets_of (g ∷ groups) = let later = length-octets_of groups in omega (arith, later)
-
--- std's number of eight groups, by their octets
-eight_groups : (groups : List ℕ) → length groups ≡ 8
-    → from_be_bytes w128 (octets_of groups) ≡ value 256 (octets_of groups)
-eight_groups [] eight = absurd (omega arith)
-eight_groups (a ∷ []) eight = absurd (omega arith)
-eight_groups (a ∷ b ∷ []) eight = absurd (omega arith)
-eight_groups (a ∷ b ∷ c ∷ []) eight = absurd (omega arith)
-eight_groups (a ∷ b ∷ c ∷ d ∷ []) eight = absurd (omega arith)
-eight_groups (a ∷ b ∷ c ∷ d ∷ e ∷ []) eight = absurd (omega arith)
-eight_groups (a ∷ b ∷ c ∷ d ∷ e ∷ f ∷ []) eight = absurd (omega arith)
-eight_groups (a ∷ b ∷ c ∷ d ∷ e ∷ f ∷ g ∷ []) eight = absurd (omega arith)
-eight_groups (a ∷ b ∷ c ∷ d ∷ e ∷ f ∷ g ∷ h ∷ []) eight = omega arith
-eight_groups (a ∷ b ∷ c ∷ d ∷ e ∷ f ∷ g ∷ h ∷ i ∷ more) eight = absurd (omega arith)
-
 -- eight groups write a number of 128 bits
 pub eight_groups_below : (groups : List ℕ) → length groups ≡ 8 → ((k : ℕ) → get_or groups k 0 < 2 ^ 16)
     → from_be_bytes w128 (octets_of groups) < 2 ^ 128
@@ -131,14 +90,15 @@ eight_groups_below groups eight fit =
     let sixteen : length (octets_of groups) ≡ 16 = omega (arith, length-octets_of groups) in
     let low : value 256 (octets_of groups) < 256 ^ 16 =
     rw sixteen at (number_below (octets_of groups) (octets_of-octets groups fit)) in
-    rw (eight_groups groups eight) low
+    rw (sixteen_octets (octets_of groups) sixteen) low
 
 -- and are the groups of that number
 groups_again : (groups : List ℕ) → length groups ≡ 8 → ((k : ℕ) → get_or groups k 0 < 2 ^ 16)
     → segments_of (to_be_bytes w128 (from_be_bytes w128 (octets_of groups))) ≡ groups
+unfolding AreOctets
 groups_again groups eight fit =
     let sixteen : length (octets_of groups) ≡ 16 = omega (arith, length-octets_of groups) in
-    ap segments_of (octets_again (octets_of groups) sixteen (octets_of-octets groups fit) (eight_groups groups eight))
+    ap segments_of (sixteen_again (octets_of groups) sixteen (octets_of-octets groups fit))
     ∙ segments_of-octets_of groups
 
 -- the octets and groups of std's addresses are the octets and groups of their bits

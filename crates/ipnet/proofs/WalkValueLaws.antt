@@ -1,11 +1,11 @@
 -- Values of the types of walks: equal if they store the same, and then a hasher is fed the same bytes.
-use Rattle.std.proofs.Common.{◌≡◌, ◌↔◌, ℕ, ◌^◌, ◌<◌, ◌≤◌, List, [], ◌∷◌, refl, sym, ap, ◌∙◌, arith}
+use Rattle.std.proofs.Common.{◌≡◌, ◌↔◌, ◌⊎◌, ℕ, ◌^◌, ◌<◌, ◌≤◌, List, [], ◌∷◌, refl, ap, arith, inl, inr}
 use mathlib.Core.HLevel.{is_prop→PathP}
 use Rattle.std.specs.Coded.{le_prop}
 use Rattle.std.specs.Hash.{le_bytes}
 use Rattle.ipnet_base.specs.Subnets.{SubnetRange}
 use Rattle.ipnet_base.proofs.DigitLaws.{same_by_bytes}
-use Rattle.ipnet_base.proofs.ValueLaws.{families_fed_apart}
+use Rattle.ipnet_base.proofs.ValueLaws.{FeedsByFamily, same_view}
 use Rattle.ipnet.specs.SubnetsLeft.{ipv4_subnet_range, ipv6_subnet_range, ip_subnet_range}
 use Rattle.ipnet.specs.declared.subnets.IpSubnets.{IpSubnets}
 use Rattle.ipnet.specs.declared.subnets.ipv4_subnets.Ipv4Subnets.{Ipv4Subnets}
@@ -80,15 +80,13 @@ ipv6_hash r s = (to, λ e. ap ipv6_fed (ipv6_one_to_one r s e))
         (same_by_bytes 4 r.min_prefix_len s.min_prefix_len
         (omega (arith, r.min_prefix_fits)) (omega (arith, s.min_prefix_fits)) len)
 
-pub ip_hash : (fed : IpSubnets → List (List ℕ)) → ((s : Ipv4Subnets) → fed (Ip.V4 s) ≡ le_bytes 8 0 ∷ ipv4_fed s)
-    → ((s : Ipv6Subnets) → fed (Ip.V6 s) ≡ le_bytes 8 1 ∷ ipv6_fed s)
-    → (r s : IpSubnets) → (fed r ≡ fed s) ↔ (ip_subnet_range r ≡ ip_subnet_range s)
-ip_hash fed four six r s = (to r s, λ e. ap fed (ip_one_to_one r s e))
-  where
-    to : (r s : IpSubnets) → fed r ≡ fed s → ip_subnet_range r ≡ ip_subnet_range s
-    to (Ip.V4 r) (Ip.V4 s) e =
-        let both = sym (four r) ∙ e ∙ four s in let rest : ipv4_fed r ≡ ipv4_fed s = cc in (ipv4_hash r s).0 rest
-    to (Ip.V4 r) (Ip.V6 s) e = absurd (families_fed_apart (ipv4_fed r) (ipv6_fed s) (sym (four r) ∙ e ∙ six s))
-    to (Ip.V6 r) (Ip.V4 s) e = absurd (families_fed_apart (ipv4_fed s) (ipv6_fed r) (sym (four s) ∙ sym e ∙ six r))
-    to (Ip.V6 r) (Ip.V6 s) e =
-        let both = sym (six r) ∙ e ∙ six s in let rest : ipv6_fed r ≡ ipv6_fed s = cc in (ipv6_hash r s).0 rest
+either_family : (n : IpSubnets) → ((a : Ipv4Subnets) × (n ≡ Ip.V4 a)) ⊎ ((b : Ipv6Subnets) × (n ≡ Ip.V6 b))
+either_family (Ip.V4 n) = inl (n, refl)
+either_family (Ip.V6 n) = inr (n, refl)
+
+pub ip_hash : (fed : IpSubnets → List (List ℕ)) → FeedsByFamily Ip.V4 Ip.V6 ipv4_fed ipv6_fed fed
+    → (x y : IpSubnets) → (fed x ≡ fed y) ↔ (ip_subnet_range x ≡ ip_subnet_range y)
+ip_hash fed f x y = (
+  same_view either_family f ip_subnet_range (λ a b. (ipv4_hash a b).0) (λ a b. (ipv6_hash a b).0) x y,
+  λ e. ap fed (ip_one_to_one x y e),
+)

@@ -95,18 +95,55 @@ cmp_octets xs ys ex ey hx hy =
 pub halves : (s : ℕ) → s / 256 * 256 + s % 256 ≡ s
 halves s = omega arith
 
+-- sixteen octets write std's number of them
+pub sixteen_octets : (xs : List ℕ) → length xs ≡ 16 → from_be_bytes w128 xs ≡ value 256 xs
+sixteen_octets [] len = absurd (omega arith)
+sixteen_octets (a ∷ []) len = absurd (omega arith)
+sixteen_octets (a ∷ b ∷ []) len = absurd (omega arith)
+sixteen_octets (a ∷ b ∷ c ∷ []) len = absurd (omega arith)
+sixteen_octets (a ∷ b ∷ c ∷ d ∷ []) len = absurd (omega arith)
+sixteen_octets (a ∷ b ∷ c ∷ d ∷ e ∷ []) len = absurd (omega arith)
+sixteen_octets (a ∷ b ∷ c ∷ d ∷ e ∷ f ∷ []) len = absurd (omega arith)
+sixteen_octets (a ∷ b ∷ c ∷ d ∷ e ∷ f ∷ g ∷ []) len = absurd (omega arith)
+sixteen_octets (a ∷ b ∷ c ∷ d ∷ e ∷ f ∷ g ∷ h ∷ []) len = absurd (omega arith)
+sixteen_octets (a ∷ b ∷ c ∷ d ∷ e ∷ f ∷ g ∷ h ∷ i ∷ []) len = absurd (omega arith)
+sixteen_octets (a ∷ b ∷ c ∷ d ∷ e ∷ f ∷ g ∷ h ∷ i ∷ j ∷ []) len = absurd (omega arith)
+sixteen_octets (a ∷ b ∷ c ∷ d ∷ e ∷ f ∷ g ∷ h ∷ i ∷ j ∷ k ∷ []) len = absurd (omega arith)
+sixteen_octets (a ∷ b ∷ c ∷ d ∷ e ∷ f ∷ g ∷ h ∷ i ∷ j ∷ k ∷ l ∷ []) len = absurd (omega arith)
+sixteen_octets (a ∷ b ∷ c ∷ d ∷ e ∷ f ∷ g ∷ h ∷ i ∷ j ∷ k ∷ l ∷ m ∷ []) len = absurd (omega arith)
+sixteen_octets (a ∷ b ∷ c ∷ d ∷ e ∷ f ∷ g ∷ h ∷ i ∷ j ∷ k ∷ l ∷ m ∷ n ∷ []) len = absurd (omega arith)
+sixteen_octets (a ∷ b ∷ c ∷ d ∷ e ∷ f ∷ g ∷ h ∷ i ∷ j ∷ k ∷ l ∷ m ∷ n ∷ o ∷ []) len = absurd (omega arith)
+sixteen_octets (a ∷ b ∷ c ∷ d ∷ e ∷ f ∷ g ∷ h ∷ i ∷ j ∷ k ∷ l ∷ m ∷ n ∷ o ∷ p ∷ []) len = omega arith
+sixteen_octets (a ∷ b ∷ c ∷ d ∷ e ∷ f ∷ g ∷ h ∷ i ∷ j ∷ k ∷ l ∷ m ∷ n ∷ o ∷ p ∷ q ∷ more) len = absurd (omega arith)
+
+pub length-octets_of : (xs : List ℕ) → length (octets_of xs) ≡ 2 * length xs
+length-octets_of [] = refl
+length-octets_of (s ∷ xs) = let later = length-octets_of xs in omega (arith, later)
+
+pow-octets_of : (xs : List ℕ) → 256 ^ length (octets_of xs) ≡ 65536 ^ length xs
+pow-octets_of [] = refl
+pow-octets_of (s ∷ xs) =
+    let later = pow-octets_of xs in
+    let first : 256 ^ suc (suc (length (octets_of xs))) ≡ 256 * 256 ^ suc (length (octets_of xs)) =
+    pow-succ' 256 (suc (length (octets_of xs))) in
+    let second : 256 ^ suc (length (octets_of xs)) ≡ 256 * 256 ^ length (octets_of xs) =
+    pow-succ' 256 (length (octets_of xs)) in
+    let segment : 65536 ^ suc (length xs) ≡ 65536 * 65536 ^ length xs = pow-succ' 65536 (length xs) in
+    omega (arith, later, first, second, segment)
+
+value-octets_of : (xs : List ℕ) → value 256 (octets_of xs) ≡ value 65536 xs
+value-octets_of [] = refl
+value-octets_of (s ∷ xs) =
+    let later = value-octets_of xs in
+    let second : 256 ^ suc (length (octets_of xs)) ≡ 256 * 256 ^ length (octets_of xs) =
+    pow-succ' 256 (length (octets_of xs)) in
+    let segment : s * 256 ^ length (octets_of xs) ≡ s * 65536 ^ length xs = ap (λ n. s * n) (pow-octets_of xs) in
+    let whole : (s / 256 * 256 + s % 256) * 256 ^ length (octets_of xs) ≡ s * 256 ^ length (octets_of xs) =
+    ap (λ n. n * 256 ^ length (octets_of xs)) (halves s) in
+    rw second (omega (arith, later, segment, whole))
+
 value_8 : (xs : List ℕ) → length xs ≡ 8 → from_be_bytes w128 (octets_of xs) ≡ value 65536 xs
-value_8 [] e = absurd (omega arith)
-value_8 (a ∷ []) e = absurd (omega arith)
-value_8 (a ∷ b ∷ []) e = absurd (omega arith)
-value_8 (a ∷ b ∷ c ∷ []) e = absurd (omega arith)
-value_8 (a ∷ b ∷ c ∷ d ∷ []) e = absurd (omega arith)
-value_8 (a ∷ b ∷ c ∷ d ∷ f ∷ []) e = absurd (omega arith)
-value_8 (a ∷ b ∷ c ∷ d ∷ f ∷ g ∷ []) e = absurd (omega arith)
-value_8 (a ∷ b ∷ c ∷ d ∷ f ∷ g ∷ h ∷ []) e = absurd (omega arith)
-value_8 (a ∷ b ∷ c ∷ d ∷ f ∷ g ∷ h ∷ i ∷ []) e =
-    omega (arith, halves a, halves b, halves c, halves d, halves f, halves g, halves h, halves i)
-value_8 (a ∷ b ∷ c ∷ d ∷ f ∷ g ∷ h ∷ i ∷ x ∷ xs) e = absurd (omega arith)
+value_8 xs eight = sixteen_octets (octets_of xs) (omega (arith, length-octets_of xs)) ∙ value-octets_of xs
 
 pub cmp_segments : (xs ys : List ℕ) → length xs ≡ 8 → length ys ≡ 8
     → ((k : ℕ) → slice_index xs k < 65536) → ((k : ℕ) → slice_index ys k < 65536)

@@ -24,6 +24,7 @@ IsShortestCover-of_maximal InSet least networks blocks exact = record {
 abbrev pub single : Address → Network
 single x = record { family = x.family; number = x.number; prefix_len = width x.family }
 
+-- and has no other address
 single_has_one : (x y : Address) → InBlock (single x) y → y ≡ x
 single_has_one x y a = λ i. record { family = a.same_family i; number = same i }
   where
@@ -34,7 +35,8 @@ single_has_one x y a = λ i. record { family = a.same_family i; number = same i 
     same = sym (div-one y.number) ∙ subst (λ b. y.number / 2 ^ b ≡ x.number / 2 ^ b) closed a.same_prefix
         ∙ div-one x.number
 
-IsInside-single : (InSet : Address → Type 0) (least : ℕ) (x : Address) → IsAddress x → least ≤ width x.family
+-- the network of one address of a set lies in it
+pub IsInside-single : (InSet : Address → Type 0) (least : ℕ) (x : Address) → IsAddress x → least ≤ width x.family
     → InSet x → IsInside InSet least (single x)
 IsInside-single InSet least x fits short inside = record {
   network = record { address_fits = fits; prefix_fits = omega arith };

@@ -1,6 +1,7 @@
 -- Facts of the definitions in specs/, proved once for all crates.
 pub mod PrefixLaws
 pub mod ArithmeticLaws
+pub mod TableLaws
 pub mod DigitLaws
 pub mod AddressLaws
 pub mod ListLaws

@@ -3,6 +3,7 @@
 #![tactic(auto)]
 
 pub mod addr;
+pub mod digits;
 pub mod ipext;
 pub mod laws;
 pub mod mask;

@@ -9,3 +9,11 @@ pub mod SetImageReplies
 pub mod RefusedLists
 pub mod SetQuestionReplies
 pub mod TableReplies
+pub mod RowLaws
+pub mod ColumnLaws
+pub mod ChangedRows
+pub mod MappedLaws
+pub mod LineTexts
+pub mod OffsetLaws
+pub mod TextRowReplies
+pub mod RouteReplies

@@ -129,13 +129,13 @@ octets_parts IPv4 IPv6 a b u v e = let sizes : 4 ≡ 16 = ap length e in absurd 
 octets_parts IPv6 IPv4 a b u v e = let sizes : 16 ≡ 4 = ap length e in absurd (omega (arith, sizes))
 octets_parts IPv6 IPv6 a b u v e = (refl, sym (number_back a u) ∙ ap (from_be_bytes w128) e ∙ number_back b v)
 
-address_once : (bytes : List ℕ) (x y : Address) → AreOctetsOf bytes x → AreOctetsOf bytes y → x ≡ y
+pub address_once : (bytes : List ℕ) (x y : Address) → AreOctetsOf bytes x → AreOctetsOf bytes y → x ≡ y
 address_once bytes x y a b =
     let parts = octets_parts x.family y.family x.number y.number a.address b.address
     (sym a.octets_are ∙ b.octets_are) in
     λ i. record { family = parts.0 i; number = parts.1 i }
 
-address_len : (f : Family) (a : ℕ) (bytes : List ℕ) → bytes ≡ address_octets f a → HasAddressLen bytes
+pub address_len : (f : Family) (a : ℕ) (bytes : List ℕ) → bytes ≡ address_octets f a → HasAddressLen bytes
 address_len IPv4 a bytes e = inl (ap length e)
 address_len IPv6 a bytes e = inr (ap length e)
 

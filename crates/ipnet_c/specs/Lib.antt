@@ -7,3 +7,7 @@ pub mod ListReplies
 pub mod Taken
 pub mod Version
 pub mod TableReplies
+pub mod Rows
+pub mod RowReplies
+pub mod TextRows
+pub mod RouteReplies

@@ -14,6 +14,7 @@ use Rattle.ipnet_sets.specs.Images.{HasHeader, IsImage, IsImageOf}
 use Rattle.ipnet_sets.specs.Members.{IsMember, IsMemberOf, IsSubset, HasAddressesOf, IsComplement, IsResultOf}
 use Rattle.ipnet_sets.specs.Members.{IsCountOf}
 use Rattle.ipnet_text.specs.LineTexts.{text_of_lines}
+use Rattle.netset_lib.specs.Answers.{AreRangeLines}
 use Rattle.ipnet_c.specs.Statuses as statuses
 use Rattle.ipnet_c.specs.Buffers.{IsWritten, IsTooLong}
 use Rattle.ipnet_c.specs.Replies.{IsYesExactlyAt, AreBytesOf, IsTextOfSet}
@@ -82,6 +83,13 @@ pub record IsTextOfImage (set answer : List ℕ) : Type 0 where
   pub first : IpSet
   pub first_image : IsImageOf set first
   pub text : IsTextOfSet first answer
+
+-- The lines are the fewest ranges of the set of which the bytes are the image.
+-- Example: `"10.0.0.0-10.0.0.2\n"` of the image of 10.0.0.0/31 and 10.0.0.2/32.
+pub record IsRangesOfImage (set answer : List ℕ) : Type 0 where
+  pub first : IpSet
+  pub first_image : IsImageOf set first
+  pub ranges : AreRangeLines (IsMember first) answer
 
 -- A call that makes an answer of one image, into the buffer: `count` is the length of the answer.
 -- Example: the complement of the image of no addresses is the image of all addresses, of 52 bytes.

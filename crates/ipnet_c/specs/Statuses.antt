@@ -59,6 +59,10 @@ other_not_a_set = 12
 abbrev pub not_a_table : ℕ
 not_a_table = 13
 
+-- An offset is less than the offset before it, or greater than the length of the text.
+abbrev pub bad_offsets : ℕ
+bad_offsets = 14
+
 -- The status for bytes that are not a network.
 abbrev pub status_of_bytes : CompactError → ℕ
 status_of_bytes Length = wrong_length

@@ -4,13 +4,18 @@
 
 pub mod aggregates;
 mod buffers;
+pub mod bulk_numbers;
+pub mod bulk_rows;
 pub mod covers;
 mod lists;
 pub mod networks;
+mod row_form;
+pub mod rows;
 pub mod set_images;
 pub mod set_lists;
 pub mod set_questions;
 pub mod sets;
 mod statuses;
+pub mod table_routes;
 pub mod tables;
 pub mod version;

@@ -2,7 +2,7 @@
 ghost use Rattle.std.specs.Prelude.{IfOk, string_bytes};
 ghost use Rattle.ipnet.specs.declared.parser.Grammar.TheVariants.{Strict, Legacy};
 ghost use Rattle.ipnet_c.specs.SetReplies.{IsCompileReply, IsCombineReply, IsImageReply, IsImageWith};
-ghost use Rattle.ipnet_c.specs.SetReplies.{IsComplementOfImage, IsTextOfImage, IsMadeOfImages};
+ghost use Rattle.ipnet_c.specs.SetReplies.{IsComplementOfImage, IsTextOfImage, IsRangesOfImage, IsMadeOfImages};
 ghost use Rattle.ipnet_sets.specs.declared.operation.Operation.TheVariants as Of;
 
 use crate::buffers::write_answer;
@@ -12,6 +12,7 @@ use crate::statuses::{BAD_LINE, NOT_A_SET, NOT_UTF8, OTHER_NOT_A_SET, OUT_OF_MEM
 use ipnet::Grammar;
 use ipnet_sets::{IpSetRef, Operation};
 use ipnet_tool::ToolError;
+use netset_lib::lines_of_ranges;
 use std::alloc::{AllocError, Global};
 use std::str;
 
@@ -278,4 +279,41 @@ pub extern "C" fn ipnet_set_to_text(
         return OUT_OF_MEMORY;
     };
     write_answer(text.as_bytes(), buffer, count)
+}
+
+/// Returns the text of the fewest ranges of the set of an image.
+fn image_ranges(alloc: Global, set: IpSetRef<'_>) -> Result<String, AllocError>
+    ensures { IfOk result (λ text. IsRangesOfImage set.entry.image.bytes.now (string_bytes text)) }
+{
+    let first = set.to_set(alloc)?;
+    lines_of_ranges(alloc, &first)
+}
+
+/// Writes the fewest ranges of the set, given by its image, as text into the buffer, and its length into `count`.
+///
+/// Each line has the first and the last address of a range, joined by "-". The ranges ascend, IPv4 first, and no two of
+/// them overlap or touch. A range of one address has it twice.
+///
+/// Returns 0; 4 if the buffer is too short, with the length needed in `count`; 11 if the bytes are not the image of a
+/// set; 3 if memory runs out. The buffer changes only at 0, `count` only at 0 and 4.
+///
+/// ```text
+/// the image of 10.0.0.0/30, 10.0.0.4/31 and fd00::1/128    0, and "10.0.0.0-10.0.0.5\nfd00::1-fd00::1\n"
+/// ```
+#[unsafe(no_mangle)]
+pub extern "C" fn ipnet_set_to_ranges(
+    alloc: Global,
+    set: &[u8],
+    buffer: &mut [u8],
+    count: &mut usize,
+) -> u32
+    ensures { IsImageReply (IsRangesOfImage set.now) set.now buffer.old buffer.new count.old count.new result }
+{
+    let Ok(set) = IpSetRef::from_bytes(set) else {
+        return NOT_A_SET;
+    };
+    let Ok(ranges) = image_ranges(alloc, set) else {
+        return OUT_OF_MEMORY;
+    };
+    write_answer(ranges.as_bytes(), buffer, count)
 }

@@ -46,6 +46,9 @@ pub(crate) const OTHER_NOT_A_SET: u32 = 12;
 /// The bytes do not begin with the header of the image of a table.
 pub(crate) const NOT_A_TABLE: u32 = 13;
 
+/// An offset is less than the offset before it, or greater than the length of the text.
+pub(crate) const BAD_OFFSETS: u32 = 14;
+
 /// Returns the status for bytes that are not a network.
 pub(crate) fn status_of(error: CompactError) -> u32
     ensures { result ≡ status_of_bytes error }

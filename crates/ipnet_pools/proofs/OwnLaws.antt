@@ -1,6 +1,5 @@
 -- A list that is the maximal blocks of what it covers, and the list of the maximal blocks of a set.
-use Rattle.std.proofs.Common.{◌≡◌, ◌⊎◌, ◌↔◌, ◌-◌, ◌/◌, ◌^◌, List, Contains, sym, ap, ◌∙◌, subst, arith, inl, inr}
-use Rattle.std.proofs.Math.Nat.{div-one}
+use Rattle.std.proofs.Common.{◌≡◌, ◌⊎◌, ◌↔◌, List, Contains, ap, ◌∙◌, subst, arith, inl, inr}
 use Rattle.std.proofs.lemmas.Bool.{cases_eq}
 use Rattle.ipnet_base.specs.Address.{Address, IsAddress, width}
 use Rattle.ipnet_base.specs.Network.{Network, IsNetwork, InBlock}
@@ -8,7 +7,7 @@ use Rattle.ipnet_base.specs.Blocks.{IsInside, IsMaximal, IsCoveredBy}
 use Rattle.ipnet_base.proofs.BlockLaws.{own, own_in}
 use Rattle.ipnet_base.proofs.CoverLaws.{covered_fits}
 use Rattle.ipnet_base.proofs.DecidedLaws.{IsDecided}
-use Rattle.ipnet_base.proofs.ExactCoverLaws.{single}
+use Rattle.ipnet_base.proofs.ExactCoverLaws.{single, IsInside-single}
 use Rattle.ipnet_base.proofs.FamilyLaws.{cases_family}
 use Rattle.ipnet_base.proofs.ListLaws.{any_from_contains, all_from_members}
 use Rattle.ipnet_base.proofs.MaximalLaws.{maximal_above, one_maximal}
@@ -58,32 +57,13 @@ module _ (ns : List Network) (own_blocks : AreOwnBlocks ns) (valid : (n : Networ
         subst (Contains ns) (one_maximal (IsCoveredBy ns) 0 y n (own_maximal y c) h (own n) a (own_in n)) c,
   )
 
-single_has_one : (x y : Address) → InBlock (single x) y → y ≡ x
-single_has_one x y a = λ i. record { family = a.same_family i; number = same i }
-  where
-    closed : width x.family - width x.family ≡ 0
-    closed = omega arith
-
-    same : y.number ≡ x.number
-    same = sym (div-one y.number) ∙ subst (λ b. y.number / 2 ^ b ≡ x.number / 2 ^ b) closed a.same_prefix
-        ∙ div-one x.number
-
--- the network of one address of a set lies in it
-single_inside : (S : Address → Type 0) (x : Address) → IsAddress x → S x → IsInside S 0 (single x)
-single_inside S x fits h = record {
-  network = record { address_fits = fits; prefix_fits = omega arith };
-  truncated = λ y a. omega (arith, ap (λ z. z.number) (single_has_one x y a));
-  long_enough = omega arith;
-  within = λ y a. subst S (sym (single_has_one x y a)) h;
-}
-
 module _ (S : Address → Type 0) (dec : IsDecided S) (fits : (x : Address) → S x → IsAddress x) (ns : List Network)
     (members : (m : Network) → Contains ns m ↔ IsMaximal S 0 m) where
   pub covers_from_members : (x : Address) → IsCoveredBy ns x ↔ S x
   covers_from_members x = (
     λ c. let (y, m, a) = covering ns x c in ((members y).0 m).inside.within x a,
     λ h.
-        let (m, max, sub) = maximal_above S 0 dec (single x) (single_inside S x (fits x h) h) in
+        let (m, max, sub) = maximal_above S 0 dec (single x) (IsInside-single S 0 x (fits x h) (omega arith) h) in
         any_from_contains (λ z. InBlock z x) ns m ((members m).1 max) (sub x (own_in (single x))),
   )
 

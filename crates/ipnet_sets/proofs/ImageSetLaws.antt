@@ -13,7 +13,7 @@ use Rattle.ipnet_sets.proofs.MemberLaws.{covers_block, covers_from_to}
 use Rattle.ipnet_sets.proofs.SetEqualLaws.{words_are_numbers}
 use Rattle.ipnet_sets.proofs.ImageLaws.{number_front, number_later, numbers_front, numbers_later}
 
-boundaries_are : (s : IpSet) (f : Family) → AreBoundaries f (boundaries_of s f)
+pub boundaries_are : (s : IpSet) (f : Family) → AreBoundaries f (boundaries_of s f)
 boundaries_are s IPv4 = s.ipv4_boundaries
 boundaries_are s IPv6 = s.ipv6_boundaries
 

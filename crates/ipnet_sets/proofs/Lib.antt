@@ -40,3 +40,8 @@ pub mod TableImageLaws
 pub mod TableCheckLaws
 pub mod TableOnceLaws
 pub mod TableRestoredLaws
+pub mod StepLaws
+pub mod ByteTableLaws
+pub mod ByteTableWrittenLaws
+pub mod ByteTableOnceLaws
+pub mod ByteTableCheckLaws

@@ -40,54 +40,64 @@ unfolding range_blocks
 range_blocks_are r h =
     blocks_if_are r (cases_lt r.end (2 ^ width r.family)) (cases_lt (width r.family) 0) h
 
--- the maximal blocks of separated ranges are the blocks of the first, then the blocks of the next, and so on
-blocks_by_ranges : (ranges : List AddressRange) → AllPairs LiesApart ranges → All Fits ranges
-    → AreMaximalBlocks (IsInRanges ranges) 0 (blocks_of ranges)
-blocks_by_ranges [] apart fits =
-    AreMaximalBlocks-nil (IsInRanges []) 0 (λ x a. contains_nil a.1 (a.0, a.2, a.3))
-blocks_by_ranges (r ∷ rs) apart fits =
-    AreMaximalBlocks-same_set (IsInEither (IsInRange r) (IsInRanges rs)) (IsInRanges (r ∷ rs)) 0
-    (range_blocks r ++ blocks_of rs)
-    (λ x. (
-      elim [ inl b ↦ any_here (λ q. IsInRange q x) r rs b | inr a ↦ any_there (λ q. IsInRange q x) r rs a ],
-      any_cases (λ q. IsInRange q x) r rs,
-    ))
-    (AreMaximalBlocks-append (IsInRange r) (IsInRanges rs) 0 separated (range_blocks r) (blocks_of rs)
-    (range_blocks_are r (All-head Fits r rs fits))
-    (blocks_by_ranges rs (pairs_tail LiesApart r rs apart) (All-tail Fits r rs fits)))
+-- the first of ranges that lie apart is separated from the others
+first_apart : (r : AddressRange) (rs : List AddressRange) → AllPairs LiesApart (r ∷ rs)
+    → AreSeparated (IsInRange r) (IsInRanges rs)
+first_apart r rs apart = record {
+  before = λ x y b a. elim (after y a) [
+    | inl lt ↦ inl (omega (arith, lt, ap family_index b.of_family, ap family_index a.4.of_family))
+    | inr lt ↦ inr (b.of_family ∙ lt.0 ∙ sym a.4.of_family, omega (arith, lt.1, b.to_end, a.4.from_start))
+  ];
+  gap = λ x y b a same. (
+    address_at x.family (r.end + 1),
+    refl,
+    omega (arith, b.to_end),
+    elim (after y a) [
+      | inl lt ↦ absurd (omega (
+        arith,
+        lt,
+        ap family_index b.of_family,
+        ap family_index a.4.of_family,
+        ap family_index same,
+      ))
+      | inr lt ↦ omega (arith, lt.1, a.4.from_start)
+    ],
+    elim [
+      | inl c ↦ omega (arith, c.to_end)
+      | inr c ↦ elim (after (address_at x.family (r.end + 1)) c) [
+        | inl lt ↦ omega (arith, lt, ap family_index b.of_family, ap family_index c.4.of_family)
+        | inr lt ↦ omega (arith, lt.1, c.4.from_start)
+      ]
+    ],
+  );
+}
   where
     after : (x : Address) (a : IsInRanges rs x) → LiesApart r a.1
     after x a = pairs_head LiesApart r rs apart a.1 (a.0, a.2, a.3)
 
-    separated : AreSeparated (IsInRange r) (IsInRanges rs)
-    separated = record {
-      before = λ x y b a. elim (after y a) [
-        | inl lt ↦ inl (omega (arith, lt, ap family_index b.of_family, ap family_index a.4.of_family))
-        | inr lt ↦ inr (b.of_family ∙ lt.0 ∙ sym a.4.of_family, omega (arith, lt.1, b.to_end, a.4.from_start))
-      ];
-      gap = λ x y b a same. (
-        record { family = x.family; number = r.end + 1 },
-        refl,
-        omega (arith, b.to_end),
-        elim (after y a) [
-          | inl lt ↦ absurd (omega (
-            arith,
-            lt,
-            ap family_index b.of_family,
-            ap family_index a.4.of_family,
-            ap family_index same,
-          ))
-          | inr lt ↦ omega (arith, lt.1, a.4.from_start)
-        ],
-        elim [
-          | inl c ↦ omega (arith, c.to_end)
-          | inr c ↦ elim (after (record { family = x.family; number = r.end + 1 }) c) [
-            | inl lt ↦ omega (arith, lt, ap family_index b.of_family, ap family_index c.4.of_family)
-            | inr lt ↦ omega (arith, lt.1, c.4.from_start)
-          ]
-        ],
-      );
-    }
+-- so all of them have the maximal blocks of the first, and then the maximal blocks of the others
+pub blocks_of_first : (least : ℕ) (r : AddressRange) (rs : List AddressRange) (front rest : List Network)
+    → AllPairs LiesApart (r ∷ rs) → AreMaximalBlocks (IsInRange r) least front
+    → AreMaximalBlocks (IsInRanges rs) least rest → AreMaximalBlocks (IsInRanges (r ∷ rs)) least (front ++ rest)
+blocks_of_first least r rs front rest apart h k =
+    AreMaximalBlocks-same_set (IsInEither (IsInRange r) (IsInRanges rs)) (IsInRanges (r ∷ rs)) least (front ++ rest)
+    (λ x. (
+      elim [ inl b ↦ any_here (λ q. IsInRange q x) r rs b | inr a ↦ any_there (λ q. IsInRange q x) r rs a ],
+      any_cases (λ q. IsInRange q x) r rs,
+    ))
+    (AreMaximalBlocks-append (IsInRange r) (IsInRanges rs) least (first_apart r rs apart) front rest h k)
+
+-- ranges without any have no blocks
+pub blocks_of_none : (least : ℕ) → AreMaximalBlocks (IsInRanges []) least []
+blocks_of_none least = AreMaximalBlocks-nil (IsInRanges []) least (λ x a. contains_nil a.1 (a.0, a.2, a.3))
+
+-- the maximal blocks of separated ranges are the blocks of the first, then the blocks of the next, and so on
+blocks_by_ranges : (ranges : List AddressRange) → AllPairs LiesApart ranges → All Fits ranges
+    → AreMaximalBlocks (IsInRanges ranges) 0 (blocks_of ranges)
+blocks_by_ranges [] apart fits = blocks_of_none 0
+blocks_by_ranges (r ∷ rs) apart fits =
+    blocks_of_first 0 r rs (range_blocks r) (blocks_of rs) apart (range_blocks_are r (All-head Fits r rs fits))
+    (blocks_by_ranges rs (pairs_tail LiesApart r rs apart) (All-tail Fits r rs fits))
 
 -- the ranges of a set end in their families
 ranges_fit : (s : IpSet) (ranges : List AddressRange) → AreRangesOf (IsMember s) ranges → All Fits ranges

@@ -20,7 +20,7 @@ use Rattle.ipnet_sets.proofs.TableCheckLaws.{network_once, nearest_once}
 
 -- ---- bytes that hold the same numbers
 
-abbrev AreBytes : List ℕ → Type 0
+abbrev pub AreBytes : List ℕ → Type 0
 AreBytes bytes = All (λ byte. byte < 2 ^ 8) bytes
 
 byte_at : (bytes : List ℕ) → AreBytes bytes → (i : ℕ) → get_or bytes i 0 < 256
@@ -30,7 +30,7 @@ byte_at bytes h i = elim (cases_lt i (length bytes)) [
 ]
 
 -- equal numbers have equal bytes
-same_in : (w : ℕ) (a b : List ℕ) (at : ℕ) → AreBytes a → AreBytes b → number_from w a at ≡ number_from w b at
+pub same_in : (w : ℕ) (a b : List ℕ) (at : ℕ) → AreBytes a → AreBytes b → number_from w a at ≡ number_from w b at
     → (i : ℕ) → at ≤ i → i < at + w → get_or a i 0 ≡ get_or b i 0
 unfolding number_from
 same_in zero a b at p q e i le lt = absurd (omega (arith, le, lt))
@@ -42,7 +42,7 @@ same_in (suc w) a b at p q e i le lt = elim (cases_order at i) [
 ]
 
 -- the bytes before the place are the same
-abbrev AreSameTo : List ℕ → List ℕ → ℕ → Type 0
+abbrev pub AreSameTo : List ℕ → List ℕ → ℕ → Type 0
 AreSameTo a b place = (i : ℕ) → i < place → get_or a i 0 ≡ get_or b i 0
 
 -- the place of a network is one

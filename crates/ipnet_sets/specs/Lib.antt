@@ -22,3 +22,4 @@ pub mod RouteMapsOf
 pub mod RouteMapsLeft
 pub mod Images
 pub mod TableImages
+pub mod ByteTableImages

@@ -2,13 +2,15 @@
 //!
 //! The format is in `specs/Images`: a header of 32 bytes, then the boundaries of each family, all little-endian. Each
 //! set has exactly one image, so sets are equal if and only if their images are equal bytes.
-ghost use Rattle.std.specs.Prelude.{◌≡◌, ◌+◌, ◌*◌, ◌↔◌, IsTrue, IfOk, MatchResult};
-ghost use Rattle.ipnet_base.specs.Address.{Address, IPv4, IPv6, ip_address};
+ghost use Rattle.std.specs.Prelude.{◌≡◌, ℕ, ◌+◌, ◌*◌, ◌<◌, ◌↔◌, IsTrue, IfOk, MatchResult};
+ghost use Rattle.std.specs.Prelude.{false, slice_index, slice_index_or};
+ghost use Rattle.ipnet_base.specs.Address.{Address, IPv4, IPv6, ip_address, address_at};
 ghost use Rattle.ipnet_base.specs.Network.{InBlock};
 ghost use Rattle.ipnet.specs.NetworkOf.{ip_network};
 ghost use Rattle.ipnet_sets.specs.Members.{IsMember, IsFromTo};
 ghost use Rattle.ipnet_sets.specs.Images.{stated_count, HasHeader, IsImage, IsImageOf, IsRefusal};
 
+mod in_step;
 pub(crate) mod stored;
 
 use crate::set::IpSet;
@@ -129,6 +131,24 @@ impl<'a> IpSetImage<'a> {
             IpAddr::V4(ip) => stored::contains(self.bytes, self.ipv4_place(), ip.to_bits()),
             IpAddr::V6(ip) => stored::contains(self.bytes, self.ipv6_place(), ip.to_bits()),
         }
+    }
+
+    /// Returns for each of eight IPv4 addresses, given by their numbers, whether it is in the set. Allocates nothing.
+    /// The searches go in step, so this takes less time than eight calls of `contains`.
+    ///
+    /// ```text
+    /// of the image of 10.0.0.0/30 and eight times 0x0a000001: eight times true
+    /// ```
+    pub fn contains_eight(&self, numbers: &[u32; 8]) -> [bool; 8]
+        ensures { (s : IpSet) → IsImageOf self.now.bytes.now s → (lane : ℕ) → lane < 8
+            → IsTrue (slice_index_or result lane false) ↔ IsMember s (address_at IPv4 (slice_index numbers.now lane)) }
+    {
+        let turned = in_step::boundaries_up_to_eight(self.bytes, self.ipv4_place(), numbers);
+        let mut inside = [false; 8];
+        for lane in 0..8 {
+            inside[lane] = turned[lane] % 2 == 1;
+        }
+        inside
     }
 
     /// Returns whether every address of the network's block is in the set. Allocates nothing; the time grows with the

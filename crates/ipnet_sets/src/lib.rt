@@ -17,6 +17,7 @@ pub use image::{ImageError, IpSetImage, IpSetRef};
 pub use operation::Operation;
 pub use route_map::RouteMap;
 pub use routes::RouteTable;
+pub use routes::image::byte_table::{ByteTableImage, ByteTableImageError, ByteTableRef};
 pub use routes::image::{RouteTableImage, RouteTableRef, TableImageError};
 pub use set::IpSet;
 pub use set::builder::IpSetBuilder;

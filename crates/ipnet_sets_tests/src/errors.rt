@@ -1,6 +1,6 @@
 //! The texts of the errors of images.
-use ipnet_sets::ImageError;
 use ipnet_sets::routes::image::TableImageError;
+use ipnet_sets::{ByteTableImageError, ImageError};
 use std::test::Fail;
 
 #[test]
@@ -43,6 +43,41 @@ fn texts(rt: HostRuntime) -> Result<(), Fail> {
     ] {
         let text = error.to_string(alloc)?;
         assert!(rt; text.as_str() == wanted, "an error of a table's image");
+    }
+    for (error, wanted) in [
+        (
+            ByteTableImageError::TooShort,
+            "too few bytes for the image of numbers",
+        ),
+        (ByteTableImageError::Magic, "not the image of a table"),
+        (
+            ByteTableImageError::Version,
+            "unknown version of the image of a table",
+        ),
+        (
+            ByteTableImageError::Length,
+            "wrong length of the image of a table",
+        ),
+        (
+            ByteTableImageError::Routes,
+            "wrong routes in the image of a table",
+        ),
+        (
+            ByteTableImageError::Index,
+            "wrong index in the image of a table",
+        ),
+        (
+            ByteTableImageError::Numbers,
+            "wrong numbers in the image of a table",
+        ),
+        (
+            ByteTableImageError::Ends,
+            "wrong ends of values in the image of a table",
+        ),
+        (ByteTableImageError::Memory, "out of memory"),
+    ] {
+        let text = error.to_string(alloc)?;
+        assert!(rt; text.as_str() == wanted, "an error of an image with bytes");
     }
     Ok(())
 }

@@ -3,6 +3,8 @@
 #![tactic(auto)]
 
 #[cfg(test)]
+mod byte_images;
+#[cfg(test)]
 mod errors;
 #[cfg(test)]
 mod images;

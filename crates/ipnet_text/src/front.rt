@@ -1,5 +1,5 @@
 //! The network of a line at the front of bytes, read before the end of the line is known.
-ghost use Rattle.std.specs.Prelude.{◌≡◌, ◌+◌, ◌<◌, ◌≤◌, min, [], ◌∷◌, length, take, drop, slice_index, IfSome};
+ghost use Rattle.std.specs.Prelude.{◌≡◌, ◌+◌, ◌<◌, ◌≤◌, [], ◌∷◌, length, take, drop, slice_index, IfSome};
 ghost use Rattle.std.specs.Char.{digit_value};
 ghost use Rattle.std.specs.Net.Addr.{ipv4_octets};
 ghost use Rattle.ipnet.specs.AddressTexts.{IsIpv4AddressText};
@@ -11,6 +11,7 @@ ghost use Rattle.ipnet.specs.declared.parser.Grammar.TheVariants.{Strict};
 ghost use Rattle.ipnet_text.specs.Fronts.{IsHead};
 
 use ipnet::{IpNet, Ipv4Net, Ipv6Net};
+use ipnet_base::digits::hex_value;
 use std::net::{Ipv4Addr, Ipv6Addr};
 
 /// The length of the longest IPv4 line with its "\n", and one byte more: the prefix length is read like an octet, which
@@ -135,30 +136,6 @@ fn ipv4_line(bytes: &[u8]) -> Option<(Ipv4Net, usize)>
     }
     let network = Ipv4Net::new_assert(Ipv4Addr::new(a, b, c, d), prefix_len);
     Some((network, first + second + third + fourth + digits + 4))
-}
-
-// The value of each byte as a hexadecimal digit, and 16 if it is not one. A table, because a processor cannot predict a
-// branch on the kind of a digit.
-static HEX_DIGITS: [u8; 256] = [
-    16, 16, 16, 16, 16, 16, 16, 16, 16, 16, 16, 16, 16, 16, 16, 16, 16, 16, 16, 16, 16, 16, 16, 16,
-    16, 16, 16, 16, 16, 16, 16, 16, 16, 16, 16, 16, 16, 16, 16, 16, 16, 16, 16, 16, 16, 16, 16, 16,
-    0, 1, 2, 3, 4, 5, 6, 7, 8, 9, 16, 16, 16, 16, 16, 16, 16, 10, 11, 12, 13, 14, 15, 16, 16, 16,
-    16, 16, 16, 16, 16, 16, 16, 16, 16, 16, 16, 16, 16, 16, 16, 16, 16, 16, 16, 16, 16, 16, 16, 10,
-    11, 12, 13, 14, 15, 16, 16, 16, 16, 16, 16, 16, 16, 16, 16, 16, 16, 16, 16, 16, 16, 16, 16, 16,
-    16, 16, 16, 16, 16, 16, 16, 16, 16, 16, 16, 16, 16, 16, 16, 16, 16, 16, 16, 16, 16, 16, 16, 16,
-    16, 16, 16, 16, 16, 16, 16, 16, 16, 16, 16, 16, 16, 16, 16, 16, 16, 16, 16, 16, 16, 16, 16, 16,
-    16, 16, 16, 16, 16, 16, 16, 16, 16, 16, 16, 16, 16, 16, 16, 16, 16, 16, 16, 16, 16, 16, 16, 16,
-    16, 16, 16, 16, 16, 16, 16, 16, 16, 16, 16, 16, 16, 16, 16, 16, 16, 16, 16, 16, 16, 16, 16, 16,
-    16, 16, 16, 16, 16, 16, 16, 16, 16, 16, 16, 16, 16, 16, 16, 16, 16, 16, 16, 16, 16, 16, 16, 16,
-    16, 16, 16, 16, 16, 16, 16, 16, 16, 16, 16, 16, 16, 16,
-];
-
-/// The value of the byte as a hexadecimal digit, or 16 if it is not one.
-#[inline]
-fn hex_value(byte: u8) -> u8
-    ensures { result ≡ min 16 (digit_value byte) }
-{
-    HEX_DIGITS[byte as usize]
 }
 
 /// The value of the byte as a hexadecimal digit, if it is one.

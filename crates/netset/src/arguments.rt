@@ -3,6 +3,7 @@ ghost use Rattle.std.specs.Prelude.{◌≡◌, ◌≤◌, ◌↔◌, ◌++◌, m
 ghost use Rattle.netset.specs.Arguments.{values_of, IsFlag, AreListNames, most_before_input};
 
 use crate::apply::apply_command;
+use crate::bar::with_bar;
 use crate::changes::changes_command;
 use crate::entries::with_entries;
 use crate::extract::extract_command;
@@ -353,7 +354,8 @@ fn command<'a>(alloc: Global) -> Result<Command<'a>, AllocError> {
         .about("Combines and compares lists of networks, addresses and ranges")
         .subcommand_required(true)
         .arg_required_else_help(true);
-    let command = with_entries(alloc, with_all(alloc, command)?)?;
+    let command = with_bar(alloc, with_all(alloc, command)?)?;
+    let command = with_entries(alloc, command)?;
     with_rule_lists(alloc, with_listings(alloc, command)?)
 }
 

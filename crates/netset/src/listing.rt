@@ -1,5 +1,6 @@
 //! The commands `split` and `hosts`: their arguments, and their runs.
 use crate::arguments::{FIRST, OTHERS, first, flag, output_option};
+use crate::extract::grammar_of;
 use crate::output::Streams;
 use clap::{Arg, ArgMatches, Command};
 use ipnet::{Grammar, IpNet};
@@ -54,20 +55,20 @@ pub fn with_listings<'a>(alloc: Global, command: Command<'a>) -> Result<Command<
         .subcommand(listing_command(alloc, HOSTS, hosts)?)
 }
 
-/// Reads the network. If the word is not one, it is reported, and the result is `None`.
-fn network_of(rt: &HostRuntime, matches: &ArgMatches) -> Option<IpNet> {
-    let word = matches.get_str(FIRST).unwrap_or("");
-    let grammar = if matches.get_flag("legacy") {
-        Grammar::Legacy
-    } else {
-        Grammar::Strict
-    };
+/// Reads a network. If the word is not one, it is reported, and the result is `None`.
+pub fn read_network(rt: &HostRuntime, word: &str, grammar: Grammar) -> Option<IpNet> {
     let network = IpNet::parse_as(word, grammar).ok();
     if network.is_none() {
         let word = word.as_bytes().escape_ascii();
         let _ = writeln!(rt.stderr(), "netset: not a network: {word}");
     }
     network
+}
+
+/// Reads the network that is listed. If the word is not one, it is reported, and the result is `None`.
+fn network_of(rt: &HostRuntime, matches: &ArgMatches) -> Option<IpNet> {
+    let word = matches.get_str(FIRST).unwrap_or("");
+    read_network(rt, word, grammar_of(matches))
 }
 
 /// Reads the arguments of `split`, and prints the subnets.

@@ -3,6 +3,7 @@
 
 mod apply;
 mod arguments;
+mod bar;
 mod changes;
 mod entries;
 mod extract;
@@ -22,6 +23,7 @@ mod version;
 
 use crate::apply::{APPLY, applied};
 use crate::arguments::{ArgumentFailure, Call, call_of, matches_of, output_of, reports_of, words};
+use crate::bar::{BAR, drawn};
 use crate::changes::{CHANGES, changed};
 use crate::entries::run_if_entries;
 use crate::extract::{EXTRACT, extracted};
@@ -130,6 +132,7 @@ fn ran(rt: &HostRuntime, matches: &ArgMatches, streams: &mut Streams<'_>) -> u8 
     }
     match matches.subcommand() {
         Some((name, matches)) if name == PLAN => planned(rt, matches, streams),
+        Some((name, matches)) if name == BAR => drawn(rt, matches, streams),
         Some((name, matches)) if name == CHANGES => changed(rt, matches, streams),
         Some((name, matches)) if name == APPLY => applied(rt, matches, streams),
         Some((name, matches)) if name == PREFIX_LIST => matched(rt, matches, streams),

@@ -6,7 +6,7 @@ use crate::replacement::{OutputFailure, Replacement};
 use netset_lib::{Output, finish};
 use std::cell::Cell;
 use std::io;
-use std::io::{ErrorKind, Stderr, Stdout, Write};
+use std::io::{ErrorKind, IsTerminal, Stderr, Stdout, Write};
 
 /// The name of standard output.
 const STANDARD_OUTPUT: &str = "-";
@@ -50,6 +50,16 @@ impl Write for Answer<'_> {
         match &mut self.place {
             Place::Standard(out) => out.flush(),
             Place::File(file) => file.flush(),
+        }
+    }
+}
+
+impl Answer<'_> {
+    /// Returns whether the answer is written to a terminal.
+    pub fn is_terminal(&self) -> bool {
+        match &self.place {
+            Place::Standard(out) => out.is_terminal(),
+            Place::File(_) => false,
         }
     }
 }

@@ -1,9 +1,12 @@
 //! The command `plan`: its arguments, and its run.
 use crate::arguments::{ArgumentFailure, FIRST, command_of, first, flag, flags_of};
+use crate::bar::{BAR, form_of, with_plan_bar};
 use crate::output::Streams;
 use crate::{refused, session_of};
 use clap::{Arg, ArgAction, ArgMatches, Command};
+use ipnet_pictures::BarForm;
 use netset_lib::{PlanRequest, families, read_length, run_plan};
+use netset_pictures::{PlanBarRequest, run_plan_bar};
 use std::alloc::{AllocError, Global};
 use std::io::Write;
 
@@ -13,12 +16,8 @@ pub const PLAN: &str = "plan";
 /// The id of the prefix lengths.
 const LENGTHS: &str = "lengths";
 
-/// The command `plan`.
-pub fn plan_command<'a>(alloc: Global) -> Result<Command<'a>, AllocError> {
-    let about =
-        "Networks of these prefix lengths inside FREE that share no address; status 1 if none exist";
-    let ipv4 = "Plan IPv4 networks; by default, the only family of the list";
-    let ipv6 = "Plan IPv6 networks";
+/// Adds the list and the prefix lengths of `plan`.
+fn with_networks<'a>(alloc: Global, command: Command<'a>) -> Result<Command<'a>, AllocError> {
     let free = first(
         alloc,
         "FREE",
@@ -30,11 +29,19 @@ pub fn plan_command<'a>(alloc: Global) -> Result<Command<'a>, AllocError> {
         .num_args(1..)
         .action(ArgAction::Append)
         .help("The prefix lengths, such as 24 or /24, one for each network");
-    command_of(alloc, PLAN, about)?
+    command.arg(free)?.arg(lengths)
+}
+
+/// The command `plan`.
+pub fn plan_command<'a>(alloc: Global) -> Result<Command<'a>, AllocError> {
+    let about =
+        "Networks of these prefix lengths inside FREE that share no address; status 1 if none exist";
+    let ipv4 = "Plan IPv4 networks; by default, the only family of the list";
+    let ipv6 = "Plan IPv6 networks";
+    let command = command_of(alloc, PLAN, about)?
         .arg(flag(alloc, "ipv4", ipv4))?
-        .arg(flag(alloc, "ipv6", ipv6))?
-        .arg(free)?
-        .arg(lengths)
+        .arg(flag(alloc, "ipv6", ipv6))?;
+    with_networks(alloc, with_plan_bar(alloc, command)?)
 }
 
 /// Reads the prefix lengths. If a word is not one, it is reported, and the error is the exit status.
@@ -53,11 +60,27 @@ fn lengths_of(rt: &HostRuntime, words: &[&str]) -> Result<Vec<u8>, u8> {
     Ok(lengths)
 }
 
-/// Reads the arguments and the list, prints the plan, and returns the exit status.
+/// Reads the form of the bar, if one is asked for. If that fails, it is reported, and the error is the exit status.
+fn bar_of(
+    rt: &HostRuntime,
+    matches: &ArgMatches,
+    streams: &Streams<'_>,
+) -> Result<Option<BarForm>, u8> {
+    if !matches.get_flag(BAR) {
+        return Ok(None);
+    }
+    Ok(Some(form_of(rt, matches, streams)?))
+}
+
+/// Reads the arguments and the list, prints the plan or its bar, and returns the exit status.
 pub fn planned(rt: &HostRuntime, matches: &ArgMatches, streams: &mut Streams<'_>) -> u8 {
     let words = matches.get_strs(LENGTHS).unwrap_or(&[]);
     let lengths = match lengths_of(rt, words) {
         Ok(lengths) => lengths,
+        Err(status) => return status,
+    };
+    let bar = match bar_of(rt, matches, streams) {
+        Ok(bar) => bar,
         Err(status) => return status,
     };
     let work = netset_lib::Command::Union.work(flags_of(matches));
@@ -70,11 +93,16 @@ pub fn planned(rt: &HostRuntime, matches: &ArgMatches, streams: &mut Streams<'_>
         families: families(matches.get_flag("ipv4"), matches.get_flag("ipv6")),
         lengths: lengths.as_slice(),
     };
-    run_plan(
-        session,
-        request,
-        names,
-        &mut streams.answer,
-        &mut streams.faults,
-    )
+    let out = &mut streams.answer;
+    let faults = &mut streams.faults;
+    match bar {
+        None => run_plan(session, request, names, out, faults),
+        Some(form) => {
+            let request = PlanBarRequest {
+                plan: request,
+                form,
+            };
+            run_plan_bar(session, request, names, out, faults)
+        }
+    }
 }

@@ -1,24 +1,24 @@
 -- The networks of the ranges of a set, one range after the other, are the maximal blocks of the set.
-use Rattle.std.proofs.Common.{◌≡◌, ℕ, ◌+◌, ◌<◌, ◌≤◌, ◌^◌, Bool, true, ◌⊎◌, List, [], ◌∷◌, ◌++◌, All, AllPairs, Any, map}
+use Rattle.std.proofs.Common.{◌≡◌, ℕ, ◌+◌, ◌<◌, ◌≤◌, ◌^◌, Bool, true, ◌⊎◌, List, [], ◌∷◌, ◌++◌, All, AllPairs, map}
 use Rattle.std.proofs.Common.{Option, Some, None}
 use Rattle.std.proofs.Common.{refl, sym, ap, ◌∙◌, subst, arith, inl, inr}
 use Rattle.std.proofs.lemmas.List.{map-append}
 use Rattle.std.proofs.lemmas.List.Elements.{All-head, All-tail}
-use Rattle.ipnet_base.specs.Address.{IPv4, IPv6, Address, IsAddress, address_at, family_index, width}
+use Rattle.ipnet_base.specs.Address.{IPv4, IPv6, Address, IsAddress, address_at, width}
 use Rattle.ipnet_base.specs.Network.{Network}
-use Rattle.ipnet_base.specs.Blocks.{AreMaximalBlocks, IsInEither, AreSeparated}
+use Rattle.ipnet_base.specs.Blocks.{AreMaximalBlocks}
 use Rattle.ipnet_base.specs.Ranges.{AddressRange}
-use Rattle.ipnet_base.proofs.ListLaws.{contains_nil, pairs_head, pairs_tail, all_from_members, all_at}
+use Rattle.ipnet_base.proofs.ListLaws.{pairs_tail, all_from_members, all_at}
 use Rattle.ipnet_base.proofs.ListLaws.{any_from_contains}
-use Rattle.ipnet_base.proofs.SeparationLaws.{AreMaximalBlocks-append}
-use Rattle.ipnet_base.proofs.UniqueLaws.{AreMaximalBlocks-same_set, AreMaximalBlocks-nil, AreMaximalBlocks-unique}
+use Rattle.ipnet_base.proofs.UniqueLaws.{AreMaximalBlocks-same_set, AreMaximalBlocks-unique}
 use Rattle.ipnet_base.proofs.WalkLaws.{blocks_exist}
 use Rattle.ipnet.specs.CanonicalTexts.{canonical_text}
 use Rattle.ipnet_sets.specs.declared.set.IpSet.{IpSet}
 use Rattle.ipnet_sets.specs.BoundaryRanges.{ranges_of}
 use Rattle.ipnet_sets.specs.Members.{IsMember}
 use Rattle.ipnet_sets.specs.SetRanges.{IsInRange, LiesApart, AreRangesOf}
-use Rattle.ipnet_sets.proofs.SetRangeLaws.{any_cases, any_here, any_there, ranges_of_set}
+use Rattle.ipnet_sets.proofs.NetworkListLaws.{blocks_of_first, blocks_of_none}
+use Rattle.ipnet_sets.proofs.SetRangeLaws.{IsInRanges, ranges_of_set}
 use Rattle.ipnet_text.specs.Pieces.{IsInPieces}
 use Rattle.netset_lib.specs.Answers.{range_text}
 use Rattle.netset_forms.specs.declared.parts.Item.{Item}
@@ -31,59 +31,15 @@ use Rattle.netset_forms.specs.FormSteps.{end_of, layout_of, item_text, IsItemsTe
 use Rattle.netset_forms.specs.Layouts.{Layout, text_in}
 use Rattle.netset_forms.proofs.PieceLaws.{up_to_start, up_to_more, up_to_cut, up_to_end, rest_append, rest_none}
 
--- the address lies in one of the ranges
-abbrev IsInRanges : List AddressRange → Address → Type 0
-IsInRanges ranges x = Any (λ r. IsInRange r x) ranges
-
--- the first of ranges that lie apart is separated from the others
-first_apart : (r : AddressRange) (rs : List AddressRange) → AllPairs LiesApart (r ∷ rs)
-    → AreSeparated (IsInRange r) (IsInRanges rs)
-first_apart r rs apart = record {
-  before = λ x y b a. elim (after y a) [
-    | inl lt ↦ inl (omega (arith, lt, ap family_index b.of_family, ap family_index a.4.of_family))
-    | inr lt ↦ inr (b.of_family ∙ lt.0 ∙ sym a.4.of_family, omega (arith, lt.1, b.to_end, a.4.from_start))
-  ];
-  gap = λ x y b a same. (
-    address_at x.family (r.end + 1),
-    refl,
-    omega (arith, b.to_end),
-    elim (after y a) [
-      | inl lt ↦ absurd (omega (
-        arith,
-        lt,
-        ap family_index b.of_family,
-        ap family_index a.4.of_family,
-        ap family_index same,
-      ))
-      | inr lt ↦ omega (arith, lt.1, a.4.from_start)
-    ],
-    elim [
-      | inl c ↦ omega (arith, c.to_end)
-      | inr c ↦ elim (after (address_at x.family (r.end + 1)) c) [
-        | inl lt ↦ omega (arith, lt, ap family_index b.of_family, ap family_index c.4.of_family)
-        | inr lt ↦ omega (arith, lt.1, c.4.from_start)
-      ]
-    ],
-  );
-}
-  where
-    after : (x : Address) (a : IsInRanges rs x) → LiesApart r a.1
-    after x a = pairs_head LiesApart r rs apart a.1 (a.0, a.2, a.3)
-
 -- the blocks of ranges that lie apart are the maximal blocks of all of them
 maximal_of_ranges : (least : ℕ) (ranges : List AddressRange) (networks : List Network) → AllPairs LiesApart ranges
     → AreBlocksOf least ranges networks → AreMaximalBlocks (IsInRanges ranges) least networks
-maximal_of_ranges least [] networks apart e = subst (AreMaximalBlocks (IsInRanges []) least) (sym e)
-    (AreMaximalBlocks-nil (IsInRanges []) least (λ x a. contains_nil a.1 (a.0, a.2, a.3)))
+maximal_of_ranges least [] networks apart e =
+    subst (AreMaximalBlocks (IsInRanges []) least) (sym e) (blocks_of_none least)
 maximal_of_ranges least (r ∷ rs) networks apart (front, rest, h, k, e) =
     subst (AreMaximalBlocks (IsInRanges (r ∷ rs)) least) (sym e)
-    (AreMaximalBlocks-same_set (IsInEither (IsInRange r) (IsInRanges rs)) (IsInRanges (r ∷ rs)) least (front ++ rest)
-    (λ x. (
-      elim [ inl b ↦ any_here (λ q. IsInRange q x) r rs b | inr a ↦ any_there (λ q. IsInRange q x) r rs a ],
-      any_cases (λ q. IsInRange q x) r rs,
-    ))
-    (AreMaximalBlocks-append (IsInRange r) (IsInRanges rs) least (first_apart r rs apart) front rest h
-    (maximal_of_ranges least rs rest (pairs_tail LiesApart r rs apart) k)))
+    (blocks_of_first least r rs front rest apart h
+    (maximal_of_ranges least rs rest (pairs_tail LiesApart r rs apart) k))
 
 -- a range has an address, and its networks can have this prefix length
 pub record IsFitting (least : ℕ) (r : AddressRange) : Type 0 where

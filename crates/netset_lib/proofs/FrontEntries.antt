@@ -17,7 +17,7 @@ use Rattle.netset_lib.specs.declared.entry.Entry.TheVariants as Entries
 use Rattle.netset_lib.specs.Entries.{IsAddressText, IsEntryWord}
 use Rattle.netset_lib.specs.EntryOf.{entry_range}
 
-address_text : (text : List ℕ) (a : Ipv4Addr) → IsIpv4AddressText Strict text (ipv4_octets a)
+pub address_text : (text : List ℕ) (a : Ipv4Addr) → IsIpv4AddressText Strict text (ipv4_octets a)
     → IsAddressText Strict text (ipv4_address a)
 unfolding ipv4_bits
 address_text text a h = inl record { octets = ipv4_octets a; writes = h; family = refl; number = refl }

@@ -1,5 +1,6 @@
 -- Lemmas of this crate.
 pub mod AddressBytes
+pub mod AddressLengths
 pub mod BlankTexts
 pub mod EntryTexts
 pub mod RefusalLaws

@@ -1,5 +1,4 @@
 -- The family of a plan as a value of the code.
--- Only private contracts use this.
 use Rattle.ipnet_base.specs.Address.{Family, IPv4, IPv6}
 use Rattle.netset_lib.specs.declared.plan.PlanFamily.{PlanFamily}
 use Rattle.netset_lib.specs.declared.plan.PlanFamily.TheVariants.{Ipv4, Ipv6}

@@ -125,8 +125,13 @@ fn network_lines(alloc: Global, set: &IpSet) -> Result<String, AllocError>
     lines_of_networks(alloc, networks.as_slice())
 }
 
-/// The fewest ranges of the set, one a line.
-fn range_lines(alloc: Global, set: &IpSet) -> Result<String, AllocError>
+/// Returns the text of the fewest ranges of the set, one a line: the first and the last address, joined by "-". IPv4
+/// comes before IPv6, and the ranges ascend. Fails only if memory runs out.
+///
+/// ```text
+/// of 10.0.0.0/30, 10.0.0.4/31 and fd00::1: "10.0.0.0-10.0.0.5\nfd00::1-fd00::1\n"
+/// ```
+pub fn lines_of_ranges(alloc: Global, set: &IpSet) -> Result<String, AllocError>
     ensures { IfOk result (λ text. AreRangeLines (IsMember set.now) (string_bytes text)) }
 {
     let mut text = String::new(alloc);
@@ -142,6 +147,6 @@ pub(crate) fn set_text(alloc: Global, form: Form, set: &IpSet) -> Result<String,
 {
     match form {
         Form::Networks => network_lines(alloc, set),
-        Form::Ranges => range_lines(alloc, set),
+        Form::Ranges => lines_of_ranges(alloc, set),
     }
 }

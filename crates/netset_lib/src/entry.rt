@@ -10,6 +10,7 @@ ghost use Rattle.netset_lib.specs.Entries.{IsMaskedBy, ReadsAs, WriteMasked};
 ghost use Rattle.netset_lib.specs.EntryOf.{entry_range, IsWrittenAs};
 ghost use Rattle.netset_lib.specs.EntrySteps.{HasEnds};
 
+use arrayvec::ArrayString;
 use ipnet::{Grammar, IpAddr, IpNet, Ipv4Addr, Ipv4Net, Ipv6Addr};
 use std::alloc::AllocError;
 
@@ -60,6 +61,35 @@ fn read_network(text: &str, grammar: Grammar) -> Option<IpNet>
     ensures { ReadsAs ip_network (IsNetworkText grammar) text.now result }
 {
     IpNet::parse_as(text, grammar).ok()
+}
+
+/// The length of the longest text of an address, in the legacy grammar.
+const LONGEST_ADDRESS: usize = "::ffff:ffff:ffff:ffff:ffff:ffff:255.255.255.255".len();
+
+/// The length of the longest text of an address with "/32" after it.
+const LONGEST_NETWORK: usize = LONGEST_ADDRESS + 3;
+
+/// Returns the address that the whole text is in this grammar, or `None` if it is not an address. Allocates nothing.
+///
+/// ```text
+/// 10.0.0.1:               10.0.0.1
+/// 10.0.0.1/32, fd00::1%2: None
+/// 010.0.0.1:              10.0.0.1 in the legacy grammar, None in the strict grammar
+/// ```
+pub fn parse_address(text: &str, grammar: Grammar) -> Option<IpAddr>
+    ensures { ReadsAs ip_address (IsAddressText grammar) text.now result }
+{
+    if text.len() > LONGEST_ADDRESS {
+        return None;
+    }
+    // With "/32" after it, the text of an address of either family is the text of a network.
+    let mut network = ArrayString::<LONGEST_NETWORK>::new();
+    network.push_str(text);
+    network.push_str("/32");
+    match read_network(network.as_str(), grammar) {
+        Some(network) => Some(network.addr()),
+        None => None,
+    }
 }
 
 /// The address that the whole text is in this grammar, or `None` if it is none.

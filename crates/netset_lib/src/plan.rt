@@ -47,7 +47,11 @@ impl From<AllocError> for PlanFailure {
 
 impl PlanFailure {
     /// Returns the exit status of the program for this failure: 1 if no placement exists, and otherwise 2.
-    pub(crate) fn status(self) -> u8
+    ///
+    /// ```text
+    /// NoPlacement: 1; Family: 2
+    /// ```
+    pub fn status(self) -> u8
         ensures status { result ≤ 2 }
         ensures positive { 1 ≤ result }
         ensures none { (result ≡ 1) ↔ (self ≡ NoPlacement) }
@@ -69,9 +73,11 @@ pub struct PlanRequest<'a> {
 }
 
 /// The family of the planned networks.
-#[derive(Clone, Copy)]
-pub(crate) enum PlanFamily {
+#[derive(Clone, Copy, Debug, PartialEq, Eq)]
+pub enum PlanFamily {
+    /// IPv4
     Ipv4,
+    /// IPv6
     Ipv6,
 }
 
@@ -144,12 +150,55 @@ fn plan_of(
     }
 }
 
-/// Returns networks in the set as text, one a line: a network for each prefix length, in the order of the lengths. No
-/// two of them share an address.
+/// Networks in a set: one for each prefix length of a request, in the order of the lengths.
+#[derive(Debug, Drop)]
+pub struct Plan {
+    /// The family of the networks.
+    pub family: PlanFamily,
+    /// The networks. No two of them share an address.
+    pub networks: Vec<IpNet>,
+}
+
+/// Returns networks in the set: a network for each prefix length, in the order of the lengths. No two of them share an
+/// address.
 ///
 /// The error is `Family` if the family is not chosen. Otherwise it is `PrefixLen` if a length is too long for the
 /// family, with the first such length and the greatest length of the family. Otherwise it is `NoPlacement` exactly if
 /// no such networks exist, unless memory runs out.
+///
+/// ```text
+/// lengths 26, 25 in 10.0.0.0/24: 10.0.0.0/26 and 10.0.0.128/25, which are IPv4
+/// lengths 25, 25, 27 in 10.0.0.0/24: NoPlacement
+/// ```
+pub fn plan_networks(
+    alloc: Global,
+    set: &IpSet,
+    request: PlanRequest<'_>,
+) -> Result<Plan, PlanFailure>
+    ensures chosen { let r = request.entry in
+        IfOk result (λ plan. IsPlanFamily r.families (IsMember set.now) (family_of plan.family)) }
+    ensures plan { let r = request.entry in
+        IfOk result (λ plan. IsPlan (IsMember set.now) (family_of plan.family) r.lengths.now
+        (map ip_network plan.networks.items)) }
+    ensures placed { let r = request.entry in
+        IsOk result → ¬ (HasNoPlacement (IsMember set.now) r.families r.lengths.now) }
+    ensures failure { let r = request.entry in
+        IfErr result (IsPlanFailure (IsMember set.now) r.families r.lengths.now) }
+{
+    let Some(family) = plan_family(request.families, set) else {
+        return Err(PlanFailure::Family);
+    };
+    if let Some(long) = first_above(request.lengths, family.width()) {
+        return Err(PlanFailure::PrefixLen(long, family.width()));
+    }
+    match plan_of(alloc, set, family, request.lengths) {
+        Ok(networks) => Ok(Plan { family, networks }),
+        Err(PoolError::Exhausted) => Err(PlanFailure::NoPlacement),
+        Err(_) => Err(PlanFailure::Memory),
+    }
+}
+
+/// Returns the networks of `plan_networks` as text, one a line. It fails as `plan_networks` does.
 ///
 /// ```text
 /// lengths 26, 25 in 10.0.0.0/24: "10.0.0.0/26\n10.0.0.128/25\n"
@@ -167,15 +216,6 @@ pub fn plan_text(
     ensures failure { let r = request.entry in
         IfErr result (IsPlanFailure (IsMember set.now) r.families r.lengths.now) }
 {
-    let Some(family) = plan_family(request.families, set) else {
-        return Err(PlanFailure::Family);
-    };
-    if let Some(long) = first_above(request.lengths, family.width()) {
-        return Err(PlanFailure::PrefixLen(long, family.width()));
-    }
-    match plan_of(alloc, set, family, request.lengths) {
-        Ok(networks) => Ok(lines_of_networks(alloc, networks.as_slice())?),
-        Err(PoolError::Exhausted) => Err(PlanFailure::NoPlacement),
-        Err(_) => Err(PlanFailure::Memory),
-    }
+    let plan = plan_networks(alloc, set, request)?;
+    Ok(lines_of_networks(alloc, plan.networks.as_slice())?)
 }

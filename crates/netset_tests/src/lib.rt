@@ -1,9 +1,11 @@
-//! Tests of `netset_lib` that call the library: the kinds of entries, the numbers of lists, plans, changes, prefix
-//! lists, outputs, readers and writers that fail, lists of rules, and refused memory.
+//! Tests that call `netset_lib` and `netset_pictures`: the kinds of entries, the numbers of lists, plans, changes,
+//! prefix lists, bars, outputs, readers and writers that fail, rules, and refused memory.
 #![tactic(auto)]
 
 #[cfg(test)]
 mod applied;
+#[cfg(test)]
+mod bars;
 #[cfg(test)]
 mod changes;
 #[cfg(test)]

@@ -1,5 +1,5 @@
 //! Reading a text in one forward pass. The family is known beforehand, from at most the first four bytes.
-ghost use Rattle.std.specs.Prelude.{◌≡◌, ◌≢◌, min, [], ◌∷◌, ◌+◌, ◌<◌, ◌≤◌, length, take, drop, slice_index, IfSome};
+ghost use Rattle.std.specs.Prelude.{◌≡◌, ◌≢◌, [], ◌∷◌, ◌+◌, ◌<◌, ◌≤◌, length, take, drop, slice_index, IfSome};
 ghost use Rattle.std.specs.Prelude.{IfNone, option_map, MatchOption, true};
 ghost use Rattle.std.specs.Bool.{OnTrue, OnFalse};
 ghost use Rattle.std.specs.Char.{digit_value};
@@ -16,6 +16,7 @@ ghost use Rattle.ipnet.specs.ReaderSteps.{read_groups, read_compressed, read_ipv
 use crate::net::{IpNet, Ipv4Net, Ipv6Net};
 use crate::parser::Grammar;
 use arrayvec::ArrayVec;
+use ipnet_base::digits::hex_value;
 use std::net::{Ipv4Addr, Ipv6Addr};
 
 /// Up to three decimal digits: their count and their number.
@@ -121,29 +122,6 @@ struct Run<'a> {
     digits: &'a [u8],
     number: u16,
     ghost is_number: { number ≡ digits_value 16 digits.now },
-}
-
-// The value of each byte as a hexadecimal digit, and 16 if it is none. A table, because a processor cannot predict a
-// branch on the kind of a digit.
-static HEX_DIGITS: [u8; 256] = [
-    16, 16, 16, 16, 16, 16, 16, 16, 16, 16, 16, 16, 16, 16, 16, 16, 16, 16, 16, 16, 16, 16, 16, 16,
-    16, 16, 16, 16, 16, 16, 16, 16, 16, 16, 16, 16, 16, 16, 16, 16, 16, 16, 16, 16, 16, 16, 16, 16,
-    0, 1, 2, 3, 4, 5, 6, 7, 8, 9, 16, 16, 16, 16, 16, 16, 16, 10, 11, 12, 13, 14, 15, 16, 16, 16,
-    16, 16, 16, 16, 16, 16, 16, 16, 16, 16, 16, 16, 16, 16, 16, 16, 16, 16, 16, 16, 16, 16, 16, 10,
-    11, 12, 13, 14, 15, 16, 16, 16, 16, 16, 16, 16, 16, 16, 16, 16, 16, 16, 16, 16, 16, 16, 16, 16,
-    16, 16, 16, 16, 16, 16, 16, 16, 16, 16, 16, 16, 16, 16, 16, 16, 16, 16, 16, 16, 16, 16, 16, 16,
-    16, 16, 16, 16, 16, 16, 16, 16, 16, 16, 16, 16, 16, 16, 16, 16, 16, 16, 16, 16, 16, 16, 16, 16,
-    16, 16, 16, 16, 16, 16, 16, 16, 16, 16, 16, 16, 16, 16, 16, 16, 16, 16, 16, 16, 16, 16, 16, 16,
-    16, 16, 16, 16, 16, 16, 16, 16, 16, 16, 16, 16, 16, 16, 16, 16, 16, 16, 16, 16, 16, 16, 16, 16,
-    16, 16, 16, 16, 16, 16, 16, 16, 16, 16, 16, 16, 16, 16, 16, 16, 16, 16, 16, 16, 16, 16, 16, 16,
-    16, 16, 16, 16, 16, 16, 16, 16, 16, 16, 16, 16, 16, 16,
-];
-
-/// The value of the byte as a hexadecimal digit, or 16 if it is not one.
-fn hex_value(byte: u8) -> u8
-    ensures { result ≡ min 16 (digit_value byte) }
-{
-    HEX_DIGITS[byte as usize]
 }
 
 /// The hexadecimal digit at this place, if there is one.

@@ -24,6 +24,7 @@ pub(crate) trait StoredNumber: Number {
 }
 
 /// Returns the number in the eight bytes from byte `at` on.
+#[inline(always)]
 pub(crate) fn read_u64(bytes: &[u8], at: usize) -> u64
     requires { at + 8 ≤ length bytes.now }
     ensures { result ≡ number_from 8 bytes.now at }
@@ -34,6 +35,7 @@ pub(crate) fn read_u64(bytes: &[u8], at: usize) -> u64
 }
 
 /// Returns the number in the four bytes from byte `at` on.
+#[inline(always)]
 pub(crate) fn read_u32(bytes: &[u8], at: usize) -> u32
     requires { at + 4 ≤ length bytes.now }
     ensures { result ≡ number_from 4 bytes.now at }

@@ -12,6 +12,7 @@ ghost use Rattle.ipnet_sets.specs.Routes.{Route, networks_of, IsLongestMatch, Is
 ghost use Rattle.ipnet_sets.specs.TableImages.{HasTableHeader, IsTableImageOf, IsTableImage, IsTableRefusal};
 
 pub(crate) mod buckets;
+pub mod byte_table;
 mod restored;
 pub(crate) mod rows;
 pub(crate) mod stored_table;
@@ -140,8 +141,18 @@ impl<'a> RouteTableImage<'a> {
     /// ```text
     /// of the image of 0.0.0.0/0 with 1 and 10.0.0.0/8 with 2: 10.1.0.0/16 is in 10.0.0.0/8, which has 2
     /// ```
-    #[inline(always)]
     pub fn covering(&self, network: &IpNet) -> Option<(IpNet, u32)>
+        ensures none { (t : List (Route ℕ)) → IsTableImageOf self.now.table.bytes.now t → IsNone result
+            ↔ ((k : Network) → Contains (networks_of t) k → ¬ (IsSubnetOf (ip_network network.now) k)) }
+        ensures some { (t : List (Route ℕ)) → IsTableImageOf self.now.table.bytes.now t
+            → IfSome result (λ route. IsLongestHolder t (ip_network network.now) (ip_network route.0, route.1)) }
+    {
+        self.find_covering(network)
+    }
+
+    /// Returns what `covering` returns. It is a copy of the search in its caller.
+    #[inline(always)]
+    fn find_covering(&self, network: &IpNet) -> Option<(IpNet, u32)>
         ensures none { (t : List (Route ℕ)) → IsTableImageOf self.now.table.bytes.now t → IsNone result
             ↔ ((k : Network) → Contains (networks_of t) k → ¬ (IsSubnetOf (ip_network network.now) k)) }
         ensures some { (t : List (Route ℕ)) → IsTableImageOf self.now.table.bytes.now t
@@ -162,8 +173,9 @@ impl<'a> RouteTableImage<'a> {
     /// of the image of 0.0.0.0/0 with 1 and 10.0.0.0/8 with 2: 10.1.2.3 is in 10.0.0.0/8, which has 2
     /// ```
     //
-    // Without the attributes the address goes through memory in pieces, and each call waits for the call before it.
-    // Each arm has a copy of the search that compares numbers of one family only, which takes two thirds of the time.
+    // A search waits for three or four reads of memory. If its code is short, the processor begins the search for the
+    // next address before this one ends. So the arm of IPv4 has a copy of the search, which compares numbers of IPv4
+    // only. The arm of IPv6 has none: two copies are so long that the compiler inlines neither.
     #[inline(always)]
     pub fn longest_match(&self, ip: &IpAddr) -> Option<(IpNet, u32)>
         ensures none { (t : List (Route ℕ)) → IsTableImageOf self.now.table.bytes.now t
@@ -172,7 +184,7 @@ impl<'a> RouteTableImage<'a> {
             → IfSome result (λ route. IsLongestMatch t (ip_address ip.now) (ip_network route.0, route.1)) }
     {
         match ip {
-            IpAddr::V4(address) => self.covering(&IpNet::from(IpAddr::V4(*address))),
+            IpAddr::V4(address) => self.find_covering(&IpNet::from(IpAddr::V4(*address))),
             IpAddr::V6(address) => self.covering(&IpNet::from(IpAddr::V6(*address))),
         }
     }

@@ -17,6 +17,7 @@ pub(crate) struct Buckets {
 
 /// Returns how many bits the index reads of the networks of a family with this many routes. There are at most twice as
 /// many buckets as routes, and mostly fewer.
+#[inline(always)]
 fn bits(count: usize) -> u32
     ensures bits { result ≡ index_bits count }
     ensures few { result ≤ 20 }
@@ -38,6 +39,7 @@ fn bits(count: usize) -> u32
 
 impl Buckets {
     /// Returns the buckets of a table with these numbers of routes.
+    #[inline(always)]
     pub(crate) fn new(ipv4: usize, ipv6: usize) -> Buckets
         ensures ipv4 { result.ipv4_bits ≡ index_bits ipv4 }
         ensures ipv6 { result.ipv6_bits ≡ index_bits ipv6 }
@@ -76,6 +78,7 @@ impl Buckets {
 
     /// Returns the bucket of the network; `None` if there is no index, or if the network is not in 2000::/3 as all
     /// buckets of IPv6.
+    #[inline(always)]
     pub(crate) fn bucket_of(&self, network: &IpNet) -> Option<usize>
         ensures { IfSome result (λ bucket.
             IsInBucket self.now.ipv4_bits self.now.ipv6_bits bucket (ip_network network.now)) }

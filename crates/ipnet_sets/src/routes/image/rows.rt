@@ -19,6 +19,7 @@ pub(crate) struct StoredRoute {
 }
 
 /// Returns the number of an IPv4 network's address.
+#[inline(always)]
 pub(crate) fn ipv4_number(network: &Ipv4Net) -> u32
     ensures { result ≡ (ipv4_network network.now).number }
 {
@@ -26,6 +27,7 @@ pub(crate) fn ipv4_number(network: &Ipv4Net) -> u32
 }
 
 /// Returns the number of an IPv6 network's address.
+#[inline(always)]
 pub(crate) fn ipv6_number(network: &Ipv6Net) -> u128
     ensures { result ≡ (ipv6_network network.now).number }
 {
@@ -33,6 +35,7 @@ pub(crate) fn ipv6_number(network: &Ipv6Net) -> u128
 }
 
 /// Returns the IPv4 route in the 16 bytes from byte `at` on; `None` if they are not one.
+#[inline(always)]
 fn ipv4_row(bytes: &[u8], at: usize) -> Option<StoredRoute>
     requires { at + 16 ≤ length bytes.now }
     ensures read { (n : Network) (value link : ℕ) → n.family ≡ IPv4 → IsNetwork n → IsRowAt bytes.now at n value link
@@ -53,6 +56,7 @@ fn ipv4_row(bytes: &[u8], at: usize) -> Option<StoredRoute>
 }
 
 /// Returns the IPv6 route in the 32 bytes from byte `at` on; `None` if they are not one.
+#[inline(always)]
 fn ipv6_row(bytes: &[u8], at: usize) -> Option<StoredRoute>
     requires { at + 32 ≤ length bytes.now }
     ensures read { (n : Network) (value link : ℕ) → n.family ≡ IPv6 → IsNetwork n → IsRowAt bytes.now at n value link
@@ -73,6 +77,7 @@ fn ipv6_row(bytes: &[u8], at: usize) -> Option<StoredRoute>
 }
 
 /// Returns the route with this index; `None` if its bytes are not one. `ipv4` is the number of IPv4 routes.
+#[inline(always)]
 pub(crate) fn row(bytes: &[u8], ipv4: usize, index: usize) -> Option<StoredRoute>
     requires stated { ipv4 ≡ stated_routes bytes.now IPv4 }
     requires within { route_place bytes.now (index + 1) ≤ length bytes.now }

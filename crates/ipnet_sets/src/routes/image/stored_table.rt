@@ -67,6 +67,7 @@ impl<'a> StoredTable<'a> {
     }
 
     /// Returns how many routes the table has.
+    #[inline(always)]
     pub(crate) fn len(&self) -> usize
         ensures { result ≡ route_count self.now.bytes.now }
     {
@@ -74,6 +75,7 @@ impl<'a> StoredTable<'a> {
     }
 
     /// Returns the route with this index, or `None` if its bytes are not one.
+    #[inline(always)]
     pub(crate) fn route(&self, index: usize) -> Option<StoredRoute>
         requires { index < route_count self.now.bytes.now }
         ensures read { (n : Network) (value link : ℕ) → IsNetwork n → IsRouteAt self.now.bytes.now index n value link
@@ -85,6 +87,7 @@ impl<'a> StoredTable<'a> {
     }
 
     /// Returns the entry of the index for the bucket.
+    #[inline(always)]
     fn start(&self, bucket: usize) -> usize
         requires { bucket < stated_index self.now.bytes.now }
         ensures { result ≡ number_from 4 self.now.bytes.now (index_place self.now.bytes.now + bucket * 4) }
@@ -94,6 +97,7 @@ impl<'a> StoredTable<'a> {
     }
 
     /// Returns the indices between which the place after the network lies, by its bucket.
+    #[inline(always)]
     fn between(&self, network: &IpNet) -> Between
         ensures ordered { result.start ≤ result.end }
         ensures within { result.end ≤ route_count self.now.bytes.now }
@@ -119,6 +123,7 @@ impl<'a> StoredTable<'a> {
     }
 
     /// Returns the place after the networks that are this one or come before it.
+    #[inline(always)]
     fn place_after(&self, network: &IpNet) -> usize
         ensures within { result ≤ route_count self.now.bytes.now }
         ensures place { (t : List (Route ℕ)) → IsTableIn self.now.bytes.now t
@@ -143,6 +148,7 @@ impl<'a> StoredTable<'a> {
     }
 
     /// Returns the place after the nearest network before the limit that contains the network, or 0 if none does.
+    #[inline(always)]
     fn nearest(&self, limit: usize, network: &IpNet) -> usize
         requires { limit ≤ route_count self.now.bytes.now }
         ensures within { result ≤ limit }
@@ -169,6 +175,7 @@ impl<'a> StoredTable<'a> {
 
     /// Returns one more than the index of the route of the longest network that contains the network's whole block; 0
     /// if none does.
+    #[inline(always)]
     pub(crate) fn holder(&self, network: &IpNet) -> usize
         ensures within { result ≤ route_count self.now.bytes.now }
         ensures place { (t : List (Route ℕ)) → IsTableIn self.now.bytes.now t → (limit : ℕ)

@@ -17,4 +17,6 @@ returns-clause-compare c a b = record {
 }
 
 pub returns-clause-hash : goal.returns-clause-hash
-returns-clause-hash c = ip_hash (λ n. (IpNetHash.ghosts).hash_input n) (λ n. refl) (λ n. refl)
+returns-clause-hash c =
+    ip_hash (λ n. (IpNetHash.ghosts).hash_input n)
+    (record { feeds_four = λ n. refl; feeds_six = λ n. refl })

@@ -13,4 +13,6 @@ returns-clause-compare c a b = record {
 }
 
 pub returns-clause-hash : goal.returns-clause-hash
-returns-clause-hash c = ip_hash (λ s. (IpSubnetsHash.ghosts).hash_input s) (λ s. refl) (λ s. refl)
+returns-clause-hash c =
+    ip_hash (λ s. (IpSubnetsHash.ghosts).hash_input s)
+    (record { feeds_four = λ s. refl; feeds_six = λ s. refl })

@@ -13,4 +13,6 @@ returns-clause-compare c a b = record {
 }
 
 pub returns-clause-hash : goal.returns-clause-hash
-returns-clause-hash c = ip_hash (λ r. (IpAddrRangeHash.ghosts).hash_input r) (λ r. refl) (λ r. refl)
+returns-clause-hash c =
+    ip_hash (λ r. (IpAddrRangeHash.ghosts).hash_input r)
+    (record { feeds_four = λ r. refl; feeds_six = λ r. refl })

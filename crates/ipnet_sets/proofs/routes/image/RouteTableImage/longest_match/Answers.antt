@@ -8,26 +8,26 @@ use Rattle.ipnet_sets.proofs.routes.image.RouteTableImage.longest_match.Goals as
 
 pub returns-in-V4-clause-none : goal.returns-in-V4-clause-none
 returns-in-V4-clause-none c t h =
-    none_holds t (ip_address c.args.ip.now) (ip_network c.from.result) (IsNone c.covering.result)
+    none_holds t (ip_address c.args.ip.now) (ip_network c.from.result) (IsNone c.find_covering.result)
     (subst (λ ip. ip_network c.from.result ≡ host (ip_address ip)) (sym c.in-V4.is) c.from.ensures)
-    (c.covering.ensures.none t h)
+    (c.find_covering.ensures.none t h)
 
 pub returns-in-V4-clause-some : goal.returns-in-V4-clause-some
 returns-in-V4-clause-some c t h =
-    IfSome_then c.covering.result (c.covering.ensures.some t h)
+    IfSome_then c.find_covering.result (c.find_covering.ensures.some t h)
     (λ route. longest_holds t (ip_address c.args.ip.now) (ip_network c.from.result)
     (ip_network route.0, route.1)
     (subst (λ ip. ip_network c.from.result ≡ host (ip_address ip)) (sym c.in-V4.is) c.from.ensures))
 
 pub returns-in-V6-clause-none : goal.returns-in-V6-clause-none
 returns-in-V6-clause-none c t h =
-    none_holds t (ip_address c.args.ip.now) (ip_network c.from-in-V6.result) (IsNone c.covering-in-V6.result)
+    none_holds t (ip_address c.args.ip.now) (ip_network c.from-in-V6.result) (IsNone c.covering.result)
     (subst (λ ip. ip_network c.from-in-V6.result ≡ host (ip_address ip)) (sym c.in-V6.is) c.from-in-V6.ensures)
-    (c.covering-in-V6.ensures.none t h)
+    (c.covering.ensures.none t h)
 
 pub returns-in-V6-clause-some : goal.returns-in-V6-clause-some
 returns-in-V6-clause-some c t h =
-    IfSome_then c.covering-in-V6.result (c.covering-in-V6.ensures.some t h)
+    IfSome_then c.covering.result (c.covering.ensures.some t h)
     (λ route. longest_holds t (ip_address c.args.ip.now) (ip_network c.from-in-V6.result)
     (ip_network route.0, route.1)
     (subst (λ ip. ip_network c.from-in-V6.result ≡ host (ip_address ip)) (sym c.in-V6.is) c.from-in-V6.ensures))

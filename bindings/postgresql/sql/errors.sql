@@ -1,0 +1,44 @@
+-- Errors: each quotes the text, and gives the number of the entry and the cause.
+\pset format unaligned
+\pset tuples_only on
+CREATE FUNCTION refused(entry text, kind text) RETURNS text LANGUAGE plpgsql AS $$
+DECLARE
+    detail text;
+BEGIN
+    EXECUTE format('SELECT %L::%I', entry, kind);
+    RETURN 'accepted';
+EXCEPTION WHEN invalid_text_representation THEN
+    GET STACKED DIAGNOSTICS detail = PG_EXCEPTION_DETAIL;
+    RETURN SQLERRM || ' | ' || detail;
+END $$;
+SELECT refused('10.0.0.0/33', 'ipset');
+SELECT refused('10.0.0.0/8, 2001:db8::/129', 'ipset');
+SELECT refused('10.0.0.0/8, x, 10.0.0.0/33', 'ipset');
+SELECT refused('10.0.0.01', 'ipset');
+SELECT refused('1::2::3/64', 'ipset');
+SELECT refused('10.0.0.0/08', 'ipset');
+SELECT refused('10.0.0.0/', 'ipset');
+SELECT refused('10.0.0.0/x', 'ipset');
+SELECT refused('10.0.0.0/0.0.0.255', 'ipset');
+SELECT refused('10.0.0.9-10.0.0.1', 'ipset');
+SELECT refused('10.0.0.9-::1', 'ipset');
+SELECT refused('10.0.0.0/8-11.0.0.0/8', 'ipset');
+SELECT refused('fe80::1%eth0', 'ipset');
+SELECT refused('10.0.0.0/8 11.0.0.0/8', 'ipset');
+SELECT refused(E'10.0.0.0/8\n11.0.0.0/8', 'ipset') LIKE '%| Entry 1: it has several lines.';
+SELECT refused('10.0.0.0/8,', 'ipset');
+SELECT refused('10.0.0.0/8,, 11.0.0.0/8', 'ipset');
+SELECT refused('10.0.0.0/8 # ours, 11.0.0.0/8', 'ipset');
+SELECT refused('; 10.0.0.0/8', 'ipset');
+SELECT refused(repeat('ä', 60), 'ipset');
+SELECT refused('10.0.0.0/8', 'iptable');
+SELECT refused('10.0.0.0/8 1, 10.0.0.0/9 x', 'iptable');
+SELECT refused('10.0.0.0/8 2147483648', 'iptable');
+SELECT refused('10.0.0.0/8 1 2', 'iptable');
+SELECT refused('10.0.0.0/40 1', 'iptable');
+SELECT refused('10.0.0.0/8 1,', 'iptable');
+SELECT refused('10.0.0.1-10.0.0.2 1', 'iptable');
+SELECT t::iptable FROM (VALUES ('10.0.0.0/8 2, ::/0 1, 10.0.0.7/8 1')) v(t);
+SELECT ipset_count('', 5);
+DROP FUNCTION refused;
+DROP EXTENSION ipset;

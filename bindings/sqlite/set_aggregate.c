@@ -1,0 +1,153 @@
+/* ipset_agg(entry): the set of the networks, addresses and ranges of a column.
+ *
+ * The state has a set, and the lines of entries that came after it. If the lines are as long as the set and 1 MB, the
+ * library compiles them and joins both. */
+#include "extension.h"
+
+#include <string.h>
+
+typedef struct SetState {
+    uint8_t *set;
+    size_t set_len;
+    char *lines;
+    size_t len;
+    size_t room;
+    bool has_failed;
+} SetState;
+
+enum { LEAST_TEXT = 1024 * 1024 };
+
+static void fail(SetState *state)
+{
+    sqlite3_free(state->set);
+    sqlite3_free(state->lines);
+    memset(state, 0, sizeof *state);
+    state->has_failed = true;
+}
+
+/* Moves the entries of the lines into the set. Returns false without memory. */
+static bool compile_lines(SetState *state)
+{
+    SqlGiven lines = {state->lines ? state->lines : "", state->len, NULL, 0}, both;
+    ipnet_status status;
+    size_t more_len, joined_len;
+    uint8_t *joined, *more = try_write(sql_write_set, &lines, 32 + state->len, &status, &more_len);
+    if (more == NULL)
+        return false;
+    state->len = 0;
+    if (state->set == NULL) {
+        state->set = more;
+        state->set_len = more_len;
+        return true;
+    }
+    both.bytes = state->set;
+    both.len = state->set_len;
+    both.other = more;
+    both.other_len = more_len;
+    joined = try_write(sql_write_union, &both, both.len + both.other_len, &status, &joined_len);
+    sqlite3_free(more);
+    if (joined == NULL)
+        return false;
+    sqlite3_free(state->set);
+    state->set = joined;
+    state->set_len = joined_len;
+    return true;
+}
+
+/* Makes room for more bytes of lines. Returns false without memory. */
+static bool make_room(SetState *state, size_t more)
+{
+    size_t room = state->room;
+    char *lines;
+    if (room - state->len >= more)
+        return true;
+    room = 2 * room + more;
+    lines = sqlite3_realloc64(state->lines, room);
+    if (lines == NULL)
+        return false;
+    state->lines = lines;
+    state->room = room;
+    return true;
+}
+
+/* Adds an entry that is not just a network: one with blanks around it, a range, or a network with a netmask. Returns
+ * false if it is none of these, or if the library has no memory. */
+static bool add_entry(SetState *state, SqlPart text, ipnet_status *status)
+{
+    char *line = state->lines + state->len;
+    size_t refused, count, len = sql_set_lines(text.text, text.len, line, &refused);
+    uint8_t image[64];
+    *status = IPNET_BAD_LINE;
+    /* without a comma there is one entry; if it is refused, it has no line */
+    if (len == 0 || memchr(text.text, ',', text.len) != NULL)
+        return false;
+    *status = ipnet_set_from_list(line, len, image, sizeof image, &count);
+    if (*status != IPNET_OK && *status != IPNET_BUFFER_TOO_SHORT)
+        return false;
+    state->len += len;
+    return true;
+}
+
+/* Adds the value. Returns false after an error. */
+static bool add_value(sqlite3_context *context, SetState *state, sqlite3_value *value)
+{
+    bool is_text = sqlite3_value_type(value) == SQLITE_TEXT;
+    SqlPart text = {is_text ? (const char *)sqlite3_value_text(value) : "", 0};
+    SqlNetwork network;
+    ipnet_status status;
+    text.len = is_text ? (size_t)sqlite3_value_bytes(value) : 0;
+    if (text.text == NULL || !make_room(state, text.len + SQL_LINE)) {
+        sqlite3_result_error_nomem(context);
+        return false;
+    }
+    if (!is_text && !read_network(context, value, &network))
+        return false;
+    if (!is_text || sql_parse_network(text.text, text.len, &network)) {
+        state->len += sql_print_line(&network, state->lines + state->len);
+        return true;
+    }
+    if (add_entry(state, text, &status))
+        return true;
+    if (status == IPNET_BAD_LINE)
+        refuse(context, "not a network, address or range", value, sql_cause_of_entry(text));
+    else
+        refuse_status(context, status);
+    return false;
+}
+
+static void add(sqlite3_context *context, int count, sqlite3_value **values)
+{
+    SetState *state = sqlite3_aggregate_context(context, sizeof *state);
+    if (state == NULL)
+        sqlite3_result_error_nomem(context);
+    if (state == NULL || state->has_failed || has_null(count, values))
+        return;
+    if (!add_value(context, state, values[0])) {
+        fail(state);
+        return;
+    }
+    if (state->len >= LEAST_TEXT && state->len >= state->set_len && !compile_lines(state)) {
+        sqlite3_result_error_nomem(context);
+        fail(state);
+    }
+}
+
+static void finish(sqlite3_context *context)
+{
+    SetState nothing = {NULL, 0, NULL, 0, 0, false}, *state = sqlite3_aggregate_context(context, 0);
+    if (state == NULL)
+        state = &nothing;
+    if (state->has_failed)
+        return;
+    if (compile_lines(state)) {
+        sqlite3_result_blob64(context, state->set, state->set_len, sqlite3_free);
+        state->set = NULL;
+    } else
+        sqlite3_result_error_nomem(context);
+    fail(state);
+}
+
+int add_set_aggregate(sqlite3 *database)
+{
+    return sqlite3_create_function(database, "ipset_agg", 1, PURE_FUNCTION, NULL, NULL, add, finish);
+}

@@ -1,0 +1,15 @@
+-- The text has the ranges of the set of the image.
+use Rattle.std.proofs.Common.{string_bytes}
+use Rattle.std.proofs.lemmas.Result.{IfOk-weaker}
+use Rattle.ipnet_sets.specs.Members.{IsMember}
+use Rattle.netset_lib.specs.Answers.{AreRangeLines}
+use Rattle.ipnet_c.specs.SetReplies.{IsRangesOfImage}
+use Rattle.ipnet_c.proofs.set_images.image_ranges.Goals as goal
+
+pub returns : goal.returns
+returns c =
+    IfOk-weaker c.lines_of_ranges.result
+    (λ text. AreRangeLines (IsMember c.in_ok-first.first) (string_bytes text))
+    (λ text. IsRangesOfImage c.args.set.image.bytes.now (string_bytes text))
+    (λ text h. record { first = c.in_ok-first.first; first_image = c.in_ok-first.ensures; ranges = h })
+    c.lines_of_ranges.ensures

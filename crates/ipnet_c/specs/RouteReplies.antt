@@ -1,0 +1,32 @@
+-- The longest route for an address in the image of a table: the status, and what the call leaves in the caller's
+-- memory.
+use Rattle.std.specs.Prelude.{◌≡◌, ◌≢◌, ℕ, ◌<◌, ◌≤◌, ◌↔◌, ◌⊎◌, List, ◌++◌, length, drop}
+use Rattle.ipnet.specs.Address.{Address}
+use Rattle.ipnet.specs.Network.{Network}
+use Rattle.ipnet.specs.Blocks.{IsCoveredBy}
+use Rattle.ipnet.specs.Bytes.{tagged_network_bytes}
+use Rattle.ipnet_sets.specs.Routes.{Route, networks_of, IsLongestMatch}
+use Rattle.ipnet_sets.specs.TableImages.{HasTableHeader, IsTableImageOf}
+use Rattle.ipnet_c.specs.Statuses as statuses
+use Rattle.ipnet_c.specs.SetReplies.{AreOctetsOf, HasAddressLen}
+
+-- The buffer begins with the bytes of the network, and its other bytes are unchanged.
+-- Example: for 10.0.0.0/8 it begins with 0, 10, 0, 0, 0, 8.
+abbrev pub HasNetwork : Network → List ℕ → List ℕ → Type 0
+HasNetwork n old new = new ≡ tagged_network_bytes n ++ drop (length (tagged_network_bytes n)) old
+
+-- The longest match of an address and its network: the status is 1, `value` is the value and the buffer begins with the
+-- bytes of the network; or 0; or says why there is no answer.
+-- Example: of the image of 10.0.0.0/8 with 7, 10, 0, 0, 1 gives 1, the bytes 0, 10, 0, 0, 0, 8, and 7.
+pub record IsRouteReply (table address old new : List ℕ) (value_old value status : ℕ) : Type 0 where
+  pub some : status ≡ 1 → (n : Network) × HasNetwork n old new
+      × ((t : List (Route ℕ)) (x : Address) → IsTableImageOf table t → AreOctetsOf address x
+      → IsLongestMatch t x (n, value))
+  pub none : (t : List (Route ℕ)) (x : Address) → IsTableImageOf table t → AreOctetsOf address x → 18 ≤ length old
+      → (status ≡ 0) ↔ ¬ (IsCoveredBy (networks_of t) x)
+  pub known : HasAddressLen address → 18 ≤ length old → HasTableHeader table → (status ≡ 0) ⊎ (status ≡ 1)
+  pub wrong_length : (status ≡ statuses.wrong_length) ↔ ¬ (HasAddressLen address)
+  pub too_short : (status ≡ statuses.buffer_too_short) ↔ (HasAddressLen address × (length old < 18))
+  pub not_a_table : (status ≡ statuses.not_a_table)
+      ↔ (HasAddressLen address × (18 ≤ length old) × ¬ (HasTableHeader table))
+  pub kept : status ≢ 1 → (new ≡ old) × (value ≡ value_old)

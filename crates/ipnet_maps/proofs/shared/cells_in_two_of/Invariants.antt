@@ -1,0 +1,11 @@
+-- After i sets the two sets have the cells in which one of them has addresses, and in which two of them have.
+use Rattle.ipnet_sets.specs.Members.{IsMember}
+use Rattle.ipnet_pictures.specs.Parts.{HasSome}
+use Rattle.ipnet_maps.specs.Cells.{IsInCell}
+use Rattle.ipnet_maps.proofs.SharedLaws.{HasTwoOf}
+use Rattle.ipnet_maps.proofs.shared.cells_in_two_of.Given as goal
+
+abbrev pub invariant-loop-set : goal.invariant-loop-set
+invariant-loop-set l =
+    HasTwoOf (λ set. IsInCell l.cell_len (HasSome (IsMember set))) l.sets l.set-index (IsMember l.some)
+    (IsMember l.two)

@@ -1,0 +1,7 @@
+-- The definitions that the contracts of this crate cite.
+pub mod Cuts
+pub mod Squares
+pub mod Cells
+pub mod Shared
+pub mod Places
+pub mod Paths

@@ -1,0 +1,19 @@
+//! Maps of networks: the rectangle of each block, on a grid on which an address is read like text.
+#![tactic(auto)]
+
+pub mod cells;
+pub mod changed;
+pub mod depth;
+pub mod laws;
+pub mod layout;
+pub mod path;
+pub mod places;
+pub mod shared;
+
+pub use cells::{cells_with_all, cells_with_some};
+pub use changed::{ChangedCells, changed_cells};
+pub use depth::greatest_depth_of;
+pub use layout::{Axis, Layout, Place, Rectangle, Sides};
+pub use path::path_text;
+pub use places::{rectangle_in, rectangles_of};
+pub use shared::{cells_in_two_of, in_two_of};

@@ -1,0 +1,205 @@
+//! The command `bar` and the options of bars: their arguments, and their runs.
+use crate::arguments::{
+    ArgumentFailure, FIRST, STANDARD_INPUT, any_files, command_of, flag, flags_of,
+    reads_input_twice,
+};
+use crate::extract::grammar_of;
+use crate::listing::read_network;
+use crate::output::Streams;
+use crate::{refused, session_of};
+use clap::{Arg, ArgMatches, Command};
+use ipnet_pictures::{BarForm, Frame, Marks, RowWidth};
+use netset_pictures::{
+    BarRequest, LocaleValues, MarkChoice, chosen_marks, read_row_width, run_bar, run_comparison_bar,
+};
+use std::alloc::{AllocError, Global};
+use std::env;
+use std::env::VarError;
+
+/// The name of the command, and of the flag of `plan`.
+pub const BAR: &str = "bar";
+
+/// The ids and the names of the options.
+const IN: &str = "in";
+
+const IPV6: &str = "ipv6";
+
+const COMPARE: &str = "compare";
+
+const ASCII: &str = "ascii";
+
+const UTF8: &str = "utf8";
+
+const WIDTH: &str = "width";
+
+/// The values of `--width`.
+const WIDTHS: &[&str] = &["4", "8", "16", "32", "64"];
+
+/// Adds the flags for the marks of a bar. Each of them needs these other flags.
+fn with_marks<'a>(
+    alloc: Global,
+    command: Command<'a>,
+    needed: &[&'a str],
+) -> Result<Command<'a>, AllocError> {
+    let ascii = "Draw the marks .:ox# even on a terminal with a UTF-8 locale";
+    let utf8 = "Draw the marks \u{b7}\u{2591}\u{2592}\u{2593}\u{2588} even in a file or a pipe";
+    let ascii = flag(alloc, ASCII, ascii).requires_all(needed)?;
+    let utf8 = flag(alloc, UTF8, utf8)
+        .conflicts_with(ASCII)?
+        .requires_all(needed)?;
+    command.arg(ascii)?.arg(utf8)
+}
+
+/// Adds the options for the form of a bar. Each of them needs these other flags.
+fn with_form<'a>(
+    alloc: Global,
+    command: Command<'a>,
+    needed: &[&'a str],
+) -> Result<Command<'a>, AllocError> {
+    let width = Arg::new(alloc, WIDTH)
+        .long(WIDTH)
+        .value_name("N")
+        .value_parser(WIDTHS)
+        .help("Draw at most N marks in a row; by default 32")
+        .requires_all(needed)?;
+    with_marks(alloc, command, needed)?.arg(width)
+}
+
+/// Adds the flag `--bar` and the options that need it.
+pub fn with_plan_bar<'a>(alloc: Global, command: Command<'a>) -> Result<Command<'a>, AllocError> {
+    let bar = "Draw a bar instead of the networks: which addresses are not free after the plan";
+    with_form(alloc, command.arg(flag(alloc, BAR, bar))?, &[BAR])
+}
+
+/// Adds the options for the network that is drawn.
+fn with_frame<'a>(alloc: Global, command: Command<'a>) -> Result<Command<'a>, AllocError> {
+    let network = Arg::new(alloc, IN).long(IN).value_name("NETWORK").help(
+        "Draw NETWORK; by default, the smallest network that contains all addresses of one family",
+    );
+    let ipv6 = "Draw the IPv6 addresses; by default, the IPv4 addresses if there are any";
+    let ipv6 = flag(alloc, IPV6, ipv6).conflicts_with(IN)?;
+    command.arg(network)?.arg(ipv6)
+}
+
+/// Adds the command `bar`.
+pub fn with_bar<'a>(alloc: Global, command: Command<'a>) -> Result<Command<'a>, AllocError> {
+    let about =
+        "A network in at most 16 rows of marks: how full it is, and where its largest free block is";
+    let bar = with_frame(alloc, command_of(alloc, BAR, about)?)?;
+    command.subcommand(with_lists(alloc, with_form(alloc, bar, &[])?)?)
+}
+
+/// Adds the flag `--compare` and the lists of `bar`.
+fn with_lists<'a>(alloc: Global, command: Command<'a>) -> Result<Command<'a>, AllocError> {
+    let compare =
+        "Compare two lists: - only in the first, + only in the second, = in both; status 1 if they differ";
+    command
+        .arg(flag(alloc, COMPARE, compare))?
+        .arg(any_files(alloc))
+}
+
+/// The value of the variable, which is empty if it is not set. A value that is not UTF-8 is "?", since it is not empty,
+/// and no name of a locale. If memory runs out, it is reported, and the error is the exit status.
+fn variable(rt: &HostRuntime, name: &str) -> Result<String, u8> {
+    match env::var(rt, name) {
+        Ok(value) => Ok(value),
+        Err(VarError::NotPresent) => Ok(String::new(rt.alloc())),
+        Err(VarError::NotUnicode) => match String::from_str(rt.alloc(), "?") {
+            Ok(value) => Ok(value),
+            Err(_) => Err(refused(rt, ArgumentFailure::Memory)),
+        },
+        Err(VarError::OutOfMemory) => Err(refused(rt, ArgumentFailure::Memory)),
+    }
+}
+
+/// The flag or the output that decides on the marks.
+fn choice_of(matches: &ArgMatches, streams: &Streams<'_>) -> MarkChoice {
+    if matches.get_flag(ASCII) {
+        MarkChoice::Ascii
+    } else if matches.get_flag(UTF8) {
+        MarkChoice::Utf8
+    } else if streams.answer.is_terminal() {
+        MarkChoice::Terminal
+    } else {
+        MarkChoice::File
+    }
+}
+
+/// The characters of the marks: as the flags say, or as the terminal and the locale do. If memory runs out, it is
+/// reported, and the error is the exit status.
+fn marks_of(rt: &HostRuntime, matches: &ArgMatches, streams: &Streams<'_>) -> Result<Marks, u8> {
+    let lc_all = variable(rt, "LC_ALL")?;
+    let lc_ctype = variable(rt, "LC_CTYPE")?;
+    let lang = variable(rt, "LANG")?;
+    let values = LocaleValues {
+        lc_all: lc_all.as_str(),
+        lc_ctype: lc_ctype.as_str(),
+        lang: lang.as_str(),
+    };
+    Ok(chosen_marks(choice_of(matches, streams), values))
+}
+
+/// Reads the form of a bar. If memory runs out, it is reported, and the error is the exit status.
+pub fn form_of(
+    rt: &HostRuntime,
+    matches: &ArgMatches,
+    streams: &Streams<'_>,
+) -> Result<BarForm, u8> {
+    // the value is one of WIDTHS, if there is one
+    let width = matches.get_str(WIDTH).and_then(read_row_width);
+    let row_width = width.unwrap_or(RowWidth::ThirtyTwo);
+    let marks = marks_of(rt, matches, streams)?;
+    Ok(BarForm { row_width, marks })
+}
+
+/// Reads the network to draw. If the word is not a network, it is reported, and the error is the exit status.
+fn frame_of(rt: &HostRuntime, matches: &ArgMatches) -> Result<Frame, u8> {
+    match matches.get_str(IN) {
+        Some(word) => match read_network(rt, word, grammar_of(matches)) {
+            Some(network) => Ok(Frame::Named(network)),
+            None => Err(2),
+        },
+        None if matches.get_flag(IPV6) => Ok(Frame::Ipv6),
+        None => Ok(Frame::FirstFamily),
+    }
+}
+
+/// Reads the network and the form of the bar. If that fails, it is reported, and the error is the exit status.
+fn request_of(
+    rt: &HostRuntime,
+    matches: &ArgMatches,
+    streams: &Streams<'_>,
+) -> Result<BarRequest, u8> {
+    let frame = frame_of(rt, matches)?;
+    let form = form_of(rt, matches, streams)?;
+    Ok(BarRequest { frame, form })
+}
+
+/// Reads the arguments and the lists, prints the bar, and returns the exit status.
+pub fn drawn(rt: &HostRuntime, matches: &ArgMatches, streams: &mut Streams<'_>) -> u8 {
+    let request = match request_of(rt, matches, streams) {
+        Ok(request) => request,
+        Err(status) => return status,
+    };
+    let names = matches.get_strs(FIRST).unwrap_or(&[STANDARD_INPUT]);
+    if reads_input_twice(names) {
+        return refused(rt, ArgumentFailure::InputTwice);
+    }
+    let compares = matches.get_flag(COMPARE);
+    let command = if compares {
+        netset_lib::Command::Compare
+    } else {
+        netset_lib::Command::Union
+    };
+    let session = match session_of(rt, command.work(flags_of(matches)), names, streams) {
+        Ok(session) => session,
+        Err(status) => return status,
+    };
+    let out = &mut streams.answer;
+    let faults = &mut streams.faults;
+    if compares {
+        run_comparison_bar(session, request, names, out, faults)
+    } else {
+        run_bar(session, request, names, out, faults)
+    }
+}

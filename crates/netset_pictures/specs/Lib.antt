@@ -1,0 +1,4 @@
+-- The definitions that the contracts of this crate cite.
+pub mod BarAnswers
+pub mod Locales
+pub mod PlanBars

@@ -1,0 +1,103 @@
+//! Bars of lists: the network that a bar shows, and its text.
+ghost use Rattle.std.specs.Prelude.{◌≡◌, ◌↔◌, Some, Err, IfOk, string_bytes};
+ghost use Rattle.ipnet_pictures.specs.declared.marks.RowWidth.{RowWidth};
+ghost use Rattle.ipnet_pictures.specs.Frames.{HasNoFrame};
+ghost use Rattle.ipnet_sets.specs.Members.{IsMember, IsUnion};
+ghost use Rattle.ipnet_sets.specs.declared.set.IpSet.{IpSet};
+ghost use Rattle.netset_pictures.specs.BarAnswers.{width_text, IsFramedBar, IsFramedComparison};
+ghost use Rattle.netset_pictures.specs.declared.bar.BarFailure.TheVariants.{NoFrame, Memory};
+
+use ipnet_pictures::{BarForm, Frame, RowWidth, bar_text, comparison_bar_text, frame_of};
+use ipnet_sets::IpSet;
+use std::alloc::{AllocError, Global};
+use thiserror::Error;
+
+/// Why there is no bar.
+#[derive(Clone, Copy, Debug, PartialEq, Eq, Drop, Error)]
+pub enum BarFailure {
+    /// No network is named, and the lists have no address around which to draw one.
+    #[error("no address to draw: name a network with --in")]
+    NoFrame,
+    /// Memory ran out.
+    #[error("out of memory")]
+    Memory,
+}
+
+impl From<AllocError> for BarFailure {
+    ghost from_gives = { λ _ result. result ≡ Memory };
+
+    fn from(_: AllocError) -> BarFailure {
+        BarFailure::Memory
+    }
+}
+
+/// Returns the width of a row that the text says, or `None` if it says none.
+///
+/// ```text
+/// "4", "8", "16", "32" and "64" are the five widths; "04", "12" and "" are None
+/// ```
+pub fn read_row_width(text: &str) -> Option<RowWidth>
+    ensures { (width : RowWidth) → (result ≡ Some width) ↔ (text.now ≡ width_text width) }
+{
+    match text {
+        "4" => Some(RowWidth::Four),
+        "8" => Some(RowWidth::Eight),
+        "16" => Some(RowWidth::Sixteen),
+        "32" => Some(RowWidth::ThirtyTwo),
+        "64" => Some(RowWidth::SixtyFour),
+        _ => None,
+    }
+}
+
+/// The network that a bar shows, and its form.
+#[derive(Clone, Copy, Debug, PartialEq, Eq)]
+pub struct BarRequest {
+    /// The network.
+    pub frame: Frame,
+    /// The width of a row, and the characters of the marks.
+    pub form: BarForm,
+}
+
+/// Returns the bar of the set. The error is `NoFrame` if no network is named and the set has no address of the family,
+/// and otherwise `Memory`, only if memory runs out.
+///
+/// ```text
+/// of 10.0.0.0-10.0.0.9, without a named network: the bar of 10.0.0.0/28
+/// ```
+pub fn framed_bar_text(
+    alloc: Global,
+    set: &IpSet,
+    request: BarRequest,
+) -> Result<String, BarFailure>
+    ensures bar { IfOk result (λ text. IsFramedBar (IsMember set.now) request.frame request.form (string_bytes text)) }
+    ensures none { result ≡ Err NoFrame → HasNoFrame request.frame (IsMember set.now) }
+{
+    let Some(network) = frame_of(alloc, set, request.frame)? else {
+        return Err(BarFailure::NoFrame);
+    };
+    Ok(bar_text(alloc, set, &network, request.form)?)
+}
+
+/// Returns the bar that compares the two sets, in the frame of all their addresses. The error is `NoFrame` if no
+/// network is named and neither set has an address of the family, and otherwise `Memory`, only if memory runs out.
+///
+/// ```text
+/// from 10.0.0.0-10.0.0.3 to 10.0.0.8, without a named network: the bar of 10.0.0.0/28
+/// ```
+pub fn framed_comparison_text(
+    alloc: Global,
+    before: &IpSet,
+    after: &IpSet,
+    request: BarRequest,
+) -> Result<String, BarFailure>
+    ensures bar { IfOk result (λ text.
+        IsFramedComparison before.now after.now request.frame request.form (string_bytes text)) }
+    ensures none { result ≡ Err NoFrame
+        → ((all : IpSet) × IsUnion all before.now after.now × HasNoFrame request.frame (IsMember all)) }
+{
+    let all = before.union(alloc, after)?;
+    let Some(network) = frame_of(alloc, &all, request.frame)? else {
+        return Err(BarFailure::NoFrame);
+    };
+    Ok(comparison_bar_text(alloc, before, after, &network, request.form)?)
+}

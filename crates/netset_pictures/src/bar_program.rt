@@ -1,0 +1,147 @@
+//! The command `bar` of the program, over any writers.
+ghost use Rattle.std.specs.Prelude.{◌≡◌, ◌≤◌, ◌⊎◌, ◌↔◌, IsTrue, List, ℕ};
+ghost use Rattle.std.specs.Io.KnownBytes.{Keeps};
+ghost use Rattle.ipnet_base.specs.Address.{Address};
+ghost use Rattle.ipnet.specs.declared.parser.Grammar.{Grammar};
+ghost use Rattle.ipnet_sets.specs.Members.{IsMember};
+ghost use Rattle.netset_lib.specs.Replies.{AreSameLists, AreOtherLists};
+ghost use Rattle.netset_lib.specs.RuleAnswers.{IsWritten, IsFrontWritten};
+ghost use Rattle.netset_lib.specs.Sessions.{WereRead};
+ghost use Rattle.netset_lib.specs.declared.answer.Request.{Request};
+ghost use Rattle.netset_lib.specs.declared.command.Work.TheVariants.{Combine, Ask};
+ghost use Rattle.netset_lib.specs.declared.query.Query.TheVariants.{Compare};
+ghost use Rattle.netset_pictures.specs.BarAnswers.{IsBarAnswer, IsComparisonAnswer};
+
+use crate::bar::{BarRequest, framed_bar_text, framed_comparison_text};
+use ipnet_sets::IpSet;
+use netset_lib::{Session, report_failure, written};
+use std::io::Write;
+
+/// Writes the bar of the session's lists to `out`, as `framed_bar_text` makes it of the addresses of the operation, and
+/// returns the exit status.
+///
+/// `names` are the names of the lists, in order, for the reports on `faults`. If a report cannot be written, the status
+/// is the same.
+///
+/// | Status | On `faults` | When |
+/// |---|---|---|
+/// | 2 | as `run` reports it | the lists have no set |
+/// | 2 | `netset: no address to draw: name a network with --in` | as `BarFailure::NoFrame` says |
+/// | 2 | `netset: out of memory` | memory runs out |
+/// | 2 | `netset: output cannot be written` | a write fails, or the flush after it; the bar may be out in part |
+/// | 0 | nothing | otherwise |
+///
+/// ```text
+/// Union of "10.0.0.0/31\n" in 10.0.0.0/30: status 0, and out gets "10.0.0.0/30, a mark is one /32\n
+///     10.0.0.0/30 |##..| 50.0 %\nused 2 of 4, 50.0 %\nfree blocks: 1, 1 of /31\nlargest free: 10.0.0.2/31\n"
+/// ```
+pub fn run_bar<W: Write, X: Write>(
+    session: Session,
+    request: BarRequest,
+    names: &[&str],
+    out: &mut W,
+    faults: &mut X,
+) -> u8
+    ensures status { (result ≡ 0) ⊎ (result ≡ 2) }
+    ensures drawn { result ≡ 0 → (r : Request) → (lists : List (List ℕ)) → WereRead (Combine r) lists session
+        → IsWritten (IsBarAnswer r lists request.frame request.form) (W.contents out.old) (W.contents out.new) }
+    ensures cut_short { result ≡ 2 → (r : Request) → (lists : List (List ℕ)) → WereRead (Combine r) lists session
+        → Keeps (W.contents out.old) (W.contents out.new)
+        ⊎ IsFrontWritten (IsBarAnswer r lists request.frame request.form)
+        (W.contents out.old) (W.contents out.new) }
+    ensures faultless { result ≡ 0 → Keeps (X.contents faults.old) (X.contents faults.new) }
+{
+    let alloc = session.alloc();
+    let set = match session.into_set() {
+        Ok(set) => set,
+        Err(failure) => {
+            let _ = report_failure(faults, names, &failure);
+            return 2;
+        }
+    };
+    let text = match framed_bar_text(alloc, &set, request) {
+        Ok(text) => text,
+        Err(failure) => {
+            let _ = writeln!(faults, "netset: {failure}");
+            return 2;
+        }
+    };
+    if !written(out, text.as_bytes()) {
+        let _ = writeln!(faults, "netset: output cannot be written");
+        return 2;
+    }
+    0
+}
+
+/// Whether the sets have the same addresses.
+fn are_same(one: &IpSet, other: &IpSet) -> bool
+    ensures { IsTrue result ↔ (((x : Address) → IsMember one.now x → IsMember other.now x)
+        × ((x : Address) → IsMember other.now x → IsMember one.now x)) }
+{
+    one.is_subset(other) && other.is_subset(one)
+}
+
+/// Writes the bar that compares the first list with the second to `out`, as `framed_comparison_text` makes it, and
+/// returns the exit status. The session has read two lists for a comparison.
+///
+/// `names` are the names of the lists, in order, for the reports on `faults`. If a report cannot be written, the status
+/// is the same.
+///
+/// | Status | On `faults` | When |
+/// |---|---|---|
+/// | 2 | as `run` reports it | there are not two lists, or lines of them are not entries |
+/// | 2 | `netset: no address to draw: name a network with --in` | as `BarFailure::NoFrame` says |
+/// | 2 | `netset: out of memory` | memory runs out |
+/// | 2 | `netset: output cannot be written` | a write fails, or the flush after it; the bar may be out in part |
+/// | 1 | nothing | the lists do not have the same addresses |
+/// | 0 | nothing | the lists have the same addresses |
+///
+/// ```text
+/// "10.0.0.0/31\n" and "10.0.0.1/32\n", in 10.0.0.0/30: status 1, and out gets "10.0.0.0/30, a mark is one /32\n
+///     10.0.0.0/30 |-=..| -1 +0\n- only in the first: 1\n+ only in the second: 0\n= in both: 1\n
+///     ! is - and + in one mark\n"
+/// ```
+pub fn run_comparison_bar<W: Write, X: Write>(
+    session: Session,
+    request: BarRequest,
+    names: &[&str],
+    out: &mut W,
+    faults: &mut X,
+) -> u8
+    ensures status { result ≤ 2 }
+    ensures drawn { result ≤ 1 → (grammar : Grammar) → (lists : List (List ℕ))
+        → WereRead (Ask Compare grammar) lists session
+        → IsWritten (IsComparisonAnswer grammar lists request.frame request.form)
+        (W.contents out.old) (W.contents out.new) }
+    ensures different { result ≡ 1 → (grammar : Grammar) → (lists : List (List ℕ))
+        → WereRead (Ask Compare grammar) lists session → AreOtherLists grammar lists }
+    ensures same { result ≡ 0 → (grammar : Grammar) → (lists : List (List ℕ))
+        → WereRead (Ask Compare grammar) lists session → AreSameLists grammar lists }
+    ensures cut_short { result ≡ 2 → (grammar : Grammar) → (lists : List (List ℕ))
+        → WereRead (Ask Compare grammar) lists session
+        → Keeps (W.contents out.old) (W.contents out.new)
+        ⊎ IsFrontWritten (IsComparisonAnswer grammar lists request.frame request.form)
+        (W.contents out.old) (W.contents out.new) }
+    ensures faultless { result ≤ 1 → Keeps (X.contents faults.old) (X.contents faults.new) }
+{
+    let alloc = session.alloc();
+    let (before, after) = match session.into_pair() {
+        Ok(pair) => pair,
+        Err(failure) => {
+            let _ = report_failure(faults, names, &failure);
+            return 2;
+        }
+    };
+    let text = match framed_comparison_text(alloc, &before, &after, request) {
+        Ok(text) => text,
+        Err(failure) => {
+            let _ = writeln!(faults, "netset: {failure}");
+            return 2;
+        }
+    };
+    if !written(out, text.as_bytes()) {
+        let _ = writeln!(faults, "netset: output cannot be written");
+        return 2;
+    }
+    if are_same(&before, &after) { 0 } else { 1 }
+}
