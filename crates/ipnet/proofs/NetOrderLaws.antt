@@ -8,7 +8,7 @@ use Rattle.std.specs.Hash.{le_bytes}
 use Rattle.ipnet_base.specs.Network.{Network, IsBefore}
 use Rattle.ipnet_base.proofs.NetworkLaws.{same_network}
 use Rattle.ipnet_base.proofs.DigitLaws.{same_by_bytes}
-use Rattle.ipnet_base.proofs.ValueLaws.{FeedsByFamily, same_view}
+use Rattle.ipnet_base.proofs.ValueLaws.{FeedsByFamily, hashed_by_family}
 use Rattle.ipnet.specs.declared.net.IpNet.{IpNet}
 use Rattle.ipnet.specs.declared.net.ipv4_net.Ipv4Net.{Ipv4Net}
 use Rattle.ipnet.specs.declared.net.ipv6_net.Ipv6Net.{Ipv6Net}
@@ -143,7 +143,4 @@ either_family (Ip.V6 n) = inr (n, refl)
 
 pub ip_hash : (fed : IpNet → List (List ℕ)) → FeedsByFamily Ip.V4 Ip.V6 ipv4_fed ipv6_fed fed
     → (x y : IpNet) → (fed x ≡ fed y) ↔ (ip_network x ≡ ip_network y)
-ip_hash fed f x y = (
-  same_view either_family f ip_network (λ a b. (ipv4_hash a b).0) (λ a b. (ipv6_hash a b).0) x y,
-  λ e. ap fed (ip_one_to_one x y e),
-)
+ip_hash fed f = hashed_by_family either_family f ip_network ipv4_hash ipv6_hash ip_one_to_one

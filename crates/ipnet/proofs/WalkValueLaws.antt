@@ -5,7 +5,7 @@ use Rattle.std.specs.Coded.{le_prop}
 use Rattle.std.specs.Hash.{le_bytes}
 use Rattle.ipnet_base.specs.Subnets.{SubnetRange}
 use Rattle.ipnet_base.proofs.DigitLaws.{same_by_bytes}
-use Rattle.ipnet_base.proofs.ValueLaws.{FeedsByFamily, same_view}
+use Rattle.ipnet_base.proofs.ValueLaws.{FeedsByFamily, hashed_by_family}
 use Rattle.ipnet.specs.SubnetsLeft.{ipv4_subnet_range, ipv6_subnet_range, ip_subnet_range}
 use Rattle.ipnet.specs.declared.subnets.IpSubnets.{IpSubnets}
 use Rattle.ipnet.specs.declared.subnets.ipv4_subnets.Ipv4Subnets.{Ipv4Subnets}
@@ -86,7 +86,4 @@ either_family (Ip.V6 n) = inr (n, refl)
 
 pub ip_hash : (fed : IpSubnets → List (List ℕ)) → FeedsByFamily Ip.V4 Ip.V6 ipv4_fed ipv6_fed fed
     → (x y : IpSubnets) → (fed x ≡ fed y) ↔ (ip_subnet_range x ≡ ip_subnet_range y)
-ip_hash fed f x y = (
-  same_view either_family f ip_subnet_range (λ a b. (ipv4_hash a b).0) (λ a b. (ipv6_hash a b).0) x y,
-  λ e. ap fed (ip_one_to_one x y e),
-)
+ip_hash fed f = hashed_by_family either_family f ip_subnet_range ipv4_hash ipv6_hash ip_one_to_one

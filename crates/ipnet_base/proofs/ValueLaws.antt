@@ -27,7 +27,7 @@ fed_rest : (x : List ℕ) (xs ys : List (List ℕ)) → x ∷ xs ≡ x ∷ ys �
 fed_rest x xs ys e = cc
 
 -- and values that feed it the same have one view, if the values of each family do
-pub same_view : {A B S V : Type 0} {four : A → S} {six : B → S} {ipv4_fed : A → List (List ℕ)}
+same_view : {A B S V : Type 0} {four : A → S} {six : B → S} {ipv4_fed : A → List (List ℕ)}
     {ipv6_fed : B → List (List ℕ)} {fed : S → List (List ℕ)}
     → ((s : S) → ((a : A) × (s ≡ four a)) ⊎ ((b : B) × (s ≡ six b)))
     → FeedsByFamily four six ipv4_fed ipv6_fed fed → (view : S → V)
@@ -55,6 +55,17 @@ same_view {A} {B} {S} {V} {four} {six} {ipv4_fed} {ipv6_fed} {fed} either f view
             ∙ sym (ap view is')
       ]
     ]
+
+-- so values of either family feed it the same exactly if their views are equal
+pub hashed_by_family : {A B S V : Type 0} {four : A → S} {six : B → S} {ipv4_fed : A → List (List ℕ)}
+    {ipv6_fed : B → List (List ℕ)} {fed : S → List (List ℕ)}
+    → ((s : S) → ((a : A) × (s ≡ four a)) ⊎ ((b : B) × (s ≡ six b)))
+    → FeedsByFamily four six ipv4_fed ipv6_fed fed → (view : S → V)
+    → ((a b : A) → (ipv4_fed a ≡ ipv4_fed b) ↔ (view (four a) ≡ view (four b)))
+    → ((a b : B) → (ipv6_fed a ≡ ipv6_fed b) ↔ (view (six a) ≡ view (six b)))
+    → ((r s : S) → view r ≡ view s → r ≡ s) → (r s : S) → (fed r ≡ fed s) ↔ (view r ≡ view s)
+hashed_by_family {A} {B} {S} {V} {four} {six} {ipv4_fed} {ipv6_fed} {fed} either f view hash4 hash6 one_to_one r s =
+    (same_view either f view (λ a b. (hash4 a b).0) (λ a b. (hash6 a b).0) r s, λ e. ap fed (one_to_one r s e))
 
 same_range : (r s : AddressRange) → r.family ≡ s.family → r.start ≡ s.start → r.end ≡ s.end → r ≡ s
 same_range r s f a b i = record { family = f i; start = a i; end = b i }
@@ -117,7 +128,4 @@ either_family (Ip.V6 r) = inr (r, refl)
 
 pub ip_hash : (fed : IpAddrRange → List (List ℕ)) → FeedsByFamily Ip.V4 Ip.V6 ipv4_fed ipv6_fed fed
     → (r s : IpAddrRange) → (fed r ≡ fed s) ↔ (ip_range r ≡ ip_range s)
-ip_hash fed f r s = (
-  same_view either_family f ip_range (λ a b. (ipv4_hash a b).0) (λ a b. (ipv6_hash a b).0) r s,
-  λ e. ap fed (ip_one_to_one r s e),
-)
+ip_hash fed f = hashed_by_family either_family f ip_range ipv4_hash ipv6_hash ip_one_to_one

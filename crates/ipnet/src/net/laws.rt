@@ -22,47 +22,35 @@ use std::hash::Hash;
 
 /// Each IPv4 network has a number of 32 bits and a prefix length of at most 32. Two values are equal if and only if
 /// they represent the same network. They are ordered as networks, and feed a hasher the same if and only if they are
-/// equal.
+/// equal. The clone is the same network, and cloning never fails.
 pub fn ipv4_nets_compare_by_network()
     ensures valid { (n : Ipv4Net) → IsNetwork (ipv4_network n) }
     ensures compare { (a b : Ipv4Net) → ComparesBy ipv4_network IsBefore ⟦<Ipv4Net as PartialEq>⟧.eq
         ⟦<Ipv4Net as Ord>⟧.cmp ⟦<Ipv4Net as PartialOrd>⟧.partial_cmp a b }
     ensures hash { (a b : Ipv4Net) → HashesBy ipv4_network ⟦<Ipv4Net as Hash>⟧.hash_input a b }
+    ensures clone { ClonesExactly ⟦<Ipv4Net as Clone>⟧.is_clone ⟦<Ipv4Net as Clone>⟧.is_infallible }
 {}
 
 /// Each IPv6 network has a number of 128 bits and a prefix length of at most 128. Two values are equal if and only if
 /// they represent the same network. They are ordered as networks, and feed a hasher the same if and only if they are
-/// equal.
+/// equal. The clone is the same network, and cloning never fails.
 pub fn ipv6_nets_compare_by_network()
     ensures valid { (n : Ipv6Net) → IsNetwork (ipv6_network n) }
     ensures compare { (a b : Ipv6Net) → ComparesBy ipv6_network IsBefore ⟦<Ipv6Net as PartialEq>⟧.eq
         ⟦<Ipv6Net as Ord>⟧.cmp ⟦<Ipv6Net as PartialOrd>⟧.partial_cmp a b }
     ensures hash { (a b : Ipv6Net) → HashesBy ipv6_network ⟦<Ipv6Net as Hash>⟧.hash_input a b }
+    ensures clone { ClonesExactly ⟦<Ipv6Net as Clone>⟧.is_clone ⟦<Ipv6Net as Clone>⟧.is_infallible }
 {}
 
 /// Networks of either family have a number and a prefix length within its width. Two values are equal if and only if
 /// they represent the same network. They are ordered as networks, so IPv4 before IPv6, and feed a hasher the same if
-/// and only if they are equal.
+/// and only if they are equal. The clone is the same network, and cloning never fails.
 pub fn ip_nets_compare_by_network()
     ensures valid { (n : IpNet) → IsNetwork (ip_network n) }
     ensures compare { (a b : IpNet) → ComparesBy ip_network IsBefore ⟦<IpNet as PartialEq>⟧.eq
         ⟦<IpNet as Ord>⟧.cmp ⟦<IpNet as PartialOrd>⟧.partial_cmp a b }
     ensures hash { (a b : IpNet) → HashesBy ip_network ⟦<IpNet as Hash>⟧.hash_input a b }
-{}
-
-/// The clone of an IPv4 network is the same network, and cloning never fails.
-pub fn ipv4_nets_clone()
-    ensures { ClonesExactly ⟦<Ipv4Net as Clone>⟧.is_clone ⟦<Ipv4Net as Clone>⟧.is_infallible }
-{}
-
-/// The clone of an IPv6 network is the same network, and cloning never fails.
-pub fn ipv6_nets_clone()
-    ensures { ClonesExactly ⟦<Ipv6Net as Clone>⟧.is_clone ⟦<Ipv6Net as Clone>⟧.is_infallible }
-{}
-
-/// The clone of a network of either family is the same network, and cloning never fails.
-pub fn ip_nets_clone()
-    ensures { ClonesExactly ⟦<IpNet as Clone>⟧.is_clone ⟦<IpNet as Clone>⟧.is_infallible }
+    ensures clone { ClonesExactly ⟦<IpNet as Clone>⟧.is_clone ⟦<IpNet as Clone>⟧.is_infallible }
 {}
 
 /// The netmask of an IPv4 network reads back as its prefix length.

@@ -45,42 +45,31 @@ pub fn calls_give_each_address_once()
 {}
 
 /// Two IPv4 ranges are equal if and only if their stored ends are equal, and they are ordered by their stored ends.
-/// They feed a hasher the same if and only if they are equal.
+/// They feed a hasher the same if and only if they are equal. The clone is the same range, and cloning never fails.
 pub fn ipv4_ranges_compare_by_ends()
     ensures compare { (a b : Ipv4AddrRange) → ComparesBy ipv4_range IsRangeBefore ⟦<Ipv4AddrRange as PartialEq>⟧.eq
         ⟦<Ipv4AddrRange as Ord>⟧.cmp ⟦<Ipv4AddrRange as PartialOrd>⟧.partial_cmp a b }
     ensures hash { (a b : Ipv4AddrRange) → HashesBy ipv4_range ⟦<Ipv4AddrRange as Hash>⟧.hash_input a b }
+    ensures clone { ClonesExactly ⟦<Ipv4AddrRange as Clone>⟧.is_clone ⟦<Ipv4AddrRange as Clone>⟧.is_infallible }
 {}
 
 /// Two IPv6 ranges are equal if and only if their stored ends are equal, and they are ordered by their stored ends.
-/// They feed a hasher the same if and only if they are equal.
+/// They feed a hasher the same if and only if they are equal. The clone is the same range, and cloning never fails.
 pub fn ipv6_ranges_compare_by_ends()
     ensures compare { (a b : Ipv6AddrRange) → ComparesBy ipv6_range IsRangeBefore ⟦<Ipv6AddrRange as PartialEq>⟧.eq
         ⟦<Ipv6AddrRange as Ord>⟧.cmp ⟦<Ipv6AddrRange as PartialOrd>⟧.partial_cmp a b }
     ensures hash { (a b : Ipv6AddrRange) → HashesBy ipv6_range ⟦<Ipv6AddrRange as Hash>⟧.hash_input a b }
+    ensures clone { ClonesExactly ⟦<Ipv6AddrRange as Clone>⟧.is_clone ⟦<Ipv6AddrRange as Clone>⟧.is_infallible }
 {}
 
 /// Two ranges of either family are equal if and only if their families and stored ends are equal. They are ordered by
-/// family, IPv4 first, and then by their stored ends. They feed a hasher the same if and only if they are equal.
+/// family, IPv4 first, and then by their stored ends. They feed a hasher the same if and only if they are equal. The
+/// clone is the same range, and cloning never fails.
 pub fn ip_ranges_compare_by_ends()
     ensures compare { (a b : IpAddrRange) → ComparesBy ip_range IsRangeBefore ⟦<IpAddrRange as PartialEq>⟧.eq
         ⟦<IpAddrRange as Ord>⟧.cmp ⟦<IpAddrRange as PartialOrd>⟧.partial_cmp a b }
     ensures hash { (a b : IpAddrRange) → HashesBy ip_range ⟦<IpAddrRange as Hash>⟧.hash_input a b }
-{}
-
-/// The clone of an IPv4 range is the same range, and cloning never fails.
-pub fn ipv4_ranges_clone()
-    ensures { ClonesExactly ⟦<Ipv4AddrRange as Clone>⟧.is_clone ⟦<Ipv4AddrRange as Clone>⟧.is_infallible }
-{}
-
-/// The clone of an IPv6 range is the same range, and cloning never fails.
-pub fn ipv6_ranges_clone()
-    ensures { ClonesExactly ⟦<Ipv6AddrRange as Clone>⟧.is_clone ⟦<Ipv6AddrRange as Clone>⟧.is_infallible }
-{}
-
-/// The clone of a range of either family is the same range, and cloning never fails.
-pub fn ip_ranges_clone()
-    ensures { ClonesExactly ⟦<IpAddrRange as Clone>⟧.is_clone ⟦<IpAddrRange as Clone>⟧.is_infallible }
+    ensures clone { ClonesExactly ⟦<IpAddrRange as Clone>⟧.is_clone ⟦<IpAddrRange as Clone>⟧.is_infallible }
 {}
 
 /// Ranges of each type are `Copy` and `Debug`, and they are fused iterators: after `None` they always return `None`. No

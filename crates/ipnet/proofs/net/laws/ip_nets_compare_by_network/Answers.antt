@@ -9,12 +9,7 @@ pub returns-clause-valid : goal.returns-clause-valid
 returns-clause-valid c = ip_valid
 
 pub returns-clause-compare : goal.returns-clause-compare
-returns-clause-compare c a b = record {
-  equality = search rules;
-  one_to_one = ip_one_to_one a b;
-  order = search rules;
-  partial_order = search rules;
-}
+returns-clause-compare c a b = search (rules, ip_one_to_one a b)
 
 pub returns-clause-hash : goal.returns-clause-hash
 returns-clause-hash c =

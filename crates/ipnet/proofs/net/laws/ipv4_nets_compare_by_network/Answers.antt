@@ -8,12 +8,7 @@ pub returns-clause-valid : goal.returns-clause-valid
 returns-clause-valid c = ipv4_valid
 
 pub returns-clause-compare : goal.returns-clause-compare
-returns-clause-compare c a b = record {
-  equality = search rules;
-  one_to_one = ipv4_one_to_one a b;
-  order = ipv4_ranks a b;
-  partial_order = search rules;
-}
+returns-clause-compare c a b = search (rules, ipv4_one_to_one a b, ipv4_ranks a b)
 
 pub returns-clause-hash : goal.returns-clause-hash
 returns-clause-hash c = ipv4_hash

@@ -8,12 +8,7 @@ pub returns-clause-valid : goal.returns-clause-valid
 returns-clause-valid c = ipv6_valid
 
 pub returns-clause-compare : goal.returns-clause-compare
-returns-clause-compare c a b = record {
-  equality = search rules;
-  one_to_one = ipv6_one_to_one a b;
-  order = ipv6_ranks a b;
-  partial_order = search rules;
-}
+returns-clause-compare c a b = search (rules, ipv6_one_to_one a b, ipv6_ranks a b)
 
 pub returns-clause-hash : goal.returns-clause-hash
 returns-clause-hash c = ipv6_hash

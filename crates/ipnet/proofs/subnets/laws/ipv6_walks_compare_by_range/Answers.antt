@@ -4,12 +4,7 @@ use Rattle.ipnet.proofs.WalkValueLaws.{ipv6_one_to_one, ipv6_hash}
 use Rattle.ipnet.proofs.subnets.laws.ipv6_walks_compare_by_range.Goals as goal
 
 pub returns-clause-compare : goal.returns-clause-compare
-returns-clause-compare c a b = record {
-  equality = search rules;
-  one_to_one = ipv6_one_to_one a b;
-  order = search rules;
-  partial_order = search rules;
-}
+returns-clause-compare c a b = search (rules, ipv6_one_to_one a b)
 
 pub returns-clause-hash : goal.returns-clause-hash
 returns-clause-hash c = ipv6_hash

@@ -5,12 +5,7 @@ use Rattle.ipnet_base.proofs.ValueLaws.{ip_one_to_one, ip_hash}
 use Rattle.ipnet_base.proofs.ipext.laws.ip_ranges_compare_by_ends.Goals as goal
 
 pub returns-clause-compare : goal.returns-clause-compare
-returns-clause-compare c a b = record {
-  equality = search rules;
-  one_to_one = ip_one_to_one a b;
-  order = search rules;
-  partial_order = search rules;
-}
+returns-clause-compare c a b = search (rules, ip_one_to_one a b)
 
 pub returns-clause-hash : goal.returns-clause-hash
 returns-clause-hash c =
