@@ -223,7 +223,7 @@ def _octets_of(item: Any, row: int) -> Optional[bytes]:
 
 
 def is_missing(item: Any) -> bool:
-    """Whether an item stands for a missing row: None, a float that is not a number, or NA and NaT of pandas."""
+    """Whether an item is a missing row: None, a float that is not a number, or NA and NaT of pandas."""
     if item is None or isinstance(item, float) and item != item:
         return True
     kind = type(item)

@@ -26,7 +26,7 @@ def is_series(column: Any) -> bool:
 
 class ArrayNumbers(Column):
     """An array of IPv4 addresses as numbers: of 4 bytes without a sign, in any order of bytes; or of another type if
-    each number fits. In an array of floats, NaN stands for a missing row."""
+    each number fits. In an array of floats, NaN is a missing row."""
 
     kind = "numbers"
     is_strict = True

@@ -18,11 +18,11 @@ boundaries_are s IPv4 = s.ipv4_boundaries
 boundaries_are s IPv6 = s.ipv6_boundaries
 
 -- what a search says of the stored numbers holds of the boundaries of the set
-told : (f : Family) (ns boundaries : List ℕ) (first last : ℕ) (answer : Bool) → ns ≡ boundaries
+reported : (f : Family) (ns boundaries : List ℕ) (first last : ℕ) (answer : Bool) → ns ≡ boundaries
     → AreBoundaries f boundaries
     → (AreBoundaries f ns → IsTrue answer ↔ ((x : ℕ) → first ≤ x → x ≤ last → is_inside ns x ≡ true))
     → IsTrue answer ↔ ((x : ℕ) → first ≤ x → x ≤ last → is_inside (map (λ n. n) boundaries) x ≡ true)
-told f ns boundaries first last answer same good h =
+reported f ns boundaries first last answer same good h =
     subst (λ ts. IsTrue answer ↔ ((x : ℕ) → first ≤ x → x ≤ last → is_inside ts x ≡ true))
     (same ∙ sym (words_are_numbers boundaries)) (h (subst (AreBoundaries f) (sym same) good))
 
@@ -34,17 +34,17 @@ pub covers_image : (s : IpSet) (n : Network) (low high : Address) (ns : List ℕ
 covers_image s n low high ns first last answer valid least greatest e f same h =
     covers_block s n low high (boundaries_of s n.family) first last answer valid least greatest e f
     (words_are_numbers (boundaries_of s n.family))
-    (told n.family ns (boundaries_of s n.family) first last answer same (boundaries_are s n.family) h)
+    (reported n.family ns (boundaries_of s n.family) first last answer same (boundaries_are s n.family) h)
 
 pub covers_range_image : (s : IpSet) (f : Family) (start end : Address) (ns : List ℕ) (first last : ℕ) (answer : Bool)
     → start.family ≡ f → end.family ≡ f → last ≤ greatest_number f → first ≡ start.number → last ≡ end.number
     → ns ≡ boundaries_of s f
     → (AreBoundaries f ns → IsTrue answer ↔ ((x : ℕ) → first ≤ x → x ≤ last → is_inside ns x ≡ true))
     → IsTrue answer ↔ ((x : Address) → IsFromTo start end x → IsMember s x)
-covers_range_image s f start end ns first last answer d e fits g h same told_of =
+covers_range_image s f start end ns first last answer d e fits g h same reported_of =
     covers_from_to s f start end (boundaries_of s f) first last answer d e fits g h
     (words_are_numbers (boundaries_of s f))
-    (told f ns (boundaries_of s f) first last answer same (boundaries_are s f) told_of)
+    (reported f ns (boundaries_of s f) first last answer same (boundaries_are s f) reported_of)
 
 pub image_from : (bytes : List ℕ) → HasHeader bytes → AreBoundaries IPv4 (stored_boundaries bytes IPv4)
     → AreBoundaries IPv6 (stored_boundaries bytes IPv6) → IsImage bytes

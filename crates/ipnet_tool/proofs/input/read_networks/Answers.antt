@@ -42,8 +42,8 @@ returns-then-more-2-clause-bad_line g c = λ number e.
     let is_text : IsUtf8 (take count now) = subst IsUtf8 cut cases.1 in
     let closed : IsClosed (take count now) =
     subst IsClosed (ap (take count) value) (c.lines_len-count.ensures.closed c.if-more-2.true) in
-    let told : c.after_bad_line.result ≡ Failures.Line number = cc in
-    let (is, left) = c.after_bad_line.ensures.line number told in
+    let reported : c.after_bad_line.result ≡ Failures.Line number = cc in
+    let (is, left) = c.after_bad_line.ensures.line number reported in
     let refused : c.push_lines-result.result ≡ Err (ToolErrors.Line c.in-Line.bad) =
     c.in-Err.is ∙ ap Err c.in-Line.is in
     let (later, sum, first) = c.push_lines-result.ensures.bad_line c.in-Line.bad refused in
@@ -72,12 +72,12 @@ returns-in-Err-clause-bad_line g c = λ number e.
     ∙ take_all (length c.held-held.result.now) c.held-held.result.now (omega arith) ∙ value in
     let piece : c.in-Ok.text.now ≡ now = cases.0 ∙ cut in
     let is_text : IsUtf8 now = subst IsUtf8 cut cases.1 in
-    let told : c.in-Line.bad ≡ number = cc in
+    let reported : c.in-Line.bad ≡ number = cc in
     let refused : c.push_lines-result.result ≡ Err (ToolErrors.Line c.in-Line.bad) =
     c.in-Err.is ∙ ap Err c.in-Line.is in
     let (later, sum, first) = c.push_lines-result.ensures.bad_line c.in-Line.bad refused in
     last_bad grammar start here now old number0 later number so_far is_text
-    (subst (λ z. IsFirstBadLine grammar (lines_of z) later) piece first) (sym told ∙ sum)
+    (subst (λ z. IsFirstBadLine grammar (lines_of z) later) piece first) (sym reported ∙ sum)
     (c.in_ok-more.ensures.end c.if-more-2.false)
 
 pub returns-then-not-more-clause-networks : goal.returns-then-not-more-clause-networks
@@ -136,8 +136,8 @@ returns-then-held-eq-SIZE-clause-bad_line g c = λ number e.
     let after = held c.take.new.self in
     let taken = piece_taken grammar start here now after old new number0 lines count so_far is_text closed adds sum
     c.take.ensures in
-    let told : c.after_bad_line-then-held-eq-SIZE.result ≡ Failures.Line number = cc in
-    let (is, left) = c.after_bad_line-then-held-eq-SIZE.ensures.line number told in
+    let reported : c.after_bad_line-then-held-eq-SIZE.result ≡ Failures.Line number = cc in
+    let (is, left) = c.after_bad_line-then-held-eq-SIZE.ensures.line number reported in
     let none : (k : ℕ) → count ≤ k → k < length now → get_or now k 0 ≢ 10 =
     subst (λ z. (k : ℕ) → count ≤ k → k < length z → get_or z k 0 ≢ 10) value
     (c.lines_len-count.ensures.last c.if-not-more.false) in
