@@ -1,5 +1,5 @@
 -- Each step takes in the network at its index, which the list there still has as it was; its host bits do not matter.
-use Rattle.std.proofs.Common.{◌+◌, ◌<◌, map, take, length, get_or, ◌∙◌, sym, ap, subst, arith}
+use Rattle.std.proofs.Common.{◌+◌, ◌<◌, map, take, length, ◌∙◌, sym, subst, arith}
 use Rattle.std.proofs.lemmas.List.{length-map}
 use Rattle.ipnet_base.specs.Network.{IsTruncated}
 use Rattle.ipnet_base.specs.Stack.{IsListWith}

@@ -38,13 +38,13 @@ returns-in-Err-Line-read_set c =
     let (same_other, utf8_other) = c.in-Ok-from_utf8.ensures.cases in
     let h : HasAddressesOfText Strict c.args.text.now c.in-Ok-read_set.set =
     subst (λ t. HasAddressesOfText Strict t c.in-Ok-read_set.set) same c.in-Ok-read_set.ensures.addresses in
-    let reported = c.in-Err-Line-read_set in
+    let report = c.in-Err-Line-read_set in
     subst (λ number. IsSameAddressesReply c.args.text.now c.args.other.now c.args.same.now c.args.same.now
-    c.args.line.now number 9) (sym reported.number-is)
-    (other_refused c.args.text.now c.args.other.now c.args.same.now c.args.line.now reported.number
+    c.args.line.now number 9) (sym report.number-is)
+    (other_refused c.args.text.now c.args.other.now c.args.same.now c.args.line.now report.number
     h.networks utf8 utf8_other h.written
-    (rw same_other at (reported.ensures.bad_line reported.number (ap Err reported.field-0-is)))
-    (λ none. false≢true (reported.ensures.empty (subst IsBlank (sym same_other) none))))
+    (rw same_other at (report.ensures.bad_line report.number (ap Err report.field-0-is)))
+    (λ none. false≢true (report.ensures.empty (subst IsBlank (sym same_other) none))))
 
 pub returns-in-Err-Memory-read_set : goal.returns-in-Err-Memory-read_set
 returns-in-Err-Memory-read_set c =

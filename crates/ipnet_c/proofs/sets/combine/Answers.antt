@@ -51,12 +51,12 @@ returns-in-Err-Line-read_set c =
     let (same_other, utf8_other) = c.in-Ok-from_utf8.ensures.cases in
     let h : HasAddressesOfText Strict c.args.text.now c.in-Ok-read_set.set =
     subst (λ t. HasAddressesOfText Strict t c.in-Ok-read_set.set) same c.in-Ok-read_set.ensures.addresses in
-    let reported = c.in-Err-Line-read_set in
+    let report = c.in-Err-Line-read_set in
     subst (λ number. IsSetReply c.args.operation c.args.text.now c.args.other.now c.args.buffer.now
-    c.args.buffer.now c.args.count.now number 9) (sym reported.number-is)
-    (other_refused c.args.operation c.args.text.now c.args.other.now c.args.buffer.now c.args.count.now reported.number
+    c.args.buffer.now c.args.count.now number 9) (sym report.number-is)
+    (other_refused c.args.operation c.args.text.now c.args.other.now c.args.buffer.now c.args.count.now report.number
     h.networks utf8 utf8_other h.written
-    (rw same_other at (reported.ensures.bad_line reported.number (ap Err reported.field-0-is))))
+    (rw same_other at (report.ensures.bad_line report.number (ap Err report.field-0-is))))
 
 pub returns-in-Err-Memory-read_set : goal.returns-in-Err-Memory-read_set
 returns-in-Err-Memory-read_set c =
