@@ -23,7 +23,7 @@ bit false = refl
 
 -- The line ends before the index are counted.
 pub record AreCounted (text : List ℕ) (index count : ℕ) : Type 0 where
-  pub report : count ≡ line_ends (take index text)
+  pub shown : count ≡ line_ends (take index text)
   pub few : count ≤ index
 
 bit_small : (b : Bool) → from_bool b ≤ 1
@@ -33,8 +33,8 @@ bit_small false = omega arith
 pub counted_more : (text : List ℕ) (i count byte : ℕ) → i < length text → byte ≡ get_or text i 0
     → AreCounted text i count → AreCounted text (i + 1) (count + from_bool (byte == 10))
 counted_more text i count byte within is h = record {
-  report =
-      ap₂ (λ m n. m + n) h.report (bit (byte == 10) ∙ ap (λ b. cond (b == 10) 1 0) is)
+  shown =
+      ap₂ (λ m n. m + n) h.shown (bit (byte == 10) ∙ ap (λ b. cond (b == 10) 1 0) is)
       ∙ sym (length-filter_more (λ b. b == 10) text i 0 within);
   few = omega (arith, h.few, bit_small (byte == 10));
 }
@@ -128,11 +128,11 @@ ended_has_lines (b ∷ c ∷ text) (inr e) =
     ∙ ap (λ n. get_or (b ∷ c ∷ text) n 0) there ∙ e)))
 
 -- the test of the number of lines
-pub lines_counted : (text : List ℕ) (count report : ℕ) → IsEnded text → report ≡ line_ends text
-    → IsTrue (report == count) ↔ HasLines text count
-lines_counted text count report ended e = (
-  λ t. subst (HasLines text) (sym e ∙ eqb-true report count t) (ended_has_lines text ended),
-  λ h. eq-eqb report count (e ∙ ends_of_lines text h.lines h.ended ∙ h.as_many),
+pub lines_counted : (text : List ℕ) (count shown : ℕ) → IsEnded text → shown ≡ line_ends text
+    → IsTrue (shown == count) ↔ HasLines text count
+lines_counted text count shown ended e = (
+  λ t. subst (HasLines text) (sym e ∙ eqb-true shown count t) (ended_has_lines text ended),
+  λ h. eq-eqb shown count (e ∙ ends_of_lines text h.lines h.ended ∙ h.as_many),
 )
 
 pub not_lines : (text : List ℕ) (count : ℕ) → ¬ (IsEnded text) → HasLines text count → ⊥

@@ -68,10 +68,10 @@ pub aggregated : (grammar : Grammar) (text bytes old new : List ℕ) (count_old 
     → (status ≡ 0) ⊎ (status ≡ 4)
     → (status ≡ 0 → IsWritten bytes old new count) → (status ≡ 4 → IsTooLong bytes old new count)
     → IsAggregateReply grammar text old new count_old count status
-aggregated grammar text bytes old new count_old count status answer utf8 report bytes_are known ok short = record {
+aggregated grammar text bytes old new count_old count status answer utf8 shown bytes_are known ok short = record {
   known = elim known [ inl e ↦ inl e | inr e ↦ inr (inl e) ];
-  ok = λ e. (string_bytes answer, report.answer, subst (λ b. IsWritten b old new count) bytes_are (ok e));
-  too_short = λ e. (string_bytes answer, report.answer, subst (λ b. IsTooLong b old new count) bytes_are (short e));
+  ok = λ e. (string_bytes answer, shown.answer, subst (λ b. IsWritten b old new count) bytes_are (ok e));
+  too_short = λ e. (string_bytes answer, shown.answer, subst (λ b. IsTooLong b old new count) bytes_are (short e));
   bad_line = λ e. absurd (not_other status 1 known refl refl e);
   not_utf8 = (λ e. absurd (not_other status 2 known refl refl e), λ invalid. absurd (invalid utf8));
   buffer_kept = λ not_ok. elim known [ inl e ↦ absurd (not_ok e) | inr e ↦ (short e).kept ];
@@ -80,13 +80,13 @@ aggregated grammar text bytes old new count_old count status answer utf8 report 
     | inr e ↦ absurd (not_other status 3 known refl refl e)
   ];
   empty = λ none e. not_other status 3 known refl refl e;
-  bad_at_once = λ number u h. let clash = report.bad_at_once number h in absurd cc;
+  bad_at_once = λ number u h. let clash = shown.bad_at_once number h in absurd cc;
 }
 
 -- memory ran out in the tool
 pub not_aggregated : (grammar : Grammar) (text buffer : List ℕ) (count : ℕ) → IsUtf8 text
     → IsTextAnswer grammar text (Err ToolErrors.Memory) → IsAggregateReply grammar text buffer buffer count count 3
-not_aggregated grammar text buffer count utf8 report = record {
+not_aggregated grammar text buffer count utf8 shown = record {
   known = inr (inr (inr (inr refl)));
   ok = λ e. absurd (differ 3 0 refl e);
   too_short = λ e. absurd (differ 3 4 refl e);
@@ -94,8 +94,8 @@ not_aggregated grammar text buffer count utf8 report = record {
   not_utf8 = (λ e. absurd (differ 3 2 refl e), λ invalid. absurd (invalid utf8));
   buffer_kept = λ e. refl;
   count_kept = λ e. refl;
-  empty = λ none e. report.empty none;
-  bad_at_once = λ number u h. let clash = report.bad_at_once number h in absurd cc;
+  empty = λ none e. shown.empty none;
+  bad_at_once = λ number u h. let clash = shown.bad_at_once number h in absurd cc;
 }
 
 -- ---- two lists compared
@@ -104,9 +104,9 @@ pub compared : (text other : List ℕ) (same_old same line : ℕ) (networks othe
     → IsUtf8 text → IsUtf8 other → AreNetworksOf Strict (lines_of text) networks
     → AreNetworksOf Strict (lines_of other) others → IsTrue answer ↔ HaveSameCover networks others
     → same ≡ from_bool answer → IsSameAddressesReply text other same_old same line line 0
-compared text other same_old same line networks others answer utf8 utf8_other written written_other h report = record {
+compared text other same_old same line networks others answer utf8 utf8_other written written_other h shown = record {
   known = inl refl;
-  ok = λ e. (networks, others, written, written_other, yes_exactly (HaveSameCover networks others) answer same h report);
+  ok = λ e. (networks, others, written, written_other, yes_exactly (HaveSameCover networks others) answer same h shown);
   bad_line = λ e. absurd (differ 0 1 refl e);
   bad_line_in_other = λ e. absurd (differ 0 9 refl e);
   not_utf8 = (λ e. absurd (differ 0 2 refl e), λ invalid. absurd (invalid utf8));
@@ -192,18 +192,18 @@ pub record TellsFaults (bytes : List ℕ) (result : Result IpNet CompactError) :
   pub variant : (result ≡ Err Variant) ↔ HasUnknownVariant bytes
   pub prefix : (result ≡ Err Prefix) ↔ HasLongTaggedPrefix bytes
 
-pub report_whether_covered : (text bytes : List ℕ) (covered_old covered line : ℕ) (networks : List Network) (net : IpNet)
+pub shows_whether_covered : (text bytes : List ℕ) (covered_old covered line : ℕ) (networks : List Network) (net : IpNet)
     (answer : Bool) → TellsFaults bytes (Ok net) → AreBytesOf bytes (ip_network net) → IsUtf8 text
     → AreNetworksOf Strict (lines_of text) networks → IsTrue answer ↔ IsBlockCoveredBy networks (ip_network net)
     → covered ≡ from_bool answer → IsCoveredReply text bytes covered_old covered line line 0
-report_whether_covered text bytes covered_old covered line networks net answer faults is utf8 written h report = record {
+shows_whether_covered text bytes covered_old covered line networks net answer faults is utf8 written h shown = record {
   known = inl refl;
   ok = λ e. (
     networks,
     ip_network net,
     written,
     is,
-    yes_exactly (IsBlockCoveredBy networks (ip_network net)) answer covered h report,
+    yes_exactly (IsBlockCoveredBy networks (ip_network net)) answer covered h shown,
   );
   bad_line = λ e. absurd (differ 0 1 refl e);
   not_utf8 = (λ e. absurd (differ 0 2 refl e), λ invalid. absurd (invalid.1 utf8));
@@ -216,9 +216,9 @@ report_whether_covered text bytes covered_old covered line networks net answer f
   bad_at_once = λ number n a b first. absurd (good_at_once Strict text networks written number first);
 }
 
-pub report_not_utf8 : (text bytes : List ℕ) (covered line : ℕ) (net : IpNet) → TellsFaults bytes (Ok net)
+pub shows_not_utf8 : (text bytes : List ℕ) (covered line : ℕ) (net : IpNet) → TellsFaults bytes (Ok net)
     → AreBytesOf bytes (ip_network net) → ¬ (IsUtf8 text) → IsCoveredReply text bytes covered covered line line 2
-report_not_utf8 text bytes covered line net faults is invalid = record {
+shows_not_utf8 text bytes covered line net faults is invalid = record {
   known = inr (inr (inl refl));
   ok = λ e. absurd (differ 2 0 refl e);
   bad_line = λ e. absurd (differ 2 1 refl e);
@@ -232,9 +232,9 @@ report_not_utf8 text bytes covered line net faults is invalid = record {
   bad_at_once = λ number n a utf8 h. absurd (invalid utf8);
 }
 
-pub report_out_of_memory : (text bytes : List ℕ) (covered line : ℕ) (net : IpNet) → TellsFaults bytes (Ok net)
+pub shows_out_of_memory : (text bytes : List ℕ) (covered line : ℕ) (net : IpNet) → TellsFaults bytes (Ok net)
     → IsUtf8 text → ¬ (IsBlank text) → IsGoodAtOnce Strict text → IsCoveredReply text bytes covered covered line line 3
-report_out_of_memory text bytes covered line net faults utf8 some good = record {
+shows_out_of_memory text bytes covered line net faults utf8 some good = record {
   known = inr (inr (inr (inr (inr (inr refl)))));
   ok = λ e. absurd (differ 3 0 refl e);
   bad_line = λ e. absurd (differ 3 1 refl e);

@@ -41,12 +41,12 @@ number_address : (a : Ipv4Addr) (number : ℕ) → number < 2 ^ 32 → IsIpv4OfB
     → ipv4_address a ≡ address_at IPv4 number
 number_address a number fits of = ap (address_at IPv4) (bits_from_number a number fits of)
 
-pub number_answered : (s : IpSet) (a : Ipv4Addr) (number : ℕ) (answer : Bool) (report : ℕ) → number < 2 ^ 32
-    → IsIpv4OfBits a number → IsTrue answer ↔ IsMember s (ipv4_address a) → report ≡ from_bool answer
-    → IsYesExactlyAt (IsMember s (address_at IPv4 number)) report
-number_answered s a number answer report fits of h e =
-    subst (λ x. IsYesExactlyAt (IsMember s x) report) (number_address a number fits of)
-    (yes_exactly (IsMember s (ipv4_address a)) answer report h e)
+pub number_answered : (s : IpSet) (a : Ipv4Addr) (number : ℕ) (answer : Bool) (shown : ℕ) → number < 2 ^ 32
+    → IsIpv4OfBits a number → IsTrue answer ↔ IsMember s (ipv4_address a) → shown ≡ from_bool answer
+    → IsYesExactlyAt (IsMember s (address_at IPv4 number)) shown
+number_answered s a number answer shown fits of h e =
+    subst (λ x. IsYesExactlyAt (IsMember s x) shown) (number_address a number fits of)
+    (yes_exactly (IsMember s (ipv4_address a)) answer shown h e)
 
 pub number_valued : (t : List (Route ℕ)) (a : Ipv4Addr) (number : ℕ) (n : Network) (missing value : ℕ)
     → number < 2 ^ 32 → IsIpv4OfBits a number → IsLongestMatch t (ipv4_address a) (n, value)

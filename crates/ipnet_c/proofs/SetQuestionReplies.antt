@@ -35,26 +35,26 @@ pub covers_answered : (set bytes : List ℕ) (net : IpNet) (answer : Bool) (stat
     → ((s : IpSet) → IsImageOf set s
     → IsTrue answer ↔ ((x : Address) → InBlock (ip_network net) x → IsMember s x))
     → status ≡ from_bool answer → IsCoversReply set bytes status
-covers_answered set bytes net answer status faults is header h report = record {
+covers_answered set bytes net answer status faults is header h shown = record {
   answer = λ bit. (
     ip_network net,
     is,
-    λ s image. yes_exactly ((x : Address) → InBlock (ip_network net) x → IsMember s x) answer status (h s image) report,
+    λ s image. yes_exactly ((x : Address) → InBlock (ip_network net) x → IsMember s x) answer status (h s image) shown,
   );
-  known = λ n are has. is_bit answer status report;
+  known = λ n are has. is_bit answer status shown;
   wrong_length = (
-    λ e. absurd (not_code answer status 6 report refl refl e),
+    λ e. absurd (not_code answer status 6 shown refl refl e),
     λ wrong. let clash = faults.length.1 wrong in absurd cc,
   );
   unknown_family = (
-    λ e. absurd (not_code answer status 7 report refl refl e),
+    λ e. absurd (not_code answer status 7 shown refl refl e),
     λ wrong. let clash = faults.variant.1 wrong in absurd cc,
   );
   prefix_too_long = (
-    λ e. absurd (not_code answer status 8 report refl refl e),
+    λ e. absurd (not_code answer status 8 shown refl refl e),
     λ wrong. let clash = faults.prefix.1 wrong in absurd cc,
   );
-  not_a_set = (λ e. absurd (not_code answer status 11 report refl refl e), λ both. absurd (both.1 header));
+  not_a_set = (λ e. absurd (not_code answer status 11 shown refl refl e), λ both. absurd (both.1 header));
 }
 
 -- bytes that have no header of an image
@@ -73,11 +73,11 @@ covers_refused set bytes net faults is none = record {
 pub subset_answered : (set other : List ℕ) (answer : Bool) (status : ℕ) → IsImage set → IsImage other
     → ((s t : IpSet) → IsImageOf set s → IsImageOf other t → IsTrue answer ↔ IsSubset s t)
     → status ≡ from_bool answer → IsSubsetReply set other status
-subset_answered set other answer status is is_other h report = record {
-  known = λ a b. elim (is_bit answer status report) [ inl e ↦ inl e | inr e ↦ inr (inl e) ];
-  answer = λ s t image image_other memory. yes_exactly (IsSubset s t) answer status (h s t image image_other) report;
-  not_a_set = (λ e. absurd (not_code answer status 11 report refl refl e), λ none. absurd (none is));
-  other_not_a_set = (λ e. absurd (not_code answer status 12 report refl refl e), λ both. absurd (both.1 is_other));
+subset_answered set other answer status is is_other h shown = record {
+  known = λ a b. elim (is_bit answer status shown) [ inl e ↦ inl e | inr e ↦ inr (inl e) ];
+  answer = λ s t image image_other memory. yes_exactly (IsSubset s t) answer status (h s t image image_other) shown;
+  not_a_set = (λ e. absurd (not_code answer status 11 shown refl refl e), λ none. absurd (none is));
+  other_not_a_set = (λ e. absurd (not_code answer status 12 shown refl refl e), λ both. absurd (both.1 is_other));
 }
 
 -- Each byte before the index has the answer for the address with the same index.
@@ -115,11 +115,11 @@ pub answered_all : (set addresses : List ℕ) (width index : ℕ) (old answers :
     → ((width ≡ 4) ⊎ (width ≡ 16)) × (length addresses ≡ length old * width)
     → AreAnsweredTo set addresses width index old answers → length old ≤ index
     → IsContainsAllReply set addresses width old answers 0
-answered_all set addresses width index old answers header as_reported h all = record {
+answered_all set addresses width index old answers header as_shown h all = record {
   known = inl refl;
   ok = λ e i less. h.done i (omega (arith, less, all));
   as_many = h.as_many;
-  wrong_length = (λ e. absurd (differ 0 6 refl e), λ wrong. absurd (wrong as_reported));
+  wrong_length = (λ e. absurd (differ 0 6 refl e), λ wrong. absurd (wrong as_shown));
   not_a_set = (λ e. absurd (differ 0 11 refl e), λ both. absurd (both.1 header));
   kept = λ e. absurd (e refl);
 }
@@ -153,11 +153,11 @@ pub covers_all : (set networks : List ℕ) (width index : ℕ) (old answers : Li
     → ((width ≡ 6) ⊎ (width ≡ 18)) × (length networks ≡ length old * width)
     → AreCoversOf set networks width index old answers → length old ≤ index
     → IsCoversAllReply set networks width old answers 0
-covers_all set networks width index old answers header as_reported h all = record {
+covers_all set networks width index old answers header as_shown h all = record {
   known = inl refl;
   ok = λ e i less. h.done i (omega (arith, less, all));
   as_many = h.as_many;
-  wrong_length = (λ e. absurd (differ 0 6 refl e), λ wrong. absurd (wrong as_reported));
+  wrong_length = (λ e. absurd (differ 0 6 refl e), λ wrong. absurd (wrong as_shown));
   not_a_set = (λ e. absurd (differ 0 11 refl e), λ both. absurd (both.1 header));
   kept = λ e. absurd (e refl);
 }

@@ -15,7 +15,7 @@ not_other status other (inl e) zero four same = differ 0 other zero (sym e ∙ s
 not_other status other (inr e) zero four same = differ 4 other four (sym e ∙ same)
 
 -- the byte 1 means yes, and the byte 0 no
-pub yes_exactly : (P : Type 0) (answer : Bool) (report : ℕ) → IsTrue answer ↔ P → report ≡ from_bool answer
-    → IsYesExactlyAt P report
-yes_exactly P true report h e = inl (e, h.0 refl)
-yes_exactly P false report h e = inr (e, λ p. false≢true (h.1 p))
+pub yes_exactly : (P : Type 0) (answer : Bool) (shown : ℕ) → IsTrue answer ↔ P → shown ≡ from_bool answer
+    → IsYesExactlyAt P shown
+yes_exactly P true shown h e = inl (e, h.0 refl)
+yes_exactly P false shown h e = inr (e, λ p. false≢true (h.1 p))

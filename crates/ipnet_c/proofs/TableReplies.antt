@@ -59,11 +59,11 @@ pub valued_all : (table addresses : List ℕ) (width missing index : ℕ) (old v
     → ((width ≡ 4) ⊎ (width ≡ 16)) × (length addresses ≡ length old * width)
     → AreValuesTo table addresses width missing index old values → length old ≤ index
     → IsMatchAllReply table addresses width missing old values 0
-valued_all table addresses width missing index old values header as_reported h all = record {
+valued_all table addresses width missing index old values header as_shown h all = record {
   known = inl refl;
   ok = λ e i less. h.done i (omega (arith, less, all));
   as_many = h.as_many;
-  wrong_length = (λ e. absurd (differ 0 6 refl e), λ wrong. absurd (wrong as_reported));
+  wrong_length = (λ e. absurd (differ 0 6 refl e), λ wrong. absurd (wrong as_shown));
   not_a_table = (λ e. absurd (differ 0 13 refl e), λ both. absurd (both.1 header));
   kept = λ not_ok. absurd (not_ok refl);
 }

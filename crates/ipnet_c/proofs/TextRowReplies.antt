@@ -70,7 +70,7 @@ pub one_row : (text_of : ℕ → List ℕ) (index : ℕ) (old_families old_octet
     → more ≡ length (filter (λ family. family == 0) (written_family (option_map ip_address r) ∷ [])) → more ≤ 1
     → AreRowsTo text_of (index + 1) old_families old_octets
     (slice_set families index (written_family (option_map ip_address r))) new (bad + more)
-one_row text_of index old_families old_octets families octets new bad more r h within read long bytes others report bit =
+one_row text_of index old_families old_octets families octets new bad more r h within read long bytes others shown bit =
     record {
       as_many = length-set families index family ∙ h.as_many;
       as_long = long ∙ h.as_long;
@@ -82,7 +82,7 @@ one_row text_of index old_families old_octets families octets new bad more r h w
             (get_or-set_at families index index family 0 refl within) bytes)
       ];
       counted =
-          ap₂ (λ a b. a + b) h.counted report
+          ap₂ (λ a b. a + b) h.counted shown
           ∙ sym (ap (λ z. length (filter is_bad z)) (take_more_set families index family within)
           ∙ ap length (filter-append is_bad (take index families) (family ∷ []))
           ∙ length-append (filter is_bad (take index families)) (filter is_bad (family ∷ [])));
@@ -176,7 +176,7 @@ pub one_line : (text rest next : List ℕ) (index len : ℕ) (old_families old_o
     → AreLinesLeft text next (index + 1) old_families old_octets
     (slice_set families index (written_family (option_map ip_address r))) new (bad + more)
 one_line text rest next index len old_families old_octets families octets new bad more r h within found read next_is
-    long bytes others report bit =
+    long bytes others shown bit =
     let first = first_left rest h.lines index (omega (arith, h.as_many, within)) h.left in
     let cut = first_line rest (get_or h.lines index []) first.after len first.cut first.plain found in
     record {
@@ -186,7 +186,7 @@ one_line text rest next index len old_families old_octets families octets new ba
       left = subst (λ z. AreEndedLines z (drop (index + 1) h.lines)) (sym (next_is ∙ cut.1)) first.ended;
       rows = one_row (λ i. get_or h.lines i []) index old_families old_octets families octets new bad more r h.rows
           (omega (arith, h.rows.as_many, within))
-          (subst (λ z. ReadsAs ip_address (IsAddressText Strict) z r) cut.0 read) long bytes others report bit;
+          (subst (λ z. ReadsAs ip_address (IsAddressText Strict) z r) cut.0 read) long bytes others shown bit;
     }
 
 -- ---- replies

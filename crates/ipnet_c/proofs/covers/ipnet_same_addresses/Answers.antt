@@ -38,13 +38,13 @@ returns-in-Err-Line-read_set c =
     let (same_other, utf8_other) = c.in-Ok-from_utf8.ensures.cases in
     let h : HasAddressesOfText Strict c.args.text.now c.in-Ok-read_set.set =
     subst (λ t. HasAddressesOfText Strict t c.in-Ok-read_set.set) same c.in-Ok-read_set.ensures.addresses in
-    let report = c.in-Err-Line-read_set in
+    let shown = c.in-Err-Line-read_set in
     subst (λ number. IsSameAddressesReply c.args.text.now c.args.other.now c.args.same.now c.args.same.now
-    c.args.line.now number 9) (sym report.number-is)
-    (other_refused c.args.text.now c.args.other.now c.args.same.now c.args.line.now report.number
+    c.args.line.now number 9) (sym shown.number-is)
+    (other_refused c.args.text.now c.args.other.now c.args.same.now c.args.line.now shown.number
     h.networks utf8 utf8_other h.written
-    (rw same_other at (report.ensures.bad_line report.number (ap Err report.field-0-is)))
-    (λ none. false≢true (report.ensures.empty (subst IsBlank (sym same_other) none))))
+    (rw same_other at (shown.ensures.bad_line shown.number (ap Err shown.field-0-is)))
+    (λ none. false≢true (shown.ensures.empty (subst IsBlank (sym same_other) none))))
 
 pub returns-in-Err-Memory-read_set : goal.returns-in-Err-Memory-read_set
 returns-in-Err-Memory-read_set c =

@@ -4,7 +4,7 @@ use Rattle.ipnet_c.proofs.LineTexts.{AreCounted, counted_more}
 use Rattle.ipnet_c.proofs.rows.count_line_ends.Goals as goal
 
 pub loop-byte-init : goal.loop-byte-init
-loop-byte-init c = record { report = refl; few = omega arith }
+loop-byte-init c = record { shown = refl; few = omega arith }
 
 pub loop-byte-preserved : goal.loop-byte-preserved
 loop-byte-preserved c =

@@ -51,12 +51,12 @@ returns-in-Err-Line-read_set c =
     let (same_other, utf8_other) = c.in-Ok-from_utf8.ensures.cases in
     let h : HasAddressesOfText Strict c.args.text.now c.in-Ok-read_set.set =
     subst (λ t. HasAddressesOfText Strict t c.in-Ok-read_set.set) same c.in-Ok-read_set.ensures.addresses in
-    let report = c.in-Err-Line-read_set in
+    let shown = c.in-Err-Line-read_set in
     subst (λ number. IsSetReply c.args.operation c.args.text.now c.args.other.now c.args.buffer.now
-    c.args.buffer.now c.args.count.now number 9) (sym report.number-is)
-    (other_refused c.args.operation c.args.text.now c.args.other.now c.args.buffer.now c.args.count.now report.number
+    c.args.buffer.now c.args.count.now number 9) (sym shown.number-is)
+    (other_refused c.args.operation c.args.text.now c.args.other.now c.args.buffer.now c.args.count.now shown.number
     h.networks utf8 utf8_other h.written
-    (rw same_other at (report.ensures.bad_line report.number (ap Err report.field-0-is))))
+    (rw same_other at (shown.ensures.bad_line shown.number (ap Err shown.field-0-is))))
 
 pub returns-in-Err-Memory-read_set : goal.returns-in-Err-Memory-read_set
 returns-in-Err-Memory-read_set c =
