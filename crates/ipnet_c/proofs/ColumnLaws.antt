@@ -11,11 +11,11 @@ use Rattle.ipnet_sets.specs.Members.{IsMember}
 use Rattle.ipnet_sets.specs.Routes.{Route}
 use Rattle.ipnet_sets.specs.TableImages.{IsTableImageOf}
 use Rattle.ipnet_sets.specs.declared.set.IpSet.{IpSet}
-use Rattle.ipnet_c.specs.Replies.{IsYesExactlyAt}
 use Rattle.ipnet_c.specs.Rows.{row_bytes}
 use Rattle.ipnet_c.specs.RowReplies.{IsRowAnswer, IsRowValue}
+use Rattle.ipnet_c.specs.SetReplies.{IsAnswerAt}
 use Rattle.ipnet_c.specs.TableReplies.{IsValueFor}
-use Rattle.ipnet_c.proofs.StatusLaws.{yes_exactly}
+use Rattle.ipnet_c.proofs.StatusLaws.{answered_at}
 
 -- Each number before the index is right for the row with its index.
 pub record AreRightTo (IsRight : ℕ → ℕ → Type 0) (index : ℕ) (old new : List ℕ) : Type 0 where
@@ -40,8 +40,7 @@ right_more IsRight index old new value h within is = record {
 -- ---- what is right for a row, for each call
 
 abbrev pub IsNumberAnswer : List ℕ → List ℕ → ℕ → ℕ → Type 0
-IsNumberAnswer set numbers i answer =
-    (s : IpSet) → IsImageOf set s → IsYesExactlyAt (IsMember s (address_at IPv4 (get_or numbers i 0))) answer
+IsNumberAnswer set numbers i answer = IsAnswerAt set (address_at IPv4 (get_or numbers i 0)) answer
 
 abbrev pub IsNumberValue : List ℕ → List ℕ → ℕ → ℕ → ℕ → Type 0
 IsNumberValue table numbers missing i value =
@@ -105,13 +104,14 @@ pub eight_answered : (set addresses numbers : List ℕ) (inside : List Bool) (st
     → IsTrue (get_or inside k false) ↔ IsMember s (address_at IPv4 (get_or numbers k 0)))
     → AreLanesTo start lane inside old new → 8 ≤ lane
     → (i : ℕ) → start ≤ i → i < start + 8 → IsNumberAnswer set addresses i (get_or new i 0)
-eight_answered set addresses numbers inside start lane old new copied member h all i ge less s image =
+eight_answered set addresses numbers inside start lane old new copied member h all i ge less =
     let k = i - start in
     let place : start + k ≡ i = omega (arith, ge) in
     let few : k < 8 = omega (arith, ge, less) in
     let number : get_or numbers k 0 ≡ get_or addresses i 0 =
     ap (λ z. get_or z k 0) copied ∙ get_or-take (start + 8 - start) (drop start addresses) k 0 (omega (arith, few))
     ∙ get_or-drop start addresses k 0 ∙ ap (λ j. get_or addresses j 0) place in
-    yes_exactly (IsMember s (address_at IPv4 (get_or addresses i 0))) (get_or inside k false) (get_or new i 0)
-    (subst (λ z. IsTrue (get_or inside k false) ↔ IsMember s (address_at IPv4 z)) number (member s image k few))
+    answered_at set (address_at IPv4 (get_or addresses i 0)) (get_or inside k false) (get_or new i 0)
+    (λ s image. subst (λ z. IsTrue (get_or inside k false) ↔ IsMember s (address_at IPv4 z)) number
+    (member s image k few))
     (ap (λ j. get_or new j 0) (sym place) ∙ h.done k (omega (arith, few, all)))

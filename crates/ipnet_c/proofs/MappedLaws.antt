@@ -10,15 +10,16 @@ use Rattle.ipnet.specs.Blocks.{IsCoveredBy}
 use Rattle.ipnet.specs.Network.{Network, InBlock, IsLeastOf}
 use Rattle.ipnet.specs.NetworkParts.{network_at}
 use Rattle.ipnet_base.proofs.AddressLaws.{bits_from_number}
+use Rattle.ipnet_sets.specs.Images.{IsImageOf}
 use Rattle.ipnet_sets.specs.Members.{IsMember}
 use Rattle.ipnet_sets.specs.Routes.{Route, networks_of, IsLongestMatch}
 use Rattle.ipnet_sets.specs.declared.set.IpSet.{IpSet}
-use Rattle.ipnet_c.specs.Replies.{IsYesExactlyAt}
 use Rattle.ipnet_c.specs.Rows.{family_byte, IsRowOf, IsWrittenRowOf, written_octets}
 use Rattle.ipnet_c.specs.RowReplies.{mapped_network, last_ipv4, length_for, IsTruncatedRow}
+use Rattle.ipnet_c.specs.SetReplies.{IsAnswerAt}
 use Rattle.ipnet_c.specs.TableReplies.{IsValueFor}
 use Rattle.ipnet_c.proofs.RowLaws.{row_once, not_both}
-use Rattle.ipnet_c.proofs.StatusLaws.{yes_exactly}
+use Rattle.ipnet_c.proofs.StatusLaws.{answered_at}
 
 -- ---- mapped addresses
 
@@ -41,12 +42,12 @@ number_address : (a : Ipv4Addr) (number : ℕ) → number < 2 ^ 32 → IsIpv4OfB
     → ipv4_address a ≡ address_at IPv4 number
 number_address a number fits of = ap (address_at IPv4) (bits_from_number a number fits of)
 
-pub number_answered : (s : IpSet) (a : Ipv4Addr) (number : ℕ) (answer : Bool) (shown : ℕ) → number < 2 ^ 32
-    → IsIpv4OfBits a number → IsTrue answer ↔ IsMember s (ipv4_address a) → shown ≡ from_bool answer
-    → IsYesExactlyAt (IsMember s (address_at IPv4 number)) shown
-number_answered s a number answer shown fits of h e =
-    subst (λ x. IsYesExactlyAt (IsMember s x) shown) (number_address a number fits of)
-    (yes_exactly (IsMember s (ipv4_address a)) answer shown h e)
+pub number_answered : (set : List ℕ) (a : Ipv4Addr) (number : ℕ) (answer : Bool) (shown : ℕ) → number < 2 ^ 32
+    → IsIpv4OfBits a number → ((s : IpSet) → IsImageOf set s → IsTrue answer ↔ IsMember s (ipv4_address a))
+    → shown ≡ from_bool answer → IsAnswerAt set (address_at IPv4 number) shown
+number_answered set a number answer shown fits of h e =
+    subst (λ x. IsAnswerAt set x shown) (number_address a number fits of)
+    (answered_at set (ipv4_address a) answer shown h e)
 
 pub number_valued : (t : List (Route ℕ)) (a : Ipv4Addr) (number : ℕ) (n : Network) (missing value : ℕ)
     → number < 2 ^ 32 → IsIpv4OfBits a number → IsLongestMatch t (ipv4_address a) (n, value)
@@ -64,6 +65,12 @@ number_missing t a number missing fits of out =
     (record { some = λ h. absurd (out h); none = λ h. refl })
 
 -- ---- the addresses of rows
+
+pub row_answered : (set : List ℕ) (family : ℕ) (bytes : List ℕ) (y x : Address) (answer : Bool) (shown : ℕ)
+    → IsRowOf family bytes y → IsRowOf family bytes x
+    → ((s : IpSet) → IsImageOf set s → IsTrue answer ↔ IsMember s y) → shown ≡ from_bool answer → IsAnswerAt set x shown
+row_answered set family bytes y x answer shown of_y of_x h e =
+    subst (λ z. IsAnswerAt set z shown) (row_once family bytes y x of_y of_x) (answered_at set y answer shown h e)
 
 pub row_valued : (family : ℕ) (bytes : List ℕ) (t : List (Route ℕ)) (y x : Address) (n : Network) (missing value : ℕ)
     → IsRowOf family bytes y → IsRowOf family bytes x → IsLongestMatch t y (n, value)

@@ -1,7 +1,7 @@
 -- Replies with the longest route.
 use Rattle.std.proofs.Common.{◌≡◌, ℕ, ◌≤◌, List, length, inl, inr, refl, sym, subst, arith}
 use Rattle.ipnet.specs.Address.{Address}
-use Rattle.ipnet.specs.Network.{Network}
+use Rattle.ipnet.specs.Network.{Network, IsNetwork}
 use Rattle.ipnet.specs.Blocks.{IsCoveredBy}
 use Rattle.ipnet_sets.specs.Routes.{Route, networks_of, IsLongestMatch}
 use Rattle.ipnet_sets.specs.TableImages.{HasTableHeader, IsTableImageOf}
@@ -15,10 +15,11 @@ pub route_found : (table bytes octets old new : List ℕ) (y : Address) (n : Net
     → bytes ≡ table → HasTableHeader bytes → AreOctetsOf octets y → 18 ≤ length old → HasNetwork n old new
     → ((t : List (Route ℕ)) → IsTableImageOf bytes t → IsLongestMatch t y (n, value))
     → ((t : List (Route ℕ)) → IsTableImageOf bytes t → (IsCoveredBy (networks_of t) y → ⊥) → ⊥)
-    → IsRouteReply table octets old new value_old value 1
-route_found table bytes octets old new y n value_old value same header of_y room written found held = record {
+    → IsNetwork n → IsRouteReply table octets old new value_old value 1
+route_found table bytes octets old new y n value_old value same header of_y room written found held valid = record {
   some = λ e. (
     n,
+    valid,
     written,
     λ t x image of_x. subst (λ z. IsLongestMatch t z (n, value)) (address_once octets y x of_y of_x)
         (found t (subst (λ z. IsTableImageOf z t) (sym same) image)),

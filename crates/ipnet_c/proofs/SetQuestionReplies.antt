@@ -13,17 +13,13 @@ use Rattle.ipnet_sets.specs.declared.set.IpSet.{IpSet}
 use Rattle.ipnet_sets.specs.Images.{HasHeader, IsImage, IsImageOf}
 use Rattle.ipnet_sets.specs.Members.{IsMember, IsSubset}
 use Rattle.ipnet_c.specs.Replies.{AreBytesOf, IsYesExactlyAt}
-use Rattle.ipnet_c.specs.SetReplies.{IsCoversReply, IsContainsAllReply, IsSubsetReply, AreOctetsOf}
+use Rattle.ipnet_c.specs.SetReplies.{IsCoversReply, IsContainsAllReply, IsSubsetReply, AreOctetsOf, IsAnswerAt}
 use Rattle.ipnet_c.specs.SetReplies.{AreCountsOf, IsCountsReply, IsCoversAllReply}
 use Rattle.ipnet_c.proofs.ListReplies.{TellsFaults}
-use Rattle.ipnet_c.proofs.StatusLaws.{differ, yes_exactly}
+use Rattle.ipnet_c.proofs.StatusLaws.{differ, is_bit, yes_exactly, answered_at}
+use Rattle.ipnet_c.proofs.TableReplies.{address_once}
 
--- a yes or a no is 0 or 1
-is_bit : (answer : Bool) (status : ℕ) → status ≡ from_bool answer → (status ≡ 0) ⊎ (status ≡ 1)
-is_bit true status e = inr e
-is_bit false status e = inl e
-
--- and no other status
+-- a yes or a no is no other status
 not_code : (answer : Bool) (status other : ℕ) → status ≡ from_bool answer → (0 == other) ≡ false
     → (1 == other) ≡ false → status ≢ other
 not_code true status other e zero one same = differ 1 other one (sym e ∙ same)
@@ -80,11 +76,18 @@ subset_answered set other answer status is is_other h shown = record {
   other_not_a_set = (λ e. absurd (not_code answer status 12 shown refl refl e), λ both. absurd (both.1 is_other));
 }
 
+-- whether a set contains the address of the octets
+pub octets_answered : (set octets : List ℕ) (y x : Address) (answer : Bool) (shown : ℕ) → AreOctetsOf octets y
+    → AreOctetsOf octets x → ((s : IpSet) → IsImageOf set s → IsTrue answer ↔ IsMember s y) → shown ≡ from_bool answer
+    → IsAnswerAt set x shown
+octets_answered set octets y x answer shown of_y of_x h e =
+    subst (λ z. IsAnswerAt set z shown) (address_once octets y x of_y of_x) (answered_at set y answer shown h e)
+
 -- Each byte before the index has the answer for the address with the same index.
 pub record AreAnsweredTo (set addresses : List ℕ) (width index : ℕ) (old answers : List ℕ) : Type 0 where
   pub as_many : length answers ≡ length old
-  pub done : (i : ℕ) → i < index → (s : IpSet) (x : Address) → IsImageOf set s
-      → AreOctetsOf (take width (drop (i * width) addresses)) x → IsYesExactlyAt (IsMember s x) (get_or answers i 0)
+  pub done : (i : ℕ) → i < index → (x : Address) → AreOctetsOf (take width (drop (i * width) addresses)) x
+      → IsAnswerAt set x (get_or answers i 0)
 
 one_width : (index width : ℕ) → (index + 1) * width - index * width ≡ width
 one_width index width = omega arith
@@ -92,19 +95,18 @@ one_width index width = omega arith
 -- one answer more
 pub answered_more : (set addresses : List ℕ) (width index : ℕ) (old answers : List ℕ) (value : ℕ)
     → AreAnsweredTo set addresses width index old answers → index < length answers
-    → ((s : IpSet) (x : Address) → IsImageOf set s
-    → AreOctetsOf (take ((index + 1) * width - index * width) (drop (index * width) addresses)) x
-    → IsYesExactlyAt (IsMember s x) value)
+    → ((x : Address) → AreOctetsOf (take ((index + 1) * width - index * width) (drop (index * width) addresses)) x
+    → IsAnswerAt set x value)
     → AreAnsweredTo set addresses width (index + 1) old (slice_set answers index value)
 answered_more set addresses width index old answers value h within answer = record {
   as_many = length-set answers index value ∙ h.as_many;
-  done = λ i less s x image octets. elim (cases_lt i index) [
-    | inl before ↦ subst (IsYesExactlyAt (IsMember s x))
+  done = λ i less x octets. elim (cases_lt i index) [
+    | inl before ↦ subst (IsAnswerAt set x)
         (sym (get_or-set_other answers index i value 0 (λ same. let wrong : ⊥ = omega (arith, same, before) in wrong)))
-        (h.done i before s x image octets)
+        (h.done i before x octets)
     | inr not ↦ let same : i ≡ index = omega (arith, less, not) in
-        subst (IsYesExactlyAt (IsMember s x)) (sym (get_or-set_at answers index i value 0 same within))
-        (answer s x image (subst (λ k. AreOctetsOf (take k (drop (index * width) addresses)) x)
+        subst (IsAnswerAt set x) (sym (get_or-set_at answers index i value 0 same within))
+        (answer x (subst (λ k. AreOctetsOf (take k (drop (index * width) addresses)) x)
         (sym (one_width index width)) (subst (λ j. AreOctetsOf (take width (drop (j * width) addresses)) x) same
         octets)))
   ];

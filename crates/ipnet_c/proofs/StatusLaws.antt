@@ -1,8 +1,14 @@
 -- Statuses differ, and facts about the statuses of all calls.
-use Rattle.std.proofs.Common.{◌≡◌, ◌≢◌, ℕ, ◌⊎◌, ◌↔◌, ◌==◌, Bool, true, false, IsTrue, inl, inr, refl, sym, ◌∙◌, eq-eqb}
+use Rattle.std.proofs.Common.{◌≡◌, ◌≢◌, ℕ, ◌⊎◌, ◌↔◌, ◌==◌, Bool, true, false, IsTrue, List}
+use Rattle.std.proofs.Common.{inl, inr, refl, sym, ◌∙◌, eq-eqb}
 use Rattle.std.proofs.lemmas.Bool.{false≢true}
 use Rattle.std.specs.Int.{from_bool}
+use Rattle.ipnet.specs.Address.{Address}
+use Rattle.ipnet_sets.specs.declared.set.IpSet.{IpSet}
+use Rattle.ipnet_sets.specs.Images.{IsImageOf}
+use Rattle.ipnet_sets.specs.Members.{IsMember}
 use Rattle.ipnet_c.specs.Replies.{IsYesExactlyAt}
+use Rattle.ipnet_c.specs.SetReplies.{IsAnswerAt}
 
 -- two numbers differ if the test says so
 pub differ : (m n : ℕ) → (m == n) ≡ false → m ≢ n
@@ -14,8 +20,22 @@ pub not_other : (status other : ℕ) → (status ≡ 0) ⊎ (status ≡ 4) → (
 not_other status other (inl e) zero four same = differ 0 other zero (sym e ∙ same)
 not_other status other (inr e) zero four same = differ 4 other four (sym e ∙ same)
 
+-- a yes or a no is 0 or 1
+pub is_bit : (answer : Bool) (shown : ℕ) → shown ≡ from_bool answer → (shown ≡ 0) ⊎ (shown ≡ 1)
+is_bit true shown e = inr e
+is_bit false shown e = inl e
+
 -- the byte 1 means yes, and the byte 0 no
 pub yes_exactly : (P : Type 0) (answer : Bool) (shown : ℕ) → IsTrue answer ↔ P → shown ≡ from_bool answer
     → IsYesExactlyAt P shown
 yes_exactly P true shown h e = inl (e, h.0 refl)
 yes_exactly P false shown h e = inr (e, λ p. false≢true (h.1 p))
+
+-- and an answer about an address is such a byte
+pub answered_at : (set : List ℕ) (x : Address) (answer : Bool) (shown : ℕ)
+    → ((s : IpSet) → IsImageOf set s → IsTrue answer ↔ IsMember s x) → shown ≡ from_bool answer
+    → IsAnswerAt set x shown
+answered_at set x answer shown h e = record {
+  exact = λ s image. yes_exactly (IsMember s x) answer shown (h s image) e;
+  bit = is_bit answer shown e;
+}

@@ -2,7 +2,7 @@
 -- memory.
 use Rattle.std.specs.Prelude.{◌≡◌, ◌≢◌, ℕ, ◌<◌, ◌≤◌, ◌↔◌, ◌⊎◌, List, ◌++◌, length, drop}
 use Rattle.ipnet.specs.Address.{Address}
-use Rattle.ipnet.specs.Network.{Network}
+use Rattle.ipnet.specs.Network.{Network, IsNetwork}
 use Rattle.ipnet.specs.Blocks.{IsCoveredBy}
 use Rattle.ipnet.specs.Bytes.{tagged_network_bytes}
 use Rattle.ipnet_sets.specs.Routes.{Route, networks_of, IsLongestMatch}
@@ -19,7 +19,7 @@ HasNetwork n old new = new ≡ tagged_network_bytes n ++ drop (length (tagged_ne
 -- bytes of the network; or 0; or says why there is no answer.
 -- Example: of the image of 10.0.0.0/8 with 7, 10, 0, 0, 1 gives 1, the bytes 0, 10, 0, 0, 0, 8, and 7.
 pub record IsRouteReply (table address old new : List ℕ) (value_old value status : ℕ) : Type 0 where
-  pub some : status ≡ 1 → (n : Network) × HasNetwork n old new
+  pub some : status ≡ 1 → (n : Network) × IsNetwork n × HasNetwork n old new
       × ((t : List (Route ℕ)) (x : Address) → IsTableImageOf table t → AreOctetsOf address x
       → IsLongestMatch t x (n, value))
   pub none : (t : List (Route ℕ)) (x : Address) → IsTableImageOf table t → AreOctetsOf address x → 18 ≤ length old

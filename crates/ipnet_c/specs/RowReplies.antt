@@ -4,14 +4,12 @@ use Rattle.std.specs.Prelude.{◌≡◌, ◌≢◌, ℕ, ◌%◌, ◌^◌, ◌<�
 use Rattle.ipnet.specs.Address.{Family, IPv4, IPv6, Address, address_at}
 use Rattle.ipnet.specs.Network.{Network, InBlock, IsLeastOf}
 use Rattle.ipnet.specs.NetworkParts.{network_at}
-use Rattle.ipnet_sets.specs.declared.set.IpSet.{IpSet}
-use Rattle.ipnet_sets.specs.Images.{HasHeader, IsImageOf}
-use Rattle.ipnet_sets.specs.Members.{IsMember}
+use Rattle.ipnet_sets.specs.Images.{HasHeader}
 use Rattle.ipnet_sets.specs.Routes.{Route}
 use Rattle.ipnet_sets.specs.TableImages.{HasTableHeader, IsTableImageOf}
 use Rattle.ipnet_c.specs.Statuses as statuses
-use Rattle.ipnet_c.specs.Replies.{IsYesExactlyAt}
 use Rattle.ipnet_c.specs.Rows.{AreRows, row_bytes, IsRowOf, IsNoFamily, IsWrittenRowOf}
+use Rattle.ipnet_c.specs.SetReplies.{IsAnswerAt}
 use Rattle.ipnet_c.specs.TableReplies.{IsValueFor}
 
 -- ---- columns of numbers
@@ -20,8 +18,8 @@ use Rattle.ipnet_c.specs.TableReplies.{IsValueFor}
 -- Example: of the image of 10.0.0.0/30, 167772161 and 167772164 give 1, 0.
 pub record IsContainsNumbersReply (set numbers old new : List ℕ) (status : ℕ) : Type 0 where
   pub known : (status ≡ statuses.ok) ⊎ ((status ≡ statuses.wrong_length) ⊎ (status ≡ statuses.not_a_set))
-  pub ok : status ≡ statuses.ok → (i : ℕ) → i < length old → (s : IpSet) → IsImageOf set s
-      → IsYesExactlyAt (IsMember s (address_at IPv4 (slice_index numbers i))) (slice_index new i)
+  pub ok : status ≡ statuses.ok → (i : ℕ) → i < length old
+      → IsAnswerAt set (address_at IPv4 (slice_index numbers i)) (slice_index new i)
   pub as_many : length new ≡ length old
   pub wrong_length : (status ≡ statuses.wrong_length) ↔ (length numbers ≢ length old)
   pub not_a_set : (status ≡ statuses.not_a_set) ↔ ((length numbers ≡ length old) × ¬ (HasHeader set))
@@ -47,8 +45,7 @@ AreRowsWith families octets answers = AreRows families octets × (length answers
 
 -- Whether the set contains the address of a row: 1 or 0; or 2 if the row is not an address.
 pub record IsRowAnswer (set : List ℕ) (family : ℕ) (bytes : List ℕ) (answer : ℕ) : Type 0 where
-  pub address : (s : IpSet) (x : Address) → IsImageOf set s → IsRowOf family bytes x
-      → IsYesExactlyAt (IsMember s x) answer
+  pub address : (x : Address) → IsRowOf family bytes x → IsAnswerAt set x answer
   pub none : (answer ≡ 2) ↔ IsNoFamily family
 
 -- Whether the set contains each of many addresses, given by rows.

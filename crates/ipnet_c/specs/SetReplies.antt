@@ -139,13 +139,19 @@ pub record IsCoversReply (set network : List ℕ) (status : ℕ) : Type 0 where
   pub prefix_too_long : (status ≡ statuses.prefix_too_long) ↔ HasLongTaggedPrefix network
   pub not_a_set : (status ≡ statuses.not_a_set) ↔ (((n : Network) × AreBytesOf network n) × ¬ (HasHeader set))
 
+-- An answer about an address is 1 or 0, whatever the bytes of the set are. If they are the image of a set, the answer
+-- says whether the set contains the address.
+pub record IsAnswerAt (set : List ℕ) (x : Address) (answer : ℕ) : Type 0 where
+  pub exact : (s : IpSet) → IsImageOf set s → IsYesExactlyAt (IsMember s x) answer
+  pub bit : (answer ≡ 0) ⊎ (answer ≡ 1)
+
 -- Whether the set contains each of many addresses: `addresses` has `width` octets for each, one after the other, and
 -- the byte of the address in `new` is 1 or 0.
 -- Example: of the image of 10.0.0.0/30, with the width 4, 10, 0, 0, 1, 10, 0, 0, 4 gives 1, 0.
 pub record IsContainsAllReply (set addresses : List ℕ) (width : ℕ) (old new : List ℕ) (status : ℕ) : Type 0 where
   pub known : (status ≡ statuses.ok) ⊎ ((status ≡ statuses.wrong_length) ⊎ (status ≡ statuses.not_a_set))
-  pub ok : status ≡ statuses.ok → (i : ℕ) → i < length old → (s : IpSet) (x : Address) → IsImageOf set s
-      → AreOctetsOf (take width (drop (i * width) addresses)) x → IsYesExactlyAt (IsMember s x) (slice_index new i)
+  pub ok : status ≡ statuses.ok → (i : ℕ) → i < length old → (x : Address)
+      → AreOctetsOf (take width (drop (i * width) addresses)) x → IsAnswerAt set x (slice_index new i)
   pub as_many : length new ≡ length old
   pub wrong_length : (status ≡ statuses.wrong_length) ↔ ¬ (AreAddresses addresses width (length old))
   pub not_a_set : (status ≡ statuses.not_a_set) ↔ (AreAddresses addresses width (length old) × ¬ (HasHeader set))

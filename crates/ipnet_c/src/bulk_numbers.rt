@@ -1,12 +1,9 @@
 //! Columns of IPv4 addresses as numbers: one call for all of them.
 ghost use Rattle.std.specs.Prelude.{◌≡◌, ℕ, ◌+◌, ◌<◌, ◌≤◌, List, length, slice_index};
 ghost use Rattle.ipnet_base.specs.Address.{IPv4, address_at};
-ghost use Rattle.ipnet_sets.specs.Images.{IsImageOf};
-ghost use Rattle.ipnet_sets.specs.Members.{IsMember};
 ghost use Rattle.ipnet_sets.specs.Routes.{Route};
 ghost use Rattle.ipnet_sets.specs.TableImages.{IsTableImageOf};
-ghost use Rattle.ipnet_sets.specs.declared.set.IpSet.{IpSet as SetValue};
-ghost use Rattle.ipnet_c.specs.Replies.{IsYesExactlyAt};
+ghost use Rattle.ipnet_c.specs.SetReplies.{IsAnswerAt};
 ghost use Rattle.ipnet_c.specs.TableReplies.{IsValueFor};
 ghost use Rattle.ipnet_c.specs.RowReplies.{IsContainsNumbersReply, IsMatchNumbersReply};
 
@@ -16,8 +13,7 @@ use ipnet_sets::{IpSetImage, RouteTableImage};
 
 /// Returns 1 if the set of the image contains the IPv4 address with this number, and 0 if it does not.
 fn number_answer(image: &IpSetImage<'_>, number: u32) -> u8
-    ensures { (s : SetValue) → IsImageOf image.now.bytes.now s
-        → IsYesExactlyAt (IsMember s (address_at IPv4 number)) result }
+    ensures { IsAnswerAt image.now.bytes.now (address_at IPv4 number) result }
 {
     u8::from(image.contains(&IpAddr::V4(Ipv4Addr::from_bits(number))))
 }
@@ -27,8 +23,8 @@ fn answer_eight(image: &IpSetImage<'_>, addresses: &[u32], answers: &mut [u8], s
     requires room { start + 8 ≤ length addresses.now }
     requires lens { length addresses.now ≡ length answers.old }
     ensures as_many { length answers.new ≡ length answers.old }
-    ensures done { (i : ℕ) → start ≤ i → i < start + 8 → (s : SetValue) → IsImageOf image.now.bytes.now s
-        → IsYesExactlyAt (IsMember s (address_at IPv4 (slice_index addresses.now i))) (slice_index answers.new i) }
+    ensures done { (i : ℕ) → start ≤ i → i < start + 8
+        → IsAnswerAt image.now.bytes.now (address_at IPv4 (slice_index addresses.now i)) (slice_index answers.new i) }
     ensures before { (i : ℕ) → i < start → slice_index answers.new i ≡ slice_index answers.old i }
 {
     let mut numbers = [0; 8];

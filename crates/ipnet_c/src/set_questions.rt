@@ -4,10 +4,9 @@ ghost use Rattle.ipnet_base.specs.Address.{Address, ip_address};
 ghost use Rattle.ipnet_sets.specs.Images.{IsImageOf};
 ghost use Rattle.ipnet_sets.specs.Members.{IsMember, IsSubset};
 ghost use Rattle.ipnet_sets.specs.declared.set.IpSet.{IpSet as SetValue};
-ghost use Rattle.ipnet_c.specs.SetReplies.{IsContainsReply, IsCoversReply, IsContainsAllReply, IsSubsetReply};
+ghost use Rattle.ipnet_c.specs.SetReplies.{IsContainsReply, IsCoversReply, IsContainsAllReply, IsSubsetReply, IsAnswerAt};
 ghost use Rattle.ipnet_c.specs.SetReplies.{IsCoversAllReply};
 ghost use Rattle.ipnet_c.specs.SetReplies.{IsCheckReply, AreOctetsOf, HasAddressLen, AreCountsOf, IsCountsReply};
-ghost use Rattle.ipnet_c.specs.Replies.{IsYesExactlyAt};
 
 use crate::statuses::{
     NOT_A_SET, OK, OTHER_NOT_A_SET, OUT_OF_MEMORY, PREFIX_TOO_LONG, UNKNOWN_FAMILY, WRONG_LENGTH,
@@ -73,8 +72,7 @@ pub(crate) fn are_addresses(size: usize, width: usize, count: usize) -> bool
 
 /// Returns 1 if the set of the image contains the address of these octets, and 0 if it does not.
 fn answer(image: &IpSetImage<'_>, octets: &[u8]) -> u8
-    ensures { (s : SetValue) (x : Address) → IsImageOf image.now.bytes.now s → AreOctetsOf octets.now x
-        → IsYesExactlyAt (IsMember s x) result }
+    ensures { (x : Address) → AreOctetsOf octets.now x → IsAnswerAt image.now.bytes.now x result }
 {
     match read_address(octets) {
         Some(address) => u8::from(image.contains(&address)),

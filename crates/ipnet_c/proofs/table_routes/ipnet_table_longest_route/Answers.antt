@@ -2,6 +2,7 @@
 use Rattle.std.proofs.Common.{◌≡◌, true, false, refl, arith}
 use Rattle.ipnet_base.specs.Address.{ip_address}
 use Rattle.ipnet.specs.NetworkOf.{ip_network}
+use Rattle.ipnet.specs.NetLaws.{ip_valid}
 use Rattle.ipnet_c.proofs.RouteReplies.{route_found, route_missing}
 use Rattle.ipnet_c.proofs.table_routes.ipnet_table_longest_route.Goals as goal
 
@@ -13,6 +14,7 @@ returns-in-Some-longest_match c =
     c.in-Ok.ensures c.in-Ok.image.header c.in-Some.ensures.some (omega (arith, c.if-network-lt-LONGEST_FORM.false))
     c.write_network.ensures c.in-Some-longest_match.ensures.some
     (λ t image out. let apart : true ≡ false = (c.in-Some-longest_match.ensures.none t image).1 out in absurd (cc))
+    (ip_valid route.0)
 
 pub returns-in-None : goal.returns-in-None
 returns-in-None c =
