@@ -153,21 +153,45 @@ fn ask_one(alloc: Global, call: &str, set: &IpSet) -> Result<Option<String>, All
         "clone" => show(alloc, set.clone()?)?,
         "complement" => show(alloc, set.complement(alloc)?)?,
         "networks" => show(alloc, set.networks(alloc)?)?,
+        _ => return ask_ends(alloc, call, set),
+    };
+    Ok(Some(text))
+}
+
+/// The result of a call about the ends of the set, or about its families.
+fn ask_ends(alloc: Global, call: &str, set: &IpSet) -> Result<Option<String>, AllocError> {
+    let text = match call {
         "is_empty" => show(alloc, set.is_empty())?,
         "first" => show(alloc, set.first())?,
         "last" => show(alloc, set.last())?,
-        "ipv4_count" => show(alloc, set.ipv4_count())?,
-        "ipv6_count" => show(alloc, set.ipv6_count())?,
         "has_ipv4" => show(alloc, set.has_ipv4())?,
         "has_ipv6" => show(alloc, set.has_ipv6())?,
+        _ => return ask_family(alloc, call, set),
+    };
+    Ok(Some(text))
+}
+
+/// The result of a call about the addresses of one family, or the hash of the set.
+fn ask_family(alloc: Global, call: &str, set: &IpSet) -> Result<Option<String>, AllocError> {
+    let text = match call {
+        "ipv4_count" => show(alloc, set.ipv4_count())?,
+        "ipv6_count" => show(alloc, set.ipv6_count())?,
         "ipv4_supernet" => show(alloc, set.ipv4_supernet())?,
         "ipv6_supernet" => show(alloc, set.ipv6_supernet())?,
+        "hash" => show(alloc, hash_of(set))?,
+        _ => return ask_ranges_of(alloc, call, set),
+    };
+    Ok(Some(text))
+}
+
+/// The result of a call about the ranges of the set.
+fn ask_ranges_of(alloc: Global, call: &str, set: &IpSet) -> Result<Option<String>, AllocError> {
+    let text = match call {
         "ranges" => show(alloc, list(alloc, set.ranges())?)?,
         "ranges_of_loop" => show(alloc, list_of_loop(alloc, set)?)?,
         "ranges_back" => show(alloc, list_back(alloc, set.ranges())?)?,
         "ranges_len" => show(alloc, set.ranges().len())?,
         "ranges_size_hint" => show(alloc, set.ranges().size_hint())?,
-        "hash" => show(alloc, hash_of(set))?,
         _ => return Ok(None),
     };
     Ok(Some(text))
