@@ -5,7 +5,7 @@ use Rattle.ipnet.specs.Lines.{lines_of, AreNetworksOf, IsFirstBadLine}
 use Rattle.ipnet.specs.declared.parser.Grammar.{Grammar}
 use Rattle.ipnet.specs.declared.parser.Grammar.TheVariants.{Strict}
 use Rattle.ipnet.proofs.LineLaws.{all_good}
-use Rattle.ipnet_c.specs.Refusals.{IsBadList, IsBadText, AreBadTexts}
+use Rattle.ipnet_c.specs.BadTexts.{IsBadList, IsBadText, AreBadTexts}
 use Rattle.ipnet_c.proofs.ListReplies.{IsGoodAtOnce, good_at_once, IsBlank, blank_is_utf8}
 use Rattle.ipnet_c.proofs.StatusLaws.{differ, neither}
 

@@ -22,7 +22,7 @@ use Rattle.ipnet_tool.specs.Answers.{IsTextAnswer, StartsWithBadLine}
 use Rattle.ipnet_tool.specs.declared.tool.ToolError.TheVariants as ToolErrors
 use Rattle.ipnet_c.specs.Buffers.{IsWritten, IsTooLong}
 use Rattle.ipnet_c.specs.Replies.{IsAggregateReply, IsSameAddressesReply, IsCoveredReply, AreBytesOf, IsBlockCoveredBy}
-use Rattle.ipnet_c.specs.Refusals.{IsBadText, AreBadTexts}
+use Rattle.ipnet_c.specs.BadTexts.{IsBadText, AreBadTexts}
 use Rattle.ipnet_c.proofs.StatusLaws.{differ, not_other, none_of, no_answer, yes_exactly}
 
 -- no line is bad before memory is needed

@@ -3,7 +3,7 @@ use Rattle.std.proofs.Common.{◌≡◌, ℕ, ◌⊎◌, List, inl, inr, refl, I
 use Rattle.ipnet.specs.declared.parser.Grammar.{Grammar}
 use Rattle.ipnet_c.specs.Buffers.{IsWritten, IsTooLong}
 use Rattle.ipnet_c.specs.SetReplies.{IsCompileReply, IsImageWith, HasAddressesOfText}
-use Rattle.ipnet_c.specs.Refusals.{IsBadText}
+use Rattle.ipnet_c.specs.BadTexts.{IsBadText}
 use Rattle.ipnet_c.proofs.StatusLaws.{neither, not_other, none_of}
 
 -- the image of a text's addresses, which is written if there is room

@@ -14,7 +14,7 @@ use Rattle.ipnet_sets.specs.Members.{IsCombined}
 use Rattle.ipnet_sets.specs.declared.operation.Operation.{Operation}
 use Rattle.ipnet_sets.specs.declared.operation.Operation.TheVariants.{Union, Intersection, Difference}
 use Rattle.ipnet_sets.specs.declared.operation.Operation.TheVariants.{SymmetricDifference}
-use Rattle.ipnet_c.specs.Refusals.{AreBadTexts}
+use Rattle.ipnet_c.specs.BadTexts.{AreBadTexts}
 use Rattle.ipnet_c.proofs.StatusLaws.{differ, neither, not_other, no_answer}
 use Rattle.ipnet_c.proofs.ListReplies.{good_at_once}
 

@@ -6,7 +6,7 @@ ghost use Rattle.ipnet.specs.declared.parser.Grammar.TheVariants.{Strict};
 ghost use Rattle.ipnet.specs.Lines.{lines_of, AreNetworksOf, IsFirstBadLine};
 ghost use Rattle.ipnet.specs.NetworkOf.{ip_network};
 ghost use Rattle.ipnet_sets.specs.Pushed.{IsPushed};
-ghost use Rattle.ipnet_c.specs.Refusals.{IsBadList, IsBadText, AreBadTexts};
+ghost use Rattle.ipnet_c.specs.BadTexts.{IsBadList, IsBadText, AreBadTexts};
 ghost use Rattle.ipnet_c.specs.SetReplies.{HasAddressesOfText};
 
 use crate::statuses::{BAD_LINE, BAD_LINE_IN_OTHER, NOT_UTF8, OTHER_NOT_UTF8, OUT_OF_MEMORY};

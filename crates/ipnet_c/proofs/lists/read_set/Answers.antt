@@ -3,7 +3,7 @@ use Rattle.std.proofs.Common.{◌≡◌, [], Err, ap, sym, subst, refl, arith}
 use Rattle.std.proofs.lemmas.Bool.{false≢true}
 use Rattle.ipnet.specs.Lines.{lines_of, IsFirstBadLine}
 use Rattle.ipnet_sets.specs.Pushed.{IsPushed}
-use Rattle.ipnet_c.specs.Refusals.{IsBadList}
+use Rattle.ipnet_c.specs.BadTexts.{IsBadList}
 use Rattle.ipnet_c.proofs.BadTexts.{bad_line, no_memory}
 use Rattle.ipnet_c.proofs.TakenLaws.{set_of_taken}
 use Rattle.ipnet_c.proofs.lists.read_set.Goals as goal

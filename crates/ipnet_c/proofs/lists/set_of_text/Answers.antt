@@ -1,6 +1,6 @@
 use Rattle.std.proofs.Common.{◌≡◌, subst, IsUtf8}
 use Rattle.std.proofs.lemmas.Result.{IfOk-weaker, IfErr-weaker}
-use Rattle.ipnet_c.specs.Refusals.{IsBadList, IsBadText}
+use Rattle.ipnet_c.specs.BadTexts.{IsBadList, IsBadText}
 use Rattle.ipnet_c.specs.SetReplies.{HasAddressesOfText}
 use Rattle.ipnet_c.proofs.BadTexts.{not_utf8, bad_list}
 use Rattle.ipnet_c.proofs.lists.set_of_text.Goals as goal

@@ -3,7 +3,7 @@ use Rattle.std.proofs.Common.{ap, sym, subst, ◌∙◌, Err, IfErr}
 use Rattle.std.proofs.lemmas.Result.{err_from_is_err_and}
 use Rattle.ipnet.specs.Lines.{lines_of, AreNetworksOf}
 use Rattle.ipnet.specs.declared.parser.Grammar.TheVariants.{Strict}
-use Rattle.ipnet_c.specs.Refusals.{IsBadList, AreBadTexts}
+use Rattle.ipnet_c.specs.BadTexts.{IsBadList, AreBadTexts}
 use Rattle.ipnet_c.proofs.BadTexts.{first_not_utf8, other_not_utf8, first_bad, other_bad_line, other_no_memory}
 use Rattle.ipnet_c.proofs.lists.sets_of_texts.Goals as goal
 
