@@ -4,6 +4,7 @@ pub mod StatusLaws
 pub mod AddressBytes
 pub mod NetworkReplies
 pub mod ListReplies
+pub mod BadTexts
 pub mod SetReplies
 pub mod SetImageReplies
 pub mod RefusedLists

@@ -1,5 +1,5 @@
 -- Replies to lists of networks.
-use Rattle.std.proofs.Common.{◌≡◌, ℕ, ◌⊎◌, ◌↔◌, List, [], ◌∷◌, map, Result, Ok, Err, String, Global, string_bytes}
+use Rattle.std.proofs.Common.{◌≡◌, ℕ, ◌⊎◌, ◌↔◌, List, [], ◌∷◌, Result, Ok, Err, String, Global, string_bytes}
 use Rattle.std.proofs.Common.{inl, inr, refl, subst, IsUtf8, Bool, true, false, IsTrue, All, ◌==◌, if◌then◌else◌, arith}
 use Rattle.std.proofs.Common.{eqb-true}
 use Rattle.std.proofs.lemmas.List.Elements.{All-head, All-tail}
@@ -11,18 +11,19 @@ use Rattle.ipnet.specs.Network.{Network}
 use Rattle.ipnet.specs.Blocks.{HaveSameCover}
 use Rattle.ipnet.specs.Bytes.{HasWrongTaggedLen, HasUnknownVariant, HasLongTaggedPrefix}
 use Rattle.ipnet.specs.NetworkOf.{ip_network}
-use Rattle.ipnet.specs.Lines.{lines_of, onto_first_line, AreNetworksOf, IsFirstBadLine}
+use Rattle.ipnet.specs.Lines.{lines_of, onto_first_line, AreNetworksOf}
 use Rattle.ipnet.specs.declared.compact.CompactError.{CompactError}
 use Rattle.ipnet.specs.declared.compact.CompactError.TheVariants.{Length, Variant, Prefix}
 use Rattle.ipnet.specs.declared.net.IpNet.{IpNet}
 use Rattle.ipnet.specs.declared.parser.Grammar.{Grammar}
 use Rattle.ipnet.specs.declared.parser.Grammar.TheVariants.{Strict}
-use Rattle.ipnet.proofs.LineLaws.{none_bad, all_good}
+use Rattle.ipnet.proofs.LineLaws.{none_bad}
 use Rattle.ipnet_tool.specs.Answers.{IsTextAnswer, StartsWithBadLine}
 use Rattle.ipnet_tool.specs.declared.tool.ToolError.TheVariants as ToolErrors
 use Rattle.ipnet_c.specs.Buffers.{IsWritten, IsTooLong}
 use Rattle.ipnet_c.specs.Replies.{IsAggregateReply, IsSameAddressesReply, IsCoveredReply, AreBytesOf, IsBlockCoveredBy}
-use Rattle.ipnet_c.proofs.StatusLaws.{differ, not_other, yes_exactly}
+use Rattle.ipnet_c.specs.BadTexts.{IsBadText, AreBadTexts}
+use Rattle.ipnet_c.proofs.StatusLaws.{differ, not_other, none_of, no_answer, yes_exactly}
 
 -- no line is bad before memory is needed
 abbrev pub IsGoodAtOnce : Grammar → List ℕ → Type 0
@@ -118,70 +119,20 @@ compared text other same_old same line networks others answer utf8 utf8_other wr
   bad_at_once_in_other = λ number none b h. absurd (good_at_once Strict other others written_other number h);
 }
 
-pub first_not_utf8 : (text other : List ℕ) (same line : ℕ) → ¬ (IsUtf8 text)
-    → IsSameAddressesReply text other same same line line 2
-first_not_utf8 text other same line invalid = record {
-  known = inr (inr (inr (inl refl)));
-  ok = λ e. absurd (differ 2 0 refl e);
-  bad_line = λ e. absurd (differ 2 1 refl e);
-  bad_line_in_other = λ e. absurd (differ 2 9 refl e);
-  not_utf8 = (λ e. invalid, λ h. refl);
-  other_not_utf8 = (λ e. absurd (differ 2 10 refl e), λ h. absurd (invalid h.0));
+pub not_read : (text other : List ℕ) (same line_old line status : ℕ) → AreBadTexts text other line_old line status
+    → IsSameAddressesReply text other same same line_old line status
+not_read text other same line_old line status h = record {
+  known = inr h.known;
+  ok = λ e. absurd ((no_answer status h.known).0 e);
+  bad_line = h.bad_line;
+  bad_line_in_other = h.bad_line_in_other;
+  not_utf8 = h.not_utf8;
+  other_not_utf8 = h.other_not_utf8;
   same_kept = λ e. refl;
-  line_kept = λ a b. refl;
-  empty = λ a b. absurd (invalid (blank_is_utf8 text a));
-  bad_at_once = λ number a b h. absurd (invalid a);
-  bad_at_once_in_other = λ number none b h. absurd (invalid (blank_is_utf8 text none));
-}
-
-pub other_not_utf8 : (text other : List ℕ) (same line : ℕ) → IsUtf8 text → ¬ (IsUtf8 other)
-    → IsSameAddressesReply text other same same line line 10
-other_not_utf8 text other same line utf8 invalid = record {
-  known = inr (inr (inr (inr (inl refl))));
-  ok = λ e. absurd (differ 10 0 refl e);
-  bad_line = λ e. absurd (differ 10 1 refl e);
-  bad_line_in_other = λ e. absurd (differ 10 9 refl e);
-  not_utf8 = (λ e. absurd (differ 10 2 refl e), λ h. absurd (h utf8));
-  other_not_utf8 = (λ e. (utf8, invalid), λ h. refl);
-  same_kept = λ e. refl;
-  line_kept = λ a b. refl;
-  empty = λ a b. absurd (invalid (blank_is_utf8 other b));
-  bad_at_once = λ number a b h. absurd (invalid b);
-  bad_at_once_in_other = λ number none b h. absurd (invalid b);
-}
-
-pub other_refused : (text other : List ℕ) (same line_old line : ℕ) (networks : List Network) → IsUtf8 text
-    → IsUtf8 other → AreNetworksOf Strict (lines_of text) networks → IsFirstBadLine Strict (lines_of other) line
-    → ¬ (IsBlank other) → IsSameAddressesReply text other same same line_old line 9
-other_refused text other same line_old line networks utf8 utf8_other written bad some = record {
-  known = inr (inr (inl refl));
-  ok = λ e. absurd (differ 9 0 refl e);
-  bad_line = λ e. absurd (differ 9 1 refl e);
-  bad_line_in_other = λ e. (bad, all_good Strict (lines_of text) networks written);
-  not_utf8 = (λ e. absurd (differ 9 2 refl e), λ invalid. absurd (invalid utf8));
-  other_not_utf8 = (λ e. absurd (differ 9 10 refl e), λ invalid. absurd (invalid.1 utf8_other));
-  same_kept = λ e. refl;
-  line_kept = λ a b. absurd (b refl);
-  empty = λ a b. absurd (some b);
-  bad_at_once = λ number a b h. absurd (good_at_once Strict text networks written number h);
-  bad_at_once_in_other = λ number none b h. refl;
-}
-
-pub not_compared : (text other : List ℕ) (same line : ℕ) → IsUtf8 text → IsUtf8 other
-    → (IsBlank text → ¬ (IsBlank other)) → IsGoodAtOnce Strict text → (IsBlank text → IsGoodAtOnce Strict other)
-    → IsSameAddressesReply text other same same line line 3
-not_compared text other same line utf8 utf8_other some good good_other = record {
-  known = inr (inr (inr (inr (inr refl))));
-  ok = λ e. absurd (differ 3 0 refl e);
-  bad_line = λ e. absurd (differ 3 1 refl e);
-  bad_line_in_other = λ e. absurd (differ 3 9 refl e);
-  not_utf8 = (λ e. absurd (differ 3 2 refl e), λ invalid. absurd (invalid utf8));
-  other_not_utf8 = (λ e. absurd (differ 3 10 refl e), λ invalid. absurd (invalid.1 utf8_other));
-  same_kept = λ e. refl;
-  line_kept = λ a b. refl;
-  empty = λ a b. absurd (some a b);
-  bad_at_once = λ number a b h. absurd (good number h);
-  bad_at_once_in_other = λ number none b h. absurd (good_other none number h);
+  line_kept = h.line_kept;
+  empty = λ none none_other. absurd (h.some none none_other);
+  bad_at_once = h.bad_at_once;
+  bad_at_once_in_other = h.bad_at_once_in_other;
 }
 
 -- ---- a list asked for a network
@@ -216,34 +167,31 @@ shows_whether_covered text bytes covered_old covered line networks net answer fa
   bad_at_once = λ number n a b first. absurd (good_at_once Strict text networks written number first);
 }
 
-pub shows_not_utf8 : (text bytes : List ℕ) (covered line : ℕ) (net : IpNet) → TellsFaults bytes (Ok net)
-    → AreBytesOf bytes (ip_network net) → ¬ (IsUtf8 text) → IsCoveredReply text bytes covered covered line line 2
-shows_not_utf8 text bytes covered line net faults is invalid = record {
-  known = inr (inr (inl refl));
-  ok = λ e. absurd (differ 2 0 refl e);
-  bad_line = λ e. absurd (differ 2 1 refl e);
-  not_utf8 = (λ e. ((ip_network net, is), invalid), λ h. refl);
-  wrong_length = (λ e. absurd (differ 2 6 refl e), λ wrong. let clash = faults.length.1 wrong in absurd cc);
-  unknown_family = (λ e. absurd (differ 2 7 refl e), λ wrong. let clash = faults.variant.1 wrong in absurd cc);
-  prefix_too_long = (λ e. absurd (differ 2 8 refl e), λ wrong. let clash = faults.prefix.1 wrong in absurd cc);
+pub shows_no_list : (text bytes : List ℕ) (covered line_old line status : ℕ) (net : IpNet) → TellsFaults bytes (Ok net)
+    → AreBytesOf bytes (ip_network net) → IsBadText Strict text line_old line status
+    → IsCoveredReply text bytes covered covered line_old line status
+shows_no_list text bytes covered line_old line status net faults is h = record {
+  known = elim h.known [
+    | inl e ↦ inr (inl e)
+    | inr e ↦ elim e [ inl e ↦ inr (inr (inl e)) | inr e ↦ inr (inr (inr (inr (inr (inr e))))) ]
+  ];
+  ok = λ e. absurd (none_of status 0 h.known refl refl refl e);
+  bad_line = h.bad_line;
+  not_utf8 = (λ e. ((ip_network net, is), h.not_utf8.0 e), λ invalid. h.not_utf8.1 invalid.1);
+  wrong_length = (
+    λ e. absurd (none_of status 6 h.known refl refl refl e),
+    λ wrong. let clash = faults.length.1 wrong in absurd cc,
+  );
+  unknown_family = (
+    λ e. absurd (none_of status 7 h.known refl refl refl e),
+    λ wrong. let clash = faults.variant.1 wrong in absurd cc,
+  );
+  prefix_too_long = (
+    λ e. absurd (none_of status 8 h.known refl refl refl e),
+    λ wrong. let clash = faults.prefix.1 wrong in absurd cc,
+  );
   covered_kept = λ e. refl;
-  line_kept = λ e. refl;
-  empty = λ none e. differ 2 3 refl e;
-  bad_at_once = λ number n a utf8 h. absurd (invalid utf8);
-}
-
-pub shows_out_of_memory : (text bytes : List ℕ) (covered line : ℕ) (net : IpNet) → TellsFaults bytes (Ok net)
-    → IsUtf8 text → ¬ (IsBlank text) → IsGoodAtOnce Strict text → IsCoveredReply text bytes covered covered line line 3
-shows_out_of_memory text bytes covered line net faults utf8 some good = record {
-  known = inr (inr (inr (inr (inr (inr refl)))));
-  ok = λ e. absurd (differ 3 0 refl e);
-  bad_line = λ e. absurd (differ 3 1 refl e);
-  not_utf8 = (λ e. absurd (differ 3 2 refl e), λ invalid. absurd (invalid.1 utf8));
-  wrong_length = (λ e. absurd (differ 3 6 refl e), λ wrong. let clash = faults.length.1 wrong in absurd cc);
-  unknown_family = (λ e. absurd (differ 3 7 refl e), λ wrong. let clash = faults.variant.1 wrong in absurd cc);
-  prefix_too_long = (λ e. absurd (differ 3 8 refl e), λ wrong. let clash = faults.prefix.1 wrong in absurd cc);
-  covered_kept = λ e. refl;
-  line_kept = λ e. refl;
-  empty = λ none. absurd (some none);
-  bad_at_once = λ number n a b h. absurd (good number h);
+  line_kept = h.line_kept;
+  empty = λ none. absurd (h.some none);
+  bad_at_once = λ number n a utf8 at. h.bad_at_once number utf8 at;
 }

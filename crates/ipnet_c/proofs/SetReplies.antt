@@ -1,11 +1,9 @@
 -- Replies to two lists of networks made one.
-use Rattle.std.proofs.Common.{◌≡◌, ℕ, ◌⊎◌, ◌↔◌, List, [], inl, inr, refl, arith, IsUtf8}
+use Rattle.std.proofs.Common.{◌≡◌, ◌≢◌, ℕ, ◌⊎◌, ◌↔◌, List, [], inl, inr, refl, sym, ◌∙◌, IsUtf8}
 use Rattle.ipnet.specs.Address.{Address}
 use Rattle.ipnet.specs.Network.{Network}
 use Rattle.ipnet.specs.Blocks.{IsCoveredBy, AreMaximalBlocks}
-use Rattle.ipnet.specs.Lines.{lines_of, AreNetworksOf, IsFirstBadLine}
 use Rattle.ipnet.specs.declared.parser.Grammar.TheVariants.{Strict}
-use Rattle.ipnet.proofs.LineLaws.{all_good}
 use Rattle.ipnet_base.proofs.UniqueLaws.{AreMaximalBlocks-same_set, AreMaximalBlocks-nil}
 use Rattle.ipnet_sets.specs.declared.set.IpSet.{IpSet}
 use Rattle.ipnet_sets.specs.Members.{IsMember, HasNoAddress, IsResultOf}
@@ -16,8 +14,9 @@ use Rattle.ipnet_sets.specs.Members.{IsCombined}
 use Rattle.ipnet_sets.specs.declared.operation.Operation.{Operation}
 use Rattle.ipnet_sets.specs.declared.operation.Operation.TheVariants.{Union, Intersection, Difference}
 use Rattle.ipnet_sets.specs.declared.operation.Operation.TheVariants.{SymmetricDifference}
-use Rattle.ipnet_c.proofs.StatusLaws.{differ, not_other}
-use Rattle.ipnet_c.proofs.ListReplies.{IsGoodAtOnce, good_at_once, IsBlank, blank_is_utf8}
+use Rattle.ipnet_c.specs.BadTexts.{AreBadTexts}
+use Rattle.ipnet_c.proofs.StatusLaws.{differ, neither, not_other, no_answer}
+use Rattle.ipnet_c.proofs.ListReplies.{good_at_once}
 
 -- the same is made of two sets with the same addresses
 IsCombined-same : (operation : Operation) (A B C D : Type 0) → A ↔ C → B ↔ D
@@ -116,62 +115,26 @@ combined operation text other answer old new count_old count status utf8 utf8_ot
   bad_at_once_in_other = λ number none b h. absurd (good_at_once Strict other is.others is.written_other number h);
 }
 
--- the first text is not UTF-8
-pub first_not_utf8 : (operation : Operation) (text other buffer : List ℕ) (count : ℕ) → ¬ (IsUtf8 text)
-    → IsSetReply operation text other buffer buffer count count 2
-first_not_utf8 operation text other buffer count invalid = record {
-  known = inr (inr (inr (inr (inl refl))));
-  ok = λ e. absurd (differ 2 0 refl e);
-  too_short = λ e. absurd (differ 2 4 refl e);
-  bad_line = λ e. absurd (differ 2 1 refl e);
-  bad_line_in_other = λ e. absurd (differ 2 9 refl e);
-  not_utf8 = (λ e. invalid, λ h. refl);
-  other_not_utf8 = (λ e. absurd (differ 2 10 refl e), λ h. absurd (invalid h.0));
-  buffer_kept = λ e. refl;
-  count_kept = λ e. refl;
-  empty = λ a b e. differ 2 3 refl e;
-  bad_at_once = λ number a b h. absurd (invalid a);
-  bad_at_once_in_other = λ number none b h. absurd (invalid (blank_is_utf8 text none));
-}
+-- a status that leaves the number as it is
+not_bad_line : (status : ℕ) → (status ≡ 2) ⊎ ((status ≡ 10) ⊎ (status ≡ 3)) → (status ≢ 1) × (status ≢ 9)
+not_bad_line status (inl e) = (λ z. differ 2 1 refl (sym e ∙ z), λ z. differ 2 9 refl (sym e ∙ z))
+not_bad_line status (inr e) = (neither 10 3 status 1 e refl refl, neither 10 3 status 9 e refl refl)
 
--- a bad line of the other text
-pub other_refused : (operation : Operation) (text other buffer : List ℕ) (count_old count : ℕ) (networks : List Network)
-    → IsUtf8 text → IsUtf8 other → AreNetworksOf Strict (lines_of text) networks
-    → IsFirstBadLine Strict (lines_of other) count
-    → IsSetReply operation text other buffer buffer count_old count 9
-other_refused operation text other buffer count_old count networks utf8 utf8_other written bad = record {
-  known = inr (inr (inr (inl refl)));
-  ok = λ e. absurd (differ 9 0 refl e);
-  too_short = λ e. absurd (differ 9 4 refl e);
-  bad_line = λ e. absurd (differ 9 1 refl e);
-  bad_line_in_other = λ e. (bad, all_good Strict (lines_of text) networks written);
-  not_utf8 = (λ e. absurd (differ 9 2 refl e), λ invalid. absurd (invalid utf8));
-  other_not_utf8 = (λ e. absurd (differ 9 10 refl e), λ invalid. absurd (invalid.1 utf8_other));
+-- the texts are not read, or memory ran out for the result
+pub not_read : (operation : Operation) (text other buffer : List ℕ) (count_old count status : ℕ)
+    → AreBadTexts text other count_old count status
+    → IsSetReply operation text other buffer buffer count_old count status
+not_read operation text other buffer count_old count status h = record {
+  known = inr (inr h.known);
+  ok = λ e. absurd ((no_answer status h.known).0 e);
+  too_short = λ e. absurd ((no_answer status h.known).1 e);
+  bad_line = h.bad_line;
+  bad_line_in_other = h.bad_line_in_other;
+  not_utf8 = h.not_utf8;
+  other_not_utf8 = h.other_not_utf8;
   buffer_kept = λ e. refl;
-  count_kept = λ e. elim e [
-    | inl e ↦ absurd (differ 9 2 refl e)
-    | inr e ↦ elim e [ inl e ↦ absurd (differ 9 10 refl e) | inr e ↦ absurd (differ 9 3 refl e) ]
-  ];
-  empty = λ a b e. differ 9 3 refl e;
-  bad_at_once = λ number a b h. absurd (good_at_once Strict text networks written number h);
-  bad_at_once_in_other = λ number none b h. refl;
-}
-
--- memory ran out
-pub not_combined : (operation : Operation) (text other buffer : List ℕ) (count : ℕ) → IsUtf8 text → IsUtf8 other
-    → (IsBlank text → ¬ (IsBlank other)) → IsGoodAtOnce Strict text → (IsBlank text → IsGoodAtOnce Strict other)
-    → IsSetReply operation text other buffer buffer count count 3
-not_combined operation text other buffer count utf8 utf8_other some good good_other = record {
-  known = inr (inr (inr (inr (inr (inr refl)))));
-  ok = λ e. absurd (differ 3 0 refl e);
-  too_short = λ e. absurd (differ 3 4 refl e);
-  bad_line = λ e. absurd (differ 3 1 refl e);
-  bad_line_in_other = λ e. absurd (differ 3 9 refl e);
-  not_utf8 = (λ e. absurd (differ 3 2 refl e), λ invalid. absurd (invalid utf8));
-  other_not_utf8 = (λ e. absurd (differ 3 10 refl e), λ invalid. absurd (invalid.1 utf8_other));
-  buffer_kept = λ e. refl;
-  count_kept = λ e. refl;
-  empty = λ a b e. some a b;
-  bad_at_once = λ number a b h. absurd (good number h);
-  bad_at_once_in_other = λ number none b h. absurd (good_other none number h);
+  count_kept = λ e. h.line_kept (not_bad_line status e).0 (not_bad_line status e).1;
+  empty = λ none none_other. absurd (h.some none none_other);
+  bad_at_once = h.bad_at_once;
+  bad_at_once_in_other = h.bad_at_once_in_other;
 }

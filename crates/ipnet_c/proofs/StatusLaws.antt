@@ -14,11 +14,30 @@ use Rattle.ipnet_c.specs.SetReplies.{IsAnswerAt}
 pub differ : (m n : ℕ) → (m == n) ≡ false → m ≢ n
 differ m n test e = false≢true (sym test ∙ eq-eqb m n e)
 
--- of an answer that is written or too long, the status is none of the others
+-- one of two statuses is none of the others
+pub neither : (m n status other : ℕ) → (status ≡ m) ⊎ (status ≡ n) → (m == other) ≡ false → (n == other) ≡ false
+    → status ≢ other
+neither m n status other (inl e) first second same = differ m other first (sym e ∙ same)
+neither m n status other (inr e) first second same = differ n other second (sym e ∙ same)
+
+-- and so is one of three
+pub none_of : (status other : ℕ) → (status ≡ 1) ⊎ ((status ≡ 2) ⊎ (status ≡ 3)) → (1 == other) ≡ false
+    → (2 == other) ≡ false → (3 == other) ≡ false → status ≢ other
+none_of status other (inl e) first second third same = differ 1 other first (sym e ∙ same)
+none_of status other (inr e) first second third same = neither 2 3 status other e second third same
+
+-- two texts that are not read have no answer
+pub no_answer : (status : ℕ) → (status ≡ 1) ⊎ ((status ≡ 9) ⊎ ((status ≡ 2) ⊎ ((status ≡ 10) ⊎ (status ≡ 3))))
+    → (status ≢ 0) × (status ≢ 4)
+no_answer status (inl e) = (λ z. differ 1 0 refl (sym e ∙ z), λ z. differ 1 4 refl (sym e ∙ z))
+no_answer status (inr (inl e)) = (λ z. differ 9 0 refl (sym e ∙ z), λ z. differ 9 4 refl (sym e ∙ z))
+no_answer status (inr (inr (inl e))) = (λ z. differ 2 0 refl (sym e ∙ z), λ z. differ 2 4 refl (sym e ∙ z))
+no_answer status (inr (inr (inr e))) = (neither 10 3 status 0 e refl refl, neither 10 3 status 4 e refl refl)
+
+-- as the status of an answer that is written or too long
 pub not_other : (status other : ℕ) → (status ≡ 0) ⊎ (status ≡ 4) → (0 == other) ≡ false → (4 == other) ≡ false
     → status ≢ other
-not_other status other (inl e) zero four same = differ 0 other zero (sym e ∙ same)
-not_other status other (inr e) zero four same = differ 4 other four (sym e ∙ same)
+not_other status other = neither 0 4 status other
 
 -- a yes or a no is 0 or 1
 pub is_bit : (answer : Bool) (shown : ℕ) → shown ≡ from_bool answer → (shown ≡ 0) ⊎ (shown ≡ 1)

@@ -1,7 +1,5 @@
 -- Sets of the networks that are taken from the lines of a text.
-use Rattle.std.proofs.Common.{◌≡◌, ℕ, ◌⊎◌, ◌↔◌, Bool, false, List, [], ◌∷◌, ◌++◌, Result, Ok, Err, IsErrAnd, All}
-use Rattle.std.proofs.Common.{ap, subst, inl, inr, refl}
-use Rattle.std.proofs.lemmas.Bool.{false≢true}
+use Rattle.std.proofs.Common.{◌≡◌, ℕ, ◌⊎◌, ◌↔◌, List, [], ◌∷◌, ◌++◌, All, subst, inl, inr}
 use Rattle.std.proofs.lemmas.List.Elements.{All-head, All-tail}
 use Rattle.ipnet.specs.Address.{Address}
 use Rattle.ipnet.specs.Network.{Network, InBlock}
@@ -14,56 +12,30 @@ use Rattle.ipnet_sets.specs.declared.set.builder.IpSetBuilder.{IpSetBuilder}
 use Rattle.ipnet_sets.specs.Members.{IsMember, HasNoAddress}
 use Rattle.ipnet_sets.specs.Pushed.{IsPushed}
 use Rattle.ipnet_c.specs.SetReplies.{HasAddressesOfText}
-use Rattle.ipnet_c.specs.Taken.{AreTaken}
 
--- what `?` hands on is the error itself
-pub handed_on : {T E : Type 0} (result : Result T E) (error : E) → IsErrAnd result (λ e. e ≡ error)
-    → result ≡ Err error
-handed_on (Ok x) error h = absurd h
-handed_on (Err e) error h = ap Err h
+-- one network more
+pub one_taken : (old new : IpSetBuilder) (networks : List Network) (n : Network)
+    → ((x : Address) → IsPushed new x ↔ (IsPushed old x ⊎ InBlock n x))
+    → ((x : Address) → IsPushed old x ↔ IsCoveredBy networks x)
+    → (x : Address) → IsPushed new x ↔ IsCoveredBy (networks ++ n ∷ []) x
+one_taken old new networks n pushed h x =
+    let cover = cover_push networks n x in (
+      λ p. cover.1 (elim ((pushed x).0 p) [ inl o ↦ inl ((h x).0 o) | inr b ↦ inr b ]),
+      λ c. (pushed x).1 (elim (cover.0 c) [ inl o ↦ inl ((h x).1 o) | inr b ↦ inr b ]),
+    )
 
--- no network, and one more
-pub none_taken : (builder : IpSetBuilder) (is_empty : Bool) → ((x : Address) → ¬ (IsPushed builder x))
-    → AreTaken builder is_empty []
-none_taken builder is_empty nothing = record {
-  addresses = λ x. (λ p. absurd (nothing x p), λ c. absurd (cover_nil x c));
-  none = λ e. refl;
-}
-
-pub one_taken : (old new : IpSetBuilder) (is_empty : Bool) (networks : List Network) (n : Network)
-    → ((x : Address) → IsPushed new x ↔ (IsPushed old x ⊎ InBlock n x)) → AreTaken old is_empty networks
-    → AreTaken new false (networks ++ n ∷ [])
-one_taken old new is_empty networks n pushed h = record {
-  addresses = λ x.
-      let cover = cover_push networks n x in (
-        λ p. cover.1 (elim ((pushed x).0 p) [ inl o ↦ inl ((h.addresses x).0 o) | inr b ↦ inr b ]),
-        λ c. (pushed x).1 (elim (cover.0 c) [ inl o ↦ inl ((h.addresses x).1 o) | inr b ↦ inr b ]),
-      );
-  none = λ e. absurd (false≢true e);
-}
-
--- the set of the networks that were taken, and of none
-pub set_of_taken : (grammar : Grammar) (text : List ℕ) (networks : List Network) (builder : IpSetBuilder)
-    (is_empty : Bool) (set : IpSet) → AreNetworksOf grammar (lines_of text) networks
-    → AreTaken builder is_empty networks → ((x : Address) → IsMember set x ↔ IsPushed builder x)
-    → HasAddressesOfText grammar text set
-set_of_taken grammar text networks builder is_empty set written h made = record {
-  networks = networks;
-  written = written;
-  addresses = λ x. (λ m. (h.addresses x).0 ((made x).0 m), λ c. (made x).1 ((h.addresses x).1 c));
-}
-
-pub set_of_none : (grammar : Grammar) (text : List ℕ) (networks : List Network) (set : IpSet)
-    → AreNetworksOf grammar (lines_of text) networks → networks ≡ [] → HasNoAddress set
-    → HasAddressesOfText grammar text set
-set_of_none grammar text networks set written empty nothing = record {
-  networks = networks;
-  written = written;
-  addresses = λ x. (
-    λ m. absurd (nothing x m),
-    λ c. absurd (cover_nil x (subst (λ z. IsCoveredBy z x) empty c)),
-  );
-}
+-- the set of the networks that were taken, the first of them by an empty builder
+pub set_of_taken : (grammar : Grammar) (text : List ℕ) (networks : List Network) (old new : IpSetBuilder) (set : IpSet)
+    → AreNetworksOf grammar (lines_of text) networks → ((x : Address) → ¬ (IsPushed old x))
+    → (((x : Address) → IsPushed old x ↔ IsCoveredBy [] x) → (x : Address) → IsPushed new x ↔ IsCoveredBy networks x)
+    → ((x : Address) → IsMember set x ↔ IsPushed new x) → HasAddressesOfText grammar text set
+set_of_taken grammar text networks old new set written none taken made =
+    let all = taken (λ x. (λ p. absurd (none x p), λ c. absurd (cover_nil x c))) in
+    record {
+      networks = networks;
+      written = written;
+      addresses = λ x. (λ m. (all x).0 ((made x).0 m), λ c. (made x).1 ((all x).1 c));
+    }
 
 -- empty lines write no network, so their set is empty
 none_of_none : (grammar : Grammar) (lines : List (List ℕ)) (networks : List Network)

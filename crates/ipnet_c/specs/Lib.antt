@@ -4,7 +4,7 @@ pub mod Buffers
 pub mod Replies
 pub mod SetReplies
 pub mod ListReplies
-pub mod Taken
+pub mod BadTexts
 pub mod Version
 pub mod TableReplies
 pub mod Rows

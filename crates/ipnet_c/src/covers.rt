@@ -1,14 +1,10 @@
 //! The addresses that lists of networks cover.
 ghost use Rattle.ipnet_c.specs.Replies.{IsSameAddressesReply, IsCoveredReply};
 
-use crate::lists::read_set;
-use crate::statuses::{
-    BAD_LINE, BAD_LINE_IN_OTHER, NOT_UTF8, OK, OTHER_NOT_UTF8, OUT_OF_MEMORY, status_of,
-};
+use crate::lists::{set_of_text, sets_of_texts};
+use crate::statuses::{OK, status_of};
 use ipnet::{Grammar, IpNet};
-use ipnet_tool::ToolError;
 use std::alloc::Global;
-use std::str;
 
 /// Compares the addresses of two lists, and writes 1 into `same` if they are the same, and 0 if they are not.
 ///
@@ -35,27 +31,9 @@ pub extern "C" fn ipnet_same_addresses(
 ) -> u32
     ensures { IsSameAddressesReply text.now other.now same.old same.new line.old line.new result }
 {
-    let Ok(text) = str::from_utf8(text) else {
-        return NOT_UTF8;
-    };
-    let Ok(other) = str::from_utf8(other) else {
-        return OTHER_NOT_UTF8;
-    };
-    let set = match read_set(alloc, text, Grammar::Strict) {
-        Ok(set) => set,
-        Err(ToolError::Line(number)) => {
-            *line = number;
-            return BAD_LINE;
-        }
-        Err(ToolError::Memory) => return OUT_OF_MEMORY,
-    };
-    let others = match read_set(alloc, other, Grammar::Strict) {
-        Ok(others) => others,
-        Err(ToolError::Line(number)) => {
-            *line = number;
-            return BAD_LINE_IN_OTHER;
-        }
-        Err(ToolError::Memory) => return OUT_OF_MEMORY,
+    let (set, others) = match sets_of_texts(alloc, text, other, line) {
+        Ok(sets) => sets,
+        Err(status) => return status,
     };
     *same = u8::from(set == others);
     OK
@@ -91,16 +69,9 @@ pub extern "C" fn ipnet_is_covered(
         Ok(network) => network,
         Err(error) => return status_of(error),
     };
-    let Ok(text) = str::from_utf8(text) else {
-        return NOT_UTF8;
-    };
-    let set = match read_set(alloc, text, Grammar::Strict) {
+    let set = match set_of_text(alloc, text, Grammar::Strict, line) {
         Ok(set) => set,
-        Err(ToolError::Line(number)) => {
-            *line = number;
-            return BAD_LINE;
-        }
-        Err(ToolError::Memory) => return OUT_OF_MEMORY,
+        Err(status) => return status,
     };
     *covered = u8::from(set.covers(&network));
     OK

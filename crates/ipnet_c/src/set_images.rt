@@ -6,15 +6,13 @@ ghost use Rattle.ipnet_c.specs.SetReplies.{IsComplementOfImage, IsTextOfImage, I
 ghost use Rattle.ipnet_sets.specs.declared.operation.Operation.TheVariants as Of;
 
 use crate::buffers::write_answer;
-use crate::lists::read_set;
+use crate::lists::set_of_text;
 use crate::sets::text_of_set;
-use crate::statuses::{BAD_LINE, NOT_A_SET, NOT_UTF8, OTHER_NOT_A_SET, OUT_OF_MEMORY};
+use crate::statuses::{NOT_A_SET, OTHER_NOT_A_SET, OUT_OF_MEMORY};
 use ipnet::Grammar;
 use ipnet_sets::{IpSetRef, Operation};
-use ipnet_tool::ToolError;
 use netset_lib::lines_of_ranges;
 use std::alloc::{AllocError, Global};
-use std::str;
 
 /// Writes the image of the addresses of a text in this grammar into the buffer, and its length into `count`.
 fn compile(
@@ -26,16 +24,9 @@ fn compile(
 ) -> u32
     ensures { IsCompileReply grammar text.now buffer.old buffer.new count.old count.new result }
 {
-    let Ok(text) = str::from_utf8(text) else {
-        return NOT_UTF8;
-    };
-    let set = match read_set(alloc, text, grammar) {
+    let set = match set_of_text(alloc, text, grammar, count) {
         Ok(set) => set,
-        Err(ToolError::Line(number)) => {
-            *count = number;
-            return BAD_LINE;
-        }
-        Err(ToolError::Memory) => return OUT_OF_MEMORY,
+        Err(status) => return status,
     };
     let Ok(image) = set.to_bytes(alloc) else {
         return OUT_OF_MEMORY;
@@ -106,17 +97,17 @@ fn combined_image(
 fn combine(
     alloc: Global,
     operation: Operation,
-    set: &[u8],
-    other: &[u8],
+    images: (&[u8], &[u8]),
     buffer: &mut [u8],
     count: &mut usize,
 ) -> u32
-    ensures { IsCombineReply operation set.now other.now buffer.old buffer.new count.old count.new result }
+    ensures { IsCombineReply operation images.entry.0.now images.entry.1.now buffer.old buffer.new count.old count.new
+        result }
 {
-    let Ok(set) = IpSetRef::from_bytes(set) else {
+    let Ok(set) = IpSetRef::from_bytes(images.0) else {
         return NOT_A_SET;
     };
-    let Ok(other) = IpSetRef::from_bytes(other) else {
+    let Ok(other) = IpSetRef::from_bytes(images.1) else {
         return OTHER_NOT_A_SET;
     };
     let Ok(image) = combined_image(alloc, operation, set, other) else {
@@ -144,7 +135,7 @@ pub extern "C" fn ipnet_set_union(
 ) -> u32
     ensures { IsCombineReply Of.Union set.now other.now buffer.old buffer.new count.old count.new result }
 {
-    combine(alloc, Operation::Union, set, other, buffer, count)
+    combine(alloc, Operation::Union, (set, other), buffer, count)
 }
 
 /// Writes the image of the intersection of two sets, as `ipnet_set_union` does with the union.
@@ -162,7 +153,7 @@ pub extern "C" fn ipnet_set_intersection(
 ) -> u32
     ensures { IsCombineReply Of.Intersection set.now other.now buffer.old buffer.new count.old count.new result }
 {
-    combine(alloc, Operation::Intersection, set, other, buffer, count)
+    combine(alloc, Operation::Intersection, (set, other), buffer, count)
 }
 
 /// Writes the image of the first set without the second, as `ipnet_set_union` does with the union.
@@ -180,7 +171,7 @@ pub extern "C" fn ipnet_set_difference(
 ) -> u32
     ensures { IsCombineReply Of.Difference set.now other.now buffer.old buffer.new count.old count.new result }
 {
-    combine(alloc, Operation::Difference, set, other, buffer, count)
+    combine(alloc, Operation::Difference, (set, other), buffer, count)
 }
 
 /// Writes the image of the addresses that are in exactly one of two sets, as `ipnet_set_union` does with the union.
@@ -202,8 +193,7 @@ pub extern "C" fn ipnet_set_symmetric_difference(
     combine(
         alloc,
         Operation::SymmetricDifference,
-        set,
-        other,
+        (set, other),
         buffer,
         count,
     )

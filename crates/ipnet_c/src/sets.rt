@@ -1,28 +1,23 @@
 //! The union, intersection and difference of two lists of networks, from text to text.
-ghost use Rattle.std.specs.Prelude.{◌≡◌, ◌↔◌, map, IsTrue, IfOk, string_bytes};
-ghost use Rattle.ipnet.specs.NetworkOf.{ip_network};
+ghost use Rattle.std.specs.Prelude.{IfOk, string_bytes};
 ghost use Rattle.ipnet_sets.specs.declared.operation.Operation.TheVariants.{Union, Intersection, Difference};
 ghost use Rattle.ipnet_sets.specs.declared.set.IpSet.{IpSet as SetValue};
-ghost use Rattle.ipnet_sets.specs.Members.{HasNoAddress, IsResultOf};
+ghost use Rattle.ipnet_sets.specs.Members.{IsResultOf};
 ghost use Rattle.ipnet_c.specs.Replies.{IsSetReply, IsTextOfSet};
-ghost use Rattle.ipnet_text.specs.LineTexts.{text_of_lines};
 
 use crate::buffers::write_answer;
-use crate::lists::read_set;
-use crate::statuses::{BAD_LINE, BAD_LINE_IN_OTHER, NOT_UTF8, OTHER_NOT_UTF8, OUT_OF_MEMORY};
-use ipnet::{Grammar, IpNet};
+use crate::lists::sets_of_texts;
+use crate::statuses::OUT_OF_MEMORY;
 use ipnet_sets::{IpSet, Operation};
-use ipnet_text::push_line;
-use ipnet_tool::ToolError;
+use ipnet_text::lines_of_networks;
 use std::alloc::{AllocError, Global};
-use std::str;
 
 /// Returns the fewest networks of the set as text, one per line.
 pub(crate) fn text_of_set(alloc: Global, set: &IpSet) -> Result<String, AllocError>
     ensures { IfOk result (λ text. IsTextOfSet set.now (string_bytes text)) }
 {
     let networks = set.networks(alloc)?;
-    printed(alloc, networks.as_slice())
+    lines_of_networks(alloc, networks.as_slice())
 }
 
 /// Returns the text of the result of the operation on the two sets.
@@ -39,62 +34,26 @@ fn combined_text(
     text_of_set(alloc, &combined)
 }
 
-/// Returns the canonical texts of the networks, one per line.
-fn printed(alloc: Global, networks: &[IpNet]) -> Result<String, AllocError>
-    ensures { IfOk result (λ text. string_bytes text ≡ text_of_lines (map ip_network networks.now)) }
-{
-    let mut text = String::new(alloc);
-    for network in networks {
-        push_line(&mut text, *network)?;
-    }
-    Ok(text)
-}
-
-/// Returns whether neither set has an address.
-fn are_empty(set: &IpSet, others: &IpSet) -> bool
-    ensures { IsTrue result ↔ (HasNoAddress set.now × HasNoAddress others.now) }
-{
-    set.is_empty() && others.is_empty()
-}
-
-/// Writes the networks of the result of the operation into the buffer, as text.
+/// Writes the networks of the result of the operation on the two texts into the buffer, as text.
 fn combine(
     alloc: Global,
     operation: Operation,
-    text: &[u8],
-    other: &[u8],
+    texts: (&[u8], &[u8]),
     buffer: &mut [u8],
     count: &mut usize,
 ) -> u32
-    ensures { IsSetReply operation text.now other.now buffer.old buffer.new count.old count.new result }
+    ensures { IsSetReply operation texts.entry.0.now texts.entry.1.now buffer.old buffer.new count.old count.new
+        result }
 {
-    let Ok(text) = str::from_utf8(text) else {
-        return NOT_UTF8;
-    };
-    let Ok(other) = str::from_utf8(other) else {
-        return OTHER_NOT_UTF8;
-    };
-    let set = match read_set(alloc, text, Grammar::Strict) {
-        Ok(set) => set,
-        Err(ToolError::Line(number)) => {
-            *count = number;
-            return BAD_LINE;
-        }
-        Err(ToolError::Memory) => return OUT_OF_MEMORY,
-    };
-    let others = match read_set(alloc, other, Grammar::Strict) {
-        Ok(others) => others,
-        Err(ToolError::Line(number)) => {
-            *count = number;
-            return BAD_LINE_IN_OTHER;
-        }
-        Err(ToolError::Memory) => return OUT_OF_MEMORY,
+    let (set, other) = match sets_of_texts(alloc, texts.0, texts.1, count) {
+        Ok(sets) => sets,
+        Err(status) => return status,
     };
     // Nothing is made of nothing, and needs no memory.
-    if are_empty(&set, &others) {
+    if set.is_empty() && other.is_empty() {
         return write_answer(&[], buffer, count);
     }
-    let Ok(answer) = combined_text(alloc, operation, &set, &others) else {
+    let Ok(answer) = combined_text(alloc, operation, &set, &other) else {
         return OUT_OF_MEMORY;
     };
     write_answer(answer.as_bytes(), buffer, count)
@@ -126,7 +85,7 @@ pub extern "C" fn ipnet_union_text(
 ) -> u32
     ensures { IsSetReply Union text.now other.now buffer.old buffer.new count.old count.new result }
 {
-    combine(alloc, Operation::Union, text, other, buffer, count)
+    combine(alloc, Operation::Union, (text, other), buffer, count)
 }
 
 /// Like `ipnet_union_text`, for exactly the addresses that are in both lists.
@@ -144,7 +103,7 @@ pub extern "C" fn ipnet_intersection_text(
 ) -> u32
     ensures { IsSetReply Intersection text.now other.now buffer.old buffer.new count.old count.new result }
 {
-    combine(alloc, Operation::Intersection, text, other, buffer, count)
+    combine(alloc, Operation::Intersection, (text, other), buffer, count)
 }
 
 /// Like `ipnet_union_text`, for exactly the addresses of the first list that are not in the second.
@@ -162,5 +121,5 @@ pub extern "C" fn ipnet_difference_text(
 ) -> u32
     ensures { IsSetReply Difference text.now other.now buffer.old buffer.new count.old count.new result }
 {
-    combine(alloc, Operation::Difference, text, other, buffer, count)
+    combine(alloc, Operation::Difference, (text, other), buffer, count)
 }

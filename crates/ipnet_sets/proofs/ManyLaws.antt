@@ -41,6 +41,13 @@ pub first_whole : {X N : Type 0} (f : X → N) (In : N → Address → Type 0) (
 first_whole f In xs i Has le h x =
     subst (λ z. Has x ↔ Any (λ n. In n x) z) (take_all i (map f xs) (omega (arith, le, length-map xs f))) (h x)
 
+-- an empty list adds nothing
+pub first_of_none : {X N : Type 0} (f : X → N) (In : N → Address → Type 0) (xs : List X) (i : ℕ)
+    (Has : Address → Type 0) → xs ≡ [] → HasFirst In (map f xs) i Has → (x : Address) → ¬ (Has x)
+first_of_none f In xs i Has none h x p =
+    let a = (first_whole f In xs i Has (omega (arith, ap length none)) h x).0 p in
+    omega (arith, a.2, length-map xs f, ap length none)
+
 -- what two things have in common, one after the other
 pub both_ways : {A B C : Type 0} → (A ↔ B) → (B ↔ C) → A ↔ C
 both_ways h k = (λ a. k.0 (h.0 a), λ c. h.1 (k.1 c))

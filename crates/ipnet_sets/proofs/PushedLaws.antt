@@ -5,10 +5,25 @@ use Rattle.ipnet_base.specs.Address.{Family, IPv4, IPv6, Address, greatest_numbe
 use Rattle.ipnet_sets.specs.declared.set.IpSet.{IpSet}
 use Rattle.ipnet_sets.specs.declared.set.builder.IpSetBuilder.{IpSetBuilder}
 use Rattle.ipnet_sets.specs.Gather.{IsInSomeRange}
-use Rattle.ipnet_sets.specs.Members.{boundaries_of, IsMember, IsUnion}
+use Rattle.ipnet_sets.specs.Members.{boundaries_of, IsMember, HasNoAddress, IsUnion}
 use Rattle.ipnet_sets.specs.Pushed.{IsHeldOf, IsPushed}
 use Rattle.ipnet_sets.specs.Boundaries.{is_inside}
 use Rattle.ipnet_sets.proofs.MemberLaws.{fits_to}
+
+module _ (b : IpSetBuilder) (others : IpSet)
+    (four : (x : ℕ) → x ≤ greatest_number IPv4
+    → (is_inside (map (λ n. n) others.ipv4.items) x ≡ true) ↔ IsInSomeRange (λ n. n) b.ipv4_waiting.items x)
+    (six : (x : ℕ) → x ≤ greatest_number IPv6
+    → (is_inside (map (λ n. n) others.ipv6.items) x ≡ true) ↔ IsInSomeRange (λ n. n) b.ipv6_waiting.items x) where
+  waits : (f : Family) (n : ℕ) → n ≤ greatest_number f → is_inside (boundaries_of others f) n ≡ true → IsHeldOf b f n
+  waits IPv4 n le h = inr ((four n le).0 h)
+  waits IPv6 n le h = inr ((six n le).0 h)
+
+  pub none_waits : ((x : Address) → ¬ (IsPushed b x)) → HasNoAddress others
+  none_waits none x m = none x (record {
+    fits = m.fits;
+    held = waits x.family x.number (fits_to x.family x.number m.fits) m.inside;
+  })
 
 module _ (b : IpSetBuilder) (in_order others : IpSet) (e4 : in_order.ipv4.items ≡ b.ipv4.items)
     (e6 : in_order.ipv6.items ≡ b.ipv6.items)
@@ -19,9 +34,9 @@ module _ (b : IpSetBuilder) (in_order others : IpSet) (e4 : in_order.ipv4.items 
   to_held : (f : Family) (n : ℕ) → n ≤ greatest_number f
       → (is_inside (boundaries_of in_order f) n ≡ true) ⊎ (is_inside (boundaries_of others f) n ≡ true) → IsHeldOf b f n
   to_held IPv4 n le (inl h) = inl (subst (λ z. is_inside (map (λ n. n) z) n ≡ true) e4 h)
-  to_held IPv4 n le (inr h) = inr ((four n le).0 h)
+  to_held IPv4 n le (inr h) = waits b others four six IPv4 n le h
   to_held IPv6 n le (inl h) = inl (subst (λ z. is_inside (map (λ n. n) z) n ≡ true) e6 h)
-  to_held IPv6 n le (inr h) = inr ((six n le).0 h)
+  to_held IPv6 n le (inr h) = waits b others four six IPv6 n le h
 
   from_held : (f : Family) (n : ℕ) → n ≤ greatest_number f → IsHeldOf b f n
       → (is_inside (boundaries_of in_order f) n ≡ true) ⊎ (is_inside (boundaries_of others f) n ≡ true)

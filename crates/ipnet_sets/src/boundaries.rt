@@ -71,13 +71,13 @@ fn next_boundary<T: Number>(
     // The processor cannot predict which list is next, so the choice is made by sums, without a branch.
     let one = first[first_at];
     let other = second[second_at];
-    let first_boundaries = !other.is_below(one);
-    let second_boundaries = !one.is_below(other);
-    let number = if first_boundaries { one } else { other };
+    let first_begins = !other.is_below(one);
+    let second_begins = !one.is_below(other);
+    let number = if first_begins { one } else { other };
     Boundary {
         number,
-        first: first_at + usize::from(first_boundaries),
-        second: second_at + usize::from(second_boundaries),
+        first: first_at + usize::from(first_begins),
+        second: second_at + usize::from(second_begins),
     }
 }
 

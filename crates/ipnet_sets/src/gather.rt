@@ -1,6 +1,6 @@
 //! Sets of the numbers of one family, put together from ranges in any order.
 ghost use Rattle.std.specs.Prelude.{◌≡◌, ℕ, ◌-◌, ◌<◌, ◌≤◌, ◌%◌, ◌⊎◌, ◌↔◌, IsTrue, true, false, length, map, All};
-ghost use Rattle.std.specs.Prelude.{get_or, IfOk, OnOk, OnErr};
+ghost use Rattle.std.specs.Prelude.{get_or, IsOk, IfOk, OnOk, OnErr};
 ghost use Rattle.std.specs.List.Sorted.{IsNonDecreasingBy};
 ghost use Rattle.ipnet_base.specs.Address.{greatest_number};
 ghost use Rattle.ipnet_sets.specs.Gather.{IsInSomeRange, IsHeld, BeginsBy, IsJoined};
@@ -82,6 +82,7 @@ pub(crate) fn join_range<T: Number>(
     requires boundaries { AreBoundaries T.family (map T.number boundaries.old.items) }
     requires begins { BeginsBy (map T.number boundaries.old.items) (T.number first) }
     requires fits { T.number last ≤ greatest_number T.family }
+    ensures empty { T.number last < T.number first → IsOk result }
     ensures joined { OnOk result (IsJoined T.family (map T.number boundaries.old.items) (T.number first) (T.number last)
         (map T.number boundaries.new.items)) }
     ensures err { OnErr result (boundaries.new.items ≡ boundaries.old.items) }
@@ -123,6 +124,7 @@ pub(crate) fn push<T: Number>(
 /// The set of the numbers of ranges that are sorted by their first numbers.
 fn join_sorted<T: Number>(alloc: Global, ranges: &[NumberRange<T>]) -> Result<Vec<T>, AllocError>
     requires { IsNonDecreasingBy (λ r. T.number r.first) ranges.now }
+    ensures empty { ((x : ℕ) → x ≤ greatest_number T.family → ¬ (IsInSomeRange T.number ranges.now x)) → IsOk result }
     ensures boundaries { IfOk result (λ boundaries. AreBoundaries T.family (map T.number boundaries.items)) }
     ensures members { IfOk result (λ boundaries. (x : ℕ) → x ≤ greatest_number T.family
         → (is_inside (map T.number boundaries.items) x ≡ true) ↔ IsInSomeRange T.number ranges.now x) }
@@ -140,6 +142,7 @@ pub(crate) fn join_all<T: Number>(
     alloc: Global,
     ranges: Vec<NumberRange<T>>,
 ) -> Result<Vec<T>, AllocError>
+    ensures empty { ((x : ℕ) → x ≤ greatest_number T.family → ¬ (IsInSomeRange T.number ranges.items x)) → IsOk result }
     ensures boundaries { IfOk result (λ boundaries. AreBoundaries T.family (map T.number boundaries.items)) }
     ensures members { IfOk result (λ boundaries. (x : ℕ) → x ≤ greatest_number T.family
         → (is_inside (map T.number boundaries.items) x ≡ true) ↔ IsInSomeRange T.number ranges.items x) }

@@ -3,5 +3,6 @@ pub mod Fronts
 pub mod Inputs
 pub mod LineTexts
 pub mod NetLists
+pub mod Outputs
 pub mod Pieces
 pub mod Window

@@ -9,7 +9,7 @@ pub mod pieces;
 pub mod window;
 
 pub use front::{FrontLine, ipv4_addr_at, network_line, octet_before};
-pub use lines::{first_line, lines_len, push_line};
+pub use lines::{first_line, lines_len, lines_of_networks, push_line};
 pub use net_lists::{NetLists, NetworkSink};
 pub use output::write_whole;
 pub use window::{ReadError, Window};

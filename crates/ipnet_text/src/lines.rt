@@ -1,13 +1,14 @@
-//! Texts of lines: the first line of a text, the complete lines at the front of bytes, and a network as a line.
-ghost use Rattle.std.specs.Prelude.{◌≡◌, ◌≢◌, ℕ, ◌<◌, ◌≤◌, List, [], ◌∷◌, ◌++◌, length, take, OnOk, true, false};
-ghost use Rattle.std.specs.Prelude.{string_bytes, slice_index};
+//! Texts of lines: the first line of a text, the complete lines at the front of bytes, and networks as lines.
+ghost use Rattle.std.specs.Prelude.{◌≡◌, ◌≢◌, ℕ, ◌<◌, ◌≤◌, List, [], ◌∷◌, ◌++◌, length, take, map, true, false};
+ghost use Rattle.std.specs.Prelude.{OnOk, IfOk, string_bytes, slice_index};
 ghost use Rattle.ipnet.specs.CanonicalTexts.{canonical_text};
 ghost use Rattle.ipnet.specs.Lines.{lines_of};
 ghost use Rattle.ipnet.specs.NetworkOf.{ip_network};
+ghost use Rattle.ipnet_text.specs.LineTexts.{text_of_lines};
 
 use ipnet::IpNet;
 use memchr::memrchr;
-use std::alloc::AllocError;
+use std::alloc::{AllocError, Global};
 
 /// The first line of a text that is not empty, and the text after its end. The line is without its "\n".
 ///
@@ -58,4 +59,19 @@ pub fn push_line(text: &mut String, network: IpNet) -> Result<(), AllocError>
 {
     text.push_str(network.to_text().as_str())?;
     text.push_str("\n")
+}
+
+/// Returns the canonical texts of the networks, one per line. Fails if memory runs out.
+///
+/// ```text
+/// of 10.0.0.0/8 and fd00::/8: "10.0.0.0/8\nfd00::/8\n"
+/// ```
+pub fn lines_of_networks(alloc: Global, networks: &[IpNet]) -> Result<String, AllocError>
+    ensures { IfOk result (λ text. string_bytes text ≡ text_of_lines (map ip_network networks.now)) }
+{
+    let mut text = String::new(alloc);
+    for network in networks {
+        push_line(&mut text, *network)?;
+    }
+    Ok(text)
 }

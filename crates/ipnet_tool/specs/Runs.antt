@@ -3,12 +3,11 @@
 -- `None` if unknown.
 use Rattle.std.specs.Prelude.{◌≡◌, ℕ, List, [], ◌∷◌, codes, IsUtf8, Option, String, string_bytes}
 use Rattle.std.specs.declared.alloc.Global.{Global}
-use Rattle.std.specs.Io.{StartsWith}
-use Rattle.std.specs.Io.KnownBytes.{Appends}
 use Rattle.ipnet.specs.declared.parser.Grammar.{Grammar}
 use Rattle.ipnet.specs.declared.parser.Grammar.TheVariants.{Strict, Legacy}
 use Rattle.ipnet.specs.Lines.{lines_of, IsFirstBadLine}
 use Rattle.ipnet_text.specs.Inputs.{GaveWhole}
+use Rattle.ipnet_text.specs.Outputs.{IsWritten, IsFrontWritten}
 use Rattle.ipnet_tool.specs.Answers.{IsAnswerTo}
 
 -- The grammar that the arguments choose: strict without arguments, legacy for `legacy`. Other arguments choose none.
@@ -24,9 +23,7 @@ pub record IsAnswered (args : List (String Global)) (left left_after held held_a
   pub chosen : IsChosenBy args grammar
   pub text : List ℕ
   pub read : GaveWhole left left_after text
-  pub answer : List ℕ
-  pub right : IsAnswerTo grammar text answer
-  pub written : Appends held held_after answer
+  pub answer : IsWritten (IsAnswerTo grammar text) held held_after
 
 -- The input is a text with an answer in the chosen grammar, and a front of the answer was written, perhaps all of it.
 pub record IsCutShort (args : List (String Global)) (left left_after held held_after : Option (List ℕ)) : Type 0 where
@@ -34,11 +31,7 @@ pub record IsCutShort (args : List (String Global)) (left left_after held held_a
   pub chosen : IsChosenBy args grammar
   pub text : List ℕ
   pub read : GaveWhole left left_after text
-  pub answer : List ℕ
-  pub right : IsAnswerTo grammar text answer
-  pub front : List ℕ
-  pub begins : StartsWith answer front
-  pub written : Appends held held_after front
+  pub answer : IsFrontWritten (IsAnswerTo grammar text) held held_after
 
 -- The input is a text in UTF-8 (RFC 3629) with a bad line in the chosen grammar.
 -- Example: without arguments, `"10.0.0.0/24\n10.0.01.0/24\n"`; the number is 2.

@@ -93,10 +93,7 @@ pub fn arguments<R: Env + AllocGlobal>(rt: &R) -> Result<Vec<String>, Failure>
     ensures { IfErr result (λ failure. (failure ≡ Arguments) ⊎ (failure ≡ Memory)) }
 {
     match env::args(rt) {
-        Ok(args) => {
-            let words = after_name(args).collect::<Vec<String>>(rt.alloc());
-            words.map_err(|_| Failure::Memory)
-        }
+        Ok(args) => Ok(after_name(args).collect::<Vec<String>>(rt.alloc())?),
         Err(error) if error.kind() == ErrorKind::OutOfMemory => Err(Failure::Memory),
         Err(_) => Err(Failure::Arguments),
     }

@@ -11,6 +11,7 @@ ghost use Rattle.ipnet.specs.NetworkOf.{ip_network};
 ghost use Rattle.ipnet.specs.NetworkTexts.{IsNetworkText, ReadsNetwork};
 ghost use Rattle.ipnet_text.specs.LineTexts.{text_of_lines};
 ghost use Rattle.ipnet_tool.specs.Answers.{IsTextAnswer, StartsWithBadLine};
+ghost use Rattle.ipnet_tool.specs.declared.tool.ToolError.TheVariants.{Memory};
 ghost use Rattle.ipnet_text.specs.NetLists.{networks_of};
 
 use crate::front_reader::FrontReader;
@@ -36,6 +37,15 @@ pub enum ToolError {
     /// An allocation was refused.
     #[error("out of memory")]
     Memory,
+}
+
+impl From<AllocError> for ToolError {
+    ghost from_gives = { λ _ result. result ≡ Memory };
+
+    /// Memory ran out.
+    fn from(_: AllocError) -> ToolError {
+        ToolError::Memory
+    }
 }
 
 /// The shortest list of networks that cover exactly the addresses of the text's networks, in canonical text, one per
@@ -80,10 +90,7 @@ pub fn aggregate_text_as(alloc: Global, text: &str, grammar: Grammar) -> Result<
     let mut families = NetLists::new(alloc);
     push_lines(&mut families, 0, text, grammar)?;
     families.aggregate();
-    let Ok(answer) = printed(alloc, &families) else {
-        return Err(ToolError::Memory);
-    };
-    Ok(answer)
+    Ok(printed(alloc, &families)?)
 }
 
 /// Hands the networks of the lines, in the grammar that is asked for, to the sink. `before` lines come earlier; returns
@@ -121,9 +128,7 @@ pub fn push_lines<S: NetworkSink>(
         number += 1;
         if let Some(front) = reader.read(rest.as_bytes()) {
             rest = &rest[front.len + 1..];
-            let Ok(()) = sink.push(front.network) else {
-                return Err(ToolError::Memory);
-            };
+            sink.push(front.network)?;
             continue 'lines;
         }
         let (line, after) = first_line(rest);
@@ -132,9 +137,7 @@ pub fn push_lines<S: NetworkSink>(
             let Ok(network) = parse_as(line, grammar) else {
                 return Err(ToolError::Line(number));
             };
-            let Ok(()) = sink.push(network) else {
-                return Err(ToolError::Memory);
-            };
+            sink.push(network)?;
         }
     }
     Ok(number)

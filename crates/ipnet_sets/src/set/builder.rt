@@ -1,5 +1,5 @@
 //! A set that is put together range by range.
-ghost use Rattle.std.specs.Prelude.{◌≡◌, ◌⊎◌, ◌↔◌, map, IfOk, OnOk, OnErr};
+ghost use Rattle.std.specs.Prelude.{◌≡◌, ◌⊎◌, ◌↔◌, map, IsOk, IfOk, OnOk, OnErr};
 ghost use Rattle.ipnet_base.specs.Address.{IPv4, IPv6, Address, IsAddress, ip_address};
 ghost use Rattle.ipnet_base.specs.Network.{InBlock};
 ghost use Rattle.ipnet_base.specs.RangeOf.{ip_range};
@@ -107,7 +107,7 @@ impl IpSetBuilder {
         self.push_range(address, address)
     }
 
-    /// Returns the set of the addresses. Fails only when memory runs out.
+    /// Returns the set of the addresses. Fails only when memory runs out; a builder without an address needs none.
     ///
     /// The time grows with the number of ranges that came out of order and its logarithm, and linearly with the size of
     /// the set.
@@ -116,7 +116,8 @@ impl IpSetBuilder {
     /// after push_address(10.0.0.1), push_address(10.0.0.0): the set of 10.0.0.0-10.0.0.1
     /// ```
     pub fn into_set(self, alloc: Global) -> Result<IpSet, AllocError>
-        ensures { IfOk result (λ s. (x : Address) → IsMember s x ↔ IsPushed self x) }
+        ensures empty { ((x : Address) → ¬ (IsPushed self x)) → IsOk result }
+        ensures members { IfOk result (λ s. (x : Address) → IsMember s x ↔ IsPushed self x) }
     {
         let IpSetBuilder {
             ipv4,

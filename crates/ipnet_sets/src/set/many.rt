@@ -23,9 +23,6 @@ impl IpSet {
         ensures empty { networks.now ≡ [] → IsOk result }
         ensures members { IfOk result (λ s. HasAddressesOf s (map ip_network networks.now)) }
     {
-        if networks.is_empty() {
-            return Ok(IpSet::new(alloc));
-        }
         let mut builder = IpSetBuilder::new(alloc);
         for network in networks {
             builder.push_network(network)?;
@@ -44,9 +41,6 @@ impl IpSet {
         ensures members { IfOk result (λ s. (x : Address)
             → IsMember s x ↔ Any (λ r. IsInRange r x) (map ip_range ranges.now)) }
     {
-        if ranges.is_empty() {
-            return Ok(IpSet::new(alloc));
-        }
         let mut builder = IpSetBuilder::new(alloc);
         for range in ranges {
             builder.push(*range)?;

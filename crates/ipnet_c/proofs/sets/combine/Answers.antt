@@ -1,107 +1,59 @@
--- Each way out gives a reply of `SetReplies`: the result, or the error that the called functions return. Memory does
--- not run out if all lines of both texts are empty, because `are_empty` is called first. Nor does it run out if the
--- first line that is not empty is bad.
-use Rattle.std.proofs.Common.{[], sym, ap, ◌∙◌, subst, Err}
+-- Texts that are not read have no result. Memory does not run out if neither set has an address, because this is tested
+-- first.
+use Rattle.std.proofs.Common.{[], sym, ◌∙◌, subst}
 use Rattle.std.proofs.lemmas.Bool.{false≢true}
 use Rattle.ipnet.specs.declared.parser.Grammar.TheVariants.{Strict}
 use Rattle.ipnet_c.specs.Replies.{IsSetReply, IsTextOfSet}
-use Rattle.ipnet_c.specs.SetReplies.{HasAddressesOfText}
-use Rattle.ipnet_c.proofs.ListReplies.{IsGoodAtOnce, good_at_once, IsBlank}
-use Rattle.ipnet_c.proofs.SetReplies.{combined, first_not_utf8, other_refused, not_combined, empty_of_empty}
-use Rattle.ipnet_c.proofs.SetReplies.{text_of_both}
+use Rattle.ipnet_c.proofs.BadTexts.{later_no_memory}
+use Rattle.ipnet_c.proofs.ListReplies.{good_at_once}
+use Rattle.ipnet_c.proofs.SetReplies.{combined, not_read, empty_of_empty, text_of_both}
 use Rattle.ipnet_c.proofs.TakenLaws.{empty_set}
 use Rattle.ipnet_c.proofs.sets.combine.Goals as goal
+use Rattle.ipnet_c.proofs.sets.combine.Goals.{else-is_empty-via-else-is_empty}
+use Rattle.ipnet_c.proofs.sets.combine.Goals.{else-is_empty-via-then-is_empty+else-is_empty-2}
+
+pub returns-in-Err : goal.returns-in-Err
+returns-in-Err c =
+    not_read c.args.operation c.args.texts.0.now c.args.texts.1.now c.args.buffer.now c.args.count.now
+    c.sets_of_texts.new.line c.in-Err.status c.in-Err.ensures.bad
+
+pub returns-then-is_empty-2 : goal.returns-then-is_empty-2
+returns-then-is_empty-2 c =
+    let (utf8, utf8_other, h, k, kept) = c.in-Ok.ensures.sets in
+    let made = c.write_answer in
+    combined c.args.operation c.args.texts.0.now c.args.texts.1.now [] c.args.buffer.now made.new.buffer
+    c.args.count.now made.new.count made.result utf8 utf8_other
+    (empty_of_empty c.args.operation c.args.texts.0.now c.args.texts.1.now c.in-Ok.sets.0 c.in-Ok.sets.1 h k
+    (c.is_empty.ensures.0 c.if-is_empty.true) (c.is_empty-then-is_empty.ensures.0 c.if-is_empty-2.true))
+    made.ensures.known made.ensures.ok made.ensures.too_short
 
 pub returns-in_default : goal.returns-in_default
 returns-in_default c =
-    first_not_utf8 c.args.operation c.args.text.now c.args.other.now c.args.buffer.now c.args.count.now
-    c.in_default.ensures.cases.0
-
-pub returns-then-are_empty : goal.returns-then-are_empty
-returns-then-are_empty c =
-    let (same, utf8) = c.in-Ok.ensures.cases in
-    let (same_other, utf8_other) = c.in-Ok-from_utf8.ensures.cases in
-    let h : HasAddressesOfText Strict c.args.text.now c.in-Ok-read_set.set =
-    subst (λ t. HasAddressesOfText Strict t c.in-Ok-read_set.set) same c.in-Ok-read_set.ensures.addresses in
-    let k : HasAddressesOfText Strict c.args.other.now c.in-Ok-read_set-2.others =
-    subst (λ t. HasAddressesOfText Strict t c.in-Ok-read_set-2.others) same_other
-    c.in-Ok-read_set-2.ensures.addresses in
-    let (none, none_other) = c.are_empty.ensures.0 c.if-are_empty.true in
-    let made = c.write_answer in
-    combined c.args.operation c.args.text.now c.args.other.now [] c.args.buffer.now made.new.buffer c.args.count.now
-    made.new.count made.result utf8 utf8_other
-    (empty_of_empty c.args.operation c.args.text.now c.args.other.now c.in-Ok-read_set.set c.in-Ok-read_set-2.others h k
-    none none_other)
-    made.ensures.known made.ensures.ok made.ensures.too_short
-
-pub returns-in-Err-Memory : goal.returns-in-Err-Memory
-returns-in-Err-Memory c =
-    let (same, utf8) = c.in-Ok.ensures.cases in
-    let (same_other, utf8_other) = c.in-Ok-from_utf8.ensures.cases in
-    let good : IsGoodAtOnce Strict c.in-Ok.text.now =
-    λ number h. let clash = c.in-Err-Memory.ensures.bad_at_once number h in absurd cc in
-    not_combined c.args.operation c.args.text.now c.args.other.now c.args.buffer.now c.args.count.now utf8 utf8_other
-    (λ none. absurd (false≢true (c.in-Err-Memory.ensures.empty (subst IsBlank (sym same) none))))
-    (subst (IsGoodAtOnce Strict) same good)
-    (λ none. absurd (false≢true (c.in-Err-Memory.ensures.empty (subst IsBlank (sym same) none))))
-
-pub returns-in-Err-Line-read_set : goal.returns-in-Err-Line-read_set
-returns-in-Err-Line-read_set c =
-    let (same, utf8) = c.in-Ok.ensures.cases in
-    let (same_other, utf8_other) = c.in-Ok-from_utf8.ensures.cases in
-    let h : HasAddressesOfText Strict c.args.text.now c.in-Ok-read_set.set =
-    subst (λ t. HasAddressesOfText Strict t c.in-Ok-read_set.set) same c.in-Ok-read_set.ensures.addresses in
-    let shown = c.in-Err-Line-read_set in
-    subst (λ number. IsSetReply c.args.operation c.args.text.now c.args.other.now c.args.buffer.now
-    c.args.buffer.now c.args.count.now number 9) (sym shown.number-is)
-    (other_refused c.args.operation c.args.text.now c.args.other.now c.args.buffer.now c.args.count.now shown.number
-    h.networks utf8 utf8_other h.written
-    (rw same_other at (shown.ensures.bad_line shown.number (ap Err shown.field-0-is))))
-
-pub returns-in-Err-Memory-read_set : goal.returns-in-Err-Memory-read_set
-returns-in-Err-Memory-read_set c =
-    let (same, utf8) = c.in-Ok.ensures.cases in
-    let (same_other, utf8_other) = c.in-Ok-from_utf8.ensures.cases in
-    let h : HasAddressesOfText Strict c.args.text.now c.in-Ok-read_set.set =
-    subst (λ t. HasAddressesOfText Strict t c.in-Ok-read_set.set) same c.in-Ok-read_set.ensures.addresses in
-    let good : IsGoodAtOnce Strict c.in-Ok-from_utf8.other.now =
-    λ number at. let clash = c.in-Err-Memory-read_set.ensures.bad_at_once number at in absurd cc in
-    not_combined c.args.operation c.args.text.now c.args.other.now c.args.buffer.now c.args.count.now utf8 utf8_other
-    (λ none none_other.
-    false≢true (c.in-Err-Memory-read_set.ensures.empty (subst IsBlank (sym same_other) none_other)))
-    (good_at_once Strict c.args.text.now h.networks h.written)
-    (λ none. subst (IsGoodAtOnce Strict) same_other good)
-
-pub returns-in_default-combined_text : goal.returns-in_default-combined_text
-returns-in_default-combined_text c =
-    let (same, utf8) = c.in-Ok.ensures.cases in
-    let (same_other, utf8_other) = c.in-Ok-from_utf8.ensures.cases in
-    let h : HasAddressesOfText Strict c.args.text.now c.in-Ok-read_set.set =
-    subst (λ t. HasAddressesOfText Strict t c.in-Ok-read_set.set) same c.in-Ok-read_set.ensures.addresses in
-    let k : HasAddressesOfText Strict c.args.other.now c.in-Ok-read_set-2.others =
-    subst (λ t. HasAddressesOfText Strict t c.in-Ok-read_set-2.others) same_other
-    c.in-Ok-read_set-2.ensures.addresses in
-    not_combined c.args.operation c.args.text.now c.args.other.now c.args.buffer.now c.args.count.now utf8 utf8_other
-    (λ none none_other. false≢true (sym c.if-are_empty.false ∙ c.are_empty.ensures.1 (
-      empty_set Strict c.args.text.now c.in-Ok-read_set.set h none,
-      empty_set Strict c.args.other.now c.in-Ok-read_set-2.others k none_other,
-    )))
-    (good_at_once Strict c.args.text.now h.networks h.written)
-    (λ none. good_at_once Strict c.args.other.now k.networks k.written)
+    let text = c.args.texts.0.now in
+    let other = c.args.texts.1.now in
+    let (utf8, utf8_other, h, k, kept) = c.in-Ok.ensures.sets in
+    subst (λ count. IsSetReply c.args.operation text other c.args.buffer.now c.args.buffer.now c.args.count.now count 3)
+    (sym kept)
+    (not_read c.args.operation text other c.args.buffer.now c.args.count.now c.args.count.now 3
+    (later_no_memory text other c.args.count.now utf8 utf8_other
+    (λ none none_other. elim c.else-is_empty.branch [
+      | else-is_empty-via-else-is_empty w ↦ false≢true (sym w.if-is_empty.false
+          ∙ c.is_empty.ensures.1 (empty_set Strict text c.in-Ok.sets.0 h none))
+      | else-is_empty-via-then-is_empty+else-is_empty-2 w ↦ false≢true (sym w.if-is_empty-2.false
+          ∙ w.is_empty-then-is_empty.ensures.1 (empty_set Strict other c.in-Ok.sets.1 k none_other))
+    ])
+    (good_at_once Strict text h.networks h.written)
+    (λ none. good_at_once Strict other k.networks k.written)))
 
 pub returns : goal.returns
 returns c =
-    let (same, utf8) = c.in-Ok.ensures.cases in
-    let (same_other, utf8_other) = c.in-Ok-from_utf8.ensures.cases in
-    let h : HasAddressesOfText Strict c.args.text.now c.in-Ok-read_set.set =
-    subst (λ t. HasAddressesOfText Strict t c.in-Ok-read_set.set) same c.in-Ok-read_set.ensures.addresses in
-    let k : HasAddressesOfText Strict c.args.other.now c.in-Ok-read_set-2.others =
-    subst (λ t. HasAddressesOfText Strict t c.in-Ok-read_set-2.others) same_other
-    c.in-Ok-read_set-2.ensures.addresses in
+    let text = c.args.texts.0.now in
+    let other = c.args.texts.1.now in
+    let (utf8, utf8_other, h, k, kept) = c.in-Ok.ensures.sets in
     let made = c.write_answer-2 in
-    let (set, is, text) = c.in-Ok-combined_text.ensures in
-    combined c.args.operation c.args.text.now c.args.other.now c.as_bytes.result.now c.args.buffer.now made.new.buffer
-    c.args.count.now made.new.count made.result utf8 utf8_other
-    (text_of_both c.args.operation c.args.text.now c.args.other.now c.as_bytes.result.now c.in-Ok-read_set.set
-    c.in-Ok-read_set-2.others set h k is (subst (IsTextOfSet set) (sym c.as_bytes.ensures.value) text))
+    let (set, is, spelled) = c.in-Ok-combined_text.ensures in
+    combined c.args.operation text other c.as_bytes.result.now c.args.buffer.now made.new.buffer c.args.count.now
+    made.new.count made.result utf8 utf8_other
+    (text_of_both c.args.operation text other c.as_bytes.result.now c.in-Ok.sets.0 c.in-Ok.sets.1 set h k is
+    (subst (IsTextOfSet set) (sym c.as_bytes.ensures.value) spelled))
     made.ensures.known made.ensures.ok made.ensures.too_short

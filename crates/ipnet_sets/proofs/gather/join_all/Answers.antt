@@ -9,6 +9,16 @@ use Rattle.ipnet_sets.specs.Boundaries.{is_inside}
 use Rattle.ipnet_sets.proofs.JoinLaws.{any_permutation}
 use Rattle.ipnet_sets.proofs.gather.join_all.Goals as goal
 
+pub returns-clause-empty : goal.returns-clause-empty
+returns-clause-empty g c = λ none.
+    let number = g.T.Number.number in
+    let given = c.args.ranges.items in
+    let sorted = c.as_slice.result.now in
+    let same : IsPermutation given sorted
+    = subst (IsPermutation given) (sym c.as_slice.ensures.value) c.sort.ensures.same in
+    c.join_sorted.ensures.empty (λ x le a. none x le (any_permutation (λ r. (number r.first ≤ x) × (x ≤ number r.last))
+    sorted given (IsPermutation-sym given sorted same) a))
+
 pub returns-clause-members : goal.returns-clause-members
 returns-clause-members g c =
     let number = g.T.Number.number in

@@ -43,12 +43,14 @@ returns-in_default-write_answer-clause-cut_short g c = λ _.
       chosen = c.in-Some.ensures.some;
       text = read.text;
       read = read.read;
-      answer = text_of_lines blocks;
-      right = answer_from c.in-Some.grammar read.text (text_of_lines blocks) read.written
-          (networks_of c.in-Ok.families) blocks read.are read.same c.aggregate.ensures.aggregate refl;
-      front = front;
-      begins = begins;
-      written = written;
+      answer = record {
+        text = text_of_lines blocks;
+        right = answer_from c.in-Some.grammar read.text (text_of_lines blocks) read.written
+            (networks_of c.in-Ok.families) blocks read.are read.same c.aggregate.ensures.aggregate refl;
+        front = front;
+        begins = begins;
+        written = written;
+      };
     })
 
 pub returns-clause-answered : goal.returns-clause-answered
@@ -60,8 +62,10 @@ returns-clause-answered g c = λ _.
       chosen = c.in-Some.ensures.some;
       text = read.text;
       read = read.read;
-      answer = text_of_lines blocks;
-      right = answer_from c.in-Some.grammar read.text (text_of_lines blocks) read.written
-          (networks_of c.in-Ok.families) blocks read.are read.same c.aggregate.ensures.aggregate refl;
-      written = c.in-Ok-write_answer.ensures.whole;
+      answer = record {
+        text = text_of_lines blocks;
+        right = answer_from c.in-Some.grammar read.text (text_of_lines blocks) read.written
+            (networks_of c.in-Ok.families) blocks read.are read.same c.aggregate.ensures.aggregate refl;
+        written = c.in-Ok-write_answer.ensures.whole;
+      };
     }

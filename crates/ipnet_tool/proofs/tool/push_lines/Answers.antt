@@ -1,6 +1,6 @@
 -- The lines read and the lines still to be read make the whole text: each line, empty or a network, moves from the rest
 -- to the lines that were read (`LineLaws`, `one_taken_more`). A bad line is the first bad one (`EarlyLines`).
-use Rattle.std.proofs.Common.{◌≡◌, ◌+◌, ◌<◌, ◌∷◌, ◌++◌, [], length, refl, subst, arith, rules, append-nil}
+use Rattle.std.proofs.Common.{◌≡◌, ◌+◌, ◌<◌, [], length, refl, subst, arith, rules, append-nil}
 use Rattle.std.proofs.Common.{inl, inr, ap, sym, ◌∙◌, take, drop}
 use Rattle.ipnet.specs.Lines.{lines_of, IsFirstBadLine}
 use Rattle.ipnet.specs.NetworkOf.{ip_network}
@@ -34,13 +34,13 @@ returns-in_default-parse_as-clause-bad_line g c = λ number e.
     let same : c.lines.number + 1 ≡ number = cc in
     (whole, sym same ∙ is, bad)
 
-pub lines-preserved-in-Ok-push-2 : goal.lines-preserved-in-Ok-push-2
-lines-preserved-in-Ok-push-2 g c =
+pub lines-preserved-in-Continue-branch-2 : goal.lines-preserved-in-Continue-branch-2
+lines-preserved-in-Continue-branch-2 g c =
     let grammar = c.args.grammar in
     let cut = c.first_line.ensures.lines in
     let line = c.first_line.result.0.now in
     let after = lines_of c.first_line.result.1.now in
-    let n = ip_network c.in-Ok-parse_as.network in
+    let n = ip_network c.in-Ok.network in
     let some : 0 < length line = some_bytes (length line) c.if-not-is_empty.ensures in
     record {
       is_text = search rules;
@@ -50,28 +50,28 @@ lines-preserved-in-Ok-push-2 g c =
           (g.S.NetworkSink.is_made c.args.sink.now) (g.S.NetworkSink.is_made c.lines.sink)
           (g.S.NetworkSink.is_made c.push-then-not-is_empty.new.self) n c.lines.invariant.taken
           (λ more h. rw cut (network_line grammar line after n more some
-          ((c.in-Ok-parse_as.ensures.ok c.in-Ok-parse_as.network).0 refl) h))
-          c.in-Ok-push.ensures;
+          ((c.in-Ok.ensures.ok c.in-Ok.network).0 refl) h))
+          c.in_ok-push-2.ensures;
       empty = λ h. absurd (not_all_empty (lines_of c.lines.rest.now) line after cut some (c.lines.invariant.empty h).0);
       bad_line = λ later h.
           let (whole, is, bad) = c.lines.invariant.bad_line (1 + later)
           (rw cut (good_line grammar line after later
-          (inr (n, ((c.in-Ok-parse_as.ensures.ok c.in-Ok-parse_as.network).0 refl))) h)) in
+          (inr (n, ((c.in-Ok.ensures.ok c.in-Ok.network).0 refl))) h)) in
           (whole, omega (arith, is), bad);
       at_once = λ number h.
           let (later, is, at) = c.lines.invariant.at_once number h in
           absurd (not_good grammar line after later n some
-          ((c.in-Ok-parse_as.ensures.ok c.in-Ok-parse_as.network).0 refl)
+          ((c.in-Ok.ensures.ok c.in-Ok.network).0 refl)
           (subst (λ z. StartsWithBadLine grammar z later) cut at));
     }
 
-pub returns-in_default-push-2-clause-bad_at_once : goal.returns-in_default-push-2-clause-bad_at_once
-returns-in_default-push-2-clause-bad_at_once g c = λ number h.
+pub returns-in_err-push-2-clause-bad_at_once : goal.returns-in_err-push-2-clause-bad_at_once
+returns-in_err-push-2-clause-bad_at_once g c = λ number h.
     let grammar = c.args.grammar in
     let line = c.first_line.result.0.now in
     let (later, is, at) = c.lines.invariant.at_once number h in
-    absurd (not_good grammar line (lines_of c.first_line.result.1.now) later (ip_network c.in-Ok-parse_as.network)
-    (some_bytes (length line) c.if-not-is_empty.ensures) ((c.in-Ok-parse_as.ensures.ok c.in-Ok-parse_as.network).0 refl)
+    absurd (not_good grammar line (lines_of c.first_line.result.1.now) later (ip_network c.in-Ok.network)
+    (some_bytes (length line) c.if-not-is_empty.ensures) ((c.in-Ok.ensures.ok c.in-Ok.network).0 refl)
     (subst (λ z. StartsWithBadLine grammar z later) c.first_line.ensures.lines at))
 
 pub lines-preserved : goal.lines-preserved
@@ -141,7 +141,7 @@ lines-preserved-in-Some g c =
       taken = one_taken_more grammar (lines_of c.args.text.now) (lines_of text) after
           (g.S.NetworkSink.is_made c.args.sink.now) (g.S.NetworkSink.is_made c.lines.sink)
           (g.S.NetworkSink.is_made c.push.new.self) n c.lines.invariant.taken
-          (λ more h. rw f.cut (network_line grammar line after n more f.some f.is h)) c.in-Ok.ensures;
+          (λ more h. rw f.cut (network_line grammar line after n more f.some f.is h)) c.in_ok-push.ensures;
       empty = λ h. absurd (not_all_empty (lines_of text) line after f.cut f.some (c.lines.invariant.empty h).0);
       bad_line = λ later h.
           let (whole, is, bad) = c.lines.invariant.bad_line (1 + later)
@@ -153,8 +153,8 @@ lines-preserved-in-Some g c =
           (subst (λ z. StartsWithBadLine grammar z later) f.cut at));
     }
 
-pub returns-in_default-push-clause-empty : goal.returns-in_default-push-clause-empty
-returns-in_default-push-clause-empty g c = λ h.
+pub returns-in_err-push-clause-empty : goal.returns-in_err-push-clause-empty
+returns-in_err-push-clause-empty g c = λ h.
     let text = c.lines.rest.now in
     let rest = drop (c.in-Some.front.len + 1) text in
     let f = front_line c.args.grammar text c.as_bytes.result.now rest c.in-Some.front.len
@@ -163,8 +163,8 @@ returns-in_default-push-clause-empty g c = λ h.
     absurd (not_all_empty (lines_of text) (take c.in-Some.front.len text) (lines_of rest) f.cut f.some
     (c.lines.invariant.empty h).0)
 
-pub returns-in_default-push-clause-bad_at_once : goal.returns-in_default-push-clause-bad_at_once
-returns-in_default-push-clause-bad_at_once g c = λ number h.
+pub returns-in_err-push-clause-bad_at_once : goal.returns-in_err-push-clause-bad_at_once
+returns-in_err-push-clause-bad_at_once g c = λ number h.
     let text = c.lines.rest.now in
     let rest = drop (c.in-Some.front.len + 1) text in
     let n = ip_network c.in-Some.front.network in

@@ -6,5 +6,5 @@ use Rattle.ipnet_c.proofs.lists.AddressesNetworkSink.push.Goals as goal
 pub returns : goal.returns
 returns c =
     OnOk_then c.push_network.result c.push_network.ensures.added
-    (λ added networks. one_taken c.args.self.now.builder c.push_network.new.self c.args.self.now.is_empty networks
-    (ip_network c.args.network) added)
+    (λ added networks. one_taken c.args.self.now.builder c.push_network.new.self networks (ip_network c.args.network)
+    added)

@@ -5,7 +5,7 @@ use Rattle.ipnet.specs.NetworkOf.{ip_network}
 use Rattle.ipnet_base.specs.Network.{InBlock}
 use Rattle.ipnet_sets.specs.Members.{IsMember}
 use Rattle.ipnet_sets.specs.Pushed.{IsPushed}
-use Rattle.ipnet_sets.proofs.ManyLaws.{first_none, first_more, first_whole, both_ways}
+use Rattle.ipnet_sets.proofs.ManyLaws.{first_none, first_more, first_of_none, first_whole, both_ways}
 use Rattle.ipnet_sets.proofs.set.IpSet.from_networks.Goals as goal
 
 pub loop-network-init : goal.loop-network-init
@@ -18,6 +18,11 @@ loop-network-preserved c =
     (IsPushed c.loop-network.builder) (IsPushed c.push_network.new.self) (omega arith) c.network-item.is
     c.loop-network.invariant c.in_ok-push_network.ensures.added
 
+pub returns-clause-empty : goal.returns-clause-empty
+returns-clause-empty c = λ none.
+    c.into_set.ensures.empty (first_of_none ip_network InBlock c.args.networks.now c.loop-network.network-index
+    (IsPushed c.loop-network.builder) none c.loop-network.invariant)
+
 pub returns-clause-members : goal.returns-clause-members
 returns-clause-members c =
     let builder = c.loop-network.builder in
@@ -25,4 +30,4 @@ returns-clause-members c =
     (λ s. (x : Address) → IsMember s x ↔ Any (λ n. InBlock n x) (map ip_network c.args.networks.now))
     (λ s h x. both_ways (h x)
     (first_whole ip_network InBlock c.args.networks.now c.loop-network.network-index (IsPushed builder)
-    (omega arith) c.loop-network.invariant x)) c.into_set.ensures
+    (omega arith) c.loop-network.invariant x)) c.into_set.ensures.members

@@ -1,7 +1,7 @@
 use Rattle.std.proofs.Common.{◌≡◌, [], ◌++◌, map, take, string_bytes}
 use Rattle.ipnet.specs.NetworkOf.{ip_network}
 use Rattle.ipnet_text.specs.LineTexts.{text_of_lines}
-use Rattle.ipnet_c.proofs.sets.printed.Given as goal
+use Rattle.ipnet_text.proofs.lines.lines_of_networks.Given as goal
 
 -- the networks so far are written
 abbrev pub invariant-loop-network : goal.invariant-loop-network

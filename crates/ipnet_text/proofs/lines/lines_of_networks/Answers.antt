@@ -1,7 +1,7 @@
 use Rattle.std.proofs.Common.{[], string_bytes}
 use Rattle.ipnet.specs.NetworkOf.{ip_network}
 use Rattle.ipnet_text.proofs.LineTextLaws.{one_line_more}
-use Rattle.ipnet_c.proofs.sets.printed.Goals as goal
+use Rattle.ipnet_text.proofs.lines.lines_of_networks.Goals as goal
 
 pub loop-network-preserved : goal.loop-network-preserved
 loop-network-preserved c =
