@@ -130,7 +130,8 @@ class Invalid(unittest.TestCase):
                     IpSet().contains_all(view)
                 with self.assertRaises(TypeError):
                     ArrowText(b"", view)
-        for form, size in ((b"=l", 4), (b"<l", 4), (b"=L", 4), (b"<i", 4), (b"@I", 4), (b"=q", 8), (b"@l", 8), (b"L", 8)):
+        for form, size in ((b"=l", 4), (b"<l", 4), (b"=L", 4), (b"<i", 4), (b"@I", 4), (b"=q", 8), (b"@l", 8),
+                           (b"L", 8)):
             with self.subTest(form=form, size=size):
                 column = view_of(form, size, numbers if size == 4 else wide)
                 self.assertEqual(IpSet("10.0.0.0/8").contains_all(column), b"\1\0")

@@ -210,9 +210,9 @@ class Kept:
 
 
 def keep(made: Union[IpSet, RouteTable], client: Any = None) -> Kept:
-    """Sends the set or the table to each worker of the client, or of the client of this process, unless the workers
-    have it. If there is no client, it travels with the tasks. `client.unregister_worker_plugin(keep(made).name)` removes
-    it from the workers."""
+    """Sends the set or the table to each worker of the client, or of the client of this process, unless they have it.
+    If there is no client, it travels with the tasks. `client.unregister_worker_plugin(keep(made).name)` removes it from
+    the workers."""
     name = f"ipnet-{hashlib.sha256(made.to_bytes()).hexdigest()[:32]}"
     if client is None:
         try:
