@@ -13,10 +13,21 @@ from concurrent.futures import ThreadPoolExecutor
 from test_columns import Model, arrow, needs_numpy, numpy, pandas, plain
 
 from ipnet_proved import Addresses, ArrowText, BadRow, IpSet, RouteTable, parse_all, text_all, truncate_all
+from ipnet_proved._rows import _Buffer
 
 NO_ADDRESSES = ("", "10.0.0.01", "10.0.0.256", "10.0.0", "10.0.0.1 ", " ::1", "::1%eth0", "10.0.0.0/32", "::/128",
                 "1::2::3", "x", "10.0.0.1\r", "١.2.3.4", "\ud800", "10.0.0.1\n", "\n", "10.0.0.1\n10.0.0.2", "\0",
                 "10.0.0.1\0")
+
+
+def view_of(form, size, data, kept=[]):
+    """A view of the bytes as items of `size` bytes with this format, which need not fit each other."""
+    kept.append((form, ctypes.create_string_buffer(bytes(data), len(bytes(data)))))
+    buffer = _Buffer(place=ctypes.addressof(kept[-1][1]), length=len(kept[-1][1]), itemsize=size, readonly=1, ndim=1,
+                     format=form)
+    make = ctypes.pythonapi.PyMemoryView_FromBuffer
+    make.restype = ctypes.py_object
+    return make(ctypes.byref(buffer))
 
 
 class Invalid(unittest.TestCase):
@@ -91,6 +102,42 @@ class Invalid(unittest.TestCase):
         self.assertEqual(IpSet("::/0").contains_all(rows), b"\0\2\1\2")
         self.assertEqual(RouteTable({"::/0": 1}).match_all(rows, default=3), [3, None, 1, None])
 
+    def test_families_and_octets_that_are_not_bytes(self):
+        """Families of 8 bytes would have the zeros of a row as the families of the next ones."""
+        truths = memoryview(b"\1\1").cast("?")
+        wrong = [(array.array("q", [4, 6]), bytes(32)), (b"\4\6", array.array("q", [0] * 4)), (truths, bytes(32)),
+                 (b"\4\6", memoryview(bytes(32)).cast("?"))]
+        if numpy is not None:
+            wrong += [(numpy.array([4, 6]), numpy.zeros((2, 16), "uint8")), (b"\4\6", numpy.zeros((2, 4), "uint32"))]
+        for families, octets in wrong:
+            with self.subTest(families=families, octets=octets), self.assertRaises(TypeError):
+                Addresses(families, octets)
+        for families, octets in ((b"\4", b""), (b"\4\6", bytes(31)), (b"\4\6", bytes(33)),
+                                 (memoryview(b"\4\6\4\6").cast("B", (2, 2)), bytes(32))):
+            with self.subTest(families=families, octets=octets), self.assertRaises(ValueError):
+                Addresses(families, octets)
+        rows = Addresses(array.array("b", [4, 6]), (ctypes.c_uint8 * 32)(10))
+        self.assertEqual(IpSet("10.0.0.0/8").contains_all(rows), b"\1\0")
+
+    def test_formats_that_do_not_fit_the_items(self):
+        """In the formats `=` and `<` the code l has 4 bytes, and else 8."""
+        numbers = array.array("I", [10 << 24, 11 << 24])
+        wide = array.array("Q", numbers)
+        for form, size in ((b"=l", 8), (b"<l", 8), (b"<L", 8), (b"l", 4), (b"=q", 4), (b"i", 8), (b"B", 4)):
+            view = view_of(form, size, wide)
+            with self.subTest(form=form, size=size):
+                with self.assertRaises(TypeError):
+                    IpSet().contains_all(view)
+                with self.assertRaises(TypeError):
+                    ArrowText(b"", view)
+        for form, size in ((b"=l", 4), (b"<l", 4), (b"=L", 4), (b"<i", 4), (b"@I", 4), (b"=q", 8), (b"@l", 8),
+                           (b"L", 8)):
+            with self.subTest(form=form, size=size):
+                column = view_of(form, size, numbers if size == 4 else wide)
+                self.assertEqual(IpSet("10.0.0.0/8").contains_all(column), b"\1\0")
+                offsets = view_of(form, size, array.array("i" if size == 4 else "q", [0, 3]))
+                self.assertEqual(IpSet("::1").contains_all(ArrowText(b"::1", offsets)), b"\1")
+
     def test_first_of_many_pieces(self):
         """The rows are read in pieces of 65,536, and lines in blocks of bytes."""
         texts = ["10.0.0.1"] * 200_000
@@ -163,6 +210,15 @@ class Invalid(unittest.TestCase):
         for offsets in ((ctypes.c_uint32.__ctype_be__ * 2)(0, 0), array.array("f", [0, 0]), array.array("d", [0, 0])):
             with self.assertRaises(TypeError):
                 ArrowText(b"", offsets)
+        wrong = [memoryview(b"\1\0").cast("?"), array.array("H", [1]), array.array("I", [1])]
+        if numpy is not None:
+            wrong.append(numpy.array([True, False]))
+        for validity in wrong:
+            with self.subTest(validity=validity), self.assertRaises(TypeError):
+                ArrowText(b"::1::2", array.array("i", [0, 3, 6]), validity)
+        for validity in (b"\1", memoryview(b"\1").cast("c"), array.array("b", [1])):
+            column = ArrowText(b"::1::1", array.array("i", [0, 3, 6]), validity)
+            self.assertEqual(IpSet("::1").contains_all(column), b"\1\2")
         for empty in (ArrowText(None, b"", width=4), ArrowText(b"", array.array("i")),
                       ArrowText(b"", array.array("q", [0]))):
             self.assertEqual(IpSet().contains_all(empty), b"")
@@ -244,6 +300,20 @@ class Forms(unittest.TestCase):
             self.assertEqual((again, again.invalid, plain(again)), (answer, 1, [None, True]))
         with self.assertRaises(ValueError):
             Addresses(b"\4", b"")
+
+    @needs_numpy
+    def test_masked_objects(self):
+        """A masked object may be of any type, and the array of the caller keeps it."""
+        items = numpy.empty(5, dtype=object)
+        items[:] = ["10.0.0.1", 7, object, "x", "::"]
+        column = numpy.ma.MaskedArray(items, [0, 1, 1, 1, 0])
+        for call in (IpSet("10.0.0.0/8").contains_all, RouteTable({"10.0.0.0/8": 1}).match_all, text_all):
+            self.assertEqual([answer is None for answer in plain(call(column))][1:4], [True] * 3)
+        self.assertEqual(plain(IpSet("10.0.0.0/8").contains_all(column)), [True, None, None, None, False])
+        self.assertEqual(list(items[1:4]), [7, object, "x"])
+        column = numpy.ma.MaskedArray(items, [0, 0, 1, 1, 0])
+        with self.assertRaisesRegex(TypeError, "row 1: an address is a text"):
+            IpSet().contains_all(column)
 
     @needs_numpy
     def test_forms_of_numpy(self):

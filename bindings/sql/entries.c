@@ -54,6 +54,12 @@ bool sql_next_entry(SqlEntries *entries, SqlPart *entry)
     return true;
 }
 
+/* Whether the entry begins with a byte order mark. The library skips one at the start of a list, and refuses others. */
+static bool has_mark(SqlPart entry)
+{
+    return entry.len >= 3 && memcmp(entry.text, "\xef\xbb\xbf", 3) == 0;
+}
+
 size_t sql_set_lines(const char *text, size_t len, char *lines, size_t *refused)
 {
     SqlEntries entries = sql_entries(text, len);
@@ -61,7 +67,7 @@ size_t sql_set_lines(const char *text, size_t len, char *lines, size_t *refused)
     size_t written = 0;
     *refused = 0;
     while (sql_next_entry(&entries, &entry)) {
-        if (entry.len == 0 || has(entry, '#') || has(entry, ';') || has(entry, '\n')) {
+        if (entry.len == 0 || has_mark(entry) || has(entry, '#') || has(entry, ';') || has(entry, '\n')) {
             *refused = entries.number;
             break;
         }
@@ -90,11 +96,11 @@ static bool has_inner_blank(SqlPart part)
     return false;
 }
 
-static const char *cause_of_prefix(SqlPart prefix, bool is_ipv6)
+static const char *cause_of_prefix(SqlPart prefix, bool is_ipv6, bool may_be_netmask)
 {
     size_t i;
     if (!is_ipv6 && has(prefix, '.'))
-        return "the netmask is not valid";
+        return may_be_netmask ? "the netmask is not valid" : "a netmask is not allowed here";
     if (prefix.len == 0)
         return "the prefix length is missing";
     for (i = 0; i < prefix.len; i++)
@@ -105,7 +111,7 @@ static const char *cause_of_prefix(SqlPart prefix, bool is_ipv6)
     return is_ipv6 ? "the prefix length is above 128" : "the prefix length is above 32";
 }
 
-const char *sql_cause_of_network(SqlPart network)
+static const char *cause_of_network(SqlPart network, bool may_have_netmask)
 {
     uint8_t octets[16];
     SqlPart prefix, address = split(network, '/', &prefix);
@@ -118,7 +124,12 @@ const char *sql_cause_of_network(SqlPart network)
         return "a zone is not part of a network";
     if (sql_parse_address(address.text, address.len, octets) == 0)
         return is_ipv6 ? "the IPv6 address is not valid" : "the IPv4 address is not valid";
-    return cause_of_prefix(prefix, is_ipv6);
+    return cause_of_prefix(prefix, is_ipv6, may_have_netmask);
+}
+
+const char *sql_cause_of_network(SqlPart network)
+{
+    return cause_of_network(network, false);
 }
 
 static const char *cause_of_range(SqlPart entry)
@@ -144,7 +155,7 @@ const char *sql_cause_of_entry(SqlPart entry)
         return "it has several lines";
     if (has(entry, ','))
         return "it has a comma";
-    return has(entry, '-') ? cause_of_range(entry) : sql_cause_of_network(entry);
+    return has(entry, '-') ? cause_of_range(entry) : cause_of_network(entry, true);
 }
 
 /* Reads a number from -2147483648 to 2147483647. */

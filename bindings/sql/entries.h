@@ -1,8 +1,8 @@
 /* The text of a set or of a table in SQL: entries with commas between them. Nothing here allocates memory.
  *
  * An entry has blanks or line ends around it, or none. In a set it is a network, an address or a range FIRST-LAST, as
- * ipnet_set_from_list reads it; in a table it is a network or an address, blanks, and a value. A text of blanks has no
- * entries. An entry that is empty or has a comment is refused. */
+ * ipnet_set_from_list reads it; in a table it is a network without a netmask or an address, blanks, and a value. A text
+ * of blanks has no entries. An entry that is empty, has a comment or begins with a byte order mark is refused. */
 #ifndef SQL_ENTRIES_H
 #define SQL_ENTRIES_H
 
@@ -26,14 +26,16 @@ SqlEntries sql_entries(const char *text, size_t len);
 /* The next entry, without the blanks around it. Returns false if there is none. */
 bool sql_next_entry(SqlEntries *entries, SqlPart *entry);
 
-/* Writes the entries into `lines`, one per line, for ipnet_set_from_list, up to the first that is empty or has a
- * comment; `lines` has a byte more than the text. Returns the length. `*refused` is the number of that entry, or 0. */
+/* Writes the entries into `lines`, one per line, for ipnet_set_from_list, up to the first that is empty, has a comment
+ * or begins with a byte order mark; `lines` has a byte more than the text. Returns the length. `*refused` is the number
+ * of that entry, or 0. */
 size_t sql_set_lines(const char *text, size_t len, char *lines, size_t *refused);
 
 /* The entry with this number. */
 SqlPart sql_entry_at(const char *text, size_t len, size_t number);
 
-/* Why an entry is refused, as the end of a sentence: "the prefix length is above 32". */
+/* Why an entry of a set, or the network of a table, is refused, as the end of a sentence: "the prefix length is above
+ * 32". A table takes no netmasks. */
 const char *sql_cause_of_entry(SqlPart entry);
 const char *sql_cause_of_network(SqlPart network);
 

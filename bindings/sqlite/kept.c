@@ -82,7 +82,7 @@ static KeptImage *copy_of(const char *name, SqlPart image, bool is_set)
     return kept;
 }
 
-/* The name of a kept image. Returns NULL after an error. */
+/* The name of a kept image, a text without a NUL. Returns NULL after an error. */
 static const char *read_name(sqlite3_context *context, sqlite3_value *value)
 {
     const char *name;
@@ -91,8 +91,14 @@ static const char *read_name(sqlite3_context *context, sqlite3_value *value)
         return NULL;
     }
     name = (const char *)sqlite3_value_text(value);
-    if (name == NULL)
+    if (name == NULL) {
         sqlite3_result_error_nomem(context);
+        return NULL;
+    }
+    if (strlen(name) != (size_t)sqlite3_value_bytes(value)) {
+        refuse(context, "not a name", value, "it has a NUL");
+        return NULL;
+    }
     return name;
 }
 

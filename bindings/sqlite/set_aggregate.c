@@ -25,20 +25,20 @@ static void fail(SetState *state)
     state->has_failed = true;
 }
 
-/* Moves the entries of the lines into the set. Returns false without memory. */
-static bool compile_lines(SetState *state)
+/* Moves the entries of the lines into the set. Returns OK, or the status of the library's call that failed. */
+static ipnet_status compile_lines(SetState *state)
 {
     SqlGiven lines = {state->lines ? state->lines : "", state->len, NULL, 0}, both;
     ipnet_status status;
     size_t more_len, joined_len;
     uint8_t *joined, *more = try_write(sql_write_set, &lines, 32 + state->len, &status, &more_len);
     if (more == NULL)
-        return false;
+        return status;
     state->len = 0;
     if (state->set == NULL) {
         state->set = more;
         state->set_len = more_len;
-        return true;
+        return IPNET_OK;
     }
     both.bytes = state->set;
     both.len = state->set_len;
@@ -47,11 +47,11 @@ static bool compile_lines(SetState *state)
     joined = try_write(sql_write_union, &both, both.len + both.other_len, &status, &joined_len);
     sqlite3_free(more);
     if (joined == NULL)
-        return false;
+        return status;
     sqlite3_free(state->set);
     state->set = joined;
     state->set_len = joined_len;
-    return true;
+    return IPNET_OK;
 }
 
 /* Makes room for more bytes of lines. Returns false without memory. */
@@ -118,6 +118,7 @@ static bool add_value(sqlite3_context *context, SetState *state, sqlite3_value *
 static void add(sqlite3_context *context, int count, sqlite3_value **values)
 {
     SetState *state = sqlite3_aggregate_context(context, sizeof *state);
+    ipnet_status status = IPNET_OK;
     if (state == NULL)
         sqlite3_result_error_nomem(context);
     if (state == NULL || state->has_failed || has_null(count, values))
@@ -126,8 +127,10 @@ static void add(sqlite3_context *context, int count, sqlite3_value **values)
         fail(state);
         return;
     }
-    if (state->len >= LEAST_TEXT && state->len >= state->set_len && !compile_lines(state)) {
-        sqlite3_result_error_nomem(context);
+    if (state->len >= LEAST_TEXT && state->len >= state->set_len)
+        status = compile_lines(state);
+    if (status != IPNET_OK) {
+        refuse_status(context, status);
         fail(state);
     }
 }
@@ -135,15 +138,17 @@ static void add(sqlite3_context *context, int count, sqlite3_value **values)
 static void finish(sqlite3_context *context)
 {
     SetState nothing = {NULL, 0, NULL, 0, 0, false}, *state = sqlite3_aggregate_context(context, 0);
+    ipnet_status status;
     if (state == NULL)
         state = &nothing;
     if (state->has_failed)
         return;
-    if (compile_lines(state)) {
+    status = compile_lines(state);
+    if (status == IPNET_OK) {
         sqlite3_result_blob64(context, state->set, state->set_len, sqlite3_free);
         state->set = NULL;
     } else
-        sqlite3_result_error_nomem(context);
+        refuse_status(context, status);
     fail(state);
 }
 

@@ -25,6 +25,7 @@ SELECT '' @> inet '10.0.0.1', ipset '' @> inet '::/0';
 -- NULL
 SELECT (NULL::ipset @> inet '::1') IS NULL, (ipset '::1' @> NULL::inet) IS NULL, (ipset '::1' + NULL) IS NULL,
     (~ NULL::ipset) IS NULL, ipset_count(NULL, 4) IS NULL, ipset_count('', NULL) IS NULL;
+SELECT (SELECT count(*) FROM ipset_networks(NULL)), (SELECT count(*) FROM ipset_ranges(NULL));
 -- subsets and common addresses
 SELECT a @> b, b @> a, a <@ b, b <@ a, a && b, b && a, a @> a, a && ''
 FROM (VALUES (ipset '10.0.0.0/8, fd00::/8', ipset '10.1.0.0-10.2.0.7, fd00::1')) v(a, b);

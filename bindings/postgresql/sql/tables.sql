@@ -23,6 +23,9 @@ SELECT longest_route(t, '10.1.2.128/25'), longest_route(t, '10.1.2.0/23'), longe
     longest_route(t, '8.0.0.0/6') IS NULL, longest_route(t, 'fd00:1::/31'), longest_route(t, 'fc00::/7') FROM tables;
 SELECT longest_route('10.0.0.0/9 1, 10.128.0.0/9 2', '10.0.0.0/8') IS NULL, longest_match('', '::1') IS NULL,
     longest_route('', '::/0') IS NULL, pg_typeof(longest_route('::/0 1', '::1'));
+-- a value above 2147483647 of another program is a negative number here
+SELECT longest_match(t, '::1'), longest_match(t, '::1')::bigint & 4294967295,
+    encode(iptable_send(t), 'hex') LIKE '%ffffffff%' FROM (VALUES (iptable '::/0 -1')) v(t);
 -- NULL
 SELECT longest_match(NULL, '::1') IS NULL, longest_match('', NULL) IS NULL, longest_route(NULL, '::1') IS NULL;
 -- equality and order: of the tables, not of their texts

@@ -1,6 +1,7 @@
 """Columns of addresses without NumPy: buffers of numbers, of octets and of lines, Arrow's buffers, and lists of texts
 and objects. Each is read in pieces, so that a long column takes little memory beside the result."""
 import array
+import struct
 from ipaddress import IPv4Address, IPv4Interface, IPv6Address, IPv6Interface
 from typing import Any, Callable, Dict, Iterator, List, Optional, Sequence, Tuple
 
@@ -10,7 +11,9 @@ from ._rows import LARGEST, PIECE, WIDTH, Lent, Piece, cause_of_row, parsed_line
 # the bytes of lines that are read at a time
 BLOCK = 1 << 18
 # the codes of whole numbers in the formats of buffers, and of bytes
-WHOLE, SINGLE = "iIlLqQ", "bBc"
+WHOLE, SINGLE = frozenset("iIlLqQ"), frozenset("bBc")
+# the code with a sign of numbers with this number of bytes
+SIGNED = {4: "i", 8: "q"}
 NOT_A_NUMBER = f"a number is from 0 to {LARGEST}"
 
 
@@ -57,14 +60,15 @@ class Numbers(Column):
     kind, form = "numbers", "bytes"
     is_strict = True
 
-    def __init__(self, view: memoryview, code: str) -> None:
-        self._view, self._code = view, code
+    def __init__(self, view: memoryview, has_sign: bool) -> None:
+        code = SIGNED[view.itemsize]
+        self._view, self._code = view, code if has_sign else code.upper()
         self.count = len(view)
 
     def pieces(self) -> Iterator[Piece]:
         for start, end in self._parts():
             numbers = self._view[start:end].tobytes()
-            if self._code in "IL" and self._view.itemsize == 4:
+            if self._code == "I":
                 yield numbers_piece(start, numbers, (), (), lambda place: None)
             else:
                 yield self._checked(start, array.array(self._code, numbers))
@@ -94,7 +98,8 @@ class Octets(Column):
 class Addresses(Column):
     """Addresses as parse_all returns them: `families` has a byte for each row, 4, 6, or 0 for a missing row, `octets`
     has 16 bytes for each row, and `invalid` is the number of the rows that were not addresses. The octets of an IPv4
-    address are the first four. It is also a column, so a text that is asked about several times is read once.
+    address are the first four. It is also a column, so a text that is asked about several times is read once. Both are
+    buffers of bytes: other items raise TypeError, and other lengths ValueError.
 
     >>> rows = parse_all(["10.0.0.1", None, "::1"])
     >>> rows.families, rows.octets[:4], len(rows.octets)
@@ -108,8 +113,10 @@ class Addresses(Column):
     def __init__(self, families: Any, octets: Any, invalid: int = 0) -> None:
         self.families, self.octets, self.invalid = families, octets, invalid
         self.count = len(families)
-        if memoryview(octets).nbytes != WIDTH * self.count:
-            raise ValueError(f"{self.count} families need {WIDTH * self.count} octets, 16 each")
+        lengths = view_of_bytes("families", families).nbytes, view_of_bytes("octets", octets).nbytes
+        if lengths != (self.count, WIDTH * self.count):
+            raise ValueError(f"{self.count} families need {self.count} bytes and {WIDTH * self.count} octets, and not "
+                             f"{lengths[0]} and {lengths[1]}")
 
     def __iter__(self) -> Iterator[Any]:
         return iter((self.families, self.octets))
@@ -233,7 +240,7 @@ def is_missing(item: Any) -> bool:
 class ArrowText(Column):
     """A column of texts in Arrow's layout: `data` has the texts, one after the other; `offsets` has the place in `data`
     at which the text of each row begins, and then the end of the last one; `validity` has a bit for each row, 0 if it
-    is missing.
+    is missing, eight rows in a byte.
 
     `width` is the bytes of an offset, 4 (utf8, binary) or 8 (large_utf8, large_binary); it is not needed if the buffer
     has items of that size. The column begins at the row `start` of the buffers and has `count` rows; without a count it
@@ -250,7 +257,7 @@ class ArrowText(Column):
     def __init__(self, data: Any, offsets: Any, validity: Any = None, *, width: Optional[int] = None, start: int = 0,
                  count: Optional[int] = None) -> None:
         view = memoryview(offsets)
-        if view.format.lstrip("@=<") not in (*WHOLE, *SINGLE):
+        if code_of(view) not in WHOLE | SINGLE:
             raise TypeError(f"offsets are whole numbers in the machine's order, and not of the format {view.format!r}")
         self._width = width or view.itemsize
         if self._width not in (4, 8) or view.itemsize not in (1, self._width):
@@ -261,7 +268,7 @@ class ArrowText(Column):
         if start < 0 or self.count < 0 or start + self.count > most:
             raise ValueError(f"offsets for {most} rows have no {self.count} rows from row {start} on")
         self._data = Lent(octets_of_buffer(b"" if data is None else data))
-        self._validity = None if validity is None else octets_of_buffer(validity)
+        self._validity = None if validity is None else octets_of_buffer(view_of_bytes("validity", validity))
         if self._validity is not None and 8 * len(self._validity) < start + self.count:
             raise ValueError(f"there are {8 * len(self._validity)} bits of validity for {start + self.count} rows")
 
@@ -308,6 +315,21 @@ class ArrowText(Column):
         return [place for place, bit in enumerate(reversed(format(gaps, "b"))) if bit == "1"] if gaps else ()
 
 
+def code_of(view: memoryview) -> str:
+    """The code of a buffer's items if they are bytes or whole numbers in the machine's order, of the size that its
+    format says; else the empty text."""
+    code = view.format[1:] if view.format[:1] in ("@", "=", "<") else view.format
+    return code if code in WHOLE | SINGLE and struct.calcsize(view.format) == view.itemsize else ""
+
+
+def view_of_bytes(name: str, data: Any) -> memoryview:
+    """The view of a buffer whose items are bytes. Raises TypeError if they are something else, as truth values are."""
+    view = memoryview(data)
+    if code_of(view) not in SINGLE:
+        raise TypeError(f"{name}: a buffer of bytes is needed, and not one of the format {view.format!r}")
+    return view
+
+
 def octets_of_buffer(data: Any) -> memoryview:
     """The bytes of a buffer, one after the other; a copy if they are not so in memory."""
     view = memoryview(data)
@@ -319,12 +341,12 @@ def octets_of_buffer(data: Any) -> memoryview:
 
 def buffer_column(view: memoryview) -> Column:
     """The column of a buffer. Raises TypeError if its items are nothing that is an address."""
-    form = view.format[1:] if view.format[:1] in ("@", "=", "<") else view.format
-    if view.ndim == 1 and len(form) == 1 and form in SINGLE:
+    code = code_of(view)
+    if view.ndim == 1 and code in SINGLE:
         return Lines(view)
-    if view.ndim == 1 and len(form) == 1 and form in WHOLE:
-        return Numbers(view, form)
-    if view.ndim == 2 and view.shape is not None and view.shape[1] == WIDTH and form == "B":
+    if view.ndim == 1 and code in WHOLE:
+        return Numbers(view, code.islower())
+    if view.ndim == 2 and view.shape is not None and view.shape[1] == WIDTH and code == "B":
         return Octets(view, view.shape[0])
     raise TypeError(f"a buffer of {view.ndim} dimensions of the format {view.format!r} is not a column of addresses, "
                     "which has lines, numbers of 4 bytes in the machine's order, or rows of 16 bytes")

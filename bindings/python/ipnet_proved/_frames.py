@@ -79,23 +79,33 @@ class Masked(Column):
 
 def array_column(values: Any) -> Column:
     """The column of an array of NumPy."""
-    column = _array_column(values)
-    if isinstance(values, module("numpy").ma.MaskedArray):
-        mask = module("numpy").ma.getmaskarray(values)
+    numpy = module("numpy")
+    mask = numpy.ma.getmaskarray(values) if isinstance(values, numpy.ma.MaskedArray) else None
+    column = _array_column(values.view(numpy.ndarray), mask)
+    if mask is not None:
         column = Masked(column, mask if mask.ndim == 1 else mask.any(axis=1))
     column.form = "numpy"
     return column
 
 
-def _array_column(values: Any) -> Column:
-    """The column of an array, which may be masked, without its mask."""
-    values = values.view(module("numpy").ndarray)
+def items_of(values: Any, mask: Any) -> List[Any]:
+    """The items of an array. A masked object is None, because it may be of any type; there may be no mask."""
+    if mask is not None and values.dtype.kind == "O":
+        values = values.copy()
+        values[mask] = None
+    items: List[Any] = values.tolist()
+    return items
+
+
+def _array_column(values: Any, mask: Any) -> Column:
+    """The column of an array, in which the rows of the mask may be anything; there may be no mask."""
     kind = values.dtype.kind
     if values.ndim == 2 and values.shape[1] == WIDTH and values.dtype == "uint8":
         return Octets(memoryview(values), len(values))
     if values.ndim == 1:
         if kind in "SUO":
-            return Items(lambda start, end: list(values[start:end].tolist()), len(values))
+            return Items(lambda start, end: items_of(values[start:end], None if mask is None else mask[start:end]),
+                         len(values))
         if kind in "ui" and values.dtype.itemsize >= 4 or values.dtype == "float64":
             return ArrayNumbers(values)
     raise TypeError(f"an array of {values.dtype} of the shape {values.shape} is not a column of addresses, which has "

@@ -47,7 +47,8 @@ class IpSet:
     """A set of IPv4 and IPv6 addresses. It never changes, so it can be the key of a dictionary.
 
     It is made of a list of networks, in each form that the functions of this package take; without one it is empty. If
-    `legacy` is true, numbers may have leading zeros. Raises BadLine and NotANetwork as these do. Sets are equal if and only if they have the same addresses.
+    `legacy` is true, numbers may have leading zeros. Raises BadLine and NotANetwork as these do. Sets are equal if and
+    only if they have the same addresses.
 
     >>> office = IpSet(["10.0.0.0/24", "fd00::/32"])
     >>> "10.0.0.7" in office, "10.0.0.0/23" in office

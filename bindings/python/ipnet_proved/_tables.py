@@ -72,8 +72,8 @@ class RouteTable:
 
     @classmethod
     def from_bytes(cls, image: Union[bytes, bytearray, memoryview]) -> "RouteTable":
-        """The table of an image, as to_bytes returns it. All routes are tested; raises NotATable if the bytes are not an
-        image.
+        """The table of an image, as to_bytes returns it. All routes are tested; raises NotATable if the bytes are not
+        an image.
 
         >>> RouteTable.from_bytes(RouteTable({"10.0.0.0/8": 7}).to_bytes())["10.0.0.1"]
         7

@@ -4,6 +4,7 @@ A set or a table reaches each worker once, by a plugin, also a worker that start
 """
 import hashlib
 import os
+import threading
 from typing import TYPE_CHECKING, Any, Dict, Iterable, List, NamedTuple, Optional, Sequence, Tuple, Union
 
 from ._networks import BadLine, quoted
@@ -28,6 +29,8 @@ else:
 Path = Union[str, "os.PathLike[str]"]
 # how many images a task joins
 WIDTH = 4
+# the seconds that a task waits for an image: a worker that gets it anew forgets it for a moment
+PATIENCE = 2.0
 
 
 class BadFileLine(ValueError):
@@ -74,7 +77,7 @@ class Part(NamedTuple):
 
 
 def state_of(file: Any) -> Tuple[int, int]:
-    """The size of an open file, and when it was changed."""
+    """The size of an open file, and when it was changed. A copy on another machine needs the same date."""
     found = os.fstat(file.fileno())
     return found.st_size, found.st_mtime_ns
 
@@ -133,10 +136,13 @@ def union_of(images: Sequence[bytes]) -> bytes:
 def aggregate_files(client: Any, paths: Union[Path, Iterable[Path]], block: Union[str, int] = "64 MB",
                     legacy: bool = False) -> IpSet:
     """The set of all addresses in the files, which IpSet.from_list reads. The files are read by the workers, in parts
-    of about `block` bytes, and have to be on each of them under the same path, as well as here.
+    of about `block` bytes. They have to be on each worker under the same path as here: on a shared file system, or as
+    copies with the same date.
 
-    A worker that is lost changes nothing: its parts are read again. A line that is not an entry raises BadFileLine, and
-    no set is made; if several lines are wrong, it names one of them. A file that changes meanwhile raises ChangedFile.
+    If a worker is lost, others read its parts again. A part that is lost more often than the setting
+    `distributed.scheduler.allowed-failures`, 3 by default, raises KilledWorker. A line that is not an entry raises
+    BadFileLine, and no set is made; if several lines are wrong, it names one of them. A file whose size or date changes
+    meanwhile raises ChangedFile.
     """
     files = [paths] if isinstance(paths, (str, os.PathLike)) else list(paths)
     size = parse_bytes(block)
@@ -146,20 +152,19 @@ def aggregate_files(client: Any, paths: Union[Path, Iterable[Path]], block: Unio
     if not parts:
         return IpSet()
     level = client.map(image_of, parts, legacy=legacy, pure=False, key="ipnet-part")
-    started = list(level)
+    # only the last level is held, so that the workers forget each image after it was joined
     while len(level) > 1:
         level = [client.submit(union_of, level[at:at + WIDTH], pure=False) for at in range(0, len(level), WIDTH)]
-        started += level
     try:
         return IpSet.from_bytes(level[0].result())
     finally:
         # also ends the tasks that have not begun; the client's cancel would wait for a second
-        for future in started:
-            future.release()
+        level[0].release()
 
 
-# the images that this process keeps, by the name of their plugin
-_kept: Dict[str, Union[IpSet, RouteTable]] = {}
+# the images that this process keeps, by the name of their plugin: one for each worker of the process that has it
+_kept: Dict[str, List[Union[IpSet, RouteTable]]] = {}
+_kept_changes = threading.Condition()
 
 
 class KeepImage(WorkerPlugin):
@@ -169,12 +174,19 @@ class KeepImage(WorkerPlugin):
         self.name, self._made = name, made
 
     def setup(self, worker: Any) -> None:
-        """Called when a worker starts."""
-        _kept[self.name] = self._made
+        """Called when a worker starts, or the plugin is registered."""
+        with _kept_changes:
+            _kept.setdefault(self.name, []).append(self._made)
+            _kept_changes.notify_all()
 
     def teardown(self, worker: Any) -> None:
-        """Called when a worker stops, or the plugin is unregistered."""
-        _kept.pop(self.name, None)
+        """Called when a worker stops, or the plugin is unregistered, or before it is registered again."""
+        with _kept_changes:
+            held = _kept.get(self.name, [])
+            if len(held) > 1:
+                held.pop()
+            else:
+                _kept.pop(self.name, None)
 
 
 class Kept:
@@ -188,24 +200,37 @@ class Kept:
         return Kept, (self.name, None if self._is_sent else self._made, self._is_sent)
 
     def get(self) -> Any:
-        """The set or the table."""
-        made = self._made if self._made is not None else _kept.get(self.name)
-        if made is None:
-            raise LookupError(f"{self.name} is not on this worker: pass the client that computes the frame")
-        return made
+        """The set or the table. Raises LookupError if this process does not have it, and does not get it soon."""
+        if self._made is not None:
+            return self._made
+        with _kept_changes:
+            if not _kept_changes.wait_for(lambda: self.name in _kept, PATIENCE):
+                raise LookupError(f"{self.name} is not on this worker: pass the client that computes the frame")
+            return _kept[self.name][-1]
 
 
 def keep(made: Union[IpSet, RouteTable], client: Any = None) -> Kept:
-    """Sends the set or the table to each worker of the client, or of the client of this process. If there is none, it
-    travels with the tasks. `client.unregister_worker_plugin(keep(made).name)` removes it from the workers."""
+    """Sends the set or the table to each worker of the client, or of the client of this process, unless they have it.
+    If there is no client, it travels with the tasks. `client.unregister_worker_plugin(keep(made).name)` removes it from
+    the workers."""
     name = f"ipnet-{hashlib.sha256(made.to_bytes()).hexdigest()[:32]}"
     if client is None:
         try:
             client = default_client()
         except ValueError:
             return Kept(name, made, False)
-    client.register_worker_plugin(KeepImage(name, made), name=name)
+    if not is_registered(client, name):
+        client.register_worker_plugin(KeepImage(name, made), name=name)
     return Kept(name, made, True)
+
+
+def is_registered(client: Any, name: str) -> bool:
+    """Whether the scheduler has a plugin of this name for its workers; false if it does not say so."""
+    try:
+        # a lambda travels as code, because the scheduler may lack this package
+        return client.run_on_scheduler(lambda dask_scheduler: name in dask_scheduler.worker_plugins) is True
+    except (AttributeError, ValueError):
+        return False
 
 
 def in_partition(error: BadRow, partition_info: Any) -> BadRow:
