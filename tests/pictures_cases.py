@@ -7,6 +7,16 @@ from set_model import WIDTH, address_text, joined
 
 SEED = 41
 
+# texts that are not as harmless as they look
+HOSTILE = [
+    ("a tag", '"><script>alert(1)<!--'), ("an end of the picture", "</svg>"), ("references", "'&amp;&#60;&lt;'"),
+    ("marked text", "]]>--><![CDATA[x"), ("the byte 1", "a\x01b\x1b[31mc\x7f"), ("an escape", "a\\x01b\\x1b[31mc\\x7f"),
+    ("letters", "\u00fc\u65e5\u672c\U0001f600\u00a0x"), ("blanks", "a\tb\vc\fd"), ("no characters", "a\ufffeb\uffffc"),
+    ("the direction of writing", "a\u202egnp.exe\u200f\u2067\u061cb"), ("ends of lines", "a\u2028b\u2029c\u0085d"),
+]
+# bytes that are not UTF-8
+BYTES = b"a\xffb\xc3(\xed\xa0\x80c\xf4\x90\x80\x80\x00d"
+
 
 class Case:
     """Lists of entries, a frame, and whether two lists are compared. An entry is its text, and a comment if any."""

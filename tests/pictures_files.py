@@ -100,11 +100,19 @@ def matches(part, element):
     return name in ("", element.tag[len(SVG):]) and has_classes
 
 
-class Paint:
-    """An element that paints: its place, its scale, and its colour over the ground."""
+class Shape:
+    """A shape: its scale, its origin in pixels, and its colour over the ground; None if it paints nothing inside."""
 
     def __init__(self, element, place, colour):
         self.element, self.place, self.colour = element, place, colour
+
+    def side(self, key):
+        """The attribute in pixels, or 0."""
+        return self.place[0] * float(self.element.get(key, 0))
+
+    def at(self, x, y):
+        """The place in pixels that these attributes name."""
+        return self.place[1] + self.side(x), self.place[2] + self.side(y)
 
 
 class Picture:
@@ -120,12 +128,17 @@ class Picture:
         """All that can be read: texts and titles."""
         return ["".join(one.itertext()) for one in self.root.iter() if one.tag[len(SVG):] in WORDS[:3]]
 
-    def paints(self, theme):
-        """The elements that paint a colour, in order."""
-        yield from self._paints(self.root, [], (1, 0, 0), {"fill": "#000000"}, theme)
+    def shapes(self, theme):
+        """All shapes, in order."""
+        return self._shapes(self.root, [], (1, 0, 0), {"fill": "#000000"}, theme)
 
-    def _paints(self, element, around, place, given, theme):
-        if element.tag[len(SVG):] in WORDS:
+    def paints(self, theme):
+        """The shapes that paint a colour, in order."""
+        return (shape for shape in self.shapes(theme) if shape.colour)
+
+    def _shapes(self, element, around, place, given, theme):
+        name = element.tag[len(SVG):]
+        if name in WORDS:
             return
         scale, left, top = place
         for kind, one, other in MOVE.findall(element.get("transform", "")):
@@ -137,23 +150,27 @@ class Picture:
         own["opacity"] = float(own.get("opacity", 1)) * float(given.get("opacity", 1))
         given = {**given, **own}
         opacity = given["opacity"] * float(given.get("fill-opacity", 1))
-        if element.tag not in (SVG + "svg", SVG + "g") and given["fill"] != "none" and opacity > 0:
-            colour = mixed(rgb(given["fill"]), rgb(COLOURS["ground"][theme]), opacity)
-            yield Paint(element, (scale, left, top), colour)
+        if name not in ("svg", "g"):
+            is_seen = given["fill"] != "none" and opacity > 0
+            colour = mixed(rgb(given["fill"]), rgb(COLOURS["ground"][theme]), opacity) if is_seen else None
+            yield Shape(element, (scale, left, top), colour)
         for child in element:
-            yield from self._paints(child, around + [element], (scale, left, top), given, theme)
+            yield from self._shapes(child, around + [element], (scale, left, top), given, theme)
 
     def ground(self):
         """The place and the size of the map in pixels: left, top, width and height."""
-        found = [(float(one.element.get("width")) * one.place[0], float(one.element.get("height")) * one.place[0])
-                 + one.place[1:] for one in self.paints(LIGHT_THEME)
+        found = [one for one in self.paints(LIGHT_THEME)
                  if one.element.tag == SVG + "rect" and one.colour == rgb(COLOURS["ground"][LIGHT_THEME])]
-        width, height, left, top = max(found)
-        return left, top, width, height
+        largest = max(found, key=lambda one: one.side("width") * one.side("height"))
+        return largest.at("x", "y") + (largest.side("width"), largest.side("height"))
 
     def layers(self, theme):
-        """The paths that paint, as `(element, place, colour)`."""
+        """The paths that paint."""
         return [one for one in self.paints(theme) if one.element.tag == SVG + "path"]
+
+    def rings(self):
+        """The middle of each circle, in pixels."""
+        return [one.at("cx", "cy") for one in self.shapes(LIGHT_THEME) if one.element.tag == SVG + "circle"]
 
     def without_words(self):
         """The SVG without texts, titles, and elements that paint nothing inside: outlines, rings and hidden ones."""
@@ -167,6 +184,22 @@ class Picture:
                 copy.remove(child)
         tree.register_namespace("", SVG[1:-1])
         return tree.tostring(root)
+
+
+def is_shown(code):
+    """Whether a character is shown as it is, and not as its bytes."""
+    turns = code == 0x61c or 0x200e <= code <= 0x200f or 0x2028 <= code <= 0x202e or 0x2066 <= code <= 0x2069
+    return 32 <= code <= 126 and code != 92 or code >= 160 and code not in (0xfffe, 0xffff) and not turns
+
+
+def shown(data):
+    """What a reader sees of the bytes: characters, and `\\xNN` for each byte of the others and of no character."""
+    made = ""
+    for character in data.decode("utf-8", "surrogateescape"):
+        is_stray = 0xdc80 <= ord(character) <= 0xdcff
+        octets = character.encode("utf-8", "surrogateescape")
+        made += "".join("\\x%02x" % one for one in octets) if is_stray or not is_shown(ord(character)) else character
+    return made
 
 
 def rectangles_of(path):

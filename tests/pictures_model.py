@@ -195,14 +195,13 @@ class Map:
 
     def cell_at(self, x, y):
         """The first address of the cell at this place of the map, in pixels."""
-        place = int(x // self.scale), int(y // self.scale)
-        cell = self.cells_by_place().get(place)
-        return None if cell is None else self.frame.first + (cell << self.frame.host_bits - self.depth)
+        cell = self.cells_by_place[x // self.scale, y // self.scale]
+        return self.frame.first + (cell << self.frame.host_bits - self.depth)
 
+    @functools.cached_property
     def cells_by_place(self):
-        if not hasattr(self, "_cells"):
-            self._cells = {place: cell for cell, place in enumerate(zip(self.columns, self.rows))}
-        return self._cells
+        """The number of the cell in each column and row."""
+        return {place: cell for cell, place in enumerate(zip(self.columns, self.rows))}
 
     def square_len(self):
         """The prefix length of a square: the frame's own bits of an octet, or all bits if they are of one octet."""
