@@ -84,16 +84,17 @@ def rendered():
     every += ["%d.9.0.0-%d.9.11.255" % (number, number) for number in range(80, 120)]
     before += ["10.%d.0.16" % number for number in range(50)]
     after += ["10.%d.0.19" % number for number in range(25, 75)]
+    parts = ["10.190.%d.0-10.190.%d.%d" % (number, number, number % 16) for number in range(256)]
     nearby = near(chance, "172.0.0.0/11", 40, range(20, 33))
-    shares = [near(chance, "172.0.0.0/11", 300, range(19, 33)) + chance.sample(nearby, 25) for _ in range(3)]
+    shares = [near(chance, "172.0.0.0/11", 240, range(19, 33)) + chance.sample(nearby, 25) for _ in range(3)]
     for number in range(60):
         shares[number % 3].append("172.%d.9.%d" % (number % 32, 16 + number // 32))
     small = [near(chance, "192.0.2.0/24", 9, (27, 29, 30, 31, 32)) for _ in range(6)]
     return [
         Case("all of IPv4", "0.0.0.0/0", [every]),
         Case("a /16", "10.20.0.0/16", [leases(chance, 250)]),
-        Case("a /9 with host bits", "10.200.3.4/9", [near(chance, "10.128.0.0/9", 1500, range(17, 33))]),
-        Case("an IPv6 /32", "2001:db8::/32", [near(chance, "2001:db8::/32", 900, (40, 44, 48, 48, 52, 56, 64, 127))]),
+        Case("a /9 with host bits", "10.200.3.4/9", [near(chance, "10.128.0.0/9", 1500, range(17, 33)) + parts]),
+        Case("an IPv6 /32", "2001:db8::/32", [near(chance, "2001:db8::/32", 400, (40, 44, 48, 48, 52, 56, 64, 127))]),
         Case("a comparison", "10.0.0.0/8", [before, after], True),
         Case("three lists", "172.0.0.0/11", shares),
         Case("six lists", "192.0.2.0/24", small),
