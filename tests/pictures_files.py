@@ -160,7 +160,7 @@ class Picture:
     def ground(self):
         """The place and the size of the map in pixels: left, top, width and height."""
         found = [one for one in self.paints(LIGHT_THEME)
-                 if one.element.tag == SVG + "rect" and one.colour == rgb(COLOURS["ground"][LIGHT_THEME])]
+                 if one.element.tag == SVG + "rect" and one.colour in map(rgb, COLOURS["ground"])]
         largest = max(found, key=lambda one: one.side("width") * one.side("height"))
         return largest.at("x", "y") + (largest.side("width"), largest.side("height"))
 
