@@ -30,8 +30,16 @@ class Case:
         every = joined(a_range for ranges in self.sets for a_range in ranges)
         self.frame = model.frame_at(frame) if frame and "/" in frame else next(
             filter(None, (model.smallest_frame(every, family) for family in families)), None)
-        # whether an entry is outside the frame
-        self.is_outside = any(not self.frame.contains(a_range) for entries in lists for a_range in self.ranges(entries))
+        self.is_outside = self.has_more() if self.frame else None
+
+    def has_more(self):
+        """Whether an entry is outside the frame; None if only parts of entries are, or only entries that both of two
+        compared lists have."""
+        entries = [set(self.ranges(entries)) for entries in self.lists]
+        changed = entries[0] ^ entries[1] if self.compares else set().union(*entries)
+        if all(self.frame.has_all(a_range) for a_range in set().union(*entries)):
+            return False
+        return True if any(not self.frame.contains(a_range) for a_range in changed) else None
 
     @staticmethod
     def ranges(entries):
@@ -133,6 +141,7 @@ def corners():
         Case("both changes in one cell", "10.0.0.0/8", [["10.0.0.0/29"], ["10.0.0.8/29"]], True),
         Case("a small change in a large kept block", "10.0.0.0/8",
              [["10.0.0.0/8"], ["10.0.0.0-10.77.0.8", "10.77.0.10-10.255.255.255"]], True),
+        Case("a change outside", "10.0.0.0/24", [["10.0.0.1", "192.0.2.1"], ["10.0.0.1"]], True),
         Case("two lists in one cell that share nothing", "10.0.0.0/8",
              [["10.0.0.0/29"], ["10.0.0.8/29"], ["10.9.0.1"]]),
         Case("two lists that share one address", "10.0.0.0/8", [["10.0.0.0/29"], ["10.0.0.7-10.0.0.15"]]),

@@ -31,6 +31,10 @@ class Frame:
         """Whether the range has an address of the frame."""
         return a_range[0] == self.family and a_range[1] <= self.last and a_range[2] >= self.first
 
+    def has_all(self, a_range):
+        """Whether the frame has each address of the range."""
+        return a_range[0] == self.family and self.first <= a_range[1] and a_range[2] <= self.last
+
     def clipped(self, ranges):
         """The ranges in the frame, as numbers from its first address on."""
         return [(max(first, self.first) - self.first, min(last, self.last) - self.first)
