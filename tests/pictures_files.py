@@ -1,0 +1,264 @@
+"""Reads the SVG of a map, and the PNG that a renderer makes of it. A module of tests/pictures, not a script."""
+import re
+import struct
+import xml.etree.ElementTree as tree
+import zlib
+
+SVG = "{http://www.w3.org/2000/svg}"
+DARK = re.compile(r"@media\s*\(prefers-color-scheme:\s*dark\)\s*\{((?:[^{}]*\{[^{}]*\})*)\s*\}")
+RULE = re.compile(r"([^{}]+)\{([^{}]*)\}")
+PART = re.compile(r"([a-z]*)((?:\.[\w-]+)*)")
+MOVE = re.compile(r"(translate|scale)\(([-\d.]+)(?:[ ,]+([-\d.]+))?\)")
+PATH = re.compile(r"m(-?\d+)(?: |(?=-))(-?\d+)h(\d+)v(\d+)h-(\d+)z")
+WORDS = ("text", "title", "desc", "style")
+LIGHT_THEME, DARK_THEME = 0, 1
+THEMES = LIGHT_THEME, DARK_THEME
+
+# the light and the dark colour of each class
+COLOURS = {
+    "page": ("#ffffff", "#16181c"), "ground": ("#f1f1ee", "#24272d"),
+    "some": ("#a3c9e6", "#264a68"), "third": ("#5fa3d3", "#35719f"), "two thirds": ("#2171b5", "#5aa2d8"),
+    "all": ("#08306b", "#a8d8ff"),
+    "removed": ("#d55e00", "#f28a35"), "added": ("#0072b2", "#4db2ff"), "mixed": ("#000000", "#ffffff"),
+    "kept": ("#8f8f8a", "#6c727c"), "kept part": ("#bdbdb8", "#484d56"),
+    "list 1": ("#0072b2", "#2a78c8"), "list 2": ("#e69f00", "#e69f00"), "list 3": ("#009e73", "#1fb98d"),
+    "list 4": ("#cc79a7", "#cc79a7"), "list 5": ("#56b4e9", "#9bd8ff"), "list 6": ("#d55e00", "#d55e00"),
+    "shared": ("#000000", "#ffffff"),
+}
+SHARES = ("some", "third", "two thirds", "all")
+CHANGES = ("removed", "added", "mixed", "kept", "kept part")
+LISTS = tuple("list {}".format(number) for number in range(1, 7)) + ("shared",)
+# the colours of one class differ by at most this in each part
+NEAR = 2
+
+
+def rgb(colour):
+    """The parts of `#rrggbb` or `#rgb`."""
+    digits = colour[1:] if len(colour) == 7 else "".join(2 * digit for digit in colour[1:])
+    return tuple(int(digits[at:at + 2], 16) for at in (0, 2, 4))
+
+
+def mixed(colour, ground, opacity):
+    """The colour that is seen if the first covers this part of the ground."""
+    return tuple(round(a * opacity + b * (1 - opacity)) for a, b in zip(colour, ground))
+
+
+def are_near(one, other, most=NEAR):
+    return all(abs(a - b) <= most for a, b in zip(one, other))
+
+
+def is_pale(colour, full, ground):
+    """Whether the colour is between the full one and the ground."""
+    way = [a - b for a, b in zip(full, ground)]
+    part = sum((a - b) * side for a, b, side in zip(colour, ground, way)) / sum(side * side for side in way)
+    return 0.3 <= part <= 0.8 and are_near(colour, mixed(full, ground, part), 3)
+
+
+def is_grey(colour):
+    return max(colour) - min(colour) <= 24
+
+
+def class_named(colour, names, theme):
+    """Which of these classes has this colour; `several` if it is another grey, and None if no class has it."""
+    ground = rgb(COLOURS["ground"][theme])
+    for name in names:
+        if are_near(colour, rgb(COLOURS[name][theme])):
+            return name
+    for name in names:
+        if name.startswith("list ") and is_pale(colour, rgb(COLOURS[name][theme]), ground):
+            return name + " part"
+    return "several" if names == LISTS and is_grey(colour) and not are_near(colour, ground, 20) else None
+
+
+class Sheet:
+    """A style sheet in a theme. A rule is for the elements that match its last part, if elements around them match the
+    parts before."""
+
+    def __init__(self, text, theme):
+        self.rules = []
+        for sheet in [DARK.sub("", text)] + (DARK.findall(text) if theme == DARK_THEME else []):
+            for selectors, body in RULE.findall(sheet):
+                values = dict(part.strip().split(":", 1) for part in body.split(";") if part.strip())
+                for selector in selectors.split(","):
+                    parts = [PART.fullmatch(part) for part in selector.split()]
+                    if all(parts):
+                        self.rules.append((parts, {key.strip(): value.strip() for key, value in values.items()}))
+        self.rules.sort(key=lambda rule: sum(part.group(2).count(".") * 100 + bool(part.group(1)) for part in rule[0]))
+
+    def properties(self, around, element):
+        """What the element has by itself, given the elements around it."""
+        found = {key: element.get(key) for key in ("fill", "fill-opacity", "opacity") if element.get(key)}
+        for parts, values in self.rules:
+            if matches(parts[-1], element) and all(any(matches(part, one) for one in around) for part in parts[:-1]):
+                found.update(values)
+        return found
+
+
+def matches(part, element):
+    name, classes = part.groups()
+    has_classes = not set(classes.split(".")[1:]) - set(element.get("class", "").split())
+    return name in ("", element.tag[len(SVG):]) and has_classes
+
+
+class Shape:
+    """A shape: its scale, its origin in pixels, and its colour over the ground; None if it paints nothing inside."""
+
+    def __init__(self, element, place, colour):
+        self.element, self.place, self.colour = element, place, colour
+
+    def side(self, key):
+        """The attribute in pixels, or 0."""
+        return self.place[0] * float(self.element.get(key, 0))
+
+    def at(self, x, y):
+        """The place in pixels that these attributes name."""
+        return self.place[1] + self.side(x), self.place[2] + self.side(y)
+
+
+class Picture:
+    """The SVG of a map. It is an error if it is not XML."""
+
+    def __init__(self, data):
+        self.data = data
+        self.root = tree.fromstring(data)
+        self.sheet_text = "".join("".join(one.itertext()) for one in self.root.iter(SVG + "style"))
+        self.sheets = [Sheet(self.sheet_text, theme) for theme in THEMES]
+
+    def texts(self):
+        """All that can be read: texts and titles."""
+        return ["".join(one.itertext()) for one in self.root.iter() if one.tag[len(SVG):] in WORDS[:3]]
+
+    def shapes(self, theme):
+        """All shapes, in order."""
+        return self._shapes(self.root, [], (1, 0, 0), {"fill": "#000000"}, theme)
+
+    def paints(self, theme):
+        """The shapes that paint a colour, in order."""
+        return (shape for shape in self.shapes(theme) if shape.colour)
+
+    def _shapes(self, element, around, place, given, theme):
+        name = element.tag[len(SVG):]
+        if name in WORDS:
+            return
+        scale, left, top = place
+        for kind, one, other in MOVE.findall(element.get("transform", "")):
+            if kind == "scale":
+                scale *= float(one)
+            else:
+                left, top = left + scale * float(one), top + scale * float(other or 0)
+        own = self.sheets[theme].properties(around, element)
+        own["opacity"] = float(own.get("opacity", 1)) * float(given.get("opacity", 1))
+        given = {**given, **own}
+        opacity = given["opacity"] * float(given.get("fill-opacity", 1))
+        if name not in ("svg", "g"):
+            is_seen = given["fill"] != "none" and opacity > 0
+            colour = mixed(rgb(given["fill"]), rgb(COLOURS["ground"][theme]), opacity) if is_seen else None
+            yield Shape(element, (scale, left, top), colour)
+        for child in element:
+            yield from self._shapes(child, around + [element], (scale, left, top), given, theme)
+
+    def ground(self):
+        """The place and the size of the map in pixels: left, top, width and height."""
+        found = [one for one in self.paints(LIGHT_THEME)
+                 if one.element.tag == SVG + "rect" and one.colour in map(rgb, COLOURS["ground"])]
+        largest = max(found, key=lambda one: one.side("width") * one.side("height"))
+        return largest.at("x", "y") + (largest.side("width"), largest.side("height"))
+
+    def layers(self, theme):
+        """The paths that paint."""
+        return [one for one in self.paints(theme) if one.element.tag == SVG + "path"]
+
+    def rings(self):
+        """The middle of each circle, in pixels."""
+        return [one.at("cx", "cy") for one in self.shapes(LIGHT_THEME) if one.element.tag == SVG + "circle"]
+
+    def without_words(self):
+        """The SVG without texts, titles, and elements that paint nothing inside: outlines, rings and hidden ones."""
+        kept = {one.element for one in self.paints(LIGHT_THEME)}
+        root = tree.fromstring(self.data)
+        pairs = list(zip(self.root.iter(), root.iter()))
+        gone = {copy for element, copy in pairs if element not in kept
+                and element.tag[len(SVG):] not in ("svg", "g", "style")}
+        for _, copy in pairs:
+            for child in [child for child in copy if child in gone]:
+                copy.remove(child)
+        tree.register_namespace("", SVG[1:-1])
+        return tree.tostring(root)
+
+
+def is_shown(code):
+    """Whether a character is shown as it is, and not as its bytes."""
+    turns = code == 0x61c or 0x200e <= code <= 0x200f or 0x2028 <= code <= 0x202e or 0x2066 <= code <= 0x2069
+    return 32 <= code <= 126 and code != 92 or code >= 160 and code not in (0xfffe, 0xffff) and not turns
+
+
+def shown(data):
+    """What a reader sees of the bytes: characters, and `\\xNN` for each byte of the others and of no character."""
+    made = ""
+    for character in data.decode("utf-8", "surrogateescape"):
+        is_stray = 0xdc80 <= ord(character) <= 0xdcff
+        octets = character.encode("utf-8", "surrogateescape")
+        made += "".join("\\x%02x" % one for one in octets) if is_stray or not is_shown(ord(character)) else character
+    return made
+
+
+def rectangles_of(path):
+    """The rectangles of a path: column, row, width and height of each. None if it is another path."""
+    if PATH.sub("", path):
+        return None
+    found, column, row = [], 0, 0
+    for x, y, width, height, back in PATH.findall(path):
+        column, row = column + int(x), row + int(y)
+        found.append((column, row, int(width), int(height)))
+        if width != back:
+            return None
+    return found
+
+
+def predicted(left, up, corner):
+    """The one of the three that is nearest to `left + up - corner`."""
+    to_left, to_up, to_corner = abs(up - corner), abs(left - corner), abs(left + up - 2 * corner)
+    return left if to_left <= to_up and to_left <= to_corner else up if to_up <= to_corner else corner
+
+
+def unfiltered(kind, line, above, step):
+    """A row of a PNG without its filter."""
+    if kind == 0:
+        return line
+    if kind == 2:
+        return bytes([a + b & 255 for a, b in zip(line, above)]) if any(line) else above
+    made = bytearray(len(line))
+    for part in range(step):
+        left = corner = 0
+        found = []
+        for one, up in zip(line[part::step], above[part::step]):
+            if kind == 1:
+                left = one + left & 255
+            elif kind == 3:
+                left = one + (left + up) // 2 & 255
+            elif left == up == corner:
+                left = one + up & 255
+            else:
+                left = one + predicted(left, up, corner) & 255
+            corner = up
+            found.append(left)
+        made[part::step] = bytes(found)
+    return bytes(made)
+
+
+def read_png(data):
+    """The rows of a PNG of 8 bits a colour, and how many bytes a pixel has."""
+    width, height, depth, colours, _, _, interlace = struct.unpack(">IIBBBBB", data[16:29])
+    assert depth == 8 and colours in (2, 6) and interlace == 0
+    step, at, packed = {2: 3, 6: 4}[colours], 8, b""
+    while at < len(data):
+        size, name = struct.unpack(">I4s", data[at:at + 8])
+        packed += data[at + 8:at + 8 + size] if name == b"IDAT" else b""
+        at += size + 12
+    raw, rows = zlib.decompress(packed), []
+    above = bytes(width * step)
+    for row in range(height):
+        start = row * (width * step + 1)
+        above = unfiltered(raw[start], raw[start + 1:start + 1 + width * step], above, step)
+        rows.append(above)
+    return rows, step
