@@ -1,0 +1,113 @@
+-- What a map shows: its classes, and how many bits of them it can show.
+use Rattle.std.proofs.Common.{◌≡◌, ℕ, ◌+◌, ◌-◌, ◌%◌, ◌<◌, ◌≤◌, ◌⊎◌, ◌↔◌, inl, inr, subst, sym, arith}
+use Rattle.std.proofs.lemmas.Bool.{cases_eq}
+use Rattle.ipnet_base.specs.Address.{Address, width}
+use Rattle.ipnet_base.specs.Network.{Network, InBlock, IsSubnetOf}
+use Rattle.ipnet_base.specs.Blocks.{IsInEither}
+use Rattle.ipnet_sets.specs.declared.set.IpSet.{IpSet}
+use Rattle.ipnet_sets.specs.Members.{IsMember}
+use Rattle.ipnet_sets.proofs.SetEqualLaws.{member_or_not}
+use Rattle.ipnet_pictures.specs.Parts.{IsInPart}
+use Rattle.ipnet_pictures.proofs.PartLaws.{part_of_part}
+use Rattle.ipnet_maps.specs.declared.drawing.Class.{Class}
+use Rattle.ipnet_maps.specs.declared.drawing.Drawing.{Drawing}
+use Rattle.ipnet_maps.specs.declared.drawing.Lists.{Lists}
+use Rattle.ipnet_maps.specs.declared.drawing.Lists.TheVariants.{One, Change}
+use Rattle.ipnet_maps.specs.Classes.{HasLevelClass, level_classes, HasChangeClass, change_classes}
+use Rattle.ipnet_maps.specs.Drawings.{IsDepthOf, IsRectangleCount, IsDrawingOf}
+use Rattle.ipnet_maps.specs.Lists.{IsListed, HasClass, classes_of, IsTooDeepAfter, IsTooDeep, IsDrawnAt}
+use Rattle.ipnet_maps.proofs.ChangeClassLaws.{classes_of_change, change_class_of_part}
+use Rattle.ipnet_maps.proofs.ClassLaws.{classes_of_levels, level_class_of_part}
+use Rattle.ipnet_maps.proofs.DrawingLaws.{AreClasses}
+use Rattle.ipnet_maps.proofs.DrawnPartLaws.{drawing_of_part}
+
+pub classes_of_lists : (lists : Lists) → AreClasses (IsListed lists) (HasClass lists) (classes_of lists)
+classes_of_lists (One set) = classes_of_levels (IsMember set) (member_or_not set)
+classes_of_lists (Change before after) =
+    classes_of_change (IsMember before) (IsMember after) (member_or_not before) (member_or_not after)
+
+-- ---- fewer bits
+
+pub depth_less : (frame : Network) (depth : ℕ) → IsDepthOf frame depth → 16 < depth → IsDepthOf frame (depth - 2)
+depth_less frame depth h more = record {
+  short = omega (arith, h.short);
+  fits = omega (arith, h.fits);
+  parity = omega (arith, h.parity, more);
+}
+
+pub deeper_less : (lists : Lists) (frame : Network) (depth : ℕ) → IsDepthOf frame depth
+    → IsTooDeepAfter lists frame depth → IsTooDeep lists frame depth → IsTooDeepAfter lists frame (depth - 2)
+deeper_less lists frame depth h after here deeper count more is c = elim (cases_eq deeper depth) [
+  | inl e ↦ here.1 count (subst (λ z. IsRectangleCount (HasClass lists) (classes_of lists) frame z count) e c)
+  | inr ne ↦ after deeper count (omega (arith, more, ne, here.0, is.parity, h.parity)) is c
+]
+
+-- no map shows more bits than the greatest depth
+pub none_deeper : (lists : Lists) (frame : Network) (greatest : ℕ)
+    → ((depth : ℕ) → depth ≤ 20 → frame.prefix_len + depth ≤ width frame.family → depth % 2 ≡ frame.prefix_len % 2
+    → depth ≤ greatest) → IsTooDeepAfter lists frame greatest
+none_deeper lists frame greatest most deeper count more is c =
+    let le : deeper ≤ greatest = most deeper is.short is.fits is.parity in absurd (omega (arith, le, more))
+
+pub drawing_done : (lists : Lists) (frame : Network) (depth : ℕ) (d : Drawing) → IsDepthOf frame depth
+    → IsTooDeepAfter lists frame depth → IsDrawnAt lists frame depth d
+    → IsDrawingOf (IsListed lists) (HasClass lists) (classes_of lists) frame d
+drawing_done lists frame depth d h after drawn = record {
+  layers = drawn.1;
+  depth = subst (IsDepthOf frame) (sym drawn.0) h;
+  greatest = subst (IsTooDeepAfter lists frame) (sym drawn.0) after;
+}
+
+-- ---- what is in the frame
+
+-- in a block of the frame, a set has what its part has
+part_member : (set part : IpSet) (frame n : Network)
+    → ((x : Address) → IsMember part x ↔ IsInPart (IsMember set) frame x) → IsSubnetOf n frame → (x : Address)
+    → InBlock n x → IsMember part x ↔ IsMember set x
+part_member set part frame n is within x near = (
+  λ p. ((is x).0 p).in_set,
+  λ s. (is x).1 (record { in_block = within x near; in_set = s }),
+)
+
+turned : {P Q : Type 0} → (P ↔ Q) → Q ↔ P
+turned h = (h.1, h.0)
+
+pub set_drawing : (set part : IpSet) (frame : Network)
+    → ((x : Address) → IsMember part x ↔ IsInPart (IsMember set) frame x) → (d : Drawing)
+    → IsDrawingOf (IsMember part) (HasLevelClass (IsMember part)) level_classes frame d
+    → IsDrawingOf (IsMember set) (HasLevelClass (IsMember set)) level_classes frame d
+set_drawing set part frame is d h =
+    drawing_of_part frame (IsMember part) (IsMember set) (HasLevelClass (IsMember part)) (HasLevelClass (IsMember set))
+    (λ x inside. part_member set part frame frame is (λ y b. b) x inside)
+    (λ q n within.
+    let same = part_of_part (IsMember set) (IsMember part) frame n is within in (
+      level_class_of_part (IsMember part) (IsMember set) q n same,
+      level_class_of_part (IsMember set) (IsMember part) q n (λ x. turned (same x)),
+    )) level_classes d h
+
+either_same : {A B C D : Type 0} → (A ↔ C) → (B ↔ D) → (A ⊎ B) ↔ (C ⊎ D)
+either_same f g = (
+  λ e. elim e [ inl a ↦ inl (f.0 a) | inr b ↦ inr (g.0 b) ],
+  λ e. elim e [ inl c ↦ inl (f.1 c) | inr d ↦ inr (g.1 d) ],
+)
+
+pub change_drawing : (before after first second : IpSet) (frame : Network)
+    → ((x : Address) → IsMember first x ↔ IsInPart (IsMember before) frame x)
+    → ((x : Address) → IsMember second x ↔ IsInPart (IsMember after) frame x) → (d : Drawing)
+    → IsDrawingOf (IsInEither (IsMember first) (IsMember second)) (HasChangeClass (IsMember first) (IsMember second))
+    change_classes frame d
+    → IsDrawingOf (IsInEither (IsMember before) (IsMember after)) (HasChangeClass (IsMember before) (IsMember after))
+    change_classes frame d
+change_drawing before after first second frame is_first is_second d h =
+    drawing_of_part frame (IsInEither (IsMember first) (IsMember second))
+    (IsInEither (IsMember before) (IsMember after)) (HasChangeClass (IsMember first) (IsMember second))
+    (HasChangeClass (IsMember before) (IsMember after))
+    (λ x inside. either_same (part_member before first frame frame is_first (λ y b. b) x inside)
+    (part_member after second frame frame is_second (λ y b. b) x inside))
+    (λ q n within.
+    let a = part_member before first frame n is_first within in
+    let b = part_member after second frame n is_second within in (
+      change_class_of_part (IsMember first) (IsMember second) (IsMember before) (IsMember after) q n a b,
+      change_class_of_part (IsMember before) (IsMember after) (IsMember first) (IsMember second) q n
+          (λ x near. turned (a x near)) (λ x near. turned (b x near)),
+    )) change_classes d h
