@@ -18,7 +18,7 @@ use Rattle.ipnet_maps.specs.Classes.{HasChangeClass, change_classes}
 use Rattle.ipnet_maps.proofs.ClassLaws.{some_or_none, distinct_more, distinct_none}
 use Rattle.ipnet_maps.proofs.DrawingLaws.{IsSameCell, AreClasses}
 
--- What is in a cell: whether something went, came, or stayed.
+-- Whether something of a cell went, came, or stayed.
 data Kind : Type 0 where
   Gone : Kind
   New : Kind

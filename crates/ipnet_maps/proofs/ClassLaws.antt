@@ -29,7 +29,7 @@ record IsPicked (A : Address → Type 0) (xs : List Address) : Type 0 where
   once : AllPairs (λ x y. x ≢ y) addresses
   members : (x : Address) → Contains addresses x ↔ (Contains xs x × A x)
 
--- those of a list that are in a set
+-- the members of a list that are in a set
 picked : (A : Address → Type 0) → IsDecided A → (xs : List Address) → AllPairs (λ x y. x ≢ y) xs → IsPicked A xs
 picked A decided [] once = record {
   addresses = [];
@@ -87,7 +87,7 @@ part_counted InSet decided n =
 
 -- ---- levels
 
--- each count that is no more than the size has a level
+-- each count up to the size has a level
 share_of : (count size : ℕ) → count ≤ size → (l : Level) × IsShare l count size
 share_of count size le = elim (cases_eq count 0) [
   | inl none ↦ (level.Nothing, none)
@@ -109,7 +109,7 @@ level_exists InSet decided n =
     let l = share_of part.0 (block_size n) (part_fits InSet n part.0 part.1) in
     (l.0, record { count = part.0; is_count = part.1; share = l.1 })
 
-pub same_size : (n k : Network) → IsSameCell n k → block_size n ≡ block_size k
+same_size : (n k : Network) → IsSameCell n k → block_size n ≡ block_size k
 same_size n k same = ap₂ (λ f p. 2 ^ (width f - p)) same.family same.length
 
 level_of_same : (InSet : Address → Type 0) (n k : Network) (l : Level) → IsSameCell n k → IsLevelOf InSet n l

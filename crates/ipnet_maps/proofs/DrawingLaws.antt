@@ -14,7 +14,8 @@ use Rattle.ipnet_base.specs.Network.{Network, IsNetwork, InBlock, IsSubnetOf, Ar
 use Rattle.ipnet_base.specs.Blocks.{IsCoveredBy, IsMaximal, AreMaximalBlocks}
 use Rattle.ipnet_base.specs.Ranges.{AddressRange, addresses_of}
 use Rattle.ipnet_base.proofs.BlockLaws.{own, own_in}
-use Rattle.ipnet_base.proofs.ListLaws.{contains_nil, contains_here, contains_there, pairs_head, pairs_tail, pairs_append}
+use Rattle.ipnet_base.proofs.ListLaws.{contains_nil, contains_here, contains_there, pairs_head, pairs_tail}
+use Rattle.ipnet_base.proofs.ListLaws.{pairs_append}
 use Rattle.ipnet_base.proofs.ListLaws.{contains_cases, pairs_from_members, partners_no_more}
 use Rattle.ipnet_base.proofs.RangeLaws.{length-addresses_of, contains_from_between}
 use Rattle.ipnet_base.proofs.UniqueLaws.{AreMaximalBlocks-same_set, maximal_blocks_apart}
@@ -38,7 +39,7 @@ use Rattle.ipnet_maps.proofs.PlaceLaws.{same_block, cell_fits, network_is_rectan
 -- ---- lists of lists
 
 -- all members of all lists
-abbrev pub flat : {X : Type 0} → List (List X) → List X
+abbrev flat : {X : Type 0} → List (List X) → List X
 flat [] = []
 flat (xs ∷ rest) = xs ++ flat rest
 
@@ -46,7 +47,7 @@ length_flat : {X : Type 0} (xss : List (List X)) → length (flat xss) ≡ total
 length_flat [] = refl
 length_flat (xs ∷ rest) = length-append xs (flat rest) ∙ ap (λ z. length xs + z) (length_flat rest)
 
-zip_append : {X Y : Type 0} (R : X → Y → Type 0) (xs us : List X) (ys vs : List Y) → AllZip R xs ys → AllZip R us vs
+pub zip_append : {X Y : Type 0} (R : X → Y → Type 0) (xs us : List X) (ys vs : List Y) → AllZip R xs ys → AllZip R us vs
     → AllZip R (xs ++ us) (ys ++ vs)
 zip_append R [] us [] vs h k = k
 zip_append R [] us (y ∷ ys) vs h k = absurd h
@@ -123,7 +124,7 @@ module _ (InList : Address → Type 0) (HasClass : Class → Network → Type 0)
     };
   }
 
-  -- The network is valid, lies in the frame and is no smaller than a cell.
+  -- The network is valid, lies in the frame and is a cell or larger.
   abbrev IsOfMap : Network → Type 0
   IsOfMap n = IsNetwork n × IsSubnetOf n frame × (n.prefix_len ≤ len)
 
@@ -193,7 +194,8 @@ module _ (InList : Address → Type 0) (HasClass : Class → Network → Type 0)
         contains_from_between numbers (address_at IPv4 (cell_in frame depth (own n)))
             (record { of_family = refl; from_start = omega arith; to_end = omega (arith, small) }),
         refl,
-      )) (pairs_from_members AreDisjoint (λ n m. (y : Address) → is_number n y → is_number m y → ⊥) ns (λ n m c d far y e g.
+      )) (pairs_from_members AreDisjoint (λ n m. (y : Address) → is_number n y → is_number m y → ⊥) ns
+      (λ n m c d far y e g.
       let of_n = each n c in
       let of_m = each m d in
       let near = same_number (own n) (own m) of_n.0.address_fits (of_n.1 (own n) (own_in n)) (of_m.1 (own m) (own_in m))

@@ -1,9 +1,13 @@
 -- The layers of a map, one after the other, and how many networks they have.
-use Rattle.std.proofs.Common.{◌≡◌, ℕ, ◌+◌, ◌<◌, ◌≤◌, List, [], ◌∷◌, ◌++◌, length, get_or, take, drop}
+use Rattle.std.proofs.Common.{◌≡◌, ℕ, ◌+◌, ◌-◌, ◌<◌, ◌≤◌, List, [], ◌∷◌, ◌++◌, length, get_or, take, drop}
 use Rattle.std.proofs.Common.{refl, sym, ap, ◌∙◌, subst, arith, add-one}
 use Rattle.std.specs.List.{AllZip}
 use Rattle.std.proofs.Math.Seq.{drop-cons}
 use Rattle.std.proofs.lemmas.List.{take_more, take_all, take-append-drop}
+use Rattle.ipnet_base.specs.Address.{Address}
+use Rattle.ipnet_base.specs.Network.{Network}
+use Rattle.ipnet_base.specs.Blocks.{AreMaximalBlocks}
+use Rattle.ipnet_base.proofs.UniqueLaws.{AreMaximalBlocks-unique}
 use Rattle.ipnet_pictures.proofs.PartLaws.{zip_push}
 use Rattle.ipnet_maps.specs.Drawings.{total_of}
 
@@ -16,6 +20,26 @@ zip_more R xs i x ys new y less is so_far one pushed =
     = take_more xs i x less ∙ ap (λ z. take i xs ++ z ∷ []) (sym is) in
     subst (λ z. AllZip R z new) (sym more) (subst (AllZip R (take i xs ++ x ∷ [])) (sym pushed)
     (zip_push R (take i xs) ys x y so_far one))
+
+-- ---- the networks of one class
+
+pub room_start : (InSet : Address → Type 0) (room : ℕ) (left networks : List Network) → AreMaximalBlocks InSet 0 left
+    → AreMaximalBlocks InSet 0 networks → room + length networks ≡ room + length left
+room_start InSet room left networks a b =
+    ap (λ z. room + length z) (AreMaximalBlocks-unique InSet 0 networks left b a)
+
+pub one_less : (n : Network) (left rest networks : List Network) (room whole : ℕ) → left ≡ n ∷ rest → 0 < room
+    → room + length networks ≡ whole + length left → (room - 1) + length networks ≡ whole + length rest
+one_less n left rest networks room whole is some h = let e = ap length is in omega (arith, h, e, some)
+
+-- the set has more networks than there is room
+pub one_too_many : (n : Network) (left rest networks : List Network) (room whole : ℕ) → left ≡ n ∷ rest → room ≡ 0
+    → room + length networks ≡ whole + length left → whole < length networks
+one_too_many n left rest networks room whole is none h = let e = ap length is in omega (arith, h, e, none)
+
+pub all_fit : (left networks : List Network) (room whole : ℕ) → left ≡ []
+    → room + length networks ≡ whole + length left → room + length networks ≡ whole
+all_fit left networks room whole is h = let e = ap length is in omega (arith, h, e)
 
 -- ---- totals
 

@@ -123,7 +123,7 @@ none_pushed known a b c d FromThird x = b x
 none_pushed known a b c d FromTwoThirds x = c x
 none_pushed known a b c d Whole x = d x
 
--- the addresses of a network of the open cell are no more than a word holds
+-- the addresses of the open cell and of a network in it fit in a word
 pub joined_room : (o : Option OpenCell) (c : OpenCell) (n : Network) → o ≡ Some c
     → IfSome o (λ d. IsSubnetOf n (ip_network d.network)
     → d.more + 1 + block_size n ≤ block_size (ip_network d.network))

@@ -30,15 +30,15 @@ use Rattle.ipnet_maps.proofs.LevelLaws.{joined_count, some_counted, one_level, s
 
 -- ---- cells
 
--- a network that is no smaller than a cell has all of it, if it has some
-pub cell_within : (n : Network) (len : ℕ) (x z : Address) → n.prefix_len ≤ len → InBlock (network_at x len) z → InBlock n z
-    → IsSubnetOf (network_at x len) n
+-- a cell or a larger network has all of a cell, if it has some
+pub cell_within : (n : Network) (len : ℕ) (x z : Address) → n.prefix_len ≤ len → InBlock (network_at x len) z
+    → InBlock n z → IsSubnetOf (network_at x len) n
 cell_within n len x z le near inside =
     let w : width n.family ≡ width x.family = ap width (sym inside.same_family ∙ near.same_family) in
     nested (network_at x len) n z near inside (omega (arith, w, le))
 
--- and a network that is no larger than a cell is in it, if it has an address of it
-pub network_within : (n cell : Network) (z : Address) → cell.prefix_len ≤ n.prefix_len → InBlock n z → InBlock cell z
+-- and a cell or a smaller network is in a cell, if it has an address of it
+network_within : (n cell : Network) (z : Address) → cell.prefix_len ≤ n.prefix_len → InBlock n z → InBlock cell z
     → IsSubnetOf n cell
 network_within n cell z le near inside =
     let w : width n.family ≡ width cell.family = ap width (sym near.same_family ∙ inside.same_family) in
@@ -146,7 +146,7 @@ walk_begin InSet len networks Known decided fits blocks none =
 -- ---- the open cell is closed
 
 -- No network that is left is in the open cell.
-abbrev pub IsLast : List Network → Option OpenCell → Type 0
+abbrev IsLast : List Network → Option OpenCell → Type 0
 IsLast left o = (y : Address) → IsCoveredBy left y → ¬ (IsInOpen o y)
 
 module _ (InSet : Address → Type 0) (len : ℕ) (fits : (x : Address) → InSet x → IsAddress x) (left : List Network) where
@@ -202,7 +202,7 @@ module _ (InSet : Address → Type 0) (len : ℕ) (fits : (x : Address) → InSe
     new = λ x inside. (closed.0, (closed.2 closed.0 x).1 (inr (refl, inside)));
   }
 
--- what is so far in the open cell is no more than the cell
+-- the addresses so far fit in the open cell
 pub open_fits : (InSet : Address → Type 0) (len : ℕ) (left : List Network) (o : Option OpenCell)
     → IsOpenCount InSet len left o → IfSome o (λ c. c.more + 1 ≤ block_size (ip_network c.network))
 open_fits InSet len left None k = tt
@@ -252,7 +252,7 @@ module _ (InSet : Address → Type 0) (len : ℕ) (fits : (x : Address) → InSe
   maximal_after : (k : Network) → Contains rest k → IsMaximal InSet 0 k
   maximal_after k c = h.maximal k (contains_there n rest k c)
 
-  -- ---- a network that is no smaller than a cell
+  -- ---- a cell, or a larger network
 
   large_open : n.prefix_len ≤ len → (o : Option OpenCell) → IsOpenCount InSet len (n ∷ rest) o
       → IsOpenCount InSet len rest o
@@ -432,7 +432,8 @@ module _ (InSet : Address → Type 0) (len : ℕ) (fits : (x : Address) → InSe
                   | inl a ↦ a
                   | inr old ↦
                       let here = network_at (own n) len in
-                      let near = network_within cell here (own n) (omega (arith, of_length)) own_cell (cell_has len (own n))
+                      let near = network_within cell here (own n) (omega (arith, of_length)) own_cell
+                      (cell_has len (own n))
                       y i.in_block in
                       let in_open = h.fresh y (own n) old (left_here (own n) (own_in n)) near in
                       absurd (other_cell open_cell h.opened lt other (own n) (left_here (own n) (own_in n))

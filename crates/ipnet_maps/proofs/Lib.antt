@@ -15,5 +15,8 @@ pub mod DrawingLaws
 pub mod ClassLaws
 pub mod ChangeClassLaws
 pub mod LayerLaws
+pub mod MemberLaws
+pub mod SharedClassLaws
+pub mod SeveralLaws
 pub mod DrawnPartLaws
 pub mod ListsLaws

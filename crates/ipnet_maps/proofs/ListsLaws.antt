@@ -1,5 +1,8 @@
--- What a map shows: its classes, and how many bits of them it can show.
-use Rattle.std.proofs.Common.{◌≡◌, ℕ, ◌+◌, ◌-◌, ◌%◌, ◌<◌, ◌≤◌, ◌⊎◌, ◌↔◌, inl, inr, subst, sym, arith}
+-- The sets that a map shows: their classes, and how many bits of them a map can show.
+use Rattle.std.proofs.Common.{◌≡◌, ℕ, ◌+◌, ◌-◌, ◌%◌, ◌<◌, ◌≤◌, ◌⊎◌, ◌↔◌, inl, inr, ap, subst, sym, arith}
+use Rattle.std.proofs.Common.{List, [], ◌∷◌, Any}
+use Rattle.std.specs.List.{AllZip}
+use Rattle.std.proofs.lemmas.Slice.Zip.{AllZip-long}
 use Rattle.std.proofs.lemmas.Bool.{cases_eq}
 use Rattle.ipnet_base.specs.Address.{Address, width}
 use Rattle.ipnet_base.specs.Network.{Network, InBlock, IsSubnetOf}
@@ -7,24 +10,31 @@ use Rattle.ipnet_base.specs.Blocks.{IsInEither}
 use Rattle.ipnet_sets.specs.declared.set.IpSet.{IpSet}
 use Rattle.ipnet_sets.specs.Members.{IsMember}
 use Rattle.ipnet_sets.proofs.SetEqualLaws.{member_or_not}
+use Rattle.ipnet_sets.proofs.SetRangeLaws.{any_cases}
 use Rattle.ipnet_pictures.specs.Parts.{IsInPart}
 use Rattle.ipnet_pictures.proofs.PartLaws.{part_of_part}
 use Rattle.ipnet_maps.specs.declared.drawing.Class.{Class}
+use Rattle.ipnet_maps.specs.declared.drawing.Class.TheVariants.{Overlap, Several}
 use Rattle.ipnet_maps.specs.declared.drawing.Drawing.{Drawing}
 use Rattle.ipnet_maps.specs.declared.drawing.Lists.{Lists}
-use Rattle.ipnet_maps.specs.declared.drawing.Lists.TheVariants.{One, Change}
+use Rattle.ipnet_maps.specs.declared.drawing.Lists.TheVariants as lists
 use Rattle.ipnet_maps.specs.Classes.{HasLevelClass, level_classes, HasChangeClass, change_classes}
+use Rattle.ipnet_maps.specs.Classes.{HasSharedClass, single_classes, shared_classes}
 use Rattle.ipnet_maps.specs.Drawings.{IsDepthOf, IsRectangleCount, IsDrawingOf}
-use Rattle.ipnet_maps.specs.Lists.{IsListed, HasClass, classes_of, IsTooDeepAfter, IsTooDeep, IsDrawnAt}
+use Rattle.ipnet_maps.specs.Lists.{IsPartOf, IsListed, HasClass, classes_of, IsTooDeepAfter, IsTooDeep, IsDrawnAt}
 use Rattle.ipnet_maps.proofs.ChangeClassLaws.{classes_of_change, change_class_of_part}
 use Rattle.ipnet_maps.proofs.ClassLaws.{classes_of_levels, level_class_of_part}
 use Rattle.ipnet_maps.proofs.DrawingLaws.{AreClasses}
 use Rattle.ipnet_maps.proofs.DrawnPartLaws.{drawing_of_part}
+use Rattle.ipnet_maps.proofs.MemberLaws.{zip_weaker}
+use Rattle.ipnet_maps.proofs.SharedClassLaws.{HaveSameIn, any_moved, shared_class_moved, shared_class_turned}
+use Rattle.ipnet_maps.proofs.SharedClassLaws.{classes_of_sets}
 
 pub classes_of_lists : (lists : Lists) → AreClasses (IsListed lists) (HasClass lists) (classes_of lists)
-classes_of_lists (One set) = classes_of_levels (IsMember set) (member_or_not set)
-classes_of_lists (Change before after) =
+classes_of_lists (lists.One set) = classes_of_levels (IsMember set) (member_or_not set)
+classes_of_lists (lists.Change before after) =
     classes_of_change (IsMember before) (IsMember after) (member_or_not before) (member_or_not after)
+classes_of_lists (lists.Several sets) = classes_of_sets sets.items
 
 -- ---- fewer bits
 
@@ -41,13 +51,6 @@ deeper_less lists frame depth h after here deeper count more is c = elim (cases_
   | inl e ↦ here.1 count (subst (λ z. IsRectangleCount (HasClass lists) (classes_of lists) frame z count) e c)
   | inr ne ↦ after deeper count (omega (arith, more, ne, here.0, is.parity, h.parity)) is c
 ]
-
--- no map shows more bits than the greatest depth
-pub none_deeper : (lists : Lists) (frame : Network) (greatest : ℕ)
-    → ((depth : ℕ) → depth ≤ 20 → frame.prefix_len + depth ≤ width frame.family → depth % 2 ≡ frame.prefix_len % 2
-    → depth ≤ greatest) → IsTooDeepAfter lists frame greatest
-none_deeper lists frame greatest most deeper count more is c =
-    let le : deeper ≤ greatest = most deeper is.short is.fits is.parity in absurd (omega (arith, le, more))
 
 pub drawing_done : (lists : Lists) (frame : Network) (depth : ℕ) (d : Drawing) → IsDepthOf frame depth
     → IsTooDeepAfter lists frame depth → IsDrawnAt lists frame depth d
@@ -111,3 +114,36 @@ change_drawing before after first second frame is_first is_second d h =
       change_class_of_part (IsMember before) (IsMember after) (IsMember first) (IsMember second) q n
           (λ x near. turned (a x near)) (λ x near. turned (b x near)),
     )) change_classes d h
+
+pub parts_inside : (frame : Network) (sets parts : List IpSet) → AllZip (IsPartOf frame) sets parts → (x : Address)
+    → Any (λ set. IsMember set x) parts → InBlock frame x
+parts_inside frame [] [] z x a = absurd (omega (arith, a.2))
+parts_inside frame [] (p ∷ parts) z x a = absurd z
+parts_inside frame (s ∷ sets) [] z x a = absurd z
+parts_inside frame (s ∷ sets) (p ∷ parts) z x a = elim (any_cases (λ set. IsMember set x) p parts a) [
+  | inl here ↦ ((z.0 x).0 here).in_block
+  | inr later ↦ parts_inside frame sets parts z.1 x later
+]
+
+-- the parts of the sets have the same addresses of a block of the frame
+parts_same : (frame n : Network) → IsSubnetOf n frame → (sets parts : List IpSet) → AllZip (IsPartOf frame) sets parts
+    → AllZip (HaveSameIn n) sets parts
+parts_same frame n within =
+    zip_weaker (IsPartOf frame) (HaveSameIn n)
+    (λ set part is x near. turned (part_member set part frame n is within x near))
+
+pub sets_drawing : (sets parts : List IpSet) (frame : Network) → AllZip (IsPartOf frame) sets parts → (d : Drawing)
+    → IsDrawingOf (λ x. Any (λ set. IsMember set x) parts) (HasSharedClass parts) (shared_classes parts) frame d
+    → IsDrawingOf (λ x. Any (λ set. IsMember set x) sets) (HasSharedClass sets) (shared_classes sets) frame d
+sets_drawing sets parts frame are d h =
+    let same : shared_classes parts ≡ shared_classes sets
+    = ap (λ z. Overlap ∷ Several ∷ single_classes 0 z) (AllZip-long (IsPartOf frame) sets parts are) in
+    drawing_of_part frame (λ x. Any (λ set. IsMember set x) parts) (λ x. Any (λ set. IsMember set x) sets)
+    (HasSharedClass parts) (HasSharedClass sets)
+    (λ x inside. turned (any_moved sets parts frame (parts_same frame frame (λ y b. b) sets parts are) x inside))
+    (λ q n within.
+    let zip = parts_same frame n within sets parts are in (
+      shared_class_turned sets parts n zip q,
+      shared_class_moved sets parts n n (λ x b. b) (λ x b. b) zip q,
+    )) (shared_classes sets) d
+    (subst (λ z. IsDrawingOf (λ x. Any (λ set. IsMember set x) parts) (HasSharedClass parts) z frame d) same h)

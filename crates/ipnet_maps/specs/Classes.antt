@@ -1,5 +1,5 @@
 -- Classes: what a cell of a map shows, for one set, for a change and for several sets.
-use Rattle.std.specs.Prelude.{◌≡◌, ℕ, zero, suc, ◌+◌, List, [], ◌∷◌, length, Some, slice_get}
+use Rattle.std.specs.Prelude.{ℕ, zero, suc, ◌+◌, List, [], ◌∷◌, length}
 use Rattle.ipnet_base.specs.Address.{Address}
 use Rattle.ipnet_base.specs.Network.{Network}
 use Rattle.ipnet_sets.specs.declared.set.IpSet.{IpSet}
@@ -42,9 +42,12 @@ HasChangeClass Before After q n = ⊥
 abbrev pub change_classes : List Class
 change_classes = Removed ∷ Added ∷ Mixed ∷ KeptPart ∷ KeptWhole ∷ []
 
--- The set at this place of the list has the property. Example: in 10.0.0.0/8, fd00::/8 the set at place 1 has fd00::1.
-abbrev pub HasAt : (IpSet → Type 0) → List IpSet → ℕ → Type 0
-HasAt HasProperty sets place = (set : IpSet) × (slice_get sets place ≡ Some set) × HasProperty set
+-- The member at this place of the list has the property.
+-- Example: in the list 1, 2, 4, the member at place 1 is even.
+abbrev pub HasAt : {X : Type 0} → (X → Type 0) → List X → ℕ → Type 0
+HasAt HasProperty [] place = ⊥
+HasAt HasProperty (x ∷ xs) zero = HasProperty x
+HasAt HasProperty (x ∷ xs) (suc place) = HasAt HasProperty xs place
 
 -- The cell has this class in a map of several sets.
 -- Example: of 10.0.0.0 to 10.0.0.3 and 10.0.0.3 to 10.0.0.9, 10.0.0.0/30 is `Overlap`, and 10.0.0.8/30 is `PartOf 1`.

@@ -15,8 +15,8 @@ use Rattle.ipnet_maps.specs.Places.{AreRectanglesOf, IsDrawnIn}
 use Rattle.ipnet_maps.specs.Shared.{IsInTwo}
 
 -- The address is in the frame, and in a cell with this property, if cells are `depth` bits longer than the frame.
--- Example: if the cells with the property are those of 10.0.1.0/24, and the frame is 10.0.1.0/25 with 0 bits, the
--- addresses are 10.0.1.0/25.
+-- Example: if the cells in 10.0.1.0/24 have the property, and the frame is 10.0.0.0/23 with 1 bit, the addresses are
+-- 10.0.1.0/24.
 pub record IsShown (HasProperty : Network → Type 0) (frame : Network) (depth : ℕ) (x : Address) : Type 0 where
   pub in_frame : InBlock frame x
   pub in_cell : IsInCell (frame.prefix_len + depth) HasProperty x

@@ -10,7 +10,7 @@ use Rattle.ipnet_maps.specs.declared.layers.ClassCells.{ClassCells}
 use Rattle.ipnet_maps.specs.Cells.{IsInCell}
 use Rattle.ipnet_maps.specs.Places.{AreRectanglesOf, IsDrawnIn}
 
--- The addresses are those of the cells of this class. Cells have this prefix length.
+-- The addresses are the cells of this class. Cells have this prefix length.
 abbrev pub IsClassCells : (Class → Network → Type 0) → ℕ → Class → ClassCells → Type 0
 IsClassCells HasClass cell_len q c = (c.class ≡ q)
     × ((x : Address) → IsMember c.cells x ↔ IsInCell cell_len (HasClass q) x)
@@ -25,4 +25,5 @@ pub record AreCellsIn (frame : Network) (depth : ℕ) (c : ClassCells) : Type 0 
 pub record IsLayerOfCells (frame : Network) (depth : ℕ) (c : ClassCells) (layer : Layer) : Type 0 where
   pub of_class : layer.class ≡ c.class
   pub rectangles : AreRectanglesOf (IsMember c.cells) frame depth layer.rectangles.items
-  pub shown : (x : Address) → InBlock frame x → IsMember c.cells x ↔ Any (IsDrawnIn frame depth x) layer.rectangles.items
+  pub shown : (x : Address) → InBlock frame x
+      → IsMember c.cells x ↔ Any (IsDrawnIn frame depth x) layer.rectangles.items

@@ -1,5 +1,5 @@
 //! A drawing of sets in a frame: the rectangles of each class of cells.
-ghost use Rattle.std.specs.Prelude.{IfOk, IfSome, IfNone};
+ghost use Rattle.std.specs.Prelude.{Any, IfOk, IfSome, IfNone};
 ghost use Rattle.std.specs.List.{AllZip};
 ghost use Rattle.ipnet_base.specs.Address.{Address};
 ghost use Rattle.ipnet_base.specs.Blocks.{IsInEither};
@@ -8,47 +8,50 @@ ghost use Rattle.ipnet.specs.NetworkOf.{ip_network};
 ghost use Rattle.ipnet_sets.specs.Members.{IsMember};
 ghost use Rattle.ipnet_maps.specs.Drawings.{IsDepthOf, IsDrawingOf};
 ghost use Rattle.ipnet_maps.specs.Layers.{IsClassCells};
-ghost use Rattle.ipnet_maps.specs.Lists.{IsListed, HasClass, classes_of, IsDrawnAt, IsTooDeep, IsTooDeepAfter};
+ghost use Rattle.ipnet_maps.specs.Lists.{IsPartOf, IsListed, HasClass, classes_of, IsDrawnAt, IsTooDeep};
+ghost use Rattle.ipnet_maps.specs.Lists.{IsTooDeepAfter};
 ghost use Rattle.ipnet_maps.specs.Classes.{HasLevelClass, level_classes, HasChangeClass, change_classes};
+ghost use Rattle.ipnet_maps.specs.Classes.{HasSharedClass, shared_classes};
 
 use crate::changed::{ChangedCells, changed_cells};
 use crate::depth::greatest_depth_of;
 use crate::layers::{ClassCells, are_few, layers_of};
 use crate::layout::Rectangle;
 use crate::levels::{LevelCells, level_cells};
+use crate::several::shared_class_cells;
 use ipnet::IpNet;
 use ipnet_pictures::part_in;
 use ipnet_sets::IpSet;
 use std::alloc::{AllocError, Global};
 
-/// What a cell of a map shows. A cell without an address of a set has no class.
+/// The class of a cell of a map. A cell without an address of a set has no class.
 #[derive(Clone, Copy, Debug, PartialEq, Eq)]
 pub enum Class {
-    /// Of one set: some of the addresses, and less than a third.
+    /// In a map of one set: some of the addresses, and less than a third.
     BelowThird,
-    /// Of one set: at least a third of the addresses, and less than two thirds.
+    /// In a map of one set: at least a third of the addresses, and less than two thirds.
     FromThird,
-    /// Of one set: at least two thirds of the addresses, and not all.
+    /// In a map of one set: at least two thirds of the addresses, and not all.
     FromTwoThirds,
-    /// Of one set: all addresses.
+    /// In a map of one set: all addresses.
     Whole,
-    /// Of a change: the first set has addresses that the second lacks, and the second has none that the first lacks.
+    /// In a map of a change: addresses went, and none came.
     Removed,
-    /// Of a change: the second set has addresses that the first lacks, and the first has none that the second lacks.
+    /// In a map of a change: addresses came, and none went.
     Added,
-    /// Of a change: each set has addresses that the other lacks.
+    /// In a map of a change: addresses went, and addresses came.
     Mixed,
-    /// Of a change: both sets have the same addresses of the cell, some and not all.
+    /// In a map of a change: both sets have the same addresses of the cell, some and not all.
     KeptPart,
-    /// Of a change: both sets have all addresses of the cell.
+    /// In a map of a change: both sets have all addresses of the cell.
     KeptWhole,
-    /// Of several sets: two sets share an address of the cell.
+    /// In a map of several sets: two sets share an address of the cell.
     Overlap,
-    /// Of several sets: two sets have addresses of the cell, and no two share one.
+    /// In a map of several sets: two sets have addresses of the cell, and no two share one.
     Several,
-    /// Of several sets: only the set at this place of the list has addresses of the cell, and not all.
+    /// In a map of several sets: only the set at this place of the list has addresses of the cell, and not all.
     PartOf(usize),
-    /// Of several sets: only the set at this place of the list has addresses of the cell, and it has all.
+    /// In a map of several sets: only the set at this place of the list has addresses of the cell, and it has all.
     WholeOf(usize),
 }
 
@@ -77,6 +80,8 @@ pub(crate) enum Lists {
     One(IpSet),
     /// A set before and after a change.
     Change(IpSet, IpSet),
+    /// Several sets.
+    Several(Vec<IpSet>),
 }
 
 /// Returns the cells of each class of one set, in the order of the layers.
@@ -163,6 +168,7 @@ fn class_cells(alloc: Global, lists: &Lists, cell_len: u8) -> Result<Vec<ClassCe
     match lists {
         Lists::One(set) => level_class_cells(alloc, set, cell_len),
         Lists::Change(before, after) => change_class_cells(alloc, before, after, cell_len),
+        Lists::Several(sets) => shared_class_cells(alloc, sets.as_slice(), cell_len),
     }
 }
 
@@ -201,7 +207,7 @@ fn draw_to(alloc: Global, frame: &IpNet, lists: &Lists, depth: u8) -> Result<Dra
 }
 
 /// Returns the map of the set in the frame: a layer for each level, from the cells with less than a third of their
-/// addresses in the set to those with all. What is outside the frame is left out. Fails only if memory runs out.
+/// addresses in the set to those with all. Addresses outside the frame are left out. Fails only if memory runs out.
 ///
 /// The cells are as small as they can be with at most 65,536 rectangles.
 ///
@@ -218,8 +224,8 @@ pub fn draw_set(alloc: Global, frame: &IpNet, set: &IpSet) -> Result<Drawing, Al
 }
 
 /// Returns the map of the change of a set in the frame, if `before` becomes `after`: a layer each for the cells that
-/// only lose addresses, that only gain addresses, that do both, that keep a part, and that keep all. What is outside
-/// the frame is left out. Fails only if memory runs out.
+/// only lose addresses, that only gain addresses, that do both, that keep a part, and that keep all. Addresses outside
+/// the frame are left out. Fails only if memory runs out.
 ///
 /// A change is never hidden, however small it is. The cells are as small as they can be with at most 65,536 rectangles.
 ///
@@ -241,6 +247,42 @@ pub fn draw_change(
         alloc,
         frame,
         &Lists::Change(first, second),
+        greatest_depth_of(frame),
+    )
+}
+
+/// Returns the parts of the sets that are in the frame, in order.
+fn parts_in(alloc: Global, frame: &IpNet, sets: &[IpSet]) -> Result<Vec<IpSet>, AllocError>
+    ensures { IfOk result (λ list. AllZip (IsPartOf (ip_network frame.now)) sets.now list.items) }
+{
+    let mut parts = Vec::new(alloc);
+    for set in sets {
+        let part = part_in(alloc, set, frame)?;
+        parts.push(part)?;
+    }
+    Ok(parts)
+}
+
+/// Returns the map of several sets in the frame: a layer for the cells in which two sets share an address, one for the
+/// other cells in which two sets have addresses, and then two layers for each set: the cells of which only this set has
+/// addresses, and not all, and the cells of which it has all. Addresses outside the frame are left out. Fails only if
+/// memory runs out.
+///
+/// The cells are as small as they can be with at most 65,536 rectangles.
+///
+/// ```text
+/// of 10.20.0.0/24 and 10.20.0.128/25 in 10.20.0.0/16: `Overlap` is 10.20.0.128/25, `WholeOf(0)` is 10.20.0.0/25, and the
+/// other layers are empty
+/// ```
+pub fn draw_sets(alloc: Global, frame: &IpNet, sets: &[IpSet]) -> Result<Drawing, AllocError>
+    ensures { IfOk result (IsDrawingOf (λ x. Any (λ set. IsMember set x) sets.now) (HasSharedClass sets.now)
+        (shared_classes sets.now) (ip_network frame.now)) }
+{
+    let parts = parts_in(alloc, frame, sets)?;
+    draw_to(
+        alloc,
+        frame,
+        &Lists::Several(parts),
         greatest_depth_of(frame),
     )
 }

@@ -28,8 +28,8 @@ pub(crate) struct ClassCells {
     pub(crate) cells: IpSet,
 }
 
-/// Returns how many networks may follow those of the set, if its networks and these are at most `room`; or `None` if
-/// the set has more.
+/// Returns how many more networks have room after the networks of the set, if `room` networks have; or `None` if the
+/// set has more than `room`.
 fn room_after(room: u32, set: &IpSet) -> Option<u32>
     ensures { (networks : List Network) → AreMaximalBlocks (IsMember set.now) 0 networks
         → MatchOption result (room < length networks) (λ rest. rest + length networks ≡ room) }

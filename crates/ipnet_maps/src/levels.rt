@@ -7,7 +7,8 @@ ghost use Rattle.ipnet_sets.specs.Members.{IsMember};
 ghost use Rattle.ipnet_pictures.specs.Parts.{IsLevelOf, block_size};
 ghost use Rattle.ipnet_pictures.specs.Shares.{IsShare};
 ghost use Rattle.ipnet_pictures.specs.declared.share.Level.{Level};
-ghost use Rattle.ipnet_pictures.specs.declared.share.Level.TheVariants.{Nothing, BelowThird, FromThird, FromTwoThirds, Whole};
+ghost use Rattle.ipnet_pictures.specs.declared.share.Level.TheVariants.{Nothing, BelowThird, FromThird};
+ghost use Rattle.ipnet_pictures.specs.declared.share.Level.TheVariants.{FromTwoThirds, Whole};
 ghost use Rattle.ipnet_maps.specs.Cells.{IsInCell, widened};
 ghost use Rattle.ipnet_maps.specs.LevelSteps.{IsPushedAs, IsPushedTo, IsClosed, IsJoined, IsOpenFor};
 

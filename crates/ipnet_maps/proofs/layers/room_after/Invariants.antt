@@ -1,4 +1,4 @@
--- What is left of the room, and the networks so far, are the room.
+-- The room that is left and the networks so far are the room.
 use Rattle.std.proofs.Common.{◌≡◌, ◌+◌, List, length}
 use Rattle.ipnet_base.specs.Network.{Network}
 use Rattle.ipnet_base.specs.Blocks.{AreMaximalBlocks}

@@ -18,7 +18,8 @@ use Rattle.ipnet_maps.proofs.levels.level_cells.Goals as goal
 
 pub loop-network-init : goal.loop-network-init
 loop-network-init c =
-    subst (λ it. IsWalk (IsMember c.args.set.now) c.args.cell_len (networks_left it) None (IsPushedAs c.new-known.result))
+    subst
+    (λ it. IsWalk (IsMember c.args.set.now) c.args.cell_len (networks_left it) None (IsPushedAs c.new-known.result))
     (sym c.into_iter-network-iterator.ensures.into_iter_gives)
     (walk_begin (IsMember c.args.set.now) c.args.cell_len (networks_left c.iter_networks-network-items.result)
     (IsPushedAs c.new-known.result) (member_or_not c.args.set.now) (λ x m. m.fits)
@@ -93,7 +94,8 @@ returns-clause-some c =
     let len = c.args.cell_len in
     let walk = subst (λ z. IsWalk InSet len z c.loop-network.current (IsPushedAs c.loop-network.known))
     c.in-None.ensures.steps.0 c.loop-network.invariant in
-    IfOk-weaker c.into_cells.result (λ cells. (x : Address) → IsMember cells.some x ↔ IsPushedAs c.close-2.new.self BelowThird x)
+    IfOk-weaker c.into_cells.result
+    (λ cells. (x : Address) → IsMember cells.some x ↔ IsPushedAs c.close-2.new.self BelowThird x)
     (λ cells. (x : Address) → IsMember cells.some x ↔ IsInCell len (λ n. IsLevelOf InSet n BelowThird) x)
     (λ cells h x. both_ways (h x)
     (walk_end InSet len (λ y m. m.fits) c.loop-network.current (IsPushedAs c.loop-network.known)
@@ -108,7 +110,8 @@ returns-clause-third c =
     let len = c.args.cell_len in
     let walk = subst (λ z. IsWalk InSet len z c.loop-network.current (IsPushedAs c.loop-network.known))
     c.in-None.ensures.steps.0 c.loop-network.invariant in
-    IfOk-weaker c.into_cells.result (λ cells. (x : Address) → IsMember cells.third x ↔ IsPushedAs c.close-2.new.self FromThird x)
+    IfOk-weaker c.into_cells.result
+    (λ cells. (x : Address) → IsMember cells.third x ↔ IsPushedAs c.close-2.new.self FromThird x)
     (λ cells. (x : Address) → IsMember cells.third x ↔ IsInCell len (λ n. IsLevelOf InSet n FromThird) x)
     (λ cells h x. both_ways (h x)
     (walk_end InSet len (λ y m. m.fits) c.loop-network.current (IsPushedAs c.loop-network.known)
@@ -123,7 +126,8 @@ returns-clause-two_thirds c =
     let len = c.args.cell_len in
     let walk = subst (λ z. IsWalk InSet len z c.loop-network.current (IsPushedAs c.loop-network.known))
     c.in-None.ensures.steps.0 c.loop-network.invariant in
-    IfOk-weaker c.into_cells.result (λ cells. (x : Address) → IsMember cells.two_thirds x ↔ IsPushedAs c.close-2.new.self FromTwoThirds x)
+    IfOk-weaker c.into_cells.result
+    (λ cells. (x : Address) → IsMember cells.two_thirds x ↔ IsPushedAs c.close-2.new.self FromTwoThirds x)
     (λ cells. (x : Address) → IsMember cells.two_thirds x ↔ IsInCell len (λ n. IsLevelOf InSet n FromTwoThirds) x)
     (λ cells h x. both_ways (h x)
     (walk_end InSet len (λ y m. m.fits) c.loop-network.current (IsPushedAs c.loop-network.known)
@@ -138,7 +142,8 @@ returns-clause-whole c =
     let len = c.args.cell_len in
     let walk = subst (λ z. IsWalk InSet len z c.loop-network.current (IsPushedAs c.loop-network.known))
     c.in-None.ensures.steps.0 c.loop-network.invariant in
-    IfOk-weaker c.into_cells.result (λ cells. (x : Address) → IsMember cells.whole x ↔ IsPushedAs c.close-2.new.self Whole x)
+    IfOk-weaker c.into_cells.result
+    (λ cells. (x : Address) → IsMember cells.whole x ↔ IsPushedAs c.close-2.new.self Whole x)
     (λ cells. (x : Address) → IsMember cells.whole x ↔ IsInCell len (λ n. IsLevelOf InSet n Whole) x)
     (λ cells h x. both_ways (h x)
     (walk_end InSet len (λ y m. m.fits) c.loop-network.current (IsPushedAs c.loop-network.known)

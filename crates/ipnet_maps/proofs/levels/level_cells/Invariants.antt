@@ -1,4 +1,4 @@
--- The cells that are known and the open cell are those of the networks so far.
+-- The known cells and the open cell are the cells of the networks so far.
 use Rattle.std.proofs.Common.{length}
 use Rattle.ipnet_sets.specs.Members.{IsMember}
 use Rattle.ipnet_sets.specs.NetworksLeft.{networks_left}
