@@ -1,6 +1,6 @@
 -- The classes of the cells of a map of a change.
-use Rattle.std.proofs.Common.{◌≡◌, ◌≢◌, ℕ, ◌<◌, ◌⊎◌, ◌↔◌, inl, inr, List, [], ◌∷◌, AllPairs, All, Contains}
-use Rattle.std.proofs.Common.{refl, sym, ap, ◌∙◌, subst, arith}
+use Rattle.std.proofs.Common.{◌≡◌, ◌≢◌, ◌↔◌, inl, inr, [], ◌∷◌, AllPairs, Contains}
+use Rattle.std.proofs.Common.{refl, sym, ap, ◌∙◌, subst}
 use Rattle.std.proofs.lemmas.List.Elements.{All-nil, All-cons}
 use Rattle.ipnet_base.specs.Address.{Address}
 use Rattle.ipnet_base.specs.Network.{Network, InBlock}
@@ -9,14 +9,14 @@ use Rattle.ipnet_base.proofs.BlockLaws.{own, own_in}
 use Rattle.ipnet_base.proofs.DecidedLaws.{IsDecided, block_decided}
 use Rattle.ipnet_base.proofs.ListLaws.{contains_here, contains_there}
 use Rattle.ipnet_pictures.specs.declared.change.Change.TheVariants as change
-use Rattle.ipnet_pictures.specs.Parts.{IsInPart, HasSome, HasNone, HasAll}
+use Rattle.ipnet_pictures.specs.Parts.{HasSome, HasNone, HasAll}
 use Rattle.ipnet_pictures.specs.Changes.{IsOnlyIn, IsChange}
 use Rattle.ipnet_maps.specs.declared.drawing.Class.{Class}
 use Rattle.ipnet_maps.specs.declared.drawing.Class.TheVariants.{Removed, Added, Mixed, KeptPart, KeptWhole}
 use Rattle.ipnet_maps.specs.Cells.{IsKeptPart, IsKeptWhole}
 use Rattle.ipnet_maps.specs.Classes.{HasChangeClass, change_classes}
 use Rattle.ipnet_maps.proofs.ClassLaws.{some_or_none, distinct_more, distinct_none}
-use Rattle.ipnet_maps.proofs.DrawingLaws.{IsSameCell, AreClasses}
+use Rattle.ipnet_maps.proofs.DrawingLaws.{AreClasses}
 
 -- Whether something of a cell went, came, or stayed.
 data Kind : Type 0 where

@@ -1,12 +1,11 @@
 -- The classes of the cells of a map.
-use Rattle.std.proofs.Common.{◌≡◌, ◌≢◌, ℕ, ◌-◌, ◌*◌, ◌^◌, ◌<◌, ◌≤◌, ◌⊎◌, ◌↔◌, inl, inr}
+use Rattle.std.proofs.Common.{◌≡◌, ◌≢◌, ℕ, ◌-◌, ◌*◌, ◌^◌, ◌≤◌, ◌⊎◌, ◌↔◌, inl, inr}
 use Rattle.std.proofs.Common.{List, [], ◌∷◌, length, AllPairs, All, Contains}
 use Rattle.std.proofs.Common.{refl, sym, ap, ap₂, ◌∙◌, subst, arith}
 use Rattle.std.proofs.lemmas.Bool.{cases_lt, cases_eq}
 use Rattle.std.proofs.lemmas.List.Elements.{All-nil, All-cons}
-use Rattle.std.proofs.lemmas.Nat.{pow_pos}
 use Rattle.ipnet_base.specs.Address.{Address, width}
-use Rattle.ipnet_base.specs.Network.{Network, InBlock}
+use Rattle.ipnet_base.specs.Network.{Network}
 use Rattle.ipnet_base.proofs.DecidedLaws.{IsDecided}
 use Rattle.ipnet_base.proofs.ListLaws.{all_at, contains_nil, contains_here, contains_there, contains_cases}
 use Rattle.ipnet_base.proofs.ListLaws.{pairs_head, pairs_tail, pairs_cons}

@@ -11,7 +11,7 @@ use Rattle.std.proofs.lemmas.Nat.{pow_pos}
 use Rattle.std.proofs.lemmas.Slice.Zip.{AllZip-long}
 use Rattle.ipnet_base.specs.Address.{IPv4, Address, IsAddress, address_at, width}
 use Rattle.ipnet_base.specs.Network.{Network, IsNetwork, InBlock, IsSubnetOf, AreDisjoint}
-use Rattle.ipnet_base.specs.Blocks.{IsCoveredBy, IsMaximal, AreMaximalBlocks}
+use Rattle.ipnet_base.specs.Blocks.{IsMaximal, AreMaximalBlocks}
 use Rattle.ipnet_base.specs.Ranges.{AddressRange, addresses_of}
 use Rattle.ipnet_base.proofs.BlockLaws.{own, own_in}
 use Rattle.ipnet_base.proofs.ListLaws.{contains_nil, contains_here, contains_there, pairs_head, pairs_tail}
@@ -27,7 +27,6 @@ use Rattle.ipnet_maps.specs.declared.layout.Rectangle.{Rectangle}
 use Rattle.ipnet_maps.specs.declared.drawing.Class.{Class}
 use Rattle.ipnet_maps.specs.declared.drawing.Layer.{Layer}
 use Rattle.ipnet_maps.specs.declared.layers.ClassCells.{ClassCells}
-use Rattle.ipnet_maps.specs.Cells.{IsInCell}
 use Rattle.ipnet_maps.specs.Drawings.{IsShown, IsLayerOf, all_rectangles, total_of, IsRectangleCount, AreLayersOf}
 use Rattle.ipnet_maps.specs.Layers.{IsClassCells, AreCellsIn, IsLayerOfCells}
 use Rattle.ipnet_maps.specs.Places.{cell_in, IsRectangleIn, IsDrawnIn}

@@ -1,5 +1,5 @@
 -- A drawing of what is in the frame is a drawing of all.
-use Rattle.std.proofs.Common.{◌≡◌, ℕ, ◌+◌, ◌≤◌, ◌↔◌, List, [], ◌∷◌, All, Any, subst, arith}
+use Rattle.std.proofs.Common.{ℕ, ◌+◌, ◌↔◌, List, [], ◌∷◌, All, Any, arith}
 use Rattle.std.specs.List.{AllZip}
 use Rattle.std.proofs.lemmas.List.Elements.{All-nil, All-cons, All-head, All-tail}
 use Rattle.ipnet_base.specs.Address.{Address}
@@ -11,7 +11,7 @@ use Rattle.ipnet_pictures.specs.Parts.{HasSome}
 use Rattle.ipnet_maps.specs.declared.drawing.Class.{Class}
 use Rattle.ipnet_maps.specs.declared.drawing.Drawing.{Drawing}
 use Rattle.ipnet_maps.specs.declared.drawing.Layer.{Layer}
-use Rattle.ipnet_maps.specs.Drawings.{IsShown, IsLayerOf, IsRectangleCount, IsDrawingOf}
+use Rattle.ipnet_maps.specs.Drawings.{IsShown, IsLayerOf, IsDrawingOf}
 use Rattle.ipnet_maps.specs.Places.{IsDrawnIn}
 use Rattle.ipnet_maps.proofs.CellLaws.{cell_has}
 use Rattle.ipnet_maps.proofs.LevelWalkLaws.{cell_within}

@@ -1,10 +1,10 @@
 -- The sets that a map shows: their classes, and how many bits of them a map can show.
-use Rattle.std.proofs.Common.{◌≡◌, ℕ, ◌+◌, ◌-◌, ◌%◌, ◌<◌, ◌≤◌, ◌⊎◌, ◌↔◌, inl, inr, ap, subst, sym, arith}
+use Rattle.std.proofs.Common.{◌≡◌, ℕ, ◌-◌, ◌<◌, ◌⊎◌, ◌↔◌, inl, inr, ap, subst, sym, arith}
 use Rattle.std.proofs.Common.{List, [], ◌∷◌, Any}
 use Rattle.std.specs.List.{AllZip}
 use Rattle.std.proofs.lemmas.Slice.Zip.{AllZip-long}
 use Rattle.std.proofs.lemmas.Bool.{cases_eq}
-use Rattle.ipnet_base.specs.Address.{Address, width}
+use Rattle.ipnet_base.specs.Address.{Address}
 use Rattle.ipnet_base.specs.Network.{Network, InBlock, IsSubnetOf}
 use Rattle.ipnet_base.specs.Blocks.{IsInEither}
 use Rattle.ipnet_sets.specs.declared.set.IpSet.{IpSet}
@@ -13,7 +13,6 @@ use Rattle.ipnet_sets.proofs.SetEqualLaws.{member_or_not}
 use Rattle.ipnet_sets.proofs.SetRangeLaws.{any_cases}
 use Rattle.ipnet_pictures.specs.Parts.{IsInPart}
 use Rattle.ipnet_pictures.proofs.PartLaws.{part_of_part}
-use Rattle.ipnet_maps.specs.declared.drawing.Class.{Class}
 use Rattle.ipnet_maps.specs.declared.drawing.Class.TheVariants.{Overlap, Several}
 use Rattle.ipnet_maps.specs.declared.drawing.Drawing.{Drawing}
 use Rattle.ipnet_maps.specs.declared.drawing.Lists.{Lists}

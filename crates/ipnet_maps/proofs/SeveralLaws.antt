@@ -1,6 +1,6 @@
 -- The cells of a map of several sets.
-use Rattle.std.proofs.Common.{◌≡◌, ℕ, zero, ◌+◌, ◌<◌, ◌↔◌, List, [], ◌∷◌, ◌++◌, length, get_or, append_assoc}
-use Rattle.std.proofs.Common.{refl, sym, ap, ◌∙◌, subst, arith}
+use Rattle.std.proofs.Common.{◌≡◌, ℕ, ◌+◌, ◌<◌, ◌↔◌, List, [], ◌∷◌, ◌++◌, length, get_or, append_assoc}
+use Rattle.std.proofs.Common.{sym, ap, ◌∙◌, subst, arith}
 use Rattle.std.specs.List.{AllZip}
 use Rattle.ipnet_base.specs.Address.{Address}
 use Rattle.ipnet.specs.NetworkParts.{network_at}
@@ -11,7 +11,7 @@ use Rattle.ipnet_maps.specs.declared.drawing.Class.{Class}
 use Rattle.ipnet_maps.specs.declared.drawing.Class.TheVariants.{Overlap, Several, PartOf, WholeOf}
 use Rattle.ipnet_maps.specs.declared.layers.ClassCells.{ClassCells}
 use Rattle.ipnet_maps.specs.Cells.{IsInCell}
-use Rattle.ipnet_maps.specs.Classes.{HasAt, HasSharedClass, single_classes}
+use Rattle.ipnet_maps.specs.Classes.{HasSharedClass, single_classes}
 use Rattle.ipnet_maps.specs.Layers.{IsClassCells}
 use Rattle.ipnet_maps.specs.Shared.{IsInTwo}
 use Rattle.ipnet_maps.proofs.CellLaws.{some_same}
