@@ -12,8 +12,8 @@ returns-clause-cut_short g c = λ two request lists h.
     inr record {
       text = text;
       right = changed_of_lists request c.in-Some.request lists c.in-Some-set_or_report.set c.args.changes.1.now text
-          (sym c.in-Some.is ∙ c.request.ensures request h.same_work) (c.in-Some-set_or_report.ensures.set request lists h)
-          c.in-Ok.ensures.text;
+          (sym c.in-Some.is ∙ c.request.ensures request h.same_work)
+          (c.in-Some-set_or_report.ensures.set request lists h) c.in-Ok.ensures.text;
       front = front;
       begins = subst (λ z. StartsWith z front) c.as_bytes.ensures.value begins;
       written = written;
@@ -24,8 +24,8 @@ returns-clause-answered g c = λ zero request lists h.
     let text = string_bytes c.in-Ok.text in record {
       text = text;
       right = changed_of_lists request c.in-Some.request lists c.in-Some-set_or_report.set c.args.changes.1.now text
-          (sym c.in-Some.is ∙ c.request.ensures request h.same_work) (c.in-Some-set_or_report.ensures.set request lists h)
-          c.in-Ok.ensures.text;
+          (sym c.in-Some.is ∙ c.request.ensures request h.same_work)
+          (c.in-Some-set_or_report.ensures.set request lists h) c.in-Ok.ensures.text;
       written = subst (Appends (g.W.Write.contents c.args.out.now) (g.W.Write.contents c.write_answer.new.out))
           c.as_bytes.ensures.value (c.write_answer.ensures.whole zero);
     }
