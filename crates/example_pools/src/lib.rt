@@ -13,7 +13,7 @@ ghost use Rattle.example_pools.specs.declared.PlanError.TheVariants.{PrefixLen, 
 pub mod pool;
 pub mod tenants;
 
-use ipnet::{Ipv4Net, Ipv4Subnets, PrefixLenError};
+use ipnet::{Ipv4Net, Ipv4Subnets};
 pub use pool::Pool;
 use std::alloc::{AllocError, Global};
 use thiserror::Error;
@@ -30,14 +30,6 @@ pub enum PlanError {
     /// Memory ran out.
     #[error("out of memory")]
     Memory,
-}
-
-impl From<PrefixLenError> for PlanError {
-    ghost from_gives = { λ _ result. result ≡ PrefixLen };
-
-    fn from(_: PrefixLenError) -> PlanError {
-        PlanError::PrefixLen
-    }
 }
 
 impl From<AllocError> for PlanError {
@@ -85,7 +77,9 @@ pub fn site_plan(
         (result ≡ Err PrefixLen) ↔ ((prefix_len < n.prefix_len) ⊎ (32 < prefix_len)) }
     ensures too_few { result ≡ Err TooFew → 2 ^ (prefix_len - (ipv4_network block.now).prefix_len) < sites }
 {
-    let walk = block.subnets(prefix_len)?;
+    let Ok(walk) = block.subnets(prefix_len) else {
+        return Err(PlanError::PrefixLen);
+    };
     let plan = first_networks(alloc, walk, sites)?;
     if plan.len() < sites {
         return Err(PlanError::TooFew);

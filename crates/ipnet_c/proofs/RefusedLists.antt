@@ -4,11 +4,9 @@ use Rattle.std.proofs.Common.{subst, arith}
 use Rattle.ipnet.specs.declared.parser.Grammar.{Grammar}
 use Rattle.ipnet_sets.specs.declared.set.IpSet.{IpSet}
 use Rattle.ipnet_sets.specs.Images.{IsImageOf}
-use Rattle.netset_lib.specs.declared.refused.RefusedLine.{RefusedLine}
-use Rattle.netset_lib.specs.declared.refused.RefusedLines.{RefusedLines}
 use Rattle.netset_lib.specs.Lists.{Refusal, IsListRead}
 use Rattle.netset_lib.specs.ListTexts.{IsReadList}
-use Rattle.netset_lib.specs.RefusedLines.{refusal_of}
+use Rattle.netset_lib.specs.RefusedLines.{RefusedLine, RefusedLines, refusal_of}
 use Rattle.ipnet_c.specs.Buffers.{IsWritten, IsTooLong}
 use Rattle.ipnet_c.specs.ListReplies.{HasAddressesOfList, IsFirstRefused, IsListReply}
 use Rattle.ipnet_c.specs.SetReplies.{IsImageWith}

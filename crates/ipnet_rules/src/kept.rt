@@ -51,11 +51,7 @@ fn no_flags(alloc: Global, count: usize) -> Result<Vec<bool>, AllocError>
     ensures count { IfOk result (λ flags. length flags.items ≡ count) }
     ensures each { IfOk result (λ flags. All (λ flag. flag ≡ false) flags.items) }
 {
-    let mut flags = Vec::new(alloc);
-    for _ in 0..count {
-        flags.push(false)?;
-    }
-    Ok(flags)
+    vec![in alloc; false; count]
 }
 
 /// Returns whether no kept rule matches the addresses of the cell.

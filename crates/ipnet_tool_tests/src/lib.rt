@@ -3,16 +3,4 @@
 #![tactic(auto)]
 
 #[cfg(test)]
-mod arguments;
-#[cfg(test)]
-mod memory;
-#[cfg(test)]
-mod output;
-#[cfg(test)]
-mod pieces;
-#[cfg(test)]
-mod runs;
-#[cfg(test)]
-mod support;
-#[cfg(test)]
-mod texts;
+mod tests;

@@ -7,7 +7,6 @@ use Rattle.std.proofs.KnownBytes.{Appends-nil, Appends-trans, Appends-kept}
 use Rattle.std.proofs.lemmas.List.{map-append, take_all, take_more}
 use Rattle.ipnet_text.specs.Pieces.{IsInPieces}
 use Rattle.ipnet_text.proofs.WritingLaws.{front_written, all_written, whole_front}
-use Rattle.netset_entries.specs.declared.entry_list.EntryLine.{EntryLine}
 use Rattle.netset_entries.specs.EntryLineOf.{numbered}
 use Rattle.netset_entries.specs.NumberedEntries.{NumberedEntry}
 use Rattle.netset_entries.specs.declared.redundancy.Covered.{Covered}
@@ -44,19 +43,6 @@ piece_put a b piece mid text chunk h put = record {
 pub front_after : (a b c : Option (List ℕ)) (piece text more whole : List ℕ) → IsInPieces a b piece text
     → whole ≡ text ++ more → IsFront b c piece → IsFront a c whole
 front_after a b c piece text more whole h is front = front_written a b c piece text more whole h is front
-
--- ---- the line of an entry
-
-pub line_here : (lines : List EntryLine) (i : ℕ) (l : EntryLine) → i < length lines → l ≡ get_or lines i l
-    → entry_text (numbered l) ++ 10 ∷ [] ≡ entry_line_at (map numbered lines) i
-line_here [] i l less is = absurd (omega (arith, less))
-line_here (k ∷ lines) zero l less is = ap (λ z. entry_text (numbered z) ++ 10 ∷ []) is
-line_here (k ∷ lines) (suc i) l less is = line_here lines i l (omega (arith, less)) is
-
-pub no_line : (lines : List EntryLine) (i : ℕ) → length lines ≤ i → entry_line_at (map numbered lines) i ≡ []
-no_line [] i past = refl
-no_line (k ∷ lines) zero past = absurd (omega (arith, past))
-no_line (k ∷ lines) (suc i) past = no_line lines i (omega (arith, past))
 
 -- ---- the lines of a witness
 

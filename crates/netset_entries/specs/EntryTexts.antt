@@ -1,18 +1,21 @@
 -- The texts of entries in answers.
-use Rattle.std.specs.Prelude.{ℕ, zero, suc, List, [], ◌∷◌, ◌++◌, codes, decimal, Option}
+use Rattle.std.specs.Prelude.{ℕ, List, [], ◌∷◌, ◌++◌, codes, decimal, Option}
 use Rattle.std.specs.Io.{StartsWith}
 use Rattle.std.specs.Io.KnownBytes.{Appends}
+use Rattle.netset_lib.specs.RuleAnswers.{text_at}
 use Rattle.netset_entries.specs.NumberedEntries.{NumberedEntry}
 
 -- The number of the entry's line, and the entry as written. Example: `line 4: 10.0.1.192/26`.
 abbrev pub entry_text : NumberedEntry → List ℕ
 entry_text e = codes "line " ++ decimal e.line ++ codes ": " ++ e.text
 
+-- That text and "\n" (10).
+abbrev pub entry_line : NumberedEntry → List ℕ
+entry_line e = entry_text e ++ 10 ∷ []
+
 -- The line of the entry at this index, from 0; nothing if there is none.
 abbrev pub entry_line_at : List NumberedEntry → ℕ → List ℕ
-entry_line_at [] index = []
-entry_line_at (e ∷ entries) zero = entry_text e ++ 10 ∷ []
-entry_line_at (e ∷ entries) (suc index) = entry_line_at entries index
+entry_line_at entries index = text_at entry_line entries index
 
 -- A front of the text was written. Only private contracts use this.
 abbrev pub IsFront : Option (List ℕ) → Option (List ℕ) → List ℕ → Type 0

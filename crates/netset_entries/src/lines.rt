@@ -1,7 +1,7 @@
 //! Lines about entries, written piece by piece, so that an answer of any length takes little memory.
-ghost use Rattle.std.specs.Prelude.{◌≡◌, ◌++◌, ◌∷◌, [], OnOk, OnErr, map};
+ghost use Rattle.std.specs.Prelude.{◌≡◌, ◌++◌, OnOk, OnErr, map};
 ghost use Rattle.ipnet_text.specs.Pieces.{IsInPieces};
-ghost use Rattle.netset_entries.specs.EntryTexts.{entry_text, entry_line_at, IsFront};
+ghost use Rattle.netset_entries.specs.EntryTexts.{entry_text, entry_line, entry_line_at, IsFront};
 ghost use Rattle.netset_entries.specs.EntryLineOf.{numbered};
 
 use crate::entry_list::EntryLine;
@@ -48,7 +48,7 @@ pub(crate) fn push_entry(text: &mut Vec<u8>, line: &EntryLine<'_>) -> Result<(),
 
 /// Appends the line of the entry.
 fn push_line(text: &mut Vec<u8>, line: &EntryLine<'_>) -> Result<(), AllocError>
-    ensures { OnOk result (text.new.items ≡ text.old.items ++ (entry_text (numbered line.now) ++ 10 ∷ [])) }
+    ensures { OnOk result (text.new.items ≡ text.old.items ++ entry_line (numbered line.now)) }
 {
     push_entry(text, line)?;
     text.extend_from_slice(b"\n")

@@ -270,11 +270,7 @@ fn all_flags(alloc: Global, count: usize) -> Result<Vec<bool>, AllocError>
     ensures count { IfOk result (λ flags. length flags.items ≡ count) }
     ensures each { IfOk result (λ flags. All (λ flag. flag ≡ true) flags.items) }
 {
-    let mut flags = Vec::new(alloc);
-    for _ in 0..count {
-        flags.push(true)?;
-    }
-    Ok(flags)
+    vec![in alloc; true; count]
 }
 
 /// Returns the spans of all entries of the family, in the order of their first addresses.

@@ -1,14 +1,11 @@
 //! The command `supernet` of the program, over any writers.
-ghost use Rattle.std.specs.Prelude.{◌≡◌, ◌≤◌, ◌⊎◌, List, ℕ};
+ghost use Rattle.std.specs.Prelude.{◌≡◌, ◌⊎◌};
 ghost use Rattle.std.specs.Io.KnownBytes.{Keeps};
 ghost use Rattle.netset_entries.specs.Supernets.{IsSupernetAnswer};
-ghost use Rattle.netset_lib.specs.RuleAnswers.{IsWritten, IsFrontWritten};
-ghost use Rattle.netset_lib.specs.Sessions.{WereRead};
-ghost use Rattle.netset_lib.specs.declared.answer.Request.{Request};
-ghost use Rattle.netset_lib.specs.declared.command.Work.TheVariants.{Combine};
+ghost use Rattle.netset_lib.specs.Runs.{WritesAnswer, WritesFront};
 
 use crate::supernet::supernet_text;
-use netset_lib::{Failure, Session, report_failure, written};
+use netset_lib::{Failure, Session, report_failure, set_or_report, write_answer};
 use std::io::Write;
 
 /// Writes the smallest networks around the addresses of the session's lists to `out`, as `supernet_text` makes them,
@@ -35,28 +32,16 @@ pub fn run_supernet<W: Write, X: Write>(
     faults: &mut X,
 ) -> u8
     ensures status { (result ≡ 0) ⊎ (result ≡ 2) }
-    ensures answered { result ≡ 0 → (r : Request) → (lists : List (List ℕ)) → WereRead (Combine r) lists session
-        → IsWritten (IsSupernetAnswer r lists) (W.contents out.old) (W.contents out.new) }
-    ensures cut_short { result ≡ 2 → (r : Request) → (lists : List (List ℕ)) → WereRead (Combine r) lists session
-        → Keeps (W.contents out.old) (W.contents out.new)
-        ⊎ IsFrontWritten (IsSupernetAnswer r lists) (W.contents out.old) (W.contents out.new) }
+    ensures answered { result ≡ 0 → WritesAnswer IsSupernetAnswer session (W.contents out.old) (W.contents out.new) }
+    ensures cut_short { result ≡ 2 → WritesFront IsSupernetAnswer session (W.contents out.old) (W.contents out.new) }
     ensures faultless { result ≡ 0 → Keeps (X.contents faults.old) (X.contents faults.new) }
 {
-    let alloc = session.alloc();
-    let set = match session.into_set() {
-        Ok(set) => set,
-        Err(failure) => {
-            let _ = report_failure(faults, names, &failure);
-            return 2;
-        }
+    let Some((alloc, set)) = set_or_report(session, names, faults) else {
+        return 2;
     };
     let Ok(text) = supernet_text(alloc, &set) else {
         let _ = report_failure(faults, names, &Failure::Memory);
         return 2;
     };
-    if !written(out, text.as_bytes()) {
-        let _ = writeln!(faults, "netset: output cannot be written");
-        return 2;
-    }
-    0
+    write_answer(out, faults, text.as_bytes())
 }

@@ -13,11 +13,11 @@ use Rattle.ipnet_text.proofs.ClosedLines.{IsClosed, closed_append}
 use Rattle.netset_lib.specs.declared.cause.Cause.{Cause}
 use Rattle.netset_lib.specs.declared.reader.LineReader.{LineReader}
 use Rattle.netset_lib.specs.declared.reading.Reading.{Reading}
-use Rattle.netset_lib.specs.declared.refused.RefusedLines.{RefusedLines}
 use Rattle.netset_lib.specs.Causes.{IsReportedCause}
 use Rattle.netset_lib.specs.Entries.{IsEntryText, IsNoEntry}
 use Rattle.netset_lib.specs.Lists.{ListEntry, Refusal, AreRead, AreContents, IsContents}
-use Rattle.netset_lib.specs.Reading.{HasMore, Adds, AreTexts, AddsLines, ReadsLines, NotesEntries}
+use Rattle.netset_lib.specs.RefusedLines.{HasMore}
+use Rattle.netset_lib.specs.Reading.{Adds, AreTexts, AddsLines, ReadsLines, NotesEntries}
 use Rattle.netset_lib.proofs.RefusalLaws.{HasMore-nil, HasMore-trans}
 
 -- ---- one line more

@@ -3,19 +3,18 @@ use Rattle.std.proofs.Common.{◌≡◌, ℕ, zero, suc, ◌<◌, ◌≤◌, Lis
 use Rattle.std.proofs.Common.{◌∙◌, arith}
 use Rattle.std.proofs.Common.{append_assoc, append-nil, take_all, length-append, add-zero}
 use Rattle.std.proofs.lemmas.List.{length-map, take-append-le}
-use Rattle.netset_lib.specs.declared.refused.RefusedLines.{RefusedLines}
-use Rattle.netset_lib.specs.Lists.{Refusal}
-use Rattle.netset_lib.specs.Reading.{HasMore}
-use Rattle.netset_lib.specs.RefusedLines.{AreRefused, shown_refusals, refusal_of}
+use Rattle.netset_lib.specs.declared.refused.Refusals.{Refusals}
+use Rattle.netset_lib.specs.Lists.{RefusalFor}
+use Rattle.netset_lib.specs.RefusedLines.{AreRefused, HasMore, shown_refusals, refusal_of}
 
 -- the front of a front, with more behind it
-pub take-take-append : {X : Type 0} (n : ℕ) (xs ys : List X) → take n (take n xs ++ ys) ≡ take n (xs ++ ys)
+take-take-append : {X : Type 0} (n : ℕ) (xs ys : List X) → take n (take n xs ++ ys) ≡ take n (xs ++ ys)
 take-take-append zero xs ys = refl
 take-take-append (suc n) [] ys = refl
 take-take-append {X = X} (suc n) (x ∷ xs) ys = ap (λ (l : List X). x ∷ l) (take-take-append n xs ys)
 
 -- no line more
-pub HasMore-nil : (lines : RefusedLines) → length lines.shown.items ≤ 10 → HasMore lines lines []
+pub HasMore-nil : {C : Type 0} (lines : Refusals C) → length lines.shown.items ≤ 10 → HasMore lines lines []
 HasMore-nil lines few = record {
   shown =
       sym (ap (take 10) (append-nil (shown_refusals lines))
@@ -24,8 +23,8 @@ HasMore-nil lines few = record {
 }
 
 -- some lines more, and then others
-pub HasMore-trans : (old mid new : RefusedLines) (a b : List Refusal) → HasMore old mid a → HasMore mid new b
-    → HasMore old new (a ++ b)
+pub HasMore-trans : {C : Type 0} (old mid new : Refusals C) (a b : List (RefusalFor C)) → HasMore old mid a
+    → HasMore mid new b → HasMore old new (a ++ b)
 HasMore-trans old mid new a b h k = record {
   shown =
       k.shown ∙ ap (λ l. take 10 (l ++ b)) h.shown ∙ take-take-append 10 (shown_refusals old ++ a) b
@@ -34,8 +33,8 @@ HasMore-trans old mid new a b h k = record {
 }
 
 -- all of them, and some lines more
-pub more_refused : (old new : RefusedLines) (a b : List Refusal) → AreRefused old a → HasMore old new b
-    → AreRefused new (a ++ b)
+pub more_refused : {C : Type 0} (old new : Refusals C) (a b : List (RefusalFor C)) → AreRefused old a
+    → HasMore old new b → AreRefused new (a ++ b)
 more_refused old new a b h k = record {
   shown = k.shown ∙ ap (λ l. take 10 (l ++ b)) h.shown ∙ take-take-append 10 a b;
   count = omega (arith, k.count, h.count, length-append a b);

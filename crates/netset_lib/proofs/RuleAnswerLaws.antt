@@ -1,29 +1,38 @@
 -- The lines of an answer over a list of rules, and what an empty answer means.
 use Rattle.std.proofs.Common.{◌≡◌, ◌≢◌, ◌<◌, ℕ, ◌+◌, zero, suc, List, [], ◌∷◌, ◌++◌, length, map, drop, refl}
 use Rattle.std.proofs.Common.{sym, ap, ◌∙◌, arith, inl, inr, subst, append_assoc, append-nil, codes, decimal, get_or}
-use Rattle.std.proofs.Common.{◌≤◌, Any}
+use Rattle.std.proofs.Common.{◌≤◌, Any, Result, OnOk}
 use Rattle.std.proofs.lemmas.List.{length-append, drop_more, drop_all}
 use Rattle.ipnet.specs.declared.parser.Grammar.{Grammar}
 use Rattle.ipnet_rules.specs.declared.unreached.Unreached.{Unreached}
+use Rattle.ipnet_text.proofs.ListsLaws.{OnOk_then}
 use Rattle.ipnet_rules.proofs.VerdictLaws.{any_cons, any_nil}
 use Rattle.netset_lib.specs.declared.rule_answer.RuleQuery.TheVariants as Queries
-use Rattle.netset_lib.specs.declared.rule_list.RuleLine.{RuleLine}
-use Rattle.netset_lib.specs.RuleAnswers.{line_text, line_at, covering_lines, unreached_lines, IsRuleAnswer}
+use Rattle.netset_lib.specs.RuleAnswers.{text_at, line_at, covering_lines, unreached_lines, IsRuleAnswer}
 use Rattle.netset_lib.specs.RuleAnswers.{AreAllReached, IsOneUnreached}
-use Rattle.netset_lib.specs.RuleContentsOf.{line_of_rule}
 use Rattle.netset_lib.specs.RuleLines.{LineOfRule, RuleContents, AreRulesRead}
 
--- the line at an index of values
-pub line_here : (lines : List RuleLine) (i : ℕ) (l : RuleLine) → i < length lines → l ≡ get_or lines i l
-    → line_text (line_of_rule l) ≡ line_at (map line_of_rule lines) i
-line_here [] i l less is = absurd (omega (arith, less))
-line_here (k ∷ lines) zero l less is = ap (λ z. line_text (line_of_rule z)) is
-line_here (k ∷ lines) (suc i) l less is = line_here lines i l (omega (arith, less)) is
+-- the text of the item at an index of values
+text_here : {V X : Type 0} (text_of : X → List ℕ) (seen : V → X) (values : List V) (i : ℕ) (v : V) → i < length values
+    → v ≡ get_or values i v → text_of (seen v) ≡ text_at text_of (map seen values) i
+text_here text_of seen [] i v less is = absurd (omega (arith, less))
+text_here text_of seen (w ∷ values) zero v less is = ap (λ z. text_of (seen z)) is
+text_here text_of seen (w ∷ values) (suc i) v less is = text_here text_of seen values i v (omega (arith, less)) is
 
-pub no_line : (lines : List RuleLine) (i : ℕ) → length lines ≤ i → line_at (map line_of_rule lines) i ≡ []
-no_line [] i past = refl
-no_line (k ∷ lines) zero past = absurd (omega (arith, past))
-no_line (k ∷ lines) (suc i) past = no_line lines i (omega (arith, past))
+-- that text is appended
+pub appended_here : {V X T E : Type 0} (text_of : X → List ℕ) (seen : V → X) (values : List V) (i : ℕ) (v : V)
+    (old new : List ℕ) (result : Result T E) → OnOk result (new ≡ old ++ text_of (seen v)) → i < length values
+    → v ≡ get_or values i v → OnOk result (new ≡ old ++ text_at text_of (map seen values) i)
+appended_here text_of seen values i v old new result appended less is =
+    OnOk_then result appended (λ e. e ∙ ap (λ z. old ++ z) (text_here text_of seen values i v less is))
+
+-- nothing is appended, since there is no item
+pub appended_past : {V X : Type 0} (text_of : X → List ℕ) (seen : V → X) (values : List V) (i : ℕ) (old : List ℕ)
+    → length values ≤ i → old ≡ old ++ text_at text_of (map seen values) i
+appended_past text_of seen [] i old past = sym (append-nil old)
+appended_past text_of seen (w ∷ values) zero old past = absurd (omega (arith, past))
+appended_past text_of seen (w ∷ values) (suc i) old past =
+    appended_past text_of seen values i old (omega (arith, past))
 
 -- as many lines as rules
 rules_have_lines : (grammar : Grammar) (number : ℕ) (texts : List (List ℕ)) (c : RuleContents)

@@ -14,7 +14,8 @@ use Rattle.netset_lib.specs.declared.reader.LineReader.{LineReader}
 use Rattle.netset_lib.specs.declared.reading.Reading.{Reading}
 use Rattle.netset_lib.specs.Lists.{after_mark, ListEntry, AreRead, AreContents}
 use Rattle.netset_lib.specs.Reading.{Adds, ReadsLines, pending, IsBegun, TakesLines, WasMadeOf}
-use Rattle.netset_lib.specs.Reading.{HasMore, at_first_line}
+use Rattle.netset_lib.specs.Reading.{at_first_line}
+use Rattle.netset_lib.specs.RefusedLines.{HasMore}
 use Rattle.netset_lib.proofs.ListReading.{reads_none, reads_more}
 
 -- ---- what is pending

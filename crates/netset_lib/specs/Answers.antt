@@ -16,10 +16,9 @@ use Rattle.netset_lib.specs.declared.command.Work.TheVariants.{Combine, Ask}
 use Rattle.netset_lib.specs.declared.operation.Families.TheVariants.{Named}
 use Rattle.netset_lib.specs.declared.operation.Operation.{Operation}
 use Rattle.netset_lib.specs.declared.operation.Operation.TheVariants.{Complement}
-use Rattle.netset_lib.specs.declared.refused.RefusedLines.{RefusedLines}
 use Rattle.netset_lib.specs.Lists.{ListEntry, Refusal, IsListRead, IsInEntries}
 use Rattle.netset_lib.specs.Operations.{IsCountFor, IsInResult}
-use Rattle.netset_lib.specs.RefusedLines.{AreRefused}
+use Rattle.netset_lib.specs.RefusedLines.{RefusedLines, AreRefused}
 
 -- The lists, the first with this index, have these entries and these refused lines.
 abbrev pub AreListsRead : Grammar → ℕ → List (List ℕ) → List (List ListEntry) → List Refusal → Type 0

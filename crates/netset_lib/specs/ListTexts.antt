@@ -3,9 +3,8 @@ use Rattle.std.specs.Prelude.{ℕ, List}
 use Rattle.ipnet.specs.declared.parser.Grammar.{Grammar}
 use Rattle.ipnet_sets.specs.declared.set.IpSet.{IpSet}
 use Rattle.ipnet_sets.specs.Members.{IsMember}
-use Rattle.netset_lib.specs.declared.refused.RefusedLines.{RefusedLines}
 use Rattle.netset_lib.specs.Lists.{ListEntry, Refusal, IsListRead, HaveAddresses}
-use Rattle.netset_lib.specs.RefusedLines.{AreRefused}
+use Rattle.netset_lib.specs.RefusedLines.{RefusedLines, AreRefused}
 
 -- The set has exactly the addresses of the entries of the list, and these are its refused lines.
 -- Example: of `10.0.0.1\nx\n` the set is 10.0.0.1, and line 2 is refused.

@@ -71,13 +71,16 @@ pub record ListEntry : Type 0 where
   pub text : List ℕ
   pub range : AddressRange
 
--- A refused line: the index of its list from 0, its line number from 1, its contents, and the cause if one can be
--- named.
-pub record Refusal : Type 0 where
+-- A refused line: the index of its list from 0, its line number from 1, what is refused of it, and the cause.
+pub record RefusalFor (C : Type 0) : Type 0 where
   pub list : ℕ
   pub line : ℕ
   pub text : List ℕ
-  pub cause : Option Cause
+  pub cause : C
+
+-- A line that is not an entry: its contents are refused, and the cause is there if one can be named.
+abbrev pub Refusal : Type 0
+Refusal = RefusalFor (Option Cause)
 
 -- The first of the entries has this text, and `more` are the others.
 pub record IsNextEntry (grammar : Grammar) (text : List ℕ) (entries more : List ListEntry) : Type 0 where

@@ -1,7 +1,5 @@
 -- Plans of networks in the addresses of lists: their text, and why there is none.
-use Rattle.std.specs.Prelude.{◌≡◌, ◌≢◌, ◌↔◌, ◌<◌, ◌≤◌, ◌⊎◌, ◌++◌, ◌∷◌, ℕ, List, [], Any, All, length, codes, Option}
-use Rattle.std.specs.Io.{StartsWith}
-use Rattle.std.specs.Io.KnownBytes.{Appends}
+use Rattle.std.specs.Prelude.{◌≡◌, ◌≢◌, ◌↔◌, ◌<◌, ◌≤◌, ◌⊎◌, ◌++◌, ◌∷◌, ℕ, List, [], Any, All, length, codes}
 use Rattle.ipnet_base.specs.Address.{Family, IPv4, IPv6, width, Address}
 use Rattle.ipnet_base.specs.Network.{Network}
 use Rattle.ipnet.specs.Numerals.{IsDecimal}
@@ -89,18 +87,7 @@ pub record HoldsOfResult (request : Request) (lists : List (List ℕ)) (Holds : 
     pub read : AreListsRead request.grammar 0 lists entries []
     pub right : Holds (IsInResult IsInEntries request.operation entries)
 
--- There is a plan in the addresses of the lists, and all of its text was written.
-pub record IsPlanned (request : Request) (families : Families) (lengths : List ℕ) (lists : List (List ℕ))
-    (held held_after : Option (List ℕ)) : Type 0 where
-  pub text : List ℕ
-  pub right : HoldsOfResult request lists (λ InSet. IsPlanText InSet families lengths text)
-  pub written : Appends held held_after text
-
--- There is a plan in the addresses of the lists, and a front of its text was written, perhaps all of it.
-pub record IsPlanCutShort (request : Request) (families : Families) (lengths : List ℕ) (lists : List (List ℕ))
-    (held held_after : Option (List ℕ)) : Type 0 where
-  pub text : List ℕ
-  pub right : HoldsOfResult request lists (λ InSet. IsPlanText InSet families lengths text)
-  pub front : List ℕ
-  pub begins : StartsWith text front
-  pub written : Appends held held_after front
+-- The lists have a result, and the text is a plan in its addresses.
+abbrev pub IsPlanAnswer : Families → List ℕ → Request → List (List ℕ) → List ℕ → Type 0
+IsPlanAnswer families lengths request lists text =
+    HoldsOfResult request lists (λ InSet. IsPlanText InSet families lengths text)

@@ -1,7 +1,7 @@
 -- The private steps of reading lists: what they make of the entries, and what they add to the refused lines.
 -- Only private contracts use these.
 use Rattle.std.specs.Prelude.{◌≡◌, ◌≢◌, ◌⊎◌, ◌↔◌, ◌<◌, ℕ, ◌+◌, Bool, true, false, List, [], ◌∷◌, ◌++◌, length}
-use Rattle.std.specs.Prelude.{take, Option}
+use Rattle.std.specs.Prelude.{Option}
 use Rattle.std.specs.Io.KnownBytes.{Consumes, IsAtEnd}
 use Rattle.ipnet.specs.declared.parser.Grammar.{Grammar}
 use Rattle.ipnet.specs.Lines.{lines_of}
@@ -9,15 +9,9 @@ use Rattle.ipnet_text.specs.Inputs.{GaveWhole}
 use Rattle.ipnet_text.specs.Window.{held}
 use Rattle.netset_lib.specs.declared.reader.LineReader.{LineReader}
 use Rattle.netset_lib.specs.declared.reading.Reading.{Reading}
-use Rattle.netset_lib.specs.declared.refused.RefusedLines.{RefusedLines}
 use Rattle.netset_lib.specs.Lists.{ListEntry, Refusal, AreRead, IsListRead, AreContents}
 use Rattle.netset_lib.specs.Marks.{IsPastMark}
-use Rattle.netset_lib.specs.RefusedLines.{shown_refusals, most_shown}
-
--- The refused lines `more` are added: the first ten of all are kept, and all are counted.
-pub record HasMore (old new : RefusedLines) (more : List Refusal) : Type 0 where
-  pub shown : shown_refusals new ≡ take most_shown (shown_refusals old ++ more)
-  pub count : new.count ≡ old.count + length more
+use Rattle.netset_lib.specs.RefusedLines.{HasMore}
 
 -- What was made of some entries is now made of them and of these.
 abbrev pub Adds : (IsMade IsMadeNow : List ListEntry → Type 0) → List ListEntry → Type 0

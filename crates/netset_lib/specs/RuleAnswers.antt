@@ -30,11 +30,15 @@ IsPermittedBy rules default x = IsAddress x × HasRuleVerdict rules default x Pe
 abbrev pub line_text : LineOfRule → List ℕ
 line_text l = codes "line " ++ decimal l.number ++ codes ": " ++ l.text ++ 10 ∷ []
 
--- The text of the line at this index, counted from 0, or nothing if there is none.
+-- The text of the item at this index, counted from 0, or nothing if there is none.
+abbrev pub text_at : {X : Type 0} → (X → List ℕ) → List X → ℕ → List ℕ
+text_at text_of [] index = []
+text_at text_of (x ∷ items) zero = text_of x
+text_at text_of (x ∷ items) (suc index) = text_at text_of items index
+
+-- The text of the line at this index, or nothing if there is none.
 abbrev pub line_at : List LineOfRule → ℕ → List ℕ
-line_at [] index = []
-line_at (l ∷ lines) zero = line_text l
-line_at (l ∷ lines) (suc index) = line_at lines index
+line_at lines index = text_at line_text lines index
 
 -- The lines at these indexes, each after two spaces.
 abbrev pub covering_lines : List LineOfRule → List ℕ → List ℕ

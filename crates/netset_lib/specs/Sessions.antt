@@ -4,6 +4,7 @@ use Rattle.std.specs.Prelude.{Option, Some}
 use Rattle.ipnet_sets.specs.declared.set.IpSet.{IpSet}
 use Rattle.ipnet.specs.declared.parser.Grammar.{Grammar}
 use Rattle.netset_lib.specs.declared.answer.Answer.{Answer}
+use Rattle.netset_lib.specs.declared.answer.Request.{Request}
 use Rattle.netset_lib.specs.declared.answerer.Answerer.{Answerer}
 use Rattle.netset_lib.specs.declared.answerer.Answers.{Answers}
 use Rattle.netset_lib.specs.declared.command.Work.{Work}
@@ -75,6 +76,14 @@ pub record WereRead (work : Work) (lists : List (List ℕ)) (s : Session) : Type
   pub read : AreListsRead (work_grammar work) 0 lists entries refusals
   pub kept : AreRefused s.reading.lines.refused refusals
   pub state : IsState work s entries
+
+-- The session of this operation has read exactly these lists.
+abbrev pub WereCombined : Request → List (List ℕ) → Session → Type 0
+WereCombined request = WereRead (Combine request)
+
+-- The session of a comparison in this grammar has read exactly these lists.
+abbrev pub WereCompared : Grammar → List (List ℕ) → Session → Type 0
+WereCompared grammar = WereRead (Ask Compare grammar)
 
 -- Whether an entry of the list that the session has read last was found.
 abbrev pub has_entry : Session → Bool

@@ -17,7 +17,6 @@ use Rattle.ipnet_sets.specs.SetRanges.{IsInRange}
 use Rattle.ipnet_sets.specs.declared.routes.RouteTable.{RouteTable}
 use Rattle.netset_lib.specs.declared.answerer.Answers.{Answers}
 use Rattle.netset_lib.specs.declared.cause.Cause.{Cause}
-use Rattle.netset_lib.specs.declared.refused.RefusedLines.{RefusedLines}
 use Rattle.netset_lib.specs.declared.text_line.TableLine.{TableLine}
 use Rattle.netset_lib.specs.declared.text_table.TextRoutes.{TextRoutes}
 use Rattle.netset_lib.specs.Causes.{Has, HasMaskWord}
@@ -26,7 +25,7 @@ use Rattle.netset_lib.specs.ContentLines as content
 use Rattle.netset_lib.specs.EntryAnswers.{AreAnswers, IsFoundIn}
 use Rattle.netset_lib.specs.EntryOf.{entry_range}
 use Rattle.netset_lib.specs.Lists.{ListEntry, Refusal, IsCommentAt, IsListRead}
-use Rattle.netset_lib.specs.RefusedLines.{AreRefused}
+use Rattle.netset_lib.specs.RefusedLines.{RefusedLines, AreRefused}
 use Rattle.netset_lib.specs.RouteAnswers.{IsLongest, HaveNone}
 use Rattle.netset_lib.specs.Routing.{InTable, HoldsEnds}
 use Rattle.netset_lib.specs.TextTables.{TextLine, IsLinesNetwork, IsTextOf, IsTextTable, text_part}

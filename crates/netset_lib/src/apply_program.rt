@@ -1,18 +1,15 @@
 //! The command `apply` of the program, over any writers.
-ghost use Rattle.std.specs.Prelude.{◌≡◌, ◌⊎◌, List, ℕ};
+ghost use Rattle.std.specs.Prelude.{◌≡◌, ◌⊎◌};
 ghost use Rattle.std.specs.Io.KnownBytes.{Keeps};
 ghost use Rattle.netset_lib.specs.ChangeLists.{IsChangedAnswer};
-ghost use Rattle.netset_lib.specs.RuleAnswers.{IsWritten, IsFrontWritten};
-ghost use Rattle.netset_lib.specs.Sessions.{WereRead};
-ghost use Rattle.netset_lib.specs.declared.answer.Request.{Request};
-ghost use Rattle.netset_lib.specs.declared.command.Work.TheVariants.{Combine};
+ghost use Rattle.netset_lib.specs.Runs.{WritesAnswer, WritesFront};
 
 use crate::answer::Failure;
 use crate::apply::{ChangeFailure, changed_text};
 use crate::change_line::ChangeCause;
 use crate::content_line::RefusedText;
 use crate::network_entry::NetworkCause;
-use crate::program::{NO_ENTRY, report_failure, report_text, written};
+use crate::program::{NO_ENTRY, report_failure, report_text, set_or_report, write_answer};
 use crate::rule_program::MOST_LINES;
 use crate::session::Session;
 use std::io;
@@ -46,27 +43,19 @@ pub fn run_apply<W: Write, X: Write>(
     faults: &mut X,
 ) -> u8
     ensures status { (result ≡ 0) ⊎ (result ≡ 2) }
-    ensures answered { result ≡ 0 → (request : Request) → (lists : List (List ℕ))
-        → WereRead (Combine request) lists session
-        → IsWritten (IsChangedAnswer request lists changes.entry.1.now) (W.contents out.old) (W.contents out.new) }
-    ensures cut_short { result ≡ 2 → (request : Request) → (lists : List (List ℕ))
-        → WereRead (Combine request) lists session
-        → Keeps (W.contents out.old) (W.contents out.new)
-        ⊎ IsFrontWritten (IsChangedAnswer request lists changes.entry.1.now) (W.contents out.old) (W.contents out.new) }
+    ensures answered { result ≡ 0 → WritesAnswer (λ request lists.
+        IsChangedAnswer request lists changes.entry.1.now) session (W.contents out.old) (W.contents out.new) }
+    ensures cut_short { result ≡ 2 → WritesFront (λ request lists.
+        IsChangedAnswer request lists changes.entry.1.now) session (W.contents out.old) (W.contents out.new) }
     ensures faultless { result ≡ 0 → Keeps (X.contents faults.old) (X.contents faults.new) }
 {
-    let alloc = session.alloc();
     let (name, bytes) = changes;
     let Some(request) = session.request() else {
         let _ = report_failure(faults, names, &Failure::Count);
         return 2;
     };
-    let set = match session.into_set() {
-        Ok(set) => set,
-        Err(failure) => {
-            let _ = report_failure(faults, names, &failure);
-            return 2;
-        }
+    let Some((alloc, set)) = set_or_report(session, names, faults) else {
+        return 2;
     };
     let text = match changed_text(alloc, request.form, &set, bytes, request.grammar) {
         Ok(text) => text,
@@ -75,11 +64,7 @@ pub fn run_apply<W: Write, X: Write>(
             return 2;
         }
     };
-    if !written(out, text.as_bytes()) {
-        let _ = writeln!(faults, "netset: output cannot be written");
-        return 2;
-    }
-    0
+    write_answer(out, faults, text.as_bytes())
 }
 
 /// Reports the failure.

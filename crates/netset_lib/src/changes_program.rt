@@ -4,14 +4,12 @@ ghost use Rattle.std.specs.Io.KnownBytes.{Keeps};
 ghost use Rattle.ipnet.specs.declared.parser.Grammar.{Grammar};
 ghost use Rattle.netset_lib.specs.Changes.{IsChangesAnswer};
 ghost use Rattle.netset_lib.specs.Replies.{AreSameLists, AreOtherLists};
-ghost use Rattle.netset_lib.specs.RuleAnswers.{IsWritten, IsFrontWritten};
-ghost use Rattle.netset_lib.specs.Sessions.{WereRead};
-ghost use Rattle.netset_lib.specs.declared.command.Work.TheVariants.{Ask};
-ghost use Rattle.netset_lib.specs.declared.query.Query.TheVariants.{Compare};
+ghost use Rattle.netset_lib.specs.Runs.{WritesComparison, WritesComparisonFront};
+ghost use Rattle.netset_lib.specs.Sessions.{WereCompared};
 
 use crate::answer::Failure;
 use crate::changes::changes_text;
-use crate::program::{report_failure, written};
+use crate::program::{report_failure, write_or_report};
 use crate::session::Session;
 use std::io::Write;
 
@@ -40,17 +38,14 @@ pub fn run_changes<W: Write, X: Write>(
     faults: &mut X,
 ) -> u8
     ensures status { result ≤ 2 }
-    ensures answered { result ≤ 1 → (grammar : Grammar) → (lists : List (List ℕ))
-        → WereRead (Ask Compare grammar) lists session
-        → IsWritten (IsChangesAnswer grammar lists) (W.contents out.old) (W.contents out.new) }
+    ensures answered { result ≤ 1
+        → WritesComparison IsChangesAnswer session (W.contents out.old) (W.contents out.new) }
     ensures different { result ≡ 1 → (grammar : Grammar) → (lists : List (List ℕ))
-        → WereRead (Ask Compare grammar) lists session → AreOtherLists grammar lists }
+        → WereCompared grammar lists session → AreOtherLists grammar lists }
     ensures same { result ≡ 0 → (grammar : Grammar) → (lists : List (List ℕ))
-        → WereRead (Ask Compare grammar) lists session → AreSameLists grammar lists }
-    ensures cut_short { result ≡ 2 → (grammar : Grammar) → (lists : List (List ℕ))
-        → WereRead (Ask Compare grammar) lists session
-        → Keeps (W.contents out.old) (W.contents out.new)
-        ⊎ IsFrontWritten (IsChangesAnswer grammar lists) (W.contents out.old) (W.contents out.new) }
+        → WereCompared grammar lists session → AreSameLists grammar lists }
+    ensures cut_short { result ≡ 2
+        → WritesComparisonFront IsChangesAnswer session (W.contents out.old) (W.contents out.new) }
     ensures faultless { result ≤ 1 → Keeps (X.contents faults.old) (X.contents faults.new) }
 {
     let alloc = session.alloc();
@@ -65,8 +60,7 @@ pub fn run_changes<W: Write, X: Write>(
         let _ = report_failure(faults, names, &Failure::Memory);
         return 2;
     };
-    if !written(out, text.as_bytes()) {
-        let _ = writeln!(faults, "netset: output cannot be written");
+    if !write_or_report(out, faults, text.as_bytes()) {
         return 2;
     }
     if before.is_subset(&after) && after.is_subset(&before) {

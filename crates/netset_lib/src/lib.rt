@@ -76,11 +76,14 @@ pub use plan_program::run_plan;
 pub use prefix_answer::{PrefixFailure, Verdicts, prefix_verdicts};
 pub use prefix_line::PrefixCause;
 pub use prefix_program::{PrefixRequest, run_prefix_list};
-pub use program::{NO_ENTRY, report_failure, report_text, run, run_stream, written};
+pub use program::{
+    NO_ENTRY, report_failure, report_since, report_text, run, run_stream, set_or_report,
+    write_answer, write_or_report, written,
+};
 pub use query::Query;
 pub use reader::{FoundEntry, first_line, read_text};
 pub use reading::{ReadFailure, read_bytes};
-pub use refused::{RefusedLine, RefusedLines};
+pub use refused::{LineCause, Refusals, Refused, RefusedLine, RefusedLines};
 pub use rule_answer::{RuleFailure, RuleQuery};
 pub use rule_line::{RuleCause, rule_for};
 pub use rule_list::{RefusedRule, RuleLine, RuleList};

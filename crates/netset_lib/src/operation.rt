@@ -2,9 +2,7 @@
 ghost use Rattle.std.specs.Prelude.{◌≡◌, ◌↔◌, ◌∷◌, [], IfOk, IsTrue, length};
 ghost use Rattle.ipnet_base.specs.Address.{IPv4, IPv6, Address, IsAddress, ip_address};
 ghost use Rattle.ipnet_sets.specs.Members.{IsMember, IsFromTo};
-ghost use Rattle.netset_lib.specs.Operations.{IsInFirstAlone, IsInOneAlone, IsInComplement};
-ghost use Rattle.netset_lib.specs.Operations.{IsInResult};
-ghost use Rattle.netset_lib.specs.Operations.{IsChosen, IsCountFor};
+ghost use Rattle.netset_lib.specs.Operations.{IsInFirstAlone, IsInComplement, IsInResult, IsChosen};
 
 use ipnet::{IpAddr, Ipv4Addr, Ipv6Addr};
 use ipnet_sets::IpSet;

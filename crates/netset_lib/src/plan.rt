@@ -18,6 +18,7 @@ use ipnet_pools::PoolError;
 use ipnet_pools::plan::{plan_ipv4, plan_ipv6};
 use ipnet_sets::IpSet;
 use std::alloc::{AllocError, Global};
+use std::io::Write;
 use thiserror::Error;
 
 /// Why there is no plan.
@@ -46,16 +47,17 @@ impl From<AllocError> for PlanFailure {
 }
 
 impl PlanFailure {
-    /// Returns the exit status of the program for this failure: 1 if no placement exists, and otherwise 2.
+    /// Reports the failure on `faults`, and returns the exit status: 1 if no placement exists, and otherwise 2.
     ///
     /// ```text
-    /// NoPlacement: 1; Family: 2
+    /// Family: 2, and faults gets "netset: choose one family: --ipv4 or --ipv6\n"
     /// ```
-    pub fn status(self) -> u8
+    pub fn report<X: Write>(self, faults: &mut X) -> u8
         ensures status { result ≤ 2 }
         ensures positive { 1 ≤ result }
         ensures none { (result ≡ 1) ↔ (self ≡ NoPlacement) }
     {
+        let _ = writeln!(faults, "netset: {self}");
         match self {
             PlanFailure::NoPlacement => 1,
             PlanFailure::Family | PlanFailure::PrefixLen(_, _) | PlanFailure::Memory => 2,

@@ -1,13 +1,13 @@
 //! The command `plan` of the program, over any writers.
 ghost use Rattle.std.specs.Prelude.{◌≡◌, ◌≤◌, ◌⊎◌, List, ℕ};
 ghost use Rattle.std.specs.Io.KnownBytes.{Keeps};
-ghost use Rattle.netset_lib.specs.PlanAnswers.{HoldsOfResult, HasNoPlacement, IsPlanned, IsPlanCutShort};
-ghost use Rattle.netset_lib.specs.Sessions.{WereRead};
+ghost use Rattle.netset_lib.specs.PlanAnswers.{HoldsOfResult, HasNoPlacement, IsPlanAnswer};
+ghost use Rattle.netset_lib.specs.Runs.{WritesAnswer, WritesFront};
+ghost use Rattle.netset_lib.specs.Sessions.{WereCombined};
 ghost use Rattle.netset_lib.specs.declared.answer.Request.{Request};
-ghost use Rattle.netset_lib.specs.declared.command.Work.TheVariants.{Combine};
 
 use crate::plan::{PlanRequest, plan_text};
-use crate::program::{report_failure, written};
+use crate::program::{set_or_report, write_answer};
 use crate::session::Session;
 use std::io::Write;
 
@@ -39,40 +39,25 @@ pub fn run_plan<W: Write, X: Write>(
     faults: &mut X,
 ) -> u8
     ensures status { result ≤ 2 }
-    ensures planned { let p = request.entry in
-        result ≡ 0 → (r : Request) → (lists : List (List ℕ)) → WereRead (Combine r) lists session
-        → IsPlanned r p.families p.lengths.now lists (W.contents out.old) (W.contents out.new) }
+    ensures planned { let p = request.entry in result ≡ 0
+        → WritesAnswer (IsPlanAnswer p.families p.lengths.now) session (W.contents out.old) (W.contents out.new) }
     ensures placed { let p = request.entry in
-        result ≡ 0 → (r : Request) → (lists : List (List ℕ)) → WereRead (Combine r) lists session
+        result ≡ 0 → (r : Request) → (lists : List (List ℕ)) → WereCombined r lists session
         → HoldsOfResult r lists (λ InSet. ¬ (HasNoPlacement InSet p.families p.lengths.now)) }
     ensures no_placement { let p = request.entry in
-        result ≡ 1 → (r : Request) → (lists : List (List ℕ)) → WereRead (Combine r) lists session
+        result ≡ 1 → (r : Request) → (lists : List (List ℕ)) → WereCombined r lists session
         → HoldsOfResult r lists (λ InSet. HasNoPlacement InSet p.families p.lengths.now) }
     ensures nothing { result ≡ 1 → Keeps (W.contents out.old) (W.contents out.new) }
-    ensures cut_short { let p = request.entry in
-        result ≡ 2 → (r : Request) → (lists : List (List ℕ)) → WereRead (Combine r) lists session
-        → Keeps (W.contents out.old) (W.contents out.new)
-        ⊎ IsPlanCutShort r p.families p.lengths.now lists (W.contents out.old) (W.contents out.new) }
+    ensures cut_short { let p = request.entry in result ≡ 2
+        → WritesFront (IsPlanAnswer p.families p.lengths.now) session (W.contents out.old) (W.contents out.new) }
     ensures faultless { result ≡ 0 → Keeps (X.contents faults.old) (X.contents faults.new) }
 {
-    let alloc = session.alloc();
-    let set = match session.into_set() {
-        Ok(set) => set,
-        Err(failure) => {
-            let _ = report_failure(faults, names, &failure);
-            return 2;
-        }
+    let Some((alloc, set)) = set_or_report(session, names, faults) else {
+        return 2;
     };
     let text = match plan_text(alloc, &set, request) {
         Ok(text) => text,
-        Err(failure) => {
-            let _ = writeln!(faults, "netset: {failure}");
-            return failure.status();
-        }
+        Err(failure) => return failure.report(faults),
     };
-    if !written(out, text.as_bytes()) {
-        let _ = writeln!(faults, "netset: output cannot be written");
-        return 2;
-    }
-    0
+    write_answer(out, faults, text.as_bytes())
 }

@@ -9,7 +9,7 @@ use crate::content_line::RefusedText;
 use crate::network_entry::NetworkCause;
 use crate::prefix_answer::{PrefixFailure, prefix_verdicts};
 use crate::prefix_line::PrefixCause;
-use crate::program::{report_text, written};
+use crate::program::{report_text, write_or_report};
 use crate::rule_program::MOST_LINES;
 use ipnet::Grammar;
 use std::alloc::Global;
@@ -79,8 +79,7 @@ pub fn run_prefix_list<W: Write, X: Write>(
             return 2;
         }
     };
-    if !written(out, verdicts.text.as_slice()) {
-        let _ = writeln!(faults, "netset: output cannot be written");
+    if !write_or_report(out, faults, verdicts.text.as_slice()) {
         return 2;
     }
     if verdicts.denied { 1 } else { 0 }

@@ -1,18 +1,23 @@
 //! The program, over any writers.
-ghost use Rattle.std.specs.Prelude.{◌≡◌, ◌≤◌, ◌==◌, ◌⊎◌, ◌↔◌, List, ℕ, IsTrue};
+ghost use Rattle.std.specs.Prelude.{◌≡◌, ◌≤◌, ◌==◌, ◌⊎◌, ◌↔◌, List, ℕ, IsTrue, IfSome};
 ghost use Rattle.std.specs.Io.{StartsWith};
 ghost use Rattle.std.specs.Io.KnownBytes.{Appends, Keeps};
+ghost use Rattle.netset_lib.specs.PlanAnswers.{IsResultSet};
 ghost use Rattle.netset_lib.specs.Replies.{IsOutcome};
 ghost use Rattle.netset_lib.specs.Runs.{IsAnswered, IsCutShort};
-ghost use Rattle.netset_lib.specs.Sessions.{WereRead};
+ghost use Rattle.netset_lib.specs.Sessions.{WereRead, WereCombined};
 ghost use Rattle.netset_lib.specs.Streams.{IsWorkStreamed, IsWorkStreamedInPart};
+ghost use Rattle.netset_lib.specs.declared.answer.Request.{Request};
 ghost use Rattle.netset_lib.specs.declared.command.Work.{Work};
 
 use crate::answer::{Answer, Failure};
-use crate::refused::{RefusedLine, RefusedLines};
+use crate::cause::Cause;
+use crate::refused::{LineCause, Refusals};
 use crate::session::Session;
 use crate::session::stream::{StreamFailure, Streamed};
+use ipnet_sets::IpSet;
 use ipnet_text::write_whole;
+use std::alloc::Global;
 use std::io;
 use std::io::{Read, Write};
 
@@ -68,8 +73,7 @@ pub fn run<W: Write, X: Write>(session: Session, names: &[&str], out: &mut W, fa
             return 2;
         }
     };
-    if !written(out, text.as_bytes()) {
-        let _ = writeln!(faults, "netset: output cannot be written");
+    if !write_or_report(out, faults, text.as_bytes()) {
         return 2;
     }
     if succeeded { 0 } else { 1 }
@@ -161,6 +165,71 @@ pub fn written<W: Write>(out: &mut W, bytes: &[u8]) -> bool
     write_whole(out, bytes).is_ok() && out.flush().is_ok()
 }
 
+/// Writes the bytes as `written` does, reports on `faults` if that fails, and returns whether it succeeded.
+///
+/// ```text
+/// "10.0.0.0/8\n" to a writer that fails after four bytes: false, "10.0" is written, and faults gets
+///     "netset: output cannot be written\n"
+/// ```
+pub fn write_or_report<W: Write, X: Write>(out: &mut W, faults: &mut X, bytes: &[u8]) -> bool
+    ensures whole { IsTrue result → Appends (W.contents out.old) (W.contents out.new) bytes.now }
+    ensures front { (front : List ℕ) × StartsWith bytes.now front
+        × Appends (W.contents out.old) (W.contents out.new) front }
+    ensures faultless { IsTrue result → Keeps (X.contents faults.old) (X.contents faults.new) }
+{
+    if written(out, bytes) {
+        return true;
+    }
+    let _ = writeln!(faults, "netset: output cannot be written");
+    false
+}
+
+/// Writes the bytes as `write_or_report` does, and returns the exit status: 0 if it succeeded, else 2.
+///
+/// ```text
+/// "10.0.0.0/8\n" to a writer that fails after four bytes: 2
+/// ```
+pub fn write_answer<W: Write, X: Write>(out: &mut W, faults: &mut X, bytes: &[u8]) -> u8
+    ensures status { (result ≡ 0) ⊎ (result ≡ 2) }
+    ensures whole { result ≡ 0 → Appends (W.contents out.old) (W.contents out.new) bytes.now }
+    ensures front { (front : List ℕ) × StartsWith bytes.now front
+        × Appends (W.contents out.old) (W.contents out.new) front }
+    ensures faultless { result ≡ 0 → Keeps (X.contents faults.old) (X.contents faults.new) }
+{
+    if write_or_report(out, faults, bytes) {
+        0
+    } else {
+        2
+    }
+}
+
+/// Returns the session's allocator and the addresses that its operation makes of its lists. If there are none, reports
+/// why on `faults`, as `run` does, and returns `None`. `names` are the names of the lists.
+///
+/// ```text
+/// Union of "10.0.0.0/31\n":              the allocator, and the set of 10.0.0.0 and 10.0.0.1
+/// Union of "10.0.0.0/33\n", named a:     None, and faults gets
+///     "a:1: not a network, an address or a range: 10.0.0.0/33 (the prefix length is above 32)\n"
+/// ```
+pub fn set_or_report<X: Write>(
+    session: Session,
+    names: &[&str],
+    faults: &mut X,
+) -> Option<(Global, IpSet)>
+    ensures set { IfSome result (λ found. (request : Request) → (lists : List (List ℕ))
+        → WereCombined request lists session → IsResultSet request lists found.1) }
+    ensures faultless { IfSome result (λ _. Keeps (X.contents faults.old) (X.contents faults.new)) }
+{
+    let alloc = session.alloc();
+    match session.into_set() {
+        Ok(set) => Some((alloc, set)),
+        Err(failure) => {
+            let _ = report_failure(faults, names, &failure);
+            None
+        }
+    }
+}
+
 /// Reports the failure of a session on `faults`, as `run` does. `names` are the names of the lists.
 ///
 /// ```text
@@ -175,21 +244,20 @@ pub fn report_failure<X: Write>(
         Failure::Count => writeln!(faults, "netset: another number of lists is wanted"),
         Failure::NoFamily => writeln!(faults, "{NO_FAMILY}"),
         Failure::Memory => writeln!(faults, "netset: out of memory"),
-        Failure::Refused(lines) => report_lines(faults, names, lines),
+        Failure::Refused(lines) => report_since(faults, names, lines, (0, 0)),
     }
 }
 
-/// Reports the first refused lines, and the number of the others.
-fn report_lines<X: Write>(faults: &mut X, names: &[&str], lines: &RefusedLines) -> io::Result<()> {
-    report_since(faults, names, lines, (0, 0))
-}
-
-/// Reports the refused lines as `report_lines` does. `before` is how many of them are reported already, first of those
-/// that are kept, and then of all. Nothing is printed if these are all.
-pub(crate) fn report_since<X: Write>(
+/// Reports the refused lines that are kept, and the number of the others. `before` is how many of them are reported
+/// already, first of those that are kept, and then of all. Nothing is printed if these are all.
+///
+/// ```text
+/// twelve lines of a list, before (0, 0): ten lines, and "netset: and 2 more"
+/// ```
+pub fn report_since<X: Write, C: LineCause>(
     faults: &mut X,
     names: &[&str],
-    lines: &RefusedLines,
+    lines: &Refusals<C>,
     before: (usize, usize),
 ) -> io::Result<()>
     ensures { lines.now.count ≡ before.1 → Keeps (X.contents faults.old) (X.contents faults.new) }
@@ -199,7 +267,10 @@ pub(crate) fn report_since<X: Write>(
         return Ok(());
     }
     for index in shown..lines.shown.len() {
-        report_line(faults, names, &lines.shown[index])?;
+        let line = &lines.shown[index];
+        let name = names.get(line.list).copied().unwrap_or("list");
+        line.cause
+            .report(faults, name, line.line, line.text.as_slice())?;
     }
     let new = lines.count.saturating_sub(count);
     let more = new.saturating_sub(lines.shown.len().saturating_sub(shown));
@@ -230,13 +301,18 @@ pub fn report_text<X: Write>(
     write!(faults, "{name}:{number}: {what}: {text}{rest}")
 }
 
-/// Reports one refused line.
-fn report_line<X: Write>(faults: &mut X, names: &[&str], line: &RefusedLine) -> io::Result<()> {
-    let name = names.get(line.list).copied().unwrap_or("list");
-    let text = line.text.as_slice();
-    report_text(faults, name, line.line, NO_ENTRY, text)?;
-    match line.cause {
-        Some(cause) => writeln!(faults, " ({cause})"),
-        None => writeln!(faults),
+impl LineCause for Option<Cause> {
+    fn report<X: Write>(
+        &self,
+        faults: &mut X,
+        name: &str,
+        number: usize,
+        text: &[u8],
+    ) -> io::Result<()> {
+        report_text(faults, name, number, NO_ENTRY, text)?;
+        match self {
+            Some(cause) => writeln!(faults, " ({cause})"),
+            None => writeln!(faults),
+        }
     }
 }

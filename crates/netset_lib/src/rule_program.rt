@@ -7,7 +7,7 @@ ghost use Rattle.netset_lib.specs.RuleAnswers.{IsRuleAnswer, IsWritten, IsFrontW
 ghost use Rattle.netset_lib.specs.RuleContentsOf.{contents_of};
 ghost use Rattle.netset_lib.specs.RuleLines.{IsRuleList};
 
-use crate::program::{NO_ENTRY, report_text, written};
+use crate::program::{NO_ENTRY, report_text, write_or_report};
 use crate::rule_answer::{RuleFailure, RuleQuery};
 use crate::rule_line::RuleCause;
 use crate::rule_list::{RefusedRule, RuleList};
@@ -64,8 +64,7 @@ pub fn run_rules<W: Write, X: Write>(
             return 2;
         }
     };
-    if !written(out, text.as_slice()) {
-        let _ = writeln!(faults, "netset: output cannot be written");
+    if !write_or_report(out, faults, text.as_slice()) {
         return 2;
     }
     status_of(query, text.as_slice())

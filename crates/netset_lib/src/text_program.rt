@@ -7,7 +7,7 @@ ghost use Rattle.netset_lib.specs.TextTables.{IsTextRouteAnswer};
 use crate::answer::Failure;
 use crate::cause::Cause;
 use crate::content_line::RefusedText;
-use crate::program::{report_failure, report_text, written};
+use crate::program::{report_failure, report_text, write_or_report};
 use crate::rule_program::MOST_LINES;
 use crate::text_route::{TextFailure, text_route_answers};
 use ipnet::Grammar;
@@ -83,8 +83,7 @@ pub fn run_text_routes<W: Write, X: Write>(
             return 2;
         }
     };
-    if !written(out, answers.text.as_bytes()) {
-        let _ = writeln!(faults, "netset: output cannot be written");
+    if !write_or_report(out, faults, answers.text.as_bytes()) {
         return 2;
     }
     if answers.found { 1 } else { 0 }

@@ -82,12 +82,12 @@ pub(crate) fn read_text_routes<'a>(
 ) -> Result<TextRoutes<'a>, AllocError>
     ensures { IfOk result (AreTextsRead grammar bytes.now) }
 {
-    let lines = content_lines(alloc, bytes, grammar)?;
-    let mut room = String::new(alloc);
     let mut made = TextRoutes {
         routes: Vec::new(alloc),
         refused: Vec::new(alloc),
     };
+    let mut room = String::new(alloc);
+    let lines = content_lines(alloc, bytes, grammar)?;
     for line in lines.as_slice() {
         let read = read_table_line(&mut room, line.text, grammar)?;
         add_line(alloc, &mut made, *line, read)?;

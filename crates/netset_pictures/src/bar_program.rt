@@ -5,16 +5,13 @@ ghost use Rattle.ipnet_base.specs.Address.{Address};
 ghost use Rattle.ipnet.specs.declared.parser.Grammar.{Grammar};
 ghost use Rattle.ipnet_sets.specs.Members.{IsMember};
 ghost use Rattle.netset_lib.specs.Replies.{AreSameLists, AreOtherLists};
-ghost use Rattle.netset_lib.specs.RuleAnswers.{IsWritten, IsFrontWritten};
-ghost use Rattle.netset_lib.specs.Sessions.{WereRead};
-ghost use Rattle.netset_lib.specs.declared.answer.Request.{Request};
-ghost use Rattle.netset_lib.specs.declared.command.Work.TheVariants.{Combine, Ask};
-ghost use Rattle.netset_lib.specs.declared.query.Query.TheVariants.{Compare};
+ghost use Rattle.netset_lib.specs.Runs.{WritesAnswer, WritesFront, WritesComparison, WritesComparisonFront};
+ghost use Rattle.netset_lib.specs.Sessions.{WereCompared};
 ghost use Rattle.netset_pictures.specs.BarAnswers.{IsBarAnswer, IsComparisonAnswer};
 
 use crate::bar::{BarRequest, framed_bar_text, framed_comparison_text};
 use ipnet_sets::IpSet;
-use netset_lib::{Session, report_failure, written};
+use netset_lib::{Session, report_failure, set_or_report, write_answer, write_or_report};
 use std::io::Write;
 
 /// Writes the bar of the session's lists to `out`, as `framed_bar_text` makes it of the addresses of the operation, and
@@ -43,21 +40,14 @@ pub fn run_bar<W: Write, X: Write>(
     faults: &mut X,
 ) -> u8
     ensures status { (result ≡ 0) ⊎ (result ≡ 2) }
-    ensures drawn { result ≡ 0 → (r : Request) → (lists : List (List ℕ)) → WereRead (Combine r) lists session
-        → IsWritten (IsBarAnswer r lists request.frame request.form) (W.contents out.old) (W.contents out.new) }
-    ensures cut_short { result ≡ 2 → (r : Request) → (lists : List (List ℕ)) → WereRead (Combine r) lists session
-        → Keeps (W.contents out.old) (W.contents out.new)
-        ⊎ IsFrontWritten (IsBarAnswer r lists request.frame request.form)
-        (W.contents out.old) (W.contents out.new) }
+    ensures drawn { result ≡ 0 → WritesAnswer (λ r lists.
+        IsBarAnswer r lists request.frame request.form) session (W.contents out.old) (W.contents out.new) }
+    ensures cut_short { result ≡ 2 → WritesFront (λ r lists.
+        IsBarAnswer r lists request.frame request.form) session (W.contents out.old) (W.contents out.new) }
     ensures faultless { result ≡ 0 → Keeps (X.contents faults.old) (X.contents faults.new) }
 {
-    let alloc = session.alloc();
-    let set = match session.into_set() {
-        Ok(set) => set,
-        Err(failure) => {
-            let _ = report_failure(faults, names, &failure);
-            return 2;
-        }
+    let Some((alloc, set)) = set_or_report(session, names, faults) else {
+        return 2;
     };
     let text = match framed_bar_text(alloc, &set, request) {
         Ok(text) => text,
@@ -66,11 +56,7 @@ pub fn run_bar<W: Write, X: Write>(
             return 2;
         }
     };
-    if !written(out, text.as_bytes()) {
-        let _ = writeln!(faults, "netset: output cannot be written");
-        return 2;
-    }
-    0
+    write_answer(out, faults, text.as_bytes())
 }
 
 /// Whether the sets have the same addresses.
@@ -109,18 +95,15 @@ pub fn run_comparison_bar<W: Write, X: Write>(
     faults: &mut X,
 ) -> u8
     ensures status { result ≤ 2 }
-    ensures drawn { result ≤ 1 → (grammar : Grammar) → (lists : List (List ℕ))
-        → WereRead (Ask Compare grammar) lists session
-        → IsWritten (IsComparisonAnswer grammar lists request.frame request.form)
+    ensures drawn { result ≤ 1 → WritesComparison (λ grammar lists.
+        IsComparisonAnswer grammar lists request.frame request.form) session
         (W.contents out.old) (W.contents out.new) }
     ensures different { result ≡ 1 → (grammar : Grammar) → (lists : List (List ℕ))
-        → WereRead (Ask Compare grammar) lists session → AreOtherLists grammar lists }
+        → WereCompared grammar lists session → AreOtherLists grammar lists }
     ensures same { result ≡ 0 → (grammar : Grammar) → (lists : List (List ℕ))
-        → WereRead (Ask Compare grammar) lists session → AreSameLists grammar lists }
-    ensures cut_short { result ≡ 2 → (grammar : Grammar) → (lists : List (List ℕ))
-        → WereRead (Ask Compare grammar) lists session
-        → Keeps (W.contents out.old) (W.contents out.new)
-        ⊎ IsFrontWritten (IsComparisonAnswer grammar lists request.frame request.form)
+        → WereCompared grammar lists session → AreSameLists grammar lists }
+    ensures cut_short { result ≡ 2 → WritesComparisonFront (λ grammar lists.
+        IsComparisonAnswer grammar lists request.frame request.form) session
         (W.contents out.old) (W.contents out.new) }
     ensures faultless { result ≤ 1 → Keeps (X.contents faults.old) (X.contents faults.new) }
 {
@@ -139,8 +122,7 @@ pub fn run_comparison_bar<W: Write, X: Write>(
             return 2;
         }
     };
-    if !written(out, text.as_bytes()) {
-        let _ = writeln!(faults, "netset: output cannot be written");
+    if !write_or_report(out, faults, text.as_bytes()) {
         return 2;
     }
     if are_same(&before, &after) { 0 } else { 1 }

@@ -2,14 +2,13 @@
 ghost use Rattle.std.specs.Prelude.{◌≡◌, ◌≤◌, ◌⊎◌, List, ℕ};
 ghost use Rattle.std.specs.Io.KnownBytes.{Keeps};
 ghost use Rattle.netset_lib.specs.PlanAnswers.{HoldsOfResult, HasNoPlacement};
-ghost use Rattle.netset_lib.specs.RuleAnswers.{IsWritten, IsFrontWritten};
-ghost use Rattle.netset_lib.specs.Sessions.{WereRead};
+ghost use Rattle.netset_lib.specs.Runs.{WritesAnswer, WritesFront};
+ghost use Rattle.netset_lib.specs.Sessions.{WereCombined};
 ghost use Rattle.netset_lib.specs.declared.answer.Request.{Request};
-ghost use Rattle.netset_lib.specs.declared.command.Work.TheVariants.{Combine};
 ghost use Rattle.netset_pictures.specs.PlanBars.{IsPlanBarAnswer};
 
 use crate::plan_bar::{PlanBarRequest, plan_bar_text};
-use netset_lib::{Session, report_failure, written};
+use netset_lib::{Session, set_or_report, write_answer};
 use std::io::Write;
 
 /// Writes the bar of a plan in the addresses of the session's lists to `out`, as `plan_bar_text` makes it, and returns
@@ -38,42 +37,27 @@ pub fn run_plan_bar<W: Write, X: Write>(
     faults: &mut X,
 ) -> u8
     ensures status { result ≤ 2 }
-    ensures drawn { let p = request.entry.plan in
-        result ≡ 0 → (r : Request) → (lists : List (List ℕ)) → WereRead (Combine r) lists session
-        → IsWritten (IsPlanBarAnswer r lists p.families p.lengths.now request.entry.form)
+    ensures drawn { let p = request.entry.plan in result ≡ 0 → WritesAnswer (λ r lists.
+        IsPlanBarAnswer r lists p.families p.lengths.now request.entry.form) session
         (W.contents out.old) (W.contents out.new) }
     ensures placed { let p = request.entry.plan in
-        result ≡ 0 → (r : Request) → (lists : List (List ℕ)) → WereRead (Combine r) lists session
+        result ≡ 0 → (r : Request) → (lists : List (List ℕ)) → WereCombined r lists session
         → HoldsOfResult r lists (λ InSet. ¬ (HasNoPlacement InSet p.families p.lengths.now)) }
     ensures no_placement { let p = request.entry.plan in
-        result ≡ 1 → (r : Request) → (lists : List (List ℕ)) → WereRead (Combine r) lists session
+        result ≡ 1 → (r : Request) → (lists : List (List ℕ)) → WereCombined r lists session
         → HoldsOfResult r lists (λ InSet. HasNoPlacement InSet p.families p.lengths.now) }
     ensures nothing { result ≡ 1 → Keeps (W.contents out.old) (W.contents out.new) }
-    ensures cut_short { let p = request.entry.plan in
-        result ≡ 2 → (r : Request) → (lists : List (List ℕ)) → WereRead (Combine r) lists session
-        → Keeps (W.contents out.old) (W.contents out.new)
-        ⊎ IsFrontWritten (IsPlanBarAnswer r lists p.families p.lengths.now request.entry.form)
+    ensures cut_short { let p = request.entry.plan in result ≡ 2 → WritesFront (λ r lists.
+        IsPlanBarAnswer r lists p.families p.lengths.now request.entry.form) session
         (W.contents out.old) (W.contents out.new) }
     ensures faultless { result ≡ 0 → Keeps (X.contents faults.old) (X.contents faults.new) }
 {
-    let alloc = session.alloc();
-    let set = match session.into_set() {
-        Ok(set) => set,
-        Err(failure) => {
-            let _ = report_failure(faults, names, &failure);
-            return 2;
-        }
+    let Some((alloc, set)) = set_or_report(session, names, faults) else {
+        return 2;
     };
     let text = match plan_bar_text(alloc, &set, request) {
         Ok(text) => text,
-        Err(failure) => {
-            let _ = writeln!(faults, "netset: {failure}");
-            return failure.status();
-        }
+        Err(failure) => return failure.report(faults),
     };
-    if !written(out, text.as_bytes()) {
-        let _ = writeln!(faults, "netset: output cannot be written");
-        return 2;
-    }
-    0
+    write_answer(out, faults, text.as_bytes())
 }

@@ -10,49 +10,23 @@ use Rattle.ipnet_text.proofs.ClosedLines.{IsClosed, closed_append, closed_behind
 use Rattle.ipnet_text.specs.Inputs.{GaveWhole}
 use Rattle.ipnet_text.specs.Window.{held}
 use Rattle.netset_lib.specs.Lists.{after_mark}
-use Rattle.netset_lib.proofs.RefusalLaws.{take-take-append}
+use Rattle.netset_lib.specs.RefusedLines.{HasMore, AreRefused}
+use Rattle.netset_lib.proofs.RefusalLaws.{HasMore-nil, HasMore-trans, more_refused}
 use Rattle.netset_words.specs.declared.extraction.Extraction.{Extraction}
 use Rattle.netset_words.specs.declared.item.ExtractRequest.{ExtractRequest}
 use Rattle.netset_words.specs.declared.line_items.LineState.{LineState}
-use Rattle.netset_words.specs.declared.refused_word.RefusedWords.{RefusedWords}
 use Rattle.netset_words.specs.declared.refused_word.WordCause.TheVariants.{NulByte}
 use Rattle.netset_words.specs.declared.word_reader.WordReader.{WordReader}
 use Rattle.netset_words.specs.Extracts.{WordRefusal, AreLineExtracts, IsExtract, AreExtracts}
 use Rattle.netset_words.specs.Extracts.{text_of_texts, IsExtractAnswer, HasNul, mask_refusals}
 use Rattle.netset_words.specs.Items.{Item, AreItems, entry_texts, mask_texts, wanted}
 use Rattle.netset_words.specs.Words.{words_of}
-use Rattle.netset_words.specs.ExtractSteps.{AddsRefusals, AreAllRefusals, ReadsWords, IsAtFirstLine}
+use Rattle.netset_words.specs.ExtractSteps.{ReadsWords, IsAtFirstLine}
 use Rattle.netset_words.specs.ExtractSteps.{TakesBytes, IsLineUpTo}
-use Rattle.netset_words.specs.ExtractSteps.{shown_refusals, refusal_of, is_some}
+use Rattle.netset_words.specs.ExtractSteps.{is_some}
 use Rattle.netset_words.specs.Extractions.{WereExtracted, IsNoted, has_entry}
 use Rattle.netset_words.proofs.InputReading.{IsInputUpTo, input_moves, input_grows, input_ends}
 use Rattle.netset_words.proofs.ItemLaws.{text_append}
-
--- ---- refused lines
-
-pub refusals_none : (lines : RefusedWords) → length lines.shown.items ≤ 10 → AddsRefusals lines lines []
-refusals_none lines few = record {
-  shown =
-      sym (ap (take 10) (append-nil (shown_refusals lines))
-      ∙ take_all 10 (shown_refusals lines) (omega (arith, few, length-map lines.shown.items refusal_of)));
-  count = sym (add-zero lines.count);
-}
-
-refusals_more : (old mid new : RefusedWords) (a b : List WordRefusal) → AddsRefusals old mid a → AddsRefusals mid new b
-    → AddsRefusals old new (a ++ b)
-refusals_more old mid new a b h k = record {
-  shown =
-      k.shown ∙ ap (λ l. take 10 (l ++ b)) h.shown ∙ take-take-append 10 (shown_refusals old ++ a) b
-      ∙ ap (take 10) (append_assoc (shown_refusals old) a b);
-  count = omega (arith, k.count, h.count, length-append a b);
-}
-
-pub all_refusals : (old new : RefusedWords) (a b : List WordRefusal) → AreAllRefusals old a → AddsRefusals old new b
-    → AreAllRefusals new (a ++ b)
-all_refusals old new a b h k = record {
-  shown = k.shown ∙ ap (λ l. take 10 (l ++ b)) h.shown ∙ take-take-append 10 a b;
-  count = omega (arith, k.count, h.count, length-append a b);
-}
 
 -- ---- lines one after another
 
@@ -94,7 +68,7 @@ words_none reader = record {
   read = (refl, refl);
   line = sym (add-zero reader.line);
   text = sym (append-nil reader.answer.items);
-  added = refusals_none reader.refused reader.refused.few;
+  added = HasMore-nil reader.refused reader.refused.few;
   noted = or_false reader.has_entry;
 }
 
@@ -114,7 +88,7 @@ words_more old mid new a b h k = record {
   text = k.text ∙ ap (λ z. z ++ text_of_texts k.entries) h.text
       ∙ append_assoc old.answer.items (text_of_texts h.entries) (text_of_texts k.entries)
       ∙ ap (λ z. old.answer.items ++ z) (sym (text_append h.entries k.entries));
-  added = refusals_more old.refused mid.refused new.refused h.refusals k.refusals h.added k.added;
+  added = HasMore-trans old.refused mid.refused new.refused h.refusals k.refusals h.added k.added;
   noted = k.noted ∙ ap (λ z. z || is_some k.entries) h.noted
       ∙ or_assoc old.has_entry (is_some h.entries) (is_some k.entries)
       ∙ ap (λ z. old.has_entry || z) (sym (some_of_both h.entries k.entries));
@@ -232,9 +206,9 @@ text_ends left left_now old start now next end at h t place request answer refus
         text = ap (λ z. z.items) answer ∙ both.text
             ∙ ap (λ z. z ++ text_of_texts both.entries) (ap (λ z. z.items) at.same_answer ∙ w.text)
             ∙ sym (text_append w.entries both.entries);
-        kept = subst (λ r. AreAllRefusals r (w.refusals ++ both.refusals)) (sym refused)
-            (all_refusals old.words.refused next.words.refused w.refusals both.refusals w.kept
-            (subst (λ r. AddsRefusals r next.words.refused both.refusals) at.same_refused both.added));
+        kept = subst (λ r. AreRefused r (w.refusals ++ both.refusals)) (sym refused)
+            (more_refused old.words.refused next.words.refused w.refusals both.refusals w.kept
+            (subst (λ r. HasMore r next.words.refused both.refusals) at.same_refused both.added));
       },
       record {
         entries = both.entries;
@@ -268,7 +242,7 @@ pub record IsNextLine (old new : WordReader) : Type 0 where
 -- a line with a NUL byte
 pub nul_line : (old new : WordReader) (line : List ℕ) → IsNextLine old new → HasNul line
     → new.answer ≡ old.answer → new.has_entry ≡ old.has_entry
-    → AddsRefusals old.refused new.refused
+    → HasMore old.refused new.refused
     (record { list = old.list; line = old.line + 1; text = line; cause = NulByte } ∷ [])
     → ReadsWords old new (line ∷ [])
 nul_line old new line at nul answer noted added =
@@ -304,7 +278,7 @@ pub word_line : (old new : WordReader) (line : List ℕ) (items : List Item) (st
     → ¬ (HasNul line) → AreItems old.request (words_of line) items
     → IsLineUpTo old.request old.answer.items items new.answer.items state
     → new.has_entry ≡ (old.has_entry || state.has_entry)
-    → AddsRefusals old.refused new.refused (mask_refusals old.list (old.line + 1) (mask_texts items))
+    → HasMore old.refused new.refused (mask_refusals old.list (old.line + 1) (mask_texts items))
     → ReadsWords old new (line ∷ [])
 word_line old new line items state at no_nul are up_to noted added =
     let first = old.request.first in

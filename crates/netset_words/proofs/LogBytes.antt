@@ -16,7 +16,7 @@ use Rattle.ipnet_text.proofs.ClosedLines.{IsClosed, closed_append}
 use Rattle.netset_words.specs.declared.line_filter.LineFilter.{LineFilter}
 use Rattle.netset_words.specs.declared.line_filter.Rest.TheVariants as Rests
 use Rattle.netset_words.specs.declared.log_line.LinesRequest.{LinesRequest}
-use Rattle.netset_words.specs.ExtractSteps.{AreAllRefusals}
+use Rattle.netset_lib.specs.RefusedLines.{AreRefused}
 use Rattle.netset_words.specs.LogLines.{LogResult, AreLogLines, treated_front}
 use Rattle.netset_words.specs.FilterSteps.{IsFilterUpTo, IsLogUpTo, ReadsUpTo, GoesOn, ReadsEnd}
 use Rattle.netset_words.proofs.LogFilterLaws.{not_kept, or_false}
@@ -152,7 +152,7 @@ pub record IsWholeResult (how : LinesRequest) (chosen : IpSet) (written : List �
   pub text : written ++ f.answers.text.items ≡ result.text
   pub printed : f.answers.printed ≡ result.printed
   pub nones : f.answers.nones ≡ result.nones
-  pub undecided : AreAllRefusals f.undecided result.undecided
+  pub undecided : AreRefused f.undecided result.undecided
 
 pub whole_result : (how : LinesRequest) (chosen : IpSet) (written : List ℕ) (least : ℕ) (lines : List (List ℕ))
     (f : LineFilter) → IsFilterUpTo how chosen written least lines [] f → IsWholeResult how chosen written least lines f
@@ -165,7 +165,7 @@ whole_result how chosen written least lines f h = elim h.current [
         text = h.text ∙ ap (λ p. h.result.text ++ p.text) k.nothing ∙ append-nil h.result.text;
         printed = h.printed ∙ ap (λ p. h.result.printed || p.printed) k.nothing ∙ sym (or_false h.result.printed);
         nones = h.nones;
-        undecided = subst (AreAllRefusals f.undecided)
+        undecided = subst (AreRefused f.undecided)
             (ap (λ p. h.result.undecided ++ p.undecided) k.nothing ∙ append-nil h.result.undecided) h.undecided;
       }
 ]

@@ -17,14 +17,14 @@ use Rattle.netset_words.specs.declared.log_line.Treatment.TheVariants as Treatme
 use Rattle.netset_words.specs.declared.log_line.Verdict.{Verdict}
 use Rattle.netset_words.specs.declared.log_line.Verdict.TheVariants as Verdicts
 use Rattle.netset_words.specs.declared.refused_word.WordCause.TheVariants as Causes
-use Rattle.netset_words.specs.ExtractSteps.{AddsRefusals, AreAllRefusals}
+use Rattle.netset_lib.specs.RefusedLines.{HasMore, AreRefused}
 use Rattle.netset_words.specs.LogLines.{LogResult, no_result, joined, IsShortLine, IsLogLine, AreLogLines}
 use Rattle.netset_words.specs.LogLines.{IsVerdict, treated, treated_front, is_printed, report_of, result_of, front_of}
 use Rattle.netset_words.specs.LogLines.{has_none}
 use Rattle.netset_words.specs.LogSteps.{AddsResult, rest_of, after_front}
 use Rattle.netset_words.specs.FilterSteps.{IsFilterUpTo}
 use Rattle.netset_words.specs.Words.{cuts, words_of}
-use Rattle.netset_words.proofs.ExtractLaws.{all_refusals}
+use Rattle.netset_lib.proofs.RefusalLaws.{more_refused}
 
 -- ---- results
 
@@ -205,7 +205,7 @@ module _ (how : LinesRequest) (chosen : IpSet) (written : List ℕ) (least : ℕ
               nones = nones ∙ h.nones;
               least_count = rw undecided h.least_count;
               undecided = rw undecided
-                  (subst (λ us. AreAllRefusals old.undecided (h.result.undecided ++ us))
+                  (subst (λ us. AreRefused old.undecided (h.result.undecided ++ us))
                   (ap (λ p. p.undecided) d.is
                   ∙ sym (same_report number (cur ++ piece) cur t
                   (take-append-le 101 cur piece (omega (arith, d.long)))))
@@ -222,7 +222,7 @@ module _ (how : LinesRequest) (chosen : IpSet) (written : List ℕ) (least : ℕ
       ++ (if is_printed (treated_front how.any how.others verdict) then (old.front.items ++ last) ++ more else [])
       → new.answers.printed ≡ (old.answers.printed || is_printed (treated_front how.any how.others verdict))
       → new.answers.nones ≡ old.answers.nones
-      → AddsRefusals old.undecided new.undecided
+      → HasMore old.undecided new.undecided
       (report_of (old.line + 1) (old.front.items ++ last) (treated_front how.any how.others verdict))
       → old.rest ≡ Rests.Kept → new.rest ≡ rest_of (treated_front how.any how.others verdict)
       → new.front.items ≡ [] → IsFilterUpTo how chosen written least lines (cur ++ piece) new
@@ -270,12 +270,12 @@ module _ (how : LinesRequest) (chosen : IpSet) (written : List ℕ) (least : ℕ
                   ∙ sym (or_false h.result.printed));
               nones = nones ∙ h.nones;
               least_count = omega (arith, h.least_count, undecided.count);
-              undecided = subst (λ us. AreAllRefusals new.undecided us)
+              undecided = subst (λ us. AreRefused new.undecided us)
                   (ap (λ z. z ++ report_of number (cur ++ piece) t)
                   (ap (λ p. h.result.undecided ++ p.undecided) none ∙ append-nil h.result.undecided))
-                  (all_refusals old.undecided new.undecided (h.result.undecided ++ h.partial.undecided)
+                  (more_refused old.undecided new.undecided (h.result.undecided ++ h.partial.undecided)
                   (report_of number (cur ++ piece) t) h.undecided
-                  (subst (AddsRefusals old.undecided new.undecided)
+                  (subst (HasMore old.undecided new.undecided)
                   (ap (λ n. report_of (n + 1) whole t) h.line
                   ∙ sym (same_report number (cur ++ piece) whole t (ap (take 101) all
                   ∙ take-append-le 101 whole more (omega (arith, full)))))
@@ -306,7 +306,7 @@ module _ (how : LinesRequest) (chosen : IpSet) (written : List ℕ) (least : ℕ
         ∙ or_false (h.result.printed || r.printed);
     nones = adds.nones ∙ ap (λ n. n + r.nones) h.nones;
     least_count = rw undecided h.least_count;
-    undecided = subst (λ us. AreAllRefusals new.undecided us)
+    undecided = subst (λ us. AreRefused new.undecided us)
         (ap (λ p. h.result.undecided ++ p.undecided) none
         ∙ sym (ap (λ us. (h.result.undecided ++ us) ++ []) decided
         ∙ append-nil (h.result.undecided ++ [])))
@@ -376,7 +376,7 @@ module _ (how : LinesRequest) (chosen : IpSet) (written : List ℕ) (least : ℕ
                   ∙ or_false (h.result.printed || is_printed t);
               nones = nones ∙ h.nones ∙ sym (add-zero h.result.nones);
               least_count = rw undecided h.least_count;
-              undecided = subst (λ us. AreAllRefusals new.undecided us)
+              undecided = subst (λ us. AreRefused new.undecided us)
                   (ap (λ p. h.result.undecided ++ p.undecided) d.is
                   ∙ sym (append-nil (h.result.undecided ++ report_of number cur t)))
                   (rw undecided h.undecided);
@@ -415,7 +415,7 @@ pub front_read : (how : LinesRequest) (chosen : IpSet) (written : List ℕ) (lea
     → new.answers.text.items ≡ old.answers.text.items ++ (if is_printed t then front ++ more else [])
     → printed ≡ is_printed t → new.answers.printed ≡ (old.answers.printed || printed)
     → new.answers.nones ≡ old.answers.nones → number ≡ old.line + 1
-    → AddsRefusals old.undecided new.undecided (report_of number front t) → old.rest ≡ Rests.Kept
+    → HasMore old.undecided new.undecided (report_of number front t) → old.rest ≡ Rests.Kept
     → new.rest ≡ rest_of t → new.front.items ≡ [] → IsFilterUpTo how chosen written least lines (cur ++ piece) new
 front_read how chosen written least lines cur piece old new h last more front k n number verdict t printed same last_is
     more_is room long front_is n_is right is text shown any nones number_is reports kept rest empty =
@@ -436,7 +436,7 @@ front_read how chosen written least lines cur piece old new h last more front k 
     (text ∙ ap (λ z. old.answers.text.items ++ (if is_printed z then front ++ more else [])) t_is
     ∙ ap (λ z. old.answers.text.items ++ (if is_printed treatment then z ++ more else [])) front_is)
     (any ∙ ap (λ z. old.answers.printed || z) (shown ∙ ap is_printed t_is)) nones
-    (subst (AddsRefusals old.undecided new.undecided)
+    (subst (HasMore old.undecided new.undecided)
     (ap (λ m. report_of m front t) number_is ∙ ap (λ z. report_of (old.line + 1) z t) front_is
     ∙ ap (report_of (old.line + 1) whole) t_is) reports)
     kept (rest ∙ ap rest_of t_is) empty

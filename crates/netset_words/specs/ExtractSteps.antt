@@ -1,40 +1,17 @@
 -- The private steps of extracting entries.
 -- Only private contracts use these.
-use Rattle.std.specs.Prelude.{◌≡◌, ◌+◌, ◌||◌, ℕ, Bool, true, false, List, [], ◌∷◌, ◌++◌, length, map, take}
+use Rattle.std.specs.Prelude.{◌≡◌, ◌+◌, ◌||◌, ℕ, Bool, true, false, List, [], ◌∷◌, ◌++◌, length}
 use Rattle.std.specs.Prelude.{MatchOption}
 use Rattle.ipnet.specs.Lines.{lines_of}
 use Rattle.ipnet_text.specs.Window.{held}
+use Rattle.netset_lib.specs.RefusedLines.{HasMore}
 use Rattle.netset_words.specs.declared.extraction.Extraction.{Extraction}
 use Rattle.netset_words.specs.declared.item.ExtractRequest.{ExtractRequest}
 use Rattle.netset_words.specs.declared.item.Kind.TheVariants as Kinds
 use Rattle.netset_words.specs.declared.line_items.LineState.{LineState}
-use Rattle.netset_words.specs.declared.refused_word.RefusedWord.{RefusedWord}
-use Rattle.netset_words.specs.declared.refused_word.RefusedWords.{RefusedWords}
 use Rattle.netset_words.specs.declared.word_reader.WordReader.{WordReader}
 use Rattle.netset_words.specs.Extracts.{WordRefusal, AreLineExtracts, text_of_texts}
 use Rattle.netset_words.specs.Items.{Item, entry_texts, mask_texts, wanted}
-
--- At most this number of refused lines are kept. The others are only counted.
-abbrev pub most_shown : ℕ
-most_shown = 10
-
--- The refusal that a value represents.
-abbrev pub refusal_of : RefusedWord → WordRefusal
-refusal_of r = record { list = r.list; line = r.line; text = r.text.items; cause = r.cause }
-
--- The refused lines that are kept.
-abbrev pub shown_refusals : RefusedWords → List WordRefusal
-shown_refusals r = map refusal_of r.shown.items
-
--- These are all refused lines: the first ten are kept, and all are counted.
-pub record AreAllRefusals (lines : RefusedWords) (refusals : List WordRefusal) : Type 0 where
-  pub shown : shown_refusals lines ≡ take most_shown refusals
-  pub count : lines.count ≡ length refusals
-
--- The refused lines `more` are added.
-pub record AddsRefusals (old new : RefusedWords) (more : List WordRefusal) : Type 0 where
-  pub shown : shown_refusals new ≡ take most_shown (shown_refusals old ++ more)
-  pub count : new.count ≡ old.count + length more
 
 -- Whether there is one of the texts.
 abbrev pub is_some : List (List ℕ) → Bool
@@ -65,7 +42,7 @@ pub record ReadsWords (old new : WordReader) (lines : List (List ℕ)) : Type 0 
   pub read : AreLineExtracts old.request old.list (old.line + 1) lines entries refusals
   pub line : new.line ≡ old.line + length lines
   pub text : new.answer.items ≡ old.answer.items ++ text_of_texts entries
-  pub added : AddsRefusals old.refused new.refused refusals
+  pub added : HasMore old.refused new.refused refusals
   pub noted : new.has_entry ≡ (old.has_entry || is_some entries)
 
 -- A reader of words before the first line of its next text.

@@ -3,7 +3,7 @@ use Rattle.std.specs.Prelude.{◌≡◌, ◌≢◌, ◌↔◌, ℕ, Bool, true, 
 use Rattle.netset_words.specs.declared.extraction.Extraction.{Extraction}
 use Rattle.netset_words.specs.declared.item.ExtractRequest.{ExtractRequest}
 use Rattle.netset_words.specs.Extracts.{WordRefusal, IsExtract, AreExtracts, text_of_texts}
-use Rattle.netset_words.specs.ExtractSteps.{AreAllRefusals}
+use Rattle.netset_lib.specs.RefusedLines.{AreRefused}
 
 -- The extraction has read exactly these texts, in this order.
 pub record WereExtracted (how : ExtractRequest) (texts : List (List ℕ)) (e : Extraction) : Type 0 where
@@ -13,7 +13,7 @@ pub record WereExtracted (how : ExtractRequest) (texts : List (List ℕ)) (e : E
   pub refusals : List WordRefusal
   pub are : AreExtracts how 0 texts entries refusals
   pub text : e.words.answer.items ≡ text_of_texts entries
-  pub kept : AreAllRefusals e.words.refused refusals
+  pub kept : AreRefused e.words.refused refusals
 
 -- Whether an entry was found in the text that the extraction has read last.
 abbrev pub has_entry : Extraction → Bool

@@ -2,7 +2,7 @@
 use Rattle.std.specs.Prelude.{◌≡◌, ◌⊎◌, ◌==◌, ℕ, ◌+◌, true, List, [], ◌∷◌, ◌++◌}
 use Rattle.std.specs.List.{list_any}
 use Rattle.ipnet.specs.Lines.{lines_of}
-use Rattle.netset_lib.specs.Lists.{after_mark}
+use Rattle.netset_lib.specs.Lists.{RefusalFor, after_mark}
 use Rattle.netset_words.specs.declared.item.ExtractRequest.{ExtractRequest}
 use Rattle.netset_words.specs.declared.refused_word.WordCause.{WordCause}
 use Rattle.netset_words.specs.declared.refused_word.WordCause.TheVariants.{NulByte, Netmask}
@@ -10,11 +10,8 @@ use Rattle.netset_words.specs.Items.{Item, AreItems, entry_texts, mask_texts, wa
 use Rattle.netset_words.specs.Words.{words_of}
 
 -- A refused line: the index of its text from 0, its line number from 1, the part of it that is refused, and why.
-pub record WordRefusal : Type 0 where
-  pub list : ℕ
-  pub line : ℕ
-  pub text : List ℕ
-  pub cause : WordCause
+abbrev pub WordRefusal : Type 0
+WordRefusal = RefusalFor WordCause
 
 -- The line has a NUL byte.
 abbrev pub HasNul : List ℕ → Type 0

@@ -9,7 +9,7 @@ use Rattle.ipnet_text.specs.Inputs.{GaveWhole}
 use Rattle.netset_lib.specs.Lists.{after_mark}
 use Rattle.netset_words.specs.declared.line_filter.LineFilter.{LineFilter}
 use Rattle.netset_words.specs.declared.log_line.LinesRequest.{LinesRequest}
-use Rattle.netset_words.specs.ExtractSteps.{AreAllRefusals}
+use Rattle.netset_lib.specs.RefusedLines.{AreRefused}
 use Rattle.netset_words.specs.LogLines.{AreLogLines, LogResult}
 use Rattle.netset_words.specs.LogSteps.{IsCurrentLine}
 
@@ -26,7 +26,7 @@ pub record IsFilterUpTo (how : LinesRequest) (set : IpSet) (written : List ℕ) 
   pub text : written ++ f.answers.text.items ≡ result.text ++ partial.text
   pub printed : f.answers.printed ≡ (result.printed || partial.printed)
   pub nones : f.answers.nones ≡ result.nones
-  pub undecided : AreAllRefusals f.undecided (result.undecided ++ partial.undecided)
+  pub undecided : AreRefused f.undecided (result.undecided ++ partial.undecided)
   pub least_count : least ≤ f.undecided.count
 
 -- More bytes of a line were read.

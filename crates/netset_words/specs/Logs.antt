@@ -14,7 +14,7 @@ use Rattle.netset_lib.specs.Operations.{IsInResult}
 use Rattle.netset_words.specs.declared.line_filter.LineFilter.{LineFilter}
 use Rattle.netset_words.specs.declared.lines_program.FilteredLog.{FilteredLog}
 use Rattle.netset_words.specs.declared.log_line.LinesRequest.{LinesRequest}
-use Rattle.netset_words.specs.ExtractSteps.{AreAllRefusals}
+use Rattle.netset_lib.specs.RefusedLines.{AreRefused}
 use Rattle.netset_words.specs.LogLines.{LogResult, IsLog, AreLogLines}
 use Rattle.netset_words.specs.FilterSteps.{IsLogUpTo}
 
@@ -74,4 +74,4 @@ pub record IsFilterFor (request : Request) (how : LinesRequest) (lists : List (L
 pub record HasCounts (log : FilteredLog) (result : LogResult) : Type 0 where
   pub printed : log.printed ≡ result.printed
   pub nones : log.nones ≡ result.nones
-  pub undecided : AreAllRefusals log.undecided result.undecided
+  pub undecided : AreRefused log.undecided result.undecided

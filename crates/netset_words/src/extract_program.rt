@@ -2,14 +2,12 @@
 ghost use Rattle.std.specs.Prelude.{◌≡◌, ◌≢◌, ◌⊎◌, List, ℕ};
 ghost use Rattle.std.specs.Io.KnownBytes.{Keeps};
 ghost use Rattle.netset_lib.specs.RuleAnswers.{IsWritten, IsFrontWritten};
-ghost use Rattle.netset_words.specs.declared.item.ExtractRequest.{ExtractRequest};
-ghost use Rattle.netset_words.specs.Extracts.{IsExtractAnswer};
 ghost use Rattle.netset_words.specs.Extractions.{WereExtracted, refused_count};
+ghost use Rattle.netset_words.specs.Extracts.{IsExtractAnswer};
+ghost use Rattle.netset_words.specs.declared.item.ExtractRequest.{ExtractRequest};
 
 use crate::extraction::Extraction;
-use crate::refused_word::{RefusedWord, RefusedWords};
-use netset_lib::{report_text, written};
-use std::io;
+use netset_lib::{report_since, write_answer};
 use std::io::Write;
 
 /// Writes the entries of the texts that were read to `out`, one a line, and returns the exit status.
@@ -52,42 +50,5 @@ pub fn run_extract<W: Write, X: Write>(
         let _ = report_since(faults, names, &words.refused, (0, 0));
         return 2;
     }
-    if !written(out, words.answer.as_slice()) {
-        let _ = writeln!(faults, "netset: output cannot be written");
-        return 2;
-    }
-    0
-}
-
-/// Reports the first refused lines, and the number of the others. `before` is how many of them are reported already,
-/// first of those that are kept, and then of all. Nothing is printed if these are all.
-pub(crate) fn report_since<X: Write>(
-    faults: &mut X,
-    names: &[&str],
-    words: &RefusedWords,
-    before: (usize, usize),
-) -> io::Result<()>
-    ensures { words.now.count ≡ before.1 → Keeps (X.contents faults.old) (X.contents faults.new) }
-{
-    let (shown, count) = before;
-    if words.count == count {
-        return Ok(());
-    }
-    for index in shown..words.shown.len() {
-        report_word(faults, names, &words.shown[index])?;
-    }
-    let new = words.count.saturating_sub(count);
-    let more = new.saturating_sub(words.shown.len().saturating_sub(shown));
-    if more != 0 {
-        writeln!(faults, "netset: and {more} more")?;
-    }
-    Ok(())
-}
-
-/// Reports one refused line.
-fn report_word<X: Write>(faults: &mut X, names: &[&str], word: &RefusedWord) -> io::Result<()> {
-    let name = names.get(word.list).copied().unwrap_or("list");
-    let text = word.text.as_slice();
-    report_text(faults, name, word.line, word.cause.words(), text)?;
-    writeln!(faults)
+    write_answer(out, faults, words.answer.as_slice())
 }

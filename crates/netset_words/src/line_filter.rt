@@ -12,7 +12,7 @@ ghost use Rattle.netset_lib.specs.declared.answer.Request.{Request};
 ghost use Rattle.netset_lib.specs.declared.command.Work.TheVariants.{Combine};
 ghost use Rattle.netset_words.specs.declared.log_line.LinesRequest.{LinesRequest};
 ghost use Rattle.netset_words.specs.declared.line_filter.Rest.TheVariants.{Kept};
-ghost use Rattle.netset_words.specs.ExtractSteps.{AddsRefusals};
+ghost use Rattle.netset_lib.specs.RefusedLines.{HasMore};
 ghost use Rattle.netset_words.specs.LogLines.{LogResult, IsShortLine, has_none, is_printed, report_of};
 ghost use Rattle.netset_words.specs.LogSteps.{AddsResult, rest_of, after_front};
 ghost use Rattle.netset_words.specs.Words.{cuts};
@@ -186,14 +186,14 @@ fn report_front(
     treatment: Treatment,
 ) -> Result<(), AllocError>
     requires { 101 ≤ length front.now }
-    ensures { OnOk result (AddsRefusals undecided.old undecided.new (report_of number front.now treatment)) }
+    ensures { OnOk result (HasMore undecided.old undecided.new (report_of number front.now treatment)) }
 {
     match treatment {
         Treatment::Printed => Ok(()),
         Treatment::LeftOut => Ok(()),
         Treatment::Undecided => {
             let cause = WordCause::Undecided;
-            undecided.push(alloc, (LOG, number), &front[..SHOWN], cause)
+            undecided.push(alloc, LOG, number, &front[..SHOWN], cause)
         }
     }
 }

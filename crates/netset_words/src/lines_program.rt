@@ -14,11 +14,10 @@ ghost use Rattle.netset_words.specs.Logs.{IsLogFiltered, IsLogFilteredButSome, I
 ghost use Rattle.netset_words.specs.Logs.{IsFilterFor, HasCounts};
 ghost use Rattle.netset_words.specs.FilterSteps.{IsLogUpTo, IsTaken, IsStreamed};
 
-use crate::extract_program::report_since;
 use crate::line_filter::LineFilter;
 use crate::refused_word::RefusedWords;
 use ipnet_text::{ReadError, Window};
-use netset_lib::{MOST_READS, ReadFailure, begin_input, written};
+use netset_lib::{MOST_READS, ReadFailure, begin_input, report_since, written};
 use std::alloc::AllocError;
 use std::io;
 use std::io::{Read, Write};

@@ -33,14 +33,15 @@ pub(crate) struct WordReader {
 }
 
 impl WordReader {
-    ghost use Rattle.netset_words.specs.ExtractSteps.{AreAllRefusals, ReadsWords};
+    ghost use Rattle.netset_lib.specs.RefusedLines.{AreRefused};
+    ghost use Rattle.netset_words.specs.ExtractSteps.{ReadsWords};
 
     /// A reader of the first text.
     pub(crate) fn new(alloc: Global, request: ExtractRequest) -> WordReader
         ensures request { result.request ≡ request }
         ensures first { result.list ≡ 0 }
         ensures answer { result.answer.items ≡ [] }
-        ensures none { AreAllRefusals result.refused [] }
+        ensures none { AreRefused result.refused [] }
     {
         WordReader {
             alloc,
@@ -62,18 +63,17 @@ impl WordReader {
             return Err(AllocError);
         };
         self.line = number;
-        let place = (self.list, number);
         if has_byte(line, 0) {
             return self
                 .refused
-                .push(self.alloc, place, line, WordCause::NulByte);
+                .push(self.alloc, self.list, number, line, WordCause::NulByte);
         }
         let state = read_items(&mut self.room, &mut self.answer, self.request, line)?;
         self.has_entry = is_any(self.has_entry, state.has_entry);
         match state.mask {
             Some(mask) => self
                 .refused
-                .push(self.alloc, place, mask, WordCause::Netmask),
+                .push(self.alloc, self.list, number, mask, WordCause::Netmask),
             None => Ok(()),
         }
     }

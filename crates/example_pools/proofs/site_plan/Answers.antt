@@ -5,8 +5,8 @@ use Rattle.example_pools.proofs.site_plan.Goals as goal
 
 pub returns-clause-subnets : goal.returns-clause-subnets
 returns-clause-subnets c = rw c.in_ok-plan.ensures.first
-    (first_are_subnets _ _ c.args.sites _ c.in_ok-walk.ensures.walk)
+    (first_are_subnets _ _ c.args.sites _ c.in-Ok.ensures.walk)
 
 pub returns-clause-disjoint : goal.returns-clause-disjoint
 returns-clause-disjoint c = rw c.in_ok-plan.ensures.first
-    (AllPairs-take AreDisjoint c.args.sites _ c.in_ok-walk.ensures.walk.disjoint)
+    (AllPairs-take AreDisjoint c.args.sites _ c.in-Ok.ensures.walk.disjoint)

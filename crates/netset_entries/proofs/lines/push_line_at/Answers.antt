@@ -1,17 +1,13 @@
-use Rattle.std.proofs.Common.{◌++◌, sym, ap, ◌∙◌, append-nil}
-use Rattle.ipnet_text.proofs.ListsLaws.{OnOk_then}
-use Rattle.netset_entries.proofs.PieceLaws.{line_here, no_line}
+use Rattle.netset_lib.proofs.RuleAnswerLaws.{appended_here, appended_past}
+use Rattle.netset_entries.specs.EntryLineOf.{numbered}
+use Rattle.netset_entries.specs.EntryTexts.{entry_line}
 use Rattle.netset_entries.proofs.lines.push_line_at.Goals as goal
 
 pub returns-in-Some : goal.returns-in-Some
 returns-in-Some c =
-    let found = c.in-Some.ensures.lookup in
-    OnOk_then c.push_line.result c.push_line.ensures
-    (λ is. is
-    ∙ ap (λ z. c.args.text.now.items ++ z)
-    (line_here c.args.lines.now c.args.index c.in-Some.line.now found.3.0 found.1))
+    appended_here entry_line numbered c.args.lines.now c.args.index c.in-Some.line.now c.args.text.now.items _
+    c.push_line.result c.push_line.ensures c.in-Some.ensures.lookup.3.0 c.in-Some.ensures.lookup.1
 
 pub returns-in-None : goal.returns-in-None
 returns-in-None c =
-    let text = c.args.text.now.items in
-    sym (ap (λ z. text ++ z) (no_line c.args.lines.now c.args.index c.in-None.ensures.lookup.3) ∙ append-nil text)
+    appended_past entry_line numbered c.args.lines.now c.args.index c.args.text.now.items c.in-None.ensures.lookup.3

@@ -1,17 +1,18 @@
 use Rattle.std.proofs.Common.{refl, subst, inr, string_bytes}
+use Rattle.std.proofs.KnownBytes.{Keeps-trans}
 use Rattle.std.specs.Io.{StartsWith}
 use Rattle.std.specs.Io.KnownBytes.{Appends}
 use Rattle.netset_entries.proofs.SupernetLaws.{supernets_of_lists}
 use Rattle.netset_entries.proofs.supernet_program.run_supernet.Goals as goal
 
-pub returns-then-not-written-clause-cut_short : goal.returns-then-not-written-clause-cut_short
-returns-then-not-written-clause-cut_short g c = λ two r lists h.
-    let text = string_bytes c.in-Ok-supernet_text.text in
-    let (front, begins, written) = c.written.ensures.front in
+pub returns-clause-cut_short : goal.returns-clause-cut_short
+returns-clause-cut_short g c = λ two r lists h.
+    let text = string_bytes c.in-Ok.text in
+    let (front, begins, written) = c.write_answer.ensures.front in
     inr record {
       text = text;
-      right = supernets_of_lists r lists c.in-Ok.set (c.in-Ok.ensures.set r lists h) text
-          c.in-Ok-supernet_text.ensures;
+      right = supernets_of_lists r lists c.in-Some.set (c.in-Some.ensures.set r lists h) text
+          c.in-Ok.ensures;
       front = front;
       begins = subst (λ z. StartsWith z front) c.as_bytes.ensures.value begins;
       written = written;
@@ -19,10 +20,16 @@ returns-then-not-written-clause-cut_short g c = λ two r lists h.
 
 pub returns-clause-answered : goal.returns-clause-answered
 returns-clause-answered g c = λ zero r lists h.
-    let text = string_bytes c.in-Ok-supernet_text.text in record {
+    let text = string_bytes c.in-Ok.text in record {
       text = text;
-      right = supernets_of_lists r lists c.in-Ok.set (c.in-Ok.ensures.set r lists h) text
-          c.in-Ok-supernet_text.ensures;
-      written = subst (Appends (g.W.Write.contents c.args.out.now) (g.W.Write.contents c.written.new.out))
-          c.as_bytes.ensures.value (c.if-not-written.ensures.whole refl);
+      right = supernets_of_lists r lists c.in-Some.set (c.in-Some.ensures.set r lists h) text
+          c.in-Ok.ensures;
+      written = subst (Appends (g.W.Write.contents c.args.out.now) (g.W.Write.contents c.write_answer.new.out))
+          c.as_bytes.ensures.value (c.write_answer.ensures.whole zero);
     }
+
+pub returns-clause-faultless : goal.returns-clause-faultless
+returns-clause-faultless g c = λ zero.
+    Keeps-trans (g.X.Write.contents c.args.faults.now) (g.X.Write.contents c.set_or_report.new.faults)
+    (g.X.Write.contents c.write_answer.new.faults) c.in-Some.ensures.faultless
+    (c.write_answer.ensures.faultless zero)

@@ -6,12 +6,12 @@ use Rattle.netset_lib.proofs.changes_program.run_changes.Goals as goal
 use Rattle.netset_lib.proofs.changes_program.run_changes.Goals.{else-is_subset-via-then-is_subset+else-is_subset-2}
 use Rattle.netset_lib.proofs.changes_program.run_changes.Goals.{else-is_subset-via-else-is_subset}
 
-pub returns-then-not-written-clause-cut_short : goal.returns-then-not-written-clause-cut_short
-returns-then-not-written-clause-cut_short g c = λ two grammar lists h.
+pub returns-then-not-write_or_report-clause-cut_short : goal.returns-then-not-write_or_report-clause-cut_short
+returns-then-not-write_or_report-clause-cut_short g c = λ two grammar lists h.
     let one = c.in-Ok.pair.0 in
     let other = c.in-Ok.pair.1 in
     let text = string_bytes c.in-Ok-changes_text.text in
-    let (front, begins, written) = c.written.ensures.front in
+    let (front, begins, written) = c.write_or_report.ensures.front in
     inr record {
       text = text;
       right = changes_of_lists grammar lists one other text (c.in-Ok.ensures.pair grammar lists h)
@@ -27,8 +27,8 @@ returns-then-is_subset-2-clause-answered g c = λ low grammar lists h.
       text = text;
       right = changes_of_lists grammar lists c.in-Ok.pair.0 c.in-Ok.pair.1 text (c.in-Ok.ensures.pair grammar lists h)
           c.in-Ok-changes_text.ensures;
-      written = subst (Appends (g.W.Write.contents c.args.out.now) (g.W.Write.contents c.written.new.out))
-          c.as_bytes.ensures.value (c.if-not-written.ensures.whole refl);
+      written = subst (Appends (g.W.Write.contents c.args.out.now) (g.W.Write.contents c.write_or_report.new.out))
+          c.as_bytes.ensures.value (c.if-not-write_or_report.ensures.whole refl);
     }
 
 pub returns-then-is_subset-2-clause-same : goal.returns-then-is_subset-2-clause-same
@@ -42,8 +42,8 @@ returns-clause-answered g c = λ low grammar lists h.
       text = text;
       right = changes_of_lists grammar lists c.in-Ok.pair.0 c.in-Ok.pair.1 text (c.in-Ok.ensures.pair grammar lists h)
           c.in-Ok-changes_text.ensures;
-      written = subst (Appends (g.W.Write.contents c.args.out.now) (g.W.Write.contents c.written.new.out))
-          c.as_bytes.ensures.value (c.if-not-written.ensures.whole refl);
+      written = subst (Appends (g.W.Write.contents c.args.out.now) (g.W.Write.contents c.write_or_report.new.out))
+          c.as_bytes.ensures.value (c.if-not-write_or_report.ensures.whole refl);
     }
 
 pub returns-clause-different : goal.returns-clause-different

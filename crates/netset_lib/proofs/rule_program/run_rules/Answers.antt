@@ -10,8 +10,8 @@ pub returns-clause-answered : goal.returns-clause-answered
 returns-clause-answered g c = λ few grammar bytes h. record {
   text = c.in-Ok.text.items;
   right = c.in-Ok.ensures.answer grammar bytes h;
-  written = subst (Appends (g.W.Write.contents c.args.out.now) (g.W.Write.contents c.written.new.out))
-      c.as_slice.ensures.value (c.if-not-written.ensures.whole refl);
+  written = subst (Appends (g.W.Write.contents c.args.out.now) (g.W.Write.contents c.write_or_report.new.out))
+      c.as_slice.ensures.value (c.if-not-write_or_report.ensures.whole refl);
 }
 
 pub returns-clause-unreached : goal.returns-clause-unreached
@@ -33,9 +33,9 @@ returns-clause-reached g c = λ zero is grammar bytes h.
     ∙ none_or_some c.as_slice-2.result.now c.status_of.result zero
     (λ some. c.status_of.ensures.unreached.1 (is, some)))
 
-pub returns-then-not-written-clause-cut_short : goal.returns-then-not-written-clause-cut_short
-returns-then-not-written-clause-cut_short g c = λ two grammar bytes h.
-    let (front, begins, written) = c.written.ensures.front in
+pub returns-then-not-write_or_report-clause-cut_short : goal.returns-then-not-write_or_report-clause-cut_short
+returns-then-not-write_or_report-clause-cut_short g c = λ two grammar bytes h.
+    let (front, begins, written) = c.write_or_report.ensures.front in
     inr record {
       text = c.in-Ok.text.items;
       right = c.in-Ok.ensures.answer grammar bytes h;

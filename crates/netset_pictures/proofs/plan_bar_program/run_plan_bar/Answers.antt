@@ -1,4 +1,5 @@
 use Rattle.std.proofs.Common.{refl, subst, inr, string_bytes}
+use Rattle.std.proofs.KnownBytes.{Keeps-trans}
 use Rattle.std.specs.Io.{StartsWith}
 use Rattle.std.specs.Io.KnownBytes.{Appends}
 use Rattle.ipnet_sets.specs.Members.{IsMember}
@@ -6,22 +7,22 @@ use Rattle.netset_lib.specs.PlanAnswers.{IsPlanFailure}
 use Rattle.netset_lib.proofs.PlanLaws.{none_of_lists, placed_of_lists}
 use Rattle.netset_pictures.proofs.plan_bar_program.run_plan_bar.Goals as goal
 
-pub returns-in-Err-plan_bar_text-clause-no_placement : goal.returns-in-Err-plan_bar_text-clause-no_placement
-returns-in-Err-plan_bar_text-clause-no_placement g c = λ one r lists h.
+pub returns-in-Err-clause-no_placement : goal.returns-in-Err-clause-no_placement
+returns-in-Err-clause-no_placement g c = λ one r lists h.
     let p = c.args.request.plan in
-    none_of_lists r lists c.in-Ok.set p.families p.lengths.now (c.in-Ok.ensures.set r lists h)
-    (subst (IsPlanFailure (IsMember c.in-Ok.set) p.families p.lengths.now) (c.status.ensures.none.0 one)
-    c.in-Err-plan_bar_text.ensures.failure)
+    none_of_lists r lists c.in-Some.set p.families p.lengths.now (c.in-Some.ensures.set r lists h)
+    (subst (IsPlanFailure (IsMember c.in-Some.set) p.families p.lengths.now) (c.report.ensures.none.0 one)
+    c.in-Err.ensures.failure)
 
-pub returns-then-not-written-clause-cut_short : goal.returns-then-not-written-clause-cut_short
-returns-then-not-written-clause-cut_short g c = λ two r lists h.
-    let (front, begins, written) = c.written.ensures.front in
+pub returns-clause-cut_short : goal.returns-clause-cut_short
+returns-clause-cut_short g c = λ two r lists h.
+    let (front, begins, written) = c.write_answer.ensures.front in
     inr record {
-      text = string_bytes c.in-Ok-plan_bar_text.text;
+      text = string_bytes c.in-Ok.text;
       right = record {
-        set = c.in-Ok.set;
-        result = c.in-Ok.ensures.set r lists h;
-        right = c.in-Ok-plan_bar_text.ensures.plan;
+        set = c.in-Some.set;
+        result = c.in-Some.ensures.set r lists h;
+        right = c.in-Ok.ensures.plan;
       };
       front = front;
       begins = subst (λ z. StartsWith z front) c.as_bytes.ensures.value begins;
@@ -30,18 +31,24 @@ returns-then-not-written-clause-cut_short g c = λ two r lists h.
 
 pub returns-clause-drawn : goal.returns-clause-drawn
 returns-clause-drawn g c = λ zero r lists h. record {
-  text = string_bytes c.in-Ok-plan_bar_text.text;
+  text = string_bytes c.in-Ok.text;
   right = record {
-    set = c.in-Ok.set;
-    result = c.in-Ok.ensures.set r lists h;
-    right = c.in-Ok-plan_bar_text.ensures.plan;
+    set = c.in-Some.set;
+    result = c.in-Some.ensures.set r lists h;
+    right = c.in-Ok.ensures.plan;
   };
-  written = subst (Appends (g.W.Write.contents c.args.out.now) (g.W.Write.contents c.written.new.out))
-      c.as_bytes.ensures.value (c.if-not-written.ensures.whole refl);
+  written = subst (Appends (g.W.Write.contents c.args.out.now) (g.W.Write.contents c.write_answer.new.out))
+      c.as_bytes.ensures.value (c.write_answer.ensures.whole zero);
 }
 
 pub returns-clause-placed : goal.returns-clause-placed
 returns-clause-placed g c = λ zero r lists h.
     let p = c.args.request.plan in
-    placed_of_lists r lists c.in-Ok.set p.families p.lengths.now (c.in-Ok.ensures.set r lists h)
-    (c.in-Ok-plan_bar_text.ensures.placed refl)
+    placed_of_lists r lists c.in-Some.set p.families p.lengths.now (c.in-Some.ensures.set r lists h)
+    (c.in-Ok.ensures.placed refl)
+
+pub returns-clause-faultless : goal.returns-clause-faultless
+returns-clause-faultless g c = λ zero.
+    Keeps-trans (g.X.Write.contents c.args.faults.now) (g.X.Write.contents c.set_or_report.new.faults)
+    (g.X.Write.contents c.write_answer.new.faults) c.in-Some.ensures.faultless
+    (c.write_answer.ensures.faultless zero)

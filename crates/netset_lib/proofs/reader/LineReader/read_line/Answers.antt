@@ -3,7 +3,8 @@ use Rattle.ipnet_text.proofs.LineCuts.{some_bytes, no_bytes}
 use Rattle.ipnet_text.proofs.ListsLaws.{OnOk_then}
 use Rattle.netset_lib.specs.Entries.{IsEntryText, IsNoEntry}
 use Rattle.netset_lib.specs.FoundEntry.{found_range}
-use Rattle.netset_lib.specs.Reading.{Adds, HasMore}
+use Rattle.netset_lib.specs.Reading.{Adds}
+use Rattle.netset_lib.specs.RefusedLines.{HasMore}
 use Rattle.netset_lib.proofs.EntryTexts.{some_of, none_of}
 use Rattle.netset_lib.proofs.ListReading.{adds_empty, adds_entry, adds_refusal, entry_at, refusal_at, if_some}
 use Rattle.netset_lib.proofs.ListReading.{reads_one}

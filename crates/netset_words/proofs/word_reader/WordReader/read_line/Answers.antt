@@ -1,10 +1,11 @@
 use Rattle.std.proofs.Common.{◌≡◌, ◌+◌, ◌∷◌, [], List, ℕ, true, false, refl, sym, ap, ◌∙◌, subst}
 use Rattle.ipnet_text.proofs.ListsLaws.{OnOk_then}
+use Rattle.netset_lib.specs.RefusedLines.{HasMore}
+use Rattle.netset_lib.proofs.RefusalLaws.{HasMore-nil}
 use Rattle.netset_words.specs.declared.refused_word.WordCause.TheVariants.{NulByte, Netmask}
 use Rattle.netset_words.specs.Extracts.{mask_refusals}
-use Rattle.netset_words.specs.ExtractSteps.{AddsRefusals}
 use Rattle.netset_words.specs.Items.{mask_texts}
-use Rattle.netset_words.proofs.ExtractLaws.{nul_line, word_line, refusals_none}
+use Rattle.netset_words.proofs.ExtractLaws.{nul_line, word_line}
 use Rattle.netset_words.proofs.ItemLaws.{match_some, match_none}
 use Rattle.netset_words.proofs.word_reader.WordReader.read_line.Goals as goal
 
@@ -15,7 +16,7 @@ returns-then-has_byte c =
     OnOk_then c.push.result c.push.ensures
     (λ added. nul_line old _ c.args.line.now (record { same_request = refl; same_list = refl; next = next })
     (sym c.has_byte.ensures ∙ c.if-has_byte.true) refl refl
-    (subst (λ n. AddsRefusals old.refused c.push.new.self
+    (subst (λ n. HasMore old.refused c.push.new.self
     (record { list = old.list; line = n; text = c.args.line.now; cause = NulByte } ∷ [])) next added))
 
 pub returns-in-Some-mask : goal.returns-in-Some-mask
@@ -31,9 +32,9 @@ returns-in-Some-mask c =
     (record { same_request = refl; same_list = refl; next = next })
     (λ nul. let clash : true ≡ false = sym nul ∙ sym c.has_byte.ensures ∙ c.if-has_byte.false in absurd cc) are up_to
     c.is_any-self.ensures
-    (subst (λ rs. AddsRefusals old.refused c.push-in-Some-mask.new.self rs)
+    (subst (λ rs. HasMore old.refused c.push-in-Some-mask.new.self rs)
     (sym (ap (mask_refusals old.list (old.line + 1)) first))
-    (subst (λ n. AddsRefusals old.refused c.push-in-Some-mask.new.self
+    (subst (λ n. HasMore old.refused c.push-in-Some-mask.new.self
     (record { list = old.list; line = n; text = mask.now; cause = Netmask } ∷ [])) next added)))
 
 pub returns-in-None : goal.returns-in-None
@@ -47,5 +48,5 @@ returns-in-None c =
     (record { same_request = refl; same_list = refl; next = c.in-Some.ensures.1 })
     (λ nul. let clash : true ≡ false = sym nul ∙ sym c.has_byte.ensures ∙ c.if-has_byte.false in absurd cc) are up_to
     c.is_any-self.ensures
-    (subst (AddsRefusals old.refused old.refused) (sym (ap (mask_refusals old.list (old.line + 1)) none))
-    (refusals_none old.refused old.refused.few))
+    (subst (HasMore old.refused old.refused) (sym (ap (mask_refusals old.list (old.line + 1)) none))
+    (HasMore-nil old.refused old.refused.few))

@@ -1,11 +1,11 @@
 use Rattle.std.proofs.Common.{◌≡◌, length, arith}
 use Rattle.std.proofs.lemmas.List.{length-map}
+use Rattle.netset_lib.specs.RefusedLines.{shown_refusals, refusal_of}
 use Rattle.netset_lib.proofs.RefusalLaws.{no_room}
-use Rattle.netset_words.specs.ExtractSteps.{shown_refusals, refusal_of}
-use Rattle.netset_words.proofs.refused_word.RefusedWords.keep.Goals as goal
+use Rattle.netset_lib.proofs.refused.Refusals.keep.Goals as goal
 
 pub returns-then-len-eq-SHOWN-clause-shown : goal.returns-then-len-eq-SHOWN-clause-shown
-returns-then-len-eq-SHOWN-clause-shown c =
+returns-then-len-eq-SHOWN-clause-shown g c =
     let lines = c.args.self.now in
     let full : length (shown_refusals lines) ≡ 10 =
     omega (arith, length-map lines.shown.items refusal_of, c.len.ensures, c.if-len-eq-SHOWN.true) in

@@ -1,6 +1,6 @@
 //! Runs on input that is read in pieces: reads that cut lines and characters, reads that fail late, and lines that fill
 //! the window.
-use crate::runs::{Ends, LINE_3, NOT_UTF8, UNREADABLE, check};
+use super::runs::{Ends, LINE_3, NOT_UTF8, UNREADABLE, check};
 use std::io::ErrorKind;
 use std::test::Fail;
 use test_support::devices::{ArrayWriter, ByteReader, NEVER, WHOLE};

@@ -1,5 +1,5 @@
 //! The text tool in both grammars.
-use crate::runs::{self, Ends};
+use super::runs::{self, Ends};
 use ipnet::IpNet;
 use ipnet::aggregate::is_aggregated;
 use ipnet_tool::{ToolError, aggregate_text, aggregate_text_legacy};

@@ -3,8 +3,8 @@
 //! Each call but two is refused up to one run, and answered from then on. The answer to a long line and the list of
 //! arguments outgrow their first block. The allocator keeps a block that a run gave back for later requests of the same
 //! size, so it may have none of the next size: answers and refusals alternate until there is room for all.
-use crate::arguments::System;
-use crate::runs::{Ends, LINE_1, LINE_2, NOT_UTF8};
+use super::arguments::System;
+use super::runs::{Ends, LINE_1, LINE_2, NOT_UTF8};
 use ipnet_tool::program::arguments;
 use ipnet_tool::{Failure, ToolError, aggregate_text, aggregate_text_legacy, run};
 use std::alloc::Global;
