@@ -4,8 +4,8 @@ ghost use Rattle.ipnet_base.specs.Address.{Address, ip_address};
 ghost use Rattle.ipnet_sets.specs.Images.{IsImageOf};
 ghost use Rattle.ipnet_sets.specs.Members.{IsMember, IsSubset};
 ghost use Rattle.ipnet_sets.specs.declared.set.IpSet.{IpSet as SetValue};
-ghost use Rattle.ipnet_c.specs.SetReplies.{IsContainsReply, IsCoversReply, IsContainsAllReply, IsSubsetReply, IsAnswerAt};
-ghost use Rattle.ipnet_c.specs.SetReplies.{IsCoversAllReply};
+ghost use Rattle.ipnet_c.specs.SetReplies.{IsContainsReply, IsCoversReply, IsContainsAllReply, IsSubsetReply};
+ghost use Rattle.ipnet_c.specs.SetReplies.{IsAnswerAt, IsCoversAllReply};
 ghost use Rattle.ipnet_c.specs.SetReplies.{IsCheckReply, AreOctetsOf, HasAddressLen, AreCountsOf, IsCountsReply};
 
 use crate::statuses::{

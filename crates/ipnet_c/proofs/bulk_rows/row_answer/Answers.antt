@@ -1,7 +1,7 @@
 -- The row has one address, and the image was asked for it.
+use Rattle.std.proofs.Common.{rules}
 use Rattle.ipnet_base.specs.Address.{ip_address}
 use Rattle.ipnet_c.proofs.MappedLaws.{row_answered}
-use Rattle.ipnet_c.proofs.RowLaws.{not_both}
 use Rattle.ipnet_c.proofs.bulk_rows.row_answer.Goals as goal
 
 pub returns-in-Some : goal.returns-in-Some
