@@ -19,7 +19,7 @@ use Rattle.ipnet_c.proofs.ListReplies.{TellsFaults}
 use Rattle.ipnet_c.proofs.StatusLaws.{differ, is_bit, yes_exactly, answered_at}
 use Rattle.ipnet_c.proofs.TableReplies.{address_once}
 
--- a yes or a no is no other status
+-- and it differs from each other status
 not_code : (answer : Bool) (status other : ℕ) → status ≡ from_bool answer → (0 == other) ≡ false
     → (1 == other) ≡ false → status ≢ other
 not_code true status other e zero one same = differ 1 other one (sym e ∙ same)

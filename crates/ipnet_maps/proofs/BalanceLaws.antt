@@ -1,4 +1,4 @@
--- The sides of rectangles differ little: a test of the maps of eight frames, which stand for all frames.
+-- The sides of rectangles differ little: a test of the maps of eight frames, which hold for all frames.
 use Rattle.std.proofs.Common.{◌≡◌, ℕ, zero, suc, ◌+◌, ◌-◌, ◌*◌, ◌/◌, ◌%◌, ◌<◌, ◌≤◌, ◌⊎◌, inl, inr, min, max, ◌∷◌}
 use Rattle.std.proofs.Common.{Bool, true, cond, nat_lt, leb, eqb, not, ◌&&◌, ◌||◌, refl, sym, ap, ap₂, ◌∙◌, arith}
 use Rattle.std.proofs.lemmas.Bool.{cases_lt, or_cases, and_parts, not-true, eqb-true, eqb-false, leb-true}
