@@ -37,4 +37,4 @@ returns c =
     (λ s h x. both_ways (h x)
     (cells_end (IsMember c.args.set.now) (IsPushed builder) c.args.cell_len
     (networks_left c.loop-network.network-iterator) c.in-None.ensures.steps.0 c.loop-network.invariant x))
-    c.into_set.ensures
+    c.into_set.ensures.members

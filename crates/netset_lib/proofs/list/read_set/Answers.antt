@@ -15,5 +15,5 @@ returns g c =
     (made_of left after c.args.reading.now c.read_list.new.self (HaveAddresses (IsPushed c.new-builder.result)) made
     c.in_ok-read_list.ensures (has_none (IsPushed c.new-builder.result) c.new-builder.ensures))
     (λ entries same x.
-    let is = c.in_ok-into_set.ensures x in
+    let is = c.in_ok-into_set.ensures.members x in
     (λ m. (same x).0 (is.0 m), λ i. is.1 ((same x).1 i)))
