@@ -271,8 +271,8 @@ fn parts_in(alloc: Global, frame: &IpNet, sets: &[IpSet]) -> Result<Vec<IpSet>, 
 /// The cells are as small as they can be with at most 65,536 rectangles.
 ///
 /// ```text
-/// of 10.20.0.0/24 and 10.20.0.128/25 in 10.20.0.0/16: `Overlap` is 10.20.0.128/25, `WholeOf(0)` is 10.20.0.0/25, and the
-/// other layers are empty
+/// of 10.20.0.0/24 and 10.20.0.128/25 in 10.20.0.0/16: `Overlap` is 10.20.0.128/25, `WholeOf(0)` is 10.20.0.0/25, and
+/// the other layers are empty
 /// ```
 pub fn draw_sets(alloc: Global, frame: &IpNet, sets: &[IpSet]) -> Result<Drawing, AllocError>
     ensures { IfOk result (IsDrawingOf (λ x. Any (λ set. IsMember set x) sets.now) (HasSharedClass sets.now)
