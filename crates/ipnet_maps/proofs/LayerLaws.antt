@@ -102,7 +102,8 @@ room_lacks {X} {Y} R xs i x room less is step h lists zip =
     ∙ ap (λ z. take i xs ++ z) (sym (drop-cons xs i x less)) ∙ take-append-drop i xs in
     let split = zip_split R (take i xs) (x ∷ drop (i + 1) xs) lists (subst (λ z. AllZip R z lists) (sym cut) zip) in
     let more = of_second split.second split.of_second in
-    omega (arith, ap total_of split.whole, total_append split.first split.second, h split.first split.of_first, more)
+    let whole : total_of lists ≡ total_of (split.first ++ split.second) = ap total_of split.whole in
+    omega (arith, whole, total_append split.first split.second, h split.first split.of_first, more)
   where
     of_second : (second : List (List Y)) → AllZip R (x ∷ drop (i + 1) xs) second → room < total_of second
     of_second [] z = absurd z

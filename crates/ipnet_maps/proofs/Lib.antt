@@ -11,6 +11,7 @@ pub mod PlaceLaws
 pub mod ReadLaws
 pub mod LevelLaws
 pub mod LevelWalkLaws
+pub mod LevelOrderLaws
 pub mod DrawingLaws
 pub mod ClassLaws
 pub mod ChangeClassLaws

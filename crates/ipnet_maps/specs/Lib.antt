@@ -5,6 +5,7 @@ pub mod Cells
 pub mod Shared
 pub mod Places
 pub mod Paths
+pub mod Levels
 pub mod LevelSteps
 pub mod Classes
 pub mod Drawings

@@ -1,10 +1,17 @@
 //! Laws of layouts: facts about all maps. Nothing here does anything at run time.
 ghost use Rattle.std.specs.Prelude.{◌≡◌, ◌↔◌, ◌⊎◌, ◌+◌, ◌-◌, ◌/◌, ◌%◌, ◌^◌, ◌<◌, ◌≤◌, ℕ, List, length, All};
+ghost use Rattle.ipnet_base.specs.Network.{Network};
+ghost use Rattle.ipnet_sets.specs.declared.set.IpSet.{IpSet};
+ghost use Rattle.ipnet_sets.specs.Members.{IsMember, IsSubset};
+ghost use Rattle.ipnet_pictures.specs.declared.share.Level.{Level};
+ghost use Rattle.ipnet_pictures.specs.declared.share.Level.TheVariants.{Nothing, Whole};
+ghost use Rattle.ipnet_pictures.specs.Parts.{HasNone, HasAll, IsLevelOf};
 ghost use Rattle.ipnet_maps.specs.declared.layout.Axis.{Axis};
 ghost use Rattle.ipnet_maps.specs.declared.layout.Rectangle.{Rectangle};
 ghost use Rattle.ipnet_maps.specs.Cuts.{columns_in, rows_in, column_of, row_of, cell_at};
 ghost use Rattle.ipnet_maps.specs.Squares.{cuts_from, square_cuts, IsRectangleOf, IsInRectangle};
 ghost use Rattle.ipnet_maps.specs.Paths.{corner, path_of, FitsWords};
+ghost use Rattle.ipnet_maps.specs.Levels.{place_of};
 
 /// The cells of a map and the places of its grid are one to one, whatever the cuts are.
 pub fn cells_and_places_are_one_to_one()
@@ -48,4 +55,15 @@ pub fn sides_differ_little()
 pub fn paths_read_back()
     ensures { (rs ss : List Rectangle) → All FitsWords rs → All FitsWords ss → path_of corner rs ≡ path_of corner ss
         → rs ≡ ss }
+{}
+
+/// The level of a cell is the lowest if and only if no address of the cell is in the set, and the highest if and only
+/// if all are. A set with more addresses has no lower level in a cell. So a part is never shown as nothing, nor as all.
+pub fn levels_follow_sets()
+    ensures nothing { (s : IpSet) (n : Network) (level : Level) → IsLevelOf (IsMember s) n level
+        → (level ≡ Nothing) ↔ HasNone (IsMember s) n }
+    ensures whole { (s : IpSet) (n : Network) (level : Level) → IsLevelOf (IsMember s) n level
+        → (level ≡ Whole) ↔ HasAll (IsMember s) n }
+    ensures ordered { (a b : IpSet) (n : Network) (level other : Level) → IsSubset a b → IsLevelOf (IsMember a) n level
+        → IsLevelOf (IsMember b) n other → place_of level ≤ place_of other }
 {}

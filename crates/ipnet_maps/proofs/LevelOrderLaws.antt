@@ -1,0 +1,49 @@
+-- The levels of a set and of a larger set.
+use Rattle.std.proofs.Common.{ℕ, ◌-◌, ◌<◌, ◌≤◌, arith}
+use Rattle.std.proofs.lemmas.Nat.{pow_pos}
+use Rattle.ipnet_base.specs.Address.{Address, width}
+use Rattle.ipnet_base.specs.Network.{Network}
+use Rattle.ipnet_pictures.specs.declared.share.Level.{Level}
+use Rattle.ipnet_pictures.specs.declared.share.Level.TheVariants.{Nothing, BelowThird, FromThird}
+use Rattle.ipnet_pictures.specs.declared.share.Level.TheVariants.{FromTwoThirds, Whole}
+use Rattle.ipnet_pictures.specs.Parts.{IsInPart, IsLevelOf, block_size}
+use Rattle.ipnet_pictures.specs.Shares.{IsShare}
+use Rattle.ipnet_pictures.proofs.PartLaws.{no_more, part_fits}
+use Rattle.ipnet_maps.specs.Levels.{place_of}
+
+-- more addresses of a block have no lower level
+share_order : (l k : Level) (m n size : ℕ) → 0 < size → m ≤ n → n ≤ size → IsShare l m size → IsShare k n size
+    → place_of l ≤ place_of k
+share_order Nothing Nothing m n size some le fits a b = omega arith
+share_order Nothing BelowThird m n size some le fits a b = omega arith
+share_order Nothing FromThird m n size some le fits a b = omega arith
+share_order Nothing FromTwoThirds m n size some le fits a b = omega arith
+share_order Nothing Whole m n size some le fits a b = omega arith
+share_order BelowThird Nothing m n size some le fits a b = absurd (omega (arith, some, le, fits, a, b))
+share_order BelowThird BelowThird m n size some le fits a b = omega arith
+share_order BelowThird FromThird m n size some le fits a b = omega arith
+share_order BelowThird FromTwoThirds m n size some le fits a b = omega arith
+share_order BelowThird Whole m n size some le fits a b = omega arith
+share_order FromThird Nothing m n size some le fits a b = absurd (omega (arith, some, le, fits, a, b))
+share_order FromThird BelowThird m n size some le fits a b = absurd (omega (arith, some, le, fits, a, b))
+share_order FromThird FromThird m n size some le fits a b = omega arith
+share_order FromThird FromTwoThirds m n size some le fits a b = omega arith
+share_order FromThird Whole m n size some le fits a b = omega arith
+share_order FromTwoThirds Nothing m n size some le fits a b = absurd (omega (arith, some, le, fits, a, b))
+share_order FromTwoThirds BelowThird m n size some le fits a b = absurd (omega (arith, some, le, fits, a, b))
+share_order FromTwoThirds FromThird m n size some le fits a b = absurd (omega (arith, some, le, fits, a, b))
+share_order FromTwoThirds FromTwoThirds m n size some le fits a b = omega arith
+share_order FromTwoThirds Whole m n size some le fits a b = omega arith
+share_order Whole Nothing m n size some le fits a b = absurd (omega (arith, some, le, fits, a, b))
+share_order Whole BelowThird m n size some le fits a b = absurd (omega (arith, some, le, fits, a, b))
+share_order Whole FromThird m n size some le fits a b = absurd (omega (arith, some, le, fits, a, b))
+share_order Whole FromTwoThirds m n size some le fits a b = absurd (omega (arith, some, le, fits, a, b))
+share_order Whole Whole m n size some le fits a b = omega arith
+
+pub level_order : (A B : Address → Type 0) (n : Network) (l k : Level) → ((x : Address) → A x → B x)
+    → IsLevelOf A n l → IsLevelOf B n k → place_of l ≤ place_of k
+level_order A B n l k within a b =
+    share_order l k a.count b.count (block_size n) (pow_pos (width n.family - n.prefix_len))
+    (no_more (IsInPart A n) (IsInPart B n) a.count b.count
+    (λ x i. record { in_block = i.in_block; in_set = within x i.in_set }) a.is_count b.is_count)
+    (part_fits B n b.count b.is_count) a.share b.share
