@@ -1,5 +1,4 @@
 use Rattle.std.proofs.Common.{refl, subst, inr, string_bytes}
-use Rattle.std.proofs.KnownBytes.{Keeps-refl}
 use Rattle.std.specs.Io.{StartsWith}
 use Rattle.std.specs.Io.KnownBytes.{Appends}
 use Rattle.netset_lib.proofs.ChangeLaws.{same_of_sets, other_of_sets}
@@ -58,4 +57,4 @@ returns-clause-different g c = λ one grammar lists h.
     (λ to from. let same = c.are_same.ensures.1 (to, from) in let no = c.if-are_same.false in absurd cc)
 
 pub returns-clause-faultless : goal.returns-clause-faultless
-returns-clause-faultless g c = λ low. Keeps-refl (g.X.Write.contents c.args.faults.now)
+returns-clause-faultless g c = λ low. c.if-not-write_or_report.ensures.faultless refl
