@@ -1,2 +1,5 @@
 -- Lemmas.
 pub mod EscapeLaws
+pub mod PieceLaws
+pub mod ReadLaws
+pub mod GrammarLaws

@@ -43,7 +43,7 @@ pieces_of c =
 abbrev pub piece_text : Piece → List ℕ
 piece_text (plain c) = c ∷ []
 piece_text (reference c) = codes "&#" ++ decimal c ++ codes ";"
-piece_text (octet b) = 92 ∷ 120 ∷ digit_char (b / 16) ∷ digit_char (b % 16) ∷ []
+piece_text (octet b) = 92 ∷ 120 ∷ digit_char (b / 16 % 16) ∷ digit_char (b % 16) ∷ []
 
 -- The escaped text of characters. Example: `a&#38;b` for `a&b`.
 abbrev pub escaped_all : List ℕ → List ℕ

@@ -2,3 +2,4 @@
 pub mod Escapes
 pub mod Names
 pub mod Documents
+pub mod Grammar

@@ -1,5 +1,5 @@
 //! Any text as a part of a document.
-ghost use Rattle.std.specs.Prelude.{◌≡◌, ◌<◌, ◌++◌, OnOk, map, flat_map, string_bytes};
+ghost use Rattle.std.specs.Prelude.{◌≡◌, ◌%◌, ◌++◌, OnOk, map, flat_map, string_bytes};
 ghost use Rattle.std.specs.Char.{digit_char};
 ghost use Rattle.svg_text.specs.Escapes.{is_reserved, is_plain, turns_writing, is_referred, pieces_of, piece_text};
 ghost use Rattle.svg_text.specs.Escapes.{octet, escaped};
@@ -37,11 +37,11 @@ fn is_numbered(c: char) -> bool
     is_xml_mark(c) || ('\u{a0}' <= c && !('\u{fffe}' <= c && c <= '\u{ffff}') && !is_turn(c))
 }
 
-/// The hexadecimal digit.
-fn hexadecimal(digit: u8) -> char
-    requires { digit < 16 }
-    ensures { result ≡ digit_char digit }
+/// The last hexadecimal digit of the number.
+fn last_digit(number: u8) -> char
+    ensures { result ≡ digit_char (number % 16) }
 {
+    let digit = number % 16;
     if digit < 10 {
         char::from(b'0' + digit)
     } else {
@@ -54,8 +54,8 @@ fn push_octet(text: &mut String, byte: u8) -> Result<(), AllocError>
     ensures { OnOk result (string_bytes text.new ≡ string_bytes text.old ++ piece_text (octet byte)) }
 {
     text.push_str("\\x")?;
-    text.push(hexadecimal(byte / 16))?;
-    text.push(hexadecimal(byte % 16))
+    text.push(last_digit(byte / 16))?;
+    text.push(last_digit(byte))
 }
 
 /// Appends the bytes, each as a backslash and its number.

@@ -2,6 +2,7 @@
 #![tactic(auto)]
 
 pub mod escape;
+pub mod laws;
 pub mod name;
 pub mod tag;
 
