@@ -1,7 +1,6 @@
 -- Escaped texts: one piece after the other, and texts that are their own escaped texts.
-use Rattle.std.proofs.Common.{◌≡◌, ◌<◌, ◌≤◌, ◌+◌, ◌-◌, ◌/◌, ◌%◌, ◌^◌, ℕ, Bool, true, false, not, ◌&&◌, List, [], ◌∷◌, ◌++◌}
-use Rattle.std.proofs.Common.{map, flat_map, get_or, cond, decimal, codes, refl, sym, ap, ◌∙◌, arith, suc, zero}
-use Rattle.std.specs.Str.{IsAscii, chars}
+use Rattle.std.proofs.Common.{◌≡◌, ◌<◌, ◌≤◌, ◌+◌, ◌%◌, ◌^◌, ℕ, Bool, true, false, not, ◌&&◌, List, [], ◌∷◌, ◌++◌}
+use Rattle.std.proofs.Common.{flat_map, get_or, decimal, refl, sym, ap, ◌∙◌, arith, suc, zero}
 use Rattle.std.proofs.lemmas.Bool.{and_parts, and_from, not-true}
 use Rattle.std.proofs.lemmas.Bool.Decides.{nat_tests}
 use Rattle.std.proofs.lemmas.List.Concat.{flat_map-append}
@@ -41,7 +40,7 @@ pub plain_decimal : (n : ℕ) → n < 2 ^ 64 → are_plain (decimal n) ≡ true
 plain_decimal = decimal_by_steps (λ n ds. are_plain ds ≡ true)
     (λ n l. and_from (is_plain (48 + n)) true (plain_digit n l) refl)
     (λ n ds l h. are_plain-append ds ((48 + n % 10) ∷ []) h
-        (and_from (is_plain (48 + n % 10)) true (plain_digit (n % 10) (omega arith)) refl))
+    (and_from (is_plain (48 + n % 10)) true (plain_digit (n % 10) (omega arith)) refl))
 
 plain_below : (bs : List ℕ) → are_plain bs ≡ true → (i : ℕ) → get_or bs i 0 < 128
 plain_below [] e i = omega arith

@@ -1,14 +1,14 @@
 -- The text of nodes is in the grammar, and is printable.
-use Rattle.std.proofs.Common.{◌≡◌, ◌<◌, ◌≤◌, ◌^◌, ℕ, Bool, true, ◌&&◌, List, [], ◌∷◌, ◌++◌, map, flat_map, codes}
-use Rattle.std.proofs.Common.{refl, sym, ap, ap₂, ◌∙◌, subst, arith, append_assoc, append-nil}
+use Rattle.std.proofs.Common.{◌≡◌, ℕ, true, ◌&&◌, List, [], ◌∷◌, ◌++◌, map, flat_map, codes}
+use Rattle.std.proofs.Common.{refl, sym, ap, ◌∙◌, subst, arith, append_assoc}
 use Rattle.std.specs.List.{AllByRecursion}
 use Rattle.std.proofs.lemmas.Bool.{and_parts}
 use Rattle.svg_text.specs.declared.name.ElementName.{ElementName}
 use Rattle.svg_text.specs.declared.name.AttributeName.{AttributeName}
-use Rattle.svg_text.specs.Documents.{Mark, mark_text, tag_text, start_text, end_text, empty_text}
+use Rattle.svg_text.specs.Documents.{Mark, mark_text, start_text, end_text, empty_text}
 use Rattle.svg_text.specs.Documents.{Nodes, end, words, empty, element, nodes_text}
 use Rattle.svg_text.specs.Escapes.{IsSafeText, escaped}
-use Rattle.svg_text.specs.Names.{element_text, attribute_text}
+use Rattle.svg_text.specs.Names.{element_text}
 use Rattle.svg_text.specs.Grammar.{are_distinct, attribute_in_tag, AreAttributes, IsContent, nothing, characters}
 use Rattle.svg_text.specs.Grammar.{empty_element, whole_element, are_well_formed}
 use Rattle.svg_text.proofs.PieceLaws.{escaped_safe}

@@ -1,16 +1,15 @@
 -- Pieces: what is true of those of any text, and that their texts are safe.
-use Rattle.std.proofs.Common.{◌≡◌, ◌<◌, ◌≤◌, ◌+◌, ◌-◌, ◌/◌, ◌%◌, ◌^◌, ◌⊎◌, ℕ, Bool, true, false, List, [], ◌∷◌, ◌++◌, inl, inr}
-use Rattle.std.proofs.Common.{map, flat_map, cond, decimal, codes, refl, sym, ap, ap₂, ◌∙◌, arith, IsUtf8, append_assoc, append-nil}
-use Rattle.std.proofs.Common.{lt-ltb, le-ltb, nat_lt}
+use Rattle.std.proofs.Common.{◌≡◌, ◌<◌, ◌/◌, ◌%◌, ◌^◌, ℕ, Bool, true, false, List, [], ◌∷◌, ◌++◌, inl, inr}
+use Rattle.std.proofs.Common.{map, flat_map, cond, refl, sym, ap₂, ◌∙◌, arith, append-nil}
+use Rattle.std.proofs.Common.{lt-ltb, le-ltb}
 use Rattle.std.specs.Char.{IsScalar, digit_char, encode_utf8}
 use Rattle.std.specs.List.{AllByRecursion}
 use Rattle.std.specs.Str.{chars}
 use Rattle.std.proofs.lemmas.Bool.{and_parts, cases_lt}
 use Rattle.std.proofs.lemmas.Bool.Decides.{nat_tests}
 use Rattle.std.proofs.lemmas.List.Concat.{flat_map-append}
-use Rattle.std.proofs.lemmas.Str.{scalars-chars, encodes-chars}
-use lib.Utf8.{scalar, scalars, scalar_cases, encode, encodes}
-use Rattle.svg_text.specs.Escapes.{is_from_to, is_reserved, is_plain, is_referred, Piece, plain, reference, octet}
+use lib.Utf8.{scalar, scalars, scalar_cases}
+use Rattle.svg_text.specs.Escapes.{is_plain, is_xml_character, is_referred, Piece, plain, reference, octet}
 use Rattle.svg_text.specs.Escapes.{pieces_of, piece_text, escaped, Item, character, number, item_text, IsSafeItem, IsSafeText}
 use Rattle.svg_text.proofs.EscapeLaws.{plain_parts}
 
@@ -39,16 +38,16 @@ unfolding encode_utf8
 are_bytes c s =
     let top = scalar_fits c s in
     elim (cases_lt c 128) [
-    | inl a ↦ rw (lt-ltb c 128 a) (omega arith, tt)
-    | inr a ↦ elim (cases_lt c 2048) [
-      | inl b ↦ rw (le-ltb c 128 a, lt-ltb c 2048 b) (omega arith, (omega arith, tt))
-      | inr b ↦ elim (cases_lt c 65536) [
-        | inl d ↦ rw (le-ltb c 128 a, le-ltb c 2048 b, lt-ltb c 65536 d) (omega arith, (omega arith, (omega arith, tt)))
-        | inr d ↦ rw (le-ltb c 128 a, le-ltb c 2048 b, le-ltb c 65536 d)
-            (omega (arith, top), (omega arith, (omega arith, (omega arith, tt))))
+      | inl a ↦ rw (lt-ltb c 128 a) (omega arith, tt)
+      | inr a ↦ elim (cases_lt c 2048) [
+        | inl b ↦ rw (le-ltb c 128 a, lt-ltb c 2048 b) (omega arith, (omega arith, tt))
+        | inr b ↦ elim (cases_lt c 65536) [
+          | inl d ↦ rw (le-ltb c 128 a, le-ltb c 2048 b, lt-ltb c 65536 d) (omega arith, (omega arith, (omega arith, tt)))
+          | inr d ↦ rw (le-ltb c 128 a, le-ltb c 2048 b, le-ltb c 65536 d)
+              (omega (arith, top), (omega arith, (omega arith, (omega arith, tt))))
+        ]
       ]
     ]
-  ]
 
 octets_are : (bs : List ℕ) → AllByRecursion (λ b. b < 256) bs → AllByRecursion IsPiece (map octet bs)
 octets_are [] p = tt
@@ -72,25 +71,28 @@ pieces_are (c ∷ cs) e =
 
 -- ---- their text is safe
 
--- A plain piece is of a plain character.
+-- A plain piece is of a plain character, and a reference is to a character that a document may have.
 abbrev IsWritable : Piece → Type 0
 IsWritable (plain c) = is_plain c ≡ true
-IsWritable (reference c) = Unit {0}
+IsWritable (reference c) = is_xml_character c ≡ true
 IsWritable (octet b) = Unit {0}
 
 octets_writable : (bs : List ℕ) → AllByRecursion IsWritable (map octet bs)
 octets_writable [] = tt
 octets_writable (b ∷ bs) = (tt, octets_writable bs)
 
-referred_writable : (c : ℕ) (r : Bool)
+referred_in_xml : (c : ℕ) → is_referred c ≡ true → is_xml_character c ≡ true
+referred_in_xml c e = grind (arith, nat_tests)
+
+referred_writable : (c : ℕ) (r : Bool) → is_referred c ≡ r
     → AllByRecursion IsWritable (cond r (reference c ∷ []) (map octet (encode_utf8 c)))
-referred_writable c true = (tt, tt)
-referred_writable c false = octets_writable (encode_utf8 c)
+referred_writable c true e = (referred_in_xml c e, tt)
+referred_writable c false e = octets_writable (encode_utf8 c)
 
 plain_writable : (c : ℕ) (p : Bool) → is_plain c ≡ p → AllByRecursion IsWritable
     (cond p (plain c ∷ []) (cond (is_referred c) (reference c ∷ []) (map octet (encode_utf8 c))))
 plain_writable c true e = (e, tt)
-plain_writable c false e = referred_writable c (is_referred c)
+plain_writable c false e = referred_writable c (is_referred c) refl
 
 pieces_writable : (cs : List ℕ) → AllByRecursion IsWritable (flat_map pieces_of cs)
 pieces_writable [] = tt
@@ -111,10 +113,14 @@ digit_safe d l = elim (cases_lt d 10) [
 
 items_safe : (p : Piece) → IsWritable p → AllByRecursion IsSafeItem (items_of p)
 items_safe (plain c) e = let h = plain_parts c e in ((h.0, h.1, h.2), tt)
-items_safe (reference c) e = (tt, tt)
-items_safe (octet b) e =
-    ((omega arith, omega arith, refl), ((omega arith, omega arith, refl),
-    (digit_safe (b / 16 % 16) (omega arith), (digit_safe (b % 16) (omega arith), tt))))
+items_safe (reference c) e = (e, tt)
+items_safe (octet b) e = (
+  (omega arith, omega arith, refl),
+  (
+    (omega arith, omega arith, refl),
+    (digit_safe (b / 16 % 16) (omega arith), (digit_safe (b % 16) (omega arith), tt)),
+  ),
+)
 
 items_text : (p : Piece) → piece_text p ≡ flat_map item_text (items_of p)
 items_text (plain c) = refl

@@ -1,7 +1,7 @@
 -- An escaped text reads back: no other text has this escaped text.
-use Rattle.std.proofs.Common.{◌≡◌, ◌<◌, ◌≤◌, ◌+◌, ◌-◌, ◌/◌, ◌%◌, ◌^◌, ℕ, Bool, true, false, List, [], ◌∷◌, ◌++◌, length, get_or, drop}
+use Rattle.std.proofs.Common.{◌≡◌, ◌<◌, ◌/◌, ◌%◌, ◌^◌, ℕ, Bool, true, false, List, [], ◌∷◌, ◌++◌, length, get_or, drop}
 use Rattle.std.proofs.Common.{map, flat_map, cond, decimal, codes, refl, sym, ap, ap₂, ◌∙◌, arith, IsUtf8, append_assoc, append-nil}
-use Rattle.std.specs.Char.{IsScalar, digit_char, digit_value, encode_utf8}
+use Rattle.std.specs.Char.{digit_char, digit_value, encode_utf8}
 use Rattle.std.specs.List.{AllByRecursion}
 use Rattle.std.specs.Str.{chars}
 use Rattle.std.specs.Str.Parse.{AllDigits}
@@ -67,7 +67,7 @@ piece_read (plain c) (octet b) s t p q e = absurd ((plain_parts c p).3 (ap (λ l
 piece_read (reference n) (plain d) s t p q e = absurd (no_reference d n t s q (sym e))
 piece_read (reference m) (reference n) s t p q e =
     let shown : 38 ∷ (35 ∷ (decimal m ++ 59 ∷ s)) ≡ 38 ∷ (35 ∷ (decimal n ++ 59 ∷ t))
-        = sym (spread m s) ∙ e ∙ spread n t in
+    = sym (spread m s) ∙ e ∙ spread n t in
     let h = number_read m n s t p q (ap (λ l. drop 2 l) shown) in
     (ap reference h.0, h.1)
 piece_read (reference n) (octet b) s t p q e =
@@ -79,7 +79,7 @@ piece_read (octet b) (reference n) s t p q e =
     absurd (omega (arith, one))
 piece_read (octet a) (octet b) s t p q e =
     let high : a / 16 % 16 ≡ b / 16 % 16 =
-        digit_read (a / 16 % 16) (b / 16 % 16) (omega arith) (omega arith) (ap (λ l. get_or l 2 0) e) in
+    digit_read (a / 16 % 16) (b / 16 % 16) (omega arith) (omega arith) (ap (λ l. get_or l 2 0) e) in
     let low : a % 16 ≡ b % 16 = digit_read (a % 16) (b % 16) (omega arith) (omega arith) (ap (λ l. get_or l 3 0) e) in
     (ap octet (omega (arith, p, q, high, low)), ap (λ l. drop 4 l) e)
 
@@ -129,6 +129,6 @@ all_bytes (c ∷ cs) =
 pub escaped_same : (bs ds : List ℕ) → IsUtf8 bs → IsUtf8 ds → escaped bs ≡ escaped ds → bs ≡ ds
 escaped_same bs ds u v e =
     let pieces = pieces_read (flat_map pieces_of (chars bs)) (flat_map pieces_of (chars ds))
-        (pieces_are (chars bs) (scalars-chars bs u)) (pieces_are (chars ds) (scalars-chars ds v)) e in
+    (pieces_are (chars bs) (scalars-chars bs u)) (pieces_are (chars ds) (scalars-chars ds v)) e in
     sym (encodes-chars bs u) ∙ sym (all_bytes (chars bs)) ∙ ap (flat_map piece_bytes) pieces ∙ all_bytes (chars ds)
     ∙ encodes-chars ds v

@@ -1,5 +1,5 @@
 -- Documents: trees of elements and texts, and the text of each.
-use Rattle.std.specs.Prelude.{ℕ, List, [], ◌∷◌, ◌++◌, map, flat_map, codes, decimal}
+use Rattle.std.specs.Prelude.{ℕ, List, [], ◌∷◌, ◌++◌, flat_map, codes, decimal}
 use Rattle.svg_text.specs.declared.name.ElementName.{ElementName}
 use Rattle.svg_text.specs.declared.name.AttributeName.{AttributeName}
 use Rattle.svg_text.specs.declared.tag.Attribute.{Attribute}

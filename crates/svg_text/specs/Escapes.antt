@@ -1,5 +1,5 @@
 -- Escapes: any text, such as the name of a file or a comment, as a part of a document in printable ASCII.
-use Rattle.std.specs.Prelude.{◌≡◌, ◌≤◌, ◌/◌, ◌%◌, ◌||◌, ◌&&◌, not, ℕ, Bool, nat_le, nat_eq, false, if◌then◌else◌}
+use Rattle.std.specs.Prelude.{◌≡◌, ◌≤◌, ◌/◌, ◌%◌, ◌||◌, ◌&&◌, not, ℕ, Bool, nat_le, nat_eq, true, false, if◌then◌else◌}
 use Rattle.std.specs.Prelude.{List, [], ◌∷◌, ◌++◌, map, flat_map, chars, codes, decimal, encode_utf8}
 use Rattle.std.specs.Char.{digit_char}
 use Rattle.std.specs.List.{AllByRecursion}
@@ -21,11 +21,16 @@ abbrev pub turns_writing : ℕ → Bool
 turns_writing c =
     nat_eq c 0x61c || is_from_to 0x200e 0x200f c || is_from_to 0x2028 0x202e c || is_from_to 0x2066 0x2069 c
 
--- The character is written as a reference to its number: it is reserved, or from U+00A0 on. XML 1.0 has no U+FFFE and
--- U+FFFF.
+-- The character may be in a document (XML 1.0, production 2).
+abbrev pub is_xml_character : ℕ → Bool
+is_xml_character c =
+    nat_eq c 9 || nat_eq c 10 || nat_eq c 13 || is_from_to 0x20 0xd7ff c || is_from_to 0xe000 0xfffd c
+    || is_from_to 0x10000 0x10ffff c
+
+-- The character is written as a reference to its number: it is reserved, or from U+00A0 on, if a document may have it
+-- and it does not turn the direction of writing.
 abbrev pub is_referred : ℕ → Bool
-is_referred c =
-    is_reserved c || nat_le 160 c && not (is_from_to 0xfffe 0xffff c) && not (turns_writing c)
+is_referred c = is_reserved c || nat_le 160 c && is_xml_character c && not (turns_writing c)
 
 -- A piece of an escaped text: a character as it is, a reference to one, or one byte of a character.
 pub data Piece : Type 0 where
@@ -63,10 +68,10 @@ abbrev pub item_text : Item → List ℕ
 item_text (character c) = c ∷ []
 item_text (number n) = codes "&#" ++ decimal n ++ codes ";"
 
--- A character of a safe text is printable ASCII and not reserved.
+-- A character of a safe text is printable ASCII and not reserved. A reference is to a character that a document may have.
 abbrev pub IsSafeItem : Item → Type 0
 IsSafeItem (character c) = (32 ≤ c) × (c ≤ 126) × (is_reserved c ≡ false)
-IsSafeItem (number n) = Unit {0}
+IsSafeItem (number n) = is_xml_character n ≡ true
 
 -- The text is printable ASCII. Of the reserved characters it has only `&`, each in a reference such as `&#60;`.
 pub record IsSafeText (text : List ℕ) : Type 0 where

@@ -1,9 +1,9 @@
 -- The grammar of documents: a small part of XML 1.0 (sections 2.4, 3 and 3.1).
 use Rattle.std.specs.Prelude.{◌≡◌, ◌||◌, ◌&&◌, not, ℕ, Bool, true, nat_eq, List, [], ◌∷◌, ◌++◌, map, flat_map, codes, bytes_eq}
-use Rattle.std.specs.List.{AllByRecursion, list_any, list_all}
+use Rattle.std.specs.List.{AllByRecursion, list_all}
 use Rattle.svg_text.specs.declared.name.ElementName.{ElementName}
 use Rattle.svg_text.specs.declared.name.AttributeName.{AttributeName}
-use Rattle.svg_text.specs.Documents.{Mark, Nodes, end, words, empty, element}
+use Rattle.svg_text.specs.Documents.{Nodes, end, words, empty, element}
 use Rattle.svg_text.specs.Escapes.{IsSafeText, is_from_to}
 use Rattle.svg_text.specs.Names.{element_text, attribute_text}
 

@@ -1,5 +1,5 @@
 -- The names of elements and attributes, and the values of attributes.
-use Rattle.std.specs.Prelude.{ℕ, List, [], ◌∷◌, ◌++◌, codes, decimal}
+use Rattle.std.specs.Prelude.{ℕ, List, codes}
 use Rattle.svg_text.specs.declared.name.ElementName.{ElementName}
 use Rattle.svg_text.specs.declared.name.ElementName.TheVariants as Elements
 use Rattle.svg_text.specs.declared.name.AttributeName.{AttributeName}

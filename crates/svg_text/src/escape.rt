@@ -1,8 +1,8 @@
 //! Any text as a part of a document.
 ghost use Rattle.std.specs.Prelude.{◌≡◌, ◌%◌, ◌++◌, OnOk, map, flat_map, string_bytes};
 ghost use Rattle.std.specs.Char.{digit_char};
-ghost use Rattle.svg_text.specs.Escapes.{is_reserved, is_plain, turns_writing, is_referred, pieces_of, piece_text};
-ghost use Rattle.svg_text.specs.Escapes.{octet, escaped};
+ghost use Rattle.svg_text.specs.Escapes.{is_reserved, is_plain, turns_writing, is_xml_character, is_referred};
+ghost use Rattle.svg_text.specs.Escapes.{octet, pieces_of, piece_text, escaped};
 
 use std::alloc::AllocError;
 
@@ -30,11 +30,21 @@ fn is_turn(c: char) -> bool
         || ('\u{2066}' <= c && c <= '\u{2069}')
 }
 
+/// Whether a document may have the character.
+fn is_in_xml(c: char) -> bool
+    ensures { result ≡ is_xml_character c }
+{
+    (c == '\t' || c == '\n' || c == '\r')
+        || (' ' <= c && c <= '\u{d7ff}')
+        || ('\u{e000}' <= c && c <= '\u{fffd}')
+        || ('\u{10000}' <= c && c <= '\u{10ffff}')
+}
+
 /// Whether the character is written as a reference to its number.
 fn is_numbered(c: char) -> bool
     ensures { result ≡ is_referred c }
 {
-    is_xml_mark(c) || ('\u{a0}' <= c && !('\u{fffe}' <= c && c <= '\u{ffff}') && !is_turn(c))
+    is_xml_mark(c) || ('\u{a0}' <= c && is_in_xml(c) && !is_turn(c))
 }
 
 /// The last hexadecimal digit of the number.

@@ -2,7 +2,7 @@
 ghost use Rattle.std.specs.Prelude.{◌≡◌, true, ℕ, List, IsUtf8};
 ghost use Rattle.svg_text.specs.Documents.{Nodes, nodes_text};
 ghost use Rattle.svg_text.specs.Escapes.{escaped, IsSafeText};
-ghost use Rattle.svg_text.specs.Grammar.{IsContent, are_well_formed};
+ghost use Rattle.svg_text.specs.Grammar.{IsContent, are_well_formed, are_printable};
 
 /// An escaped text is printable ASCII. Of the characters that XML reserves it has only `&`, each in a reference.
 pub fn escaped_texts_are_safe()
@@ -18,4 +18,9 @@ pub fn escaped_texts_read_back()
 /// all names, values and texts are as XML has them, whatever texts are in the nodes.
 pub fn documents_are_xml()
     ensures { (nodes : Nodes) → are_well_formed nodes ≡ true → IsContent (nodes_text nodes) }
+{}
+
+/// The text of nodes is printable ASCII and line feeds, whatever texts are in the nodes.
+pub fn documents_are_printable()
+    ensures { (nodes : Nodes) → are_printable (nodes_text nodes) ≡ true }
 {}

@@ -87,7 +87,11 @@ fn push_attribute(text: &mut String, attribute: &Attribute<'_>) -> Result<(), Al
 }
 
 /// Appends the name and the attributes of a tag.
-fn push_tag(text: &mut String, name: ElementName, attributes: &[Attribute<'_>]) -> Result<(), AllocError>
+fn push_tag(
+    text: &mut String,
+    name: ElementName,
+    attributes: &[Attribute<'_>],
+) -> Result<(), AllocError>
     ensures { OnOk result (string_bytes text.new
         ≡ string_bytes text.old ++ tag_text name (map mark_of attributes.now)) }
 {
@@ -107,7 +111,11 @@ fn push_tag(text: &mut String, name: ElementName, attributes: &[Attribute<'_>]) 
 /// ```text
 /// a group of the class small: <g class="small">
 /// ```
-pub fn push_start(text: &mut String, name: ElementName, attributes: &[Attribute<'_>]) -> Result<(), AllocError>
+pub fn push_start(
+    text: &mut String,
+    name: ElementName,
+    attributes: &[Attribute<'_>],
+) -> Result<(), AllocError>
     ensures { OnOk result (string_bytes text.new
         ≡ string_bytes text.old ++ start_text name (map mark_of attributes.now)) }
 {
@@ -142,7 +150,11 @@ pub fn push_end(text: &mut String, name: ElementName) -> Result<(), AllocError>
 /// ```text
 /// a rectangle of the class page: <rect class="page"/>
 /// ```
-pub fn push_empty(text: &mut String, name: ElementName, attributes: &[Attribute<'_>]) -> Result<(), AllocError>
+pub fn push_empty(
+    text: &mut String,
+    name: ElementName,
+    attributes: &[Attribute<'_>],
+) -> Result<(), AllocError>
     ensures { OnOk result (string_bytes text.new
         ≡ string_bytes text.old ++ empty_text name (map mark_of attributes.now)) }
 {

@@ -1,6 +1,6 @@
-use Rattle.std.proofs.Common.{◌≡◌, ◌++◌, ◌∙◌, OnOk, true, codes, decimal, refl, string_bytes, arith, rules}
+use Rattle.std.proofs.Common.{◌≡◌, ◌++◌, OnOk, true, decimal, string_bytes, arith, rules}
 use Rattle.std.proofs.lemmas.Result.{on_ok_weaker}
-use Rattle.svg_text.proofs.EscapeLaws.{are_plain, are_plain-append, plain_decimal, appended_plain}
+use Rattle.svg_text.proofs.EscapeLaws.{are_plain, plain_decimal, appended_plain}
 use Rattle.svg_text.proofs.tag.push_number.Goals as goal
 
 pub returns : goal.returns

@@ -1,5 +1,5 @@
 -- After `i` attributes the text has the name and these attributes.
-use Rattle.std.proofs.Common.{◌≡◌, ◌++◌, map, flat_map, take, string_bytes}
+use Rattle.std.proofs.Common.{◌≡◌, ◌++◌, map, take, string_bytes}
 use Rattle.svg_text.specs.Documents.{mark_of, tag_text}
 use Rattle.svg_text.proofs.tag.push_tag.Given as goal
 

@@ -1,4 +1,4 @@
-use Rattle.std.proofs.Common.{◌≡◌, ◌++◌, ◌∙◌, OnOk, true, codes, decimal, refl, string_bytes, arith}
+use Rattle.std.proofs.Common.{◌≡◌, ◌++◌, OnOk, true, codes, decimal, refl, string_bytes, arith}
 use Rattle.std.proofs.lemmas.Grind.{common_steps}
 use Rattle.std.proofs.lemmas.Result.{on_ok_weaker}
 use Rattle.svg_text.proofs.EscapeLaws.{are_plain, are_plain-append, plain_decimal, appended_plain}
@@ -13,9 +13,9 @@ returns c =
     let new = string_bytes c.write.new.self in
     let said : OnOk c.write.result (new ≡ old ++ whole) = grind (arith, common_steps) in
     let first : are_plain (codes "0 0 " ++ x) ≡ true =
-        are_plain-append (codes "0 0 ") x refl (plain_decimal c.args.width (omega arith)) in
+    are_plain-append (codes "0 0 ") x refl (plain_decimal c.args.width (omega arith)) in
     let second : are_plain (codes "0 0 " ++ x ++ codes " ") ≡ true =
-        are_plain-append (codes "0 0 " ++ x) (codes " ") first refl in
+    are_plain-append (codes "0 0 " ++ x) (codes " ") first refl in
     let plain : are_plain whole ≡ true =
-        are_plain-append (codes "0 0 " ++ x ++ codes " ") y second (plain_decimal c.args.height (omega arith)) in
+    are_plain-append (codes "0 0 " ++ x ++ codes " ") y second (plain_decimal c.args.height (omega arith)) in
     on_ok_weaker c.write.result (appended_plain whole old new plain) said
