@@ -58,6 +58,7 @@ plain_all (b ∷ bs) e =
 
 -- A text of plain characters is its own escaped text.
 pub escaped_plain : (bs : List ℕ) → are_plain bs ≡ true → escaped bs ≡ bs
+unfolding escaped
 escaped_plain bs e = ap escaped_all (chars-IsAscii bs (plain_below bs e)) ∙ plain_all bs e
 
 -- What was appended is the escaped text of a text of plain characters.

@@ -139,4 +139,5 @@ pieces_safe (p ∷ ps) all =
 
 -- An escaped text is safe.
 pub escaped_safe : (bytes : List ℕ) → IsSafeText (escaped bytes)
+unfolding escaped
 escaped_safe bytes = pieces_safe (flat_map pieces_of (chars bytes)) (pieces_writable (chars bytes))

@@ -127,6 +127,7 @@ all_bytes (c ∷ cs) =
 
 -- Two texts with the same escaped text are the same.
 pub escaped_same : (bs ds : List ℕ) → IsUtf8 bs → IsUtf8 ds → escaped bs ≡ escaped ds → bs ≡ ds
+unfolding escaped
 escaped_same bs ds u v e =
     let pieces = pieces_read (flat_map pieces_of (chars bs)) (flat_map pieces_of (chars ds))
     (pieces_are (chars bs) (scalars-chars bs u)) (pieces_are (chars ds) (scalars-chars ds v)) e in

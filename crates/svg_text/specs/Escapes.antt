@@ -55,7 +55,7 @@ abbrev pub escaped_all : List ℕ → List ℕ
 escaped_all cs = flat_map piece_text (flat_map pieces_of cs)
 
 -- The escaped text of a text in UTF-8.
-abbrev pub escaped : List ℕ → List ℕ
+unfoldable pub escaped : List ℕ → List ℕ
 escaped bytes = escaped_all (chars bytes)
 
 -- A part of a safe text: a character, or a reference to the number of one.
