@@ -29,7 +29,7 @@ one_cell len x y z a b =
       same_prefix = subst (λ v. z.number / 2 ^ (v - len) ≡ y.number / 2 ^ (v - len)) w b.same_prefix ∙ a.same_prefix;
     }
 
-cell_turned : (len : ℕ) (x y : Address) → InBlock (network_at x len) y → InBlock (network_at y len) x
+pub cell_turned : (len : ℕ) (x y : Address) → InBlock (network_at x len) y → InBlock (network_at y len) x
 cell_turned len x y a =
     let w : width y.family ≡ width x.family = ap width a.same_family in
     record {
@@ -38,7 +38,7 @@ cell_turned len x y a =
     }
 
 -- the addresses of the cell of an address are addresses
-cell_address : (len : ℕ) (x y : Address) → IsAddress x → InBlock (network_at x len) y → IsAddress y
+pub cell_address : (len : ℕ) (x y : Address) → IsAddress x → InBlock (network_at x len) y → IsAddress y
 cell_address len x y fits a =
     let w = width x.family in
     let end = block_end_fits w (w - len) x.number (omega arith) fits in
@@ -117,7 +117,7 @@ cells_begin InSet Pushed len networks decided fits blocks none x =
       λ c. inr (record { fits = c.fits; cell = some_same _ _ (network_at x len) (λ y. (covers y).1) c.cell }),
     )
 
-some_cons : (n : Network) (rest : List Network) (cell : Network)
+pub some_cons : (n : Network) (rest : List Network) (cell : Network)
     → HasSome (IsCoveredBy (n ∷ rest)) cell ↔ (HasSome (InBlock n) cell ⊎ HasSome (IsCoveredBy rest) cell)
 some_cons n rest cell = (
   λ h. elim (any_cases (λ m. InBlock m h.0) n rest h.1.in_set) [

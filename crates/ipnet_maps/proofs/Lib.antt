@@ -9,3 +9,14 @@ pub mod SharedLaws
 pub mod PathLaws
 pub mod PlaceLaws
 pub mod ReadLaws
+pub mod LevelLaws
+pub mod LevelWalkLaws
+pub mod DrawingLaws
+pub mod ClassLaws
+pub mod ChangeClassLaws
+pub mod LayerLaws
+pub mod MemberLaws
+pub mod SharedClassLaws
+pub mod SeveralLaws
+pub mod DrawnPartLaws
+pub mod ListsLaws

@@ -69,7 +69,7 @@ module _ (frame n : Network) (depth : ℕ) (valid : IsNetwork n) (frame_valid : 
   top = frame.number / 2 ^ host_bits frame
 
   -- an address of the frame is in the network exactly if its cell is in the network's block of cells
-  same_block : (x : Address) → InBlock frame x
+  pub same_block : (x : Address) → InBlock frame x
       → InBlock n x ↔ (cell_in frame depth x / 2 ^ low ≡ number_in frame n)
   same_block x inside =
       let f = frame.prefix_len in
@@ -154,7 +154,7 @@ block_is_large InSet len n whole max = elim (cases_lt len n.prefix_len) [
 
 module _ (frame : Network) (depth : ℕ) (frame_valid : IsNetwork frame)
     (fits : frame.prefix_len + depth ≤ width frame.family) where
-  drawn_each : (x : Address) → InBlock frame x → (networks : List Network) (rectangles : List Rectangle)
+  pub drawn_each : (x : Address) → InBlock frame x → (networks : List Network) (rectangles : List Rectangle)
       → ((n : Network) → Contains networks n → IsNetwork n × IsSubnetOf n frame
       × (n.prefix_len ≤ frame.prefix_len + depth))
       → AllZip (IsRectangleIn frame depth) networks rectangles

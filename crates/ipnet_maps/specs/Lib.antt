@@ -5,3 +5,8 @@ pub mod Cells
 pub mod Shared
 pub mod Places
 pub mod Paths
+pub mod LevelSteps
+pub mod Classes
+pub mod Drawings
+pub mod Layers
+pub mod Lists

@@ -11,7 +11,7 @@ use ipnet_sets::{IpSet, IpSetBuilder};
 use std::alloc::{AllocError, Global};
 
 /// The network itself, or the cell in which it is, if it is smaller than a cell.
-fn widened_to(network: &IpNet, cell_len: u8) -> IpNet
+pub(crate) fn widened_to(network: &IpNet, cell_len: u8) -> IpNet
     ensures { ip_network result ≡ widened (ip_network network.now) cell_len }
 {
     IpNet::new_assert(network.addr(), network.prefix_len().min(cell_len))

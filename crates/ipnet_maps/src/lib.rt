@@ -4,16 +4,22 @@
 pub mod cells;
 pub mod changed;
 pub mod depth;
+pub mod drawing;
 pub mod laws;
+pub(crate) mod layers;
 pub mod layout;
+pub mod levels;
 pub mod path;
 pub mod places;
+pub(crate) mod several;
 pub mod shared;
 
 pub use cells::{cells_with_all, cells_with_some};
 pub use changed::{ChangedCells, changed_cells};
 pub use depth::greatest_depth_of;
+pub use drawing::{Class, Drawing, Layer, draw_change, draw_set, draw_sets};
 pub use layout::{Axis, Layout, Place, Rectangle, Sides};
+pub use levels::{LevelCells, level_cells};
 pub use path::path_text;
 pub use places::{rectangle_in, rectangles_of};
 pub use shared::{cells_in_two_of, in_two_of};

@@ -86,7 +86,7 @@ counted_none : (A : Address → Type 0) (x : Address) → IsCountOf A 0 → A x 
 counted_none A x h a = let c = (h.members x).1 a in omega (arith, c.1, h.count)
 
 -- the addresses of a block can be listed
-block_counted : (n : Network) → IsCountOf (InBlock n) (block_size n)
+pub block_counted : (n : Network) → IsCountOf (InBlock n) (block_size n)
 block_counted n = record {
   addresses = addresses_of block;
   once = pairs_weaker (λ x y. x.number < y.number) (λ x y. x ≢ y)
@@ -108,7 +108,7 @@ part_fits InSet n count h =
     no_more (IsInPart InSet n) (InBlock n) count (block_size n) (λ x i. i.in_block) h (block_counted n)
 
 -- the count is 0 exactly if the block has none of the set
-nothing_counted : (InSet : Address → Type 0) (n : Network) (count : ℕ) → IsCountOf (IsInPart InSet n) count
+pub nothing_counted : (InSet : Address → Type 0) (n : Network) (count : ℕ) → IsCountOf (IsInPart InSet n) count
     → (count ≡ 0) ↔ HasNone InSet n
 nothing_counted InSet n count h = (
   λ e x b i. counted_none (IsInPart InSet n) x (subst (IsCountOf (IsInPart InSet n)) e h)
@@ -198,7 +198,7 @@ most_bits : (f : Family) → width f ≤ 128
 most_bits IPv4 = omega arith
 most_bits IPv6 = omega arith
 
-most_addresses : (n : Network) → block_size n ≤ 2 ^ 128
+pub most_addresses : (n : Network) → block_size n ≤ 2 ^ 128
 most_addresses n =
     let bits : host_bits n ≤ 128 = omega (arith, most_bits n.family) in
     pow-le-pow_right {n = 2} (omega arith) bits
@@ -235,7 +235,7 @@ whole_shown s n count level h share =
     let by_count = all_counted s n count h in (λ e. by_count.0 (by_level.0 e), λ all. by_level.1 (by_count.1 all))
 
 -- the part of a part in a smaller block
-part_of_part : (A B : Address → Type 0) (n k : Network) → ((x : Address) → B x ↔ IsInPart A n x) → IsSubnetOf k n
+pub part_of_part : (A B : Address → Type 0) (n k : Network) → ((x : Address) → B x ↔ IsInPart A n x) → IsSubnetOf k n
     → (x : Address) → IsInPart B k x ↔ IsInPart A k x
 part_of_part A B n k is_part within x = (
   λ i. record { in_block = i.in_block; in_set = ((is_part x).0 i.in_set).in_set },
@@ -265,7 +265,7 @@ levels_of_part A B n (k ∷ cells) (level ∷ levels) is_part within h = (
 )
 
 -- one more pair
-zip_push : {X Y : Type 0} (R : X → Y → Type 0) (xs : List X) (ys : List Y) (x : X) (y : Y) → AllZip R xs ys → R x y
+pub zip_push : {X Y : Type 0} (R : X → Y → Type 0) (xs : List X) (ys : List Y) (x : X) (y : Y) → AllZip R xs ys → R x y
     → AllZip R (xs ++ x ∷ []) (ys ++ y ∷ [])
 zip_push R [] [] x y h r = (r, tt)
 zip_push R [] (v ∷ vs) x y h r = absurd h

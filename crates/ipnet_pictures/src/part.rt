@@ -53,8 +53,12 @@ pub fn host_bits_of(network: &IpNet) -> u8
     network.max_prefix_len() - network.prefix_len()
 }
 
-/// Returns the number of addresses of the network's block, less one.
-pub(crate) fn last_place(network: &IpNet) -> u128
+/// Returns the number of addresses of the network's block, less one: the block of `::/0` has more than a word holds.
+///
+/// ```text
+/// of 10.0.0.8/29: 7; of 10.0.0.1/32: 0; of ::/0: u128::MAX
+/// ```
+pub fn last_place(network: &IpNet) -> u128
     ensures { result + 1 ≡ block_size (ip_network network.now) }
 {
     let bits = host_bits_of(network);

@@ -1,0 +1,227 @@
+-- The classes of the cells of a map.
+use Rattle.std.proofs.Common.{◌≡◌, ◌≢◌, ℕ, ◌-◌, ◌*◌, ◌^◌, ◌≤◌, ◌⊎◌, ◌↔◌, inl, inr}
+use Rattle.std.proofs.Common.{List, [], ◌∷◌, length, AllPairs, All, Contains}
+use Rattle.std.proofs.Common.{refl, sym, ap, ap₂, ◌∙◌, subst, arith}
+use Rattle.std.proofs.lemmas.Bool.{cases_lt, cases_eq}
+use Rattle.std.proofs.lemmas.List.Elements.{All-nil, All-cons}
+use Rattle.ipnet_base.specs.Address.{Address, width}
+use Rattle.ipnet_base.specs.Network.{Network}
+use Rattle.ipnet_base.proofs.DecidedLaws.{IsDecided}
+use Rattle.ipnet_base.proofs.ListLaws.{all_at, contains_nil, contains_here, contains_there, contains_cases}
+use Rattle.ipnet_base.proofs.ListLaws.{pairs_head, pairs_tail, pairs_cons}
+use Rattle.ipnet_sets.specs.Members.{IsCountOf}
+use Rattle.ipnet_pictures.specs.declared.share.Level.{Level}
+use Rattle.ipnet_pictures.specs.declared.share.Level.TheVariants as level
+use Rattle.ipnet_pictures.specs.Parts.{IsInPart, HasSome, HasNone, IsLevelOf, block_size}
+use Rattle.ipnet_pictures.specs.Shares.{IsShare}
+use Rattle.ipnet_pictures.proofs.PartLaws.{same_count, block_counted, part_fits, nothing_counted, nothing_shown}
+use Rattle.ipnet_maps.specs.declared.drawing.Class.{Class}
+use Rattle.ipnet_maps.specs.declared.drawing.Class.TheVariants.{BelowThird, FromThird, FromTwoThirds, Whole, Removed}
+use Rattle.ipnet_maps.specs.Classes.{HasLevelClass, level_classes}
+use Rattle.ipnet_maps.proofs.LevelLaws.{some_counted, one_level, some_level}
+use Rattle.ipnet_maps.proofs.DrawingLaws.{IsSameCell, AreClasses}
+
+-- ---- counts of parts
+
+record IsPicked (A : Address → Type 0) (xs : List Address) : Type 0 where
+  addresses : List Address
+  once : AllPairs (λ x y. x ≢ y) addresses
+  members : (x : Address) → Contains addresses x ↔ (Contains xs x × A x)
+
+-- the members of a list that are in a set
+picked : (A : Address → Type 0) → IsDecided A → (xs : List Address) → AllPairs (λ x y. x ≢ y) xs → IsPicked A xs
+picked A decided [] once = record {
+  addresses = [];
+  once = once;
+  members = λ x. (λ c. absurd (contains_nil x c), λ b. b.0);
+}
+picked A decided (x ∷ xs) once =
+    let rest = picked A decided xs (pairs_tail (λ a b. a ≢ b) x xs once) in
+    elim (decided x) [
+      | inl a ↦ record {
+        addresses = x ∷ rest.addresses;
+        once = pairs_cons (λ u v. u ≢ v) x rest.addresses
+            (λ y c. pairs_head (λ u v. u ≢ v) x xs once y ((rest.members y).0 c).0) rest.once;
+        members = λ y. (
+          λ c. elim (contains_cases x rest.addresses y c) [
+            | inl e ↦ (subst (Contains (x ∷ xs)) e (contains_here x xs), subst A e a)
+            | inr d ↦ let b = (rest.members y).0 d in (contains_there x xs y b.0, b.1)
+          ],
+          λ b. elim (contains_cases x xs y b.0) [
+            | inl e ↦ subst (Contains (x ∷ rest.addresses)) e (contains_here x rest.addresses)
+            | inr d ↦ contains_there x rest.addresses y ((rest.members y).1 (d, b.1))
+          ],
+        );
+      }
+      | inr out ↦ record {
+        addresses = rest.addresses;
+        once = rest.once;
+        members = λ y. (
+          λ c. let b = (rest.members y).0 c in (contains_there x xs y b.0, b.1),
+          λ b. elim (contains_cases x xs y b.0) [
+            | inl e ↦ absurd (out (subst A (sym e) b.1))
+            | inr d ↦ (rest.members y).1 (d, b.1)
+          ],
+        );
+      }
+    ]
+
+-- the part of a set in a block has a count
+pub part_counted : (InSet : Address → Type 0) → IsDecided InSet → (n : Network)
+    → (count : ℕ) × IsCountOf (IsInPart InSet n) count
+part_counted InSet decided n =
+    let block = block_counted n in
+    let part = picked InSet decided block.addresses block.once in (
+      length part.addresses,
+      record {
+        addresses = part.addresses;
+        once = part.once;
+        members = λ x. (
+          λ c. let b = (part.members x).0 c in record { in_block = (block.members x).0 b.0; in_set = b.1 },
+          λ i. (part.members x).1 ((block.members x).1 i.in_block, i.in_set),
+        );
+        count = refl;
+      },
+    )
+
+-- ---- levels
+
+-- each count up to the size has a level
+share_of : (count size : ℕ) → count ≤ size → (l : Level) × IsShare l count size
+share_of count size le = elim (cases_eq count 0) [
+  | inl none ↦ (level.Nothing, none)
+  | inr some ↦ elim (cases_lt count size) [
+    | inr all ↦ (level.Whole, omega (arith, le, all))
+    | inl part ↦ elim (cases_lt (count * 3) size) [
+      | inl one ↦ (level.BelowThird, (omega (arith, some), one))
+      | inr more ↦ elim (cases_lt (count * 3) (size * 2)) [
+        | inl two ↦ (level.FromThird, (more, two))
+        | inr most ↦ (level.FromTwoThirds, (most, part))
+      ]
+    ]
+  ]
+]
+
+level_exists : (InSet : Address → Type 0) → IsDecided InSet → (n : Network) → (l : Level) × IsLevelOf InSet n l
+level_exists InSet decided n =
+    let part = part_counted InSet decided n in
+    let l = share_of part.0 (block_size n) (part_fits InSet n part.0 part.1) in
+    (l.0, record { count = part.0; is_count = part.1; share = l.1 })
+
+same_size : (n k : Network) → IsSameCell n k → block_size n ≡ block_size k
+same_size n k same = ap₂ (λ f p. 2 ^ (width f - p)) same.family same.length
+
+level_of_same : (InSet : Address → Type 0) (n k : Network) (l : Level) → IsSameCell n k → IsLevelOf InSet n l
+    → IsLevelOf InSet k l
+level_of_same InSet n k l same h = record {
+  count = h.count;
+  is_count = same_count (IsInPart InSet n) (IsInPart InSet k) h.count (λ x. (
+    λ i. record { in_block = same.to x i.in_block; in_set = i.in_set },
+    λ i. record { in_block = same.from x i.in_block; in_set = i.in_set },
+  )) h.is_count;
+  share = subst (IsShare l h.count) (same_size n k same) h.share;
+}
+
+-- ---- the classes of a map of one set
+
+-- the class of the cells of a level; the class of `Nothing` is not used
+abbrev class_at : Level → Class
+class_at level.Nothing = Removed
+class_at level.BelowThird = BelowThird
+class_at level.FromThird = FromThird
+class_at level.FromTwoThirds = FromTwoThirds
+class_at level.Whole = Whole
+
+level_class : (InSet : Address → Type 0) (q : Class) (n : Network) → HasLevelClass InSet q n
+    → (l : Level) × (l ≢ level.Nothing) × (class_at l ≡ q) × IsLevelOf InSet n l
+level_class InSet BelowThird n h = (level.BelowThird, (λ e. cc), refl, h)
+level_class InSet FromThird n h = (level.FromThird, (λ e. cc), refl, h)
+level_class InSet FromTwoThirds n h = (level.FromTwoThirds, (λ e. cc), refl, h)
+level_class InSet Whole n h = (level.Whole, (λ e. cc), refl, h)
+level_class InSet q n h = absurd h
+
+class_of_level : (InSet : Address → Type 0) (n : Network) (l : Level) → l ≢ level.Nothing → IsLevelOf InSet n l
+    → HasLevelClass InSet (class_at l) n
+class_of_level InSet n level.Nothing some h = absurd (some refl)
+class_of_level InSet n level.BelowThird some h = h
+class_of_level InSet n level.FromThird some h = h
+class_of_level InSet n level.FromTwoThirds some h = h
+class_of_level InSet n level.Whole some h = h
+
+class_listed : (l : Level) → l ≢ level.Nothing → Contains level_classes (class_at l)
+class_listed level.Nothing some = absurd (some refl)
+class_listed level.BelowThird some = contains_here BelowThird (FromThird ∷ FromTwoThirds ∷ Whole ∷ [])
+class_listed level.FromThird some =
+    contains_there BelowThird (FromThird ∷ FromTwoThirds ∷ Whole ∷ []) FromThird
+    (contains_here FromThird (FromTwoThirds ∷ Whole ∷ []))
+class_listed level.FromTwoThirds some =
+    contains_there BelowThird (FromThird ∷ FromTwoThirds ∷ Whole ∷ []) FromTwoThirds
+    (contains_there FromThird (FromTwoThirds ∷ Whole ∷ []) FromTwoThirds
+    (contains_here FromTwoThirds (Whole ∷ [])))
+class_listed level.Whole some =
+    contains_there BelowThird (FromThird ∷ FromTwoThirds ∷ Whole ∷ []) Whole
+    (contains_there FromThird (FromTwoThirds ∷ Whole ∷ []) Whole
+    (contains_there FromTwoThirds (Whole ∷ []) Whole (contains_here Whole [])))
+
+-- one more class, which is none of the others
+pub distinct_more : (q : Class) (classes : List Class) → All (λ r. q ≢ r) classes → AllPairs (λ a b. a ≢ b) classes
+    → AllPairs (λ a b. a ≢ b) (q ∷ classes)
+distinct_more q classes others rest =
+    pairs_cons (λ a b. a ≢ b) q classes (λ r c. all_at (λ b. q ≢ b) classes others r c) rest
+
+pub distinct_none : AllPairs (λ (a b : Class). a ≢ b) []
+distinct_none = λ i j d l m. absurd (omega (arith, m))
+
+levels_distinct : AllPairs (λ q r. q ≢ r) level_classes
+levels_distinct =
+    distinct_more BelowThird (FromThird ∷ FromTwoThirds ∷ Whole ∷ [])
+    (All-cons (λ r. BelowThird ≢ r) FromThird (FromTwoThirds ∷ Whole ∷ []) (λ e. cc)
+    (All-cons (λ r. BelowThird ≢ r) FromTwoThirds (Whole ∷ []) (λ e. cc)
+    (All-cons (λ r. BelowThird ≢ r) Whole [] (λ e. cc) (All-nil (λ r. BelowThird ≢ r)))))
+    (distinct_more FromThird (FromTwoThirds ∷ Whole ∷ [])
+    (All-cons (λ r. FromThird ≢ r) FromTwoThirds (Whole ∷ []) (λ e. cc)
+    (All-cons (λ r. FromThird ≢ r) Whole [] (λ e. cc) (All-nil (λ r. FromThird ≢ r))))
+    (distinct_more FromTwoThirds (Whole ∷ [])
+    (All-cons (λ r. FromTwoThirds ≢ r) Whole [] (λ e. cc) (All-nil (λ r. FromTwoThirds ≢ r)))
+    (distinct_more Whole [] (All-nil (λ r. Whole ≢ r)) distinct_none)))
+
+pub classes_of_levels : (InSet : Address → Type 0) → IsDecided InSet
+    → AreClasses InSet (HasLevelClass InSet) level_classes
+classes_of_levels InSet decided = record {
+  distinct = levels_distinct;
+  one = λ q r n a b.
+      let x = level_class InSet q n a in
+      let y = level_class InSet r n b in
+      sym x.2 ∙ ap class_at (one_level InSet n x.0 y.0 x.3 y.3) ∙ y.2;
+  some = λ q n a. let x = level_class InSet q n a in some_level InSet n x.0 x.1 x.3;
+  total = λ n some.
+      let l = level_exists InSet decided n in
+      let ne : l.0 ≢ level.Nothing
+      = λ e. ((nothing_shown InSet n l.1.count l.0 l.1.is_count l.1.share).0 e) some.0 some.1.in_block some.1.in_set in
+      (class_at l.0, class_listed l.0 ne, class_of_level InSet n l.0 ne l.1);
+  same = λ q n k same a.
+      let x = level_class InSet q n a in
+      subst (λ z. HasLevelClass InSet z k) x.2
+      (class_of_level InSet k x.0 x.1 (level_of_same InSet n k x.0 same x.3));
+}
+
+-- the class of a cell depends only on the part of the set in it
+pub level_class_of_part : (A B : Address → Type 0) (q : Class) (n : Network)
+    → ((x : Address) → IsInPart A n x ↔ IsInPart B n x) → HasLevelClass A q n → HasLevelClass B q n
+level_class_of_part A B q n same a =
+    let x = level_class A q n a in
+    subst (λ z. HasLevelClass B z n) x.2 (class_of_level B n x.0 x.1 (record {
+      count = x.3.count;
+      is_count = same_count (IsInPart A n) (IsInPart B n) x.3.count same x.3.is_count;
+      share = x.3.share;
+    }))
+
+-- ---- blocks and sets that can be decided
+
+pub some_or_none : (A : Address → Type 0) → IsDecided A → (n : Network) → HasSome A n ⊎ HasNone A n
+some_or_none A decided n =
+    let part = part_counted A decided n in
+    elim (cases_lt 0 part.0) [
+      | inl some ↦ inl (some_counted (IsInPart A n) part.0 some part.1)
+      | inr none ↦ inr ((nothing_counted A n part.0 part.1).0 (omega (arith, none)))
+    ]

@@ -1,0 +1,288 @@
+//! A drawing of sets in a frame: the rectangles of each class of cells.
+ghost use Rattle.std.specs.Prelude.{Any, IfOk, IfSome, IfNone};
+ghost use Rattle.std.specs.List.{AllZip};
+ghost use Rattle.ipnet_base.specs.Address.{Address};
+ghost use Rattle.ipnet_base.specs.Blocks.{IsInEither};
+ghost use Rattle.ipnet_base.specs.Network.{InBlock};
+ghost use Rattle.ipnet.specs.NetworkOf.{ip_network};
+ghost use Rattle.ipnet_sets.specs.Members.{IsMember};
+ghost use Rattle.ipnet_maps.specs.Drawings.{IsDepthOf, IsDrawingOf};
+ghost use Rattle.ipnet_maps.specs.Layers.{IsClassCells};
+ghost use Rattle.ipnet_maps.specs.Lists.{IsPartOf, IsListed, HasClass, classes_of, IsDrawnAt, IsTooDeep};
+ghost use Rattle.ipnet_maps.specs.Lists.{IsTooDeepAfter};
+ghost use Rattle.ipnet_maps.specs.Classes.{HasLevelClass, level_classes, HasChangeClass, change_classes};
+ghost use Rattle.ipnet_maps.specs.Classes.{HasSharedClass, shared_classes};
+
+use crate::changed::{ChangedCells, changed_cells};
+use crate::depth::greatest_depth_of;
+use crate::layers::{ClassCells, are_few, layers_of};
+use crate::layout::Rectangle;
+use crate::levels::{LevelCells, level_cells};
+use crate::several::shared_class_cells;
+use ipnet::IpNet;
+use ipnet_pictures::part_in;
+use ipnet_sets::IpSet;
+use std::alloc::{AllocError, Global};
+
+/// The class of a cell of a map. A cell without an address of a set has no class.
+#[derive(Clone, Copy, Debug, PartialEq, Eq)]
+pub enum Class {
+    /// In a map of one set: some of the addresses, and less than a third.
+    BelowThird,
+    /// In a map of one set: at least a third of the addresses, and less than two thirds.
+    FromThird,
+    /// In a map of one set: at least two thirds of the addresses, and not all.
+    FromTwoThirds,
+    /// In a map of one set: all addresses.
+    Whole,
+    /// In a map of a change: addresses went, and none came.
+    Removed,
+    /// In a map of a change: addresses came, and none went.
+    Added,
+    /// In a map of a change: addresses went, and addresses came.
+    Mixed,
+    /// In a map of a change: both sets have the same addresses of the cell, some and not all.
+    KeptPart,
+    /// In a map of a change: both sets have all addresses of the cell.
+    KeptWhole,
+    /// In a map of several sets: two sets share an address of the cell.
+    Overlap,
+    /// In a map of several sets: two sets have addresses of the cell, and no two share one.
+    Several,
+    /// In a map of several sets: only the set at this place of the list has addresses of the cell, and not all.
+    PartOf(usize),
+    /// In a map of several sets: only the set at this place of the list has addresses of the cell, and it has all.
+    WholeOf(usize),
+}
+
+/// The cells of one class, as the fewest rectangles of networks.
+#[derive(Drop)]
+pub struct Layer {
+    /// The class of the cells.
+    pub class: Class,
+    /// The rectangles, in the order of their networks.
+    pub rectangles: Vec<Rectangle>,
+}
+
+/// The rectangles of a map. Its cells are `depth` bits longer than its frame.
+#[derive(Drop)]
+pub struct Drawing {
+    /// The number of bits that the map shows: at most 20, and even or odd as the length of the frame is.
+    pub depth: u8,
+    /// The layers, one for each class that the map can have. Those without cells have no rectangles.
+    pub layers: Vec<Layer>,
+}
+
+/// The sets that a map shows, without what is outside its frame.
+#[derive(Drop)]
+pub(crate) enum Lists {
+    /// One set.
+    One(IpSet),
+    /// A set before and after a change.
+    Change(IpSet, IpSet),
+    /// Several sets.
+    Several(Vec<IpSet>),
+}
+
+/// Returns the cells of each class of one set, in the order of the layers.
+fn level_class_cells(
+    alloc: Global,
+    set: &IpSet,
+    cell_len: u8,
+) -> Result<Vec<ClassCells>, AllocError>
+    ensures { IfOk result (λ list.
+        AllZip (IsClassCells (HasLevelClass (IsMember set.now)) cell_len) level_classes list.items) }
+{
+    let LevelCells {
+        some,
+        third,
+        two_thirds,
+        whole,
+    } = level_cells(alloc, set, cell_len)?;
+    let mut list = Vec::new(alloc);
+    list.push(ClassCells {
+        class: Class::BelowThird,
+        cells: some,
+    })?;
+    list.push(ClassCells {
+        class: Class::FromThird,
+        cells: third,
+    })?;
+    list.push(ClassCells {
+        class: Class::FromTwoThirds,
+        cells: two_thirds,
+    })?;
+    list.push(ClassCells {
+        class: Class::Whole,
+        cells: whole,
+    })?;
+    Ok(list)
+}
+
+/// Returns the cells of each class of a change, in the order of the layers.
+fn change_class_cells(
+    alloc: Global,
+    before: &IpSet,
+    after: &IpSet,
+    cell_len: u8,
+) -> Result<Vec<ClassCells>, AllocError>
+    ensures { IfOk result (λ list. AllZip (IsClassCells
+        (HasChangeClass (IsMember before.now) (IsMember after.now)) cell_len) change_classes list.items) }
+{
+    let ChangedCells {
+        removed,
+        added,
+        mixed,
+        kept_part,
+        kept_whole,
+    } = changed_cells(alloc, before, after, cell_len)?;
+    let mut list = Vec::new(alloc);
+    list.push(ClassCells {
+        class: Class::Removed,
+        cells: removed,
+    })?;
+    list.push(ClassCells {
+        class: Class::Added,
+        cells: added,
+    })?;
+    list.push(ClassCells {
+        class: Class::Mixed,
+        cells: mixed,
+    })?;
+    list.push(ClassCells {
+        class: Class::KeptPart,
+        cells: kept_part,
+    })?;
+    list.push(ClassCells {
+        class: Class::KeptWhole,
+        cells: kept_whole,
+    })?;
+    Ok(list)
+}
+
+/// Returns the cells of each class, in the order of the layers.
+fn class_cells(alloc: Global, lists: &Lists, cell_len: u8) -> Result<Vec<ClassCells>, AllocError>
+    ensures { IfOk result (λ list.
+        AllZip (IsClassCells (HasClass lists.now) cell_len) (classes_of lists.now) list.items) }
+{
+    match lists {
+        Lists::One(set) => level_class_cells(alloc, set, cell_len),
+        Lists::Change(before, after) => change_class_cells(alloc, before, after, cell_len),
+        Lists::Several(sets) => shared_class_cells(alloc, sets.as_slice(), cell_len),
+    }
+}
+
+/// Returns the map that shows this many bits, or `None` if it would have more than 65,536 rectangles.
+fn drawn_at(
+    alloc: Global,
+    frame: &IpNet,
+    lists: &Lists,
+    depth: u8,
+) -> Result<Option<Drawing>, AllocError>
+    requires depth { IsDepthOf (ip_network frame.now) depth }
+    requires inside { (x : Address) → IsListed lists.now x → InBlock (ip_network frame.now) x }
+    ensures drawn { IfOk result (λ found. IfSome found (IsDrawnAt lists.now (ip_network frame.now) depth)) }
+    ensures many { IfOk result (λ found. IfNone found (IsTooDeep lists.now (ip_network frame.now) depth)) }
+{
+    let cells = class_cells(alloc, lists, frame.prefix_len() + depth)?;
+    if depth > 16 && !are_few(cells.as_slice()) {
+        return Ok(None);
+    }
+    let layers = layers_of(alloc, frame, depth, cells.as_slice())?;
+    Ok(Some(Drawing { depth, layers }))
+}
+
+/// Returns the map that shows as many bits as it can, and at most this many.
+fn draw_to(alloc: Global, frame: &IpNet, lists: &Lists, depth: u8) -> Result<Drawing, AllocError>
+    requires depth { IsDepthOf (ip_network frame.now) depth }
+    requires inside { (x : Address) → IsListed lists.now x → InBlock (ip_network frame.now) x }
+    requires deeper { IsTooDeepAfter lists.now (ip_network frame.now) depth }
+    ensures { IfOk result (IsDrawingOf (IsListed lists.now) (HasClass lists.now) (classes_of lists.now)
+        (ip_network frame.now)) }
+{
+    match drawn_at(alloc, frame, lists, depth)? {
+        Some(drawing) => Ok(drawing),
+        None => draw_to(alloc, frame, lists, depth - 2),
+    }
+}
+
+/// Returns the map of the set in the frame: a layer for each level, from the cells with less than a third of their
+/// addresses in the set to those with all. Addresses outside the frame are left out. Fails only if memory runs out.
+///
+/// The cells are as small as they can be with at most 65,536 rectangles.
+///
+/// ```text
+/// of 10.20.0.0-10.20.17.9 in 10.20.0.0/16: 16 bits, and in the last layer the rectangles of 10.20.0.0/20,
+/// 10.20.16.0/24, 10.20.17.0/29 and 10.20.17.8/31
+/// ```
+pub fn draw_set(alloc: Global, frame: &IpNet, set: &IpSet) -> Result<Drawing, AllocError>
+    ensures { IfOk result (IsDrawingOf (IsMember set.now) (HasLevelClass (IsMember set.now)) level_classes
+        (ip_network frame.now)) }
+{
+    let part = part_in(alloc, set, frame)?;
+    draw_to(alloc, frame, &Lists::One(part), greatest_depth_of(frame))
+}
+
+/// Returns the map of the change of a set in the frame, if `before` becomes `after`: a layer each for the cells that
+/// only lose addresses, that only gain addresses, that do both, that keep a part, and that keep all. Addresses outside
+/// the frame are left out. Fails only if memory runs out.
+///
+/// A change is never hidden, however small it is. The cells are as small as they can be with at most 65,536 rectangles.
+///
+/// ```text
+/// from 10.20.0.0/24 to 10.20.0.0/25 in 10.20.0.0/16: `Removed` is 10.20.0.128/25, `KeptWhole` is 10.20.0.0/25
+/// ```
+pub fn draw_change(
+    alloc: Global,
+    frame: &IpNet,
+    before: &IpSet,
+    after: &IpSet,
+) -> Result<Drawing, AllocError>
+    ensures { IfOk result (IsDrawingOf (IsInEither (IsMember before.now) (IsMember after.now))
+        (HasChangeClass (IsMember before.now) (IsMember after.now)) change_classes (ip_network frame.now)) }
+{
+    let first = part_in(alloc, before, frame)?;
+    let second = part_in(alloc, after, frame)?;
+    draw_to(
+        alloc,
+        frame,
+        &Lists::Change(first, second),
+        greatest_depth_of(frame),
+    )
+}
+
+/// Returns the parts of the sets that are in the frame, in order.
+fn parts_in(alloc: Global, frame: &IpNet, sets: &[IpSet]) -> Result<Vec<IpSet>, AllocError>
+    ensures { IfOk result (λ list. AllZip (IsPartOf (ip_network frame.now)) sets.now list.items) }
+{
+    let mut parts = Vec::new(alloc);
+    for set in sets {
+        let part = part_in(alloc, set, frame)?;
+        parts.push(part)?;
+    }
+    Ok(parts)
+}
+
+/// Returns the map of several sets in the frame: a layer for the cells in which two sets share an address, one for the
+/// other cells in which two sets have addresses, and then two layers for each set: the cells of which only this set has
+/// addresses, and not all, and the cells of which it has all. Addresses outside the frame are left out. Fails only if
+/// memory runs out.
+///
+/// The cells are as small as they can be with at most 65,536 rectangles.
+///
+/// ```text
+/// of 10.20.0.0/24 and 10.20.0.128/25 in 10.20.0.0/16: `Overlap` is 10.20.0.128/25, `WholeOf(0)` is 10.20.0.0/25, and the
+/// other layers are empty
+/// ```
+pub fn draw_sets(alloc: Global, frame: &IpNet, sets: &[IpSet]) -> Result<Drawing, AllocError>
+    ensures { IfOk result (IsDrawingOf (λ x. Any (λ set. IsMember set x) sets.now) (HasSharedClass sets.now)
+        (shared_classes sets.now) (ip_network frame.now)) }
+{
+    let parts = parts_in(alloc, frame, sets)?;
+    draw_to(
+        alloc,
+        frame,
+        &Lists::Several(parts),
+        greatest_depth_of(frame),
+    )
+}
