@@ -1,5 +1,6 @@
 -- Maps: the document that shows a drawing of sets.
 use Rattle.std.specs.Prelude.{◌≡◌, ℕ, ◌+◌, ◌^◌, List, [], ◌∷◌, map, All}
+use Rattle.ipnet_base.specs.Blocks.{IsInEither}
 use Rattle.ipnet_base.specs.Network.{Network}
 use Rattle.ipnet_sets.specs.declared.set.IpSet.{IpSet}
 use Rattle.ipnet_sets.specs.Members.{IsMember, IsDifference, IsIntersection}
@@ -28,7 +29,7 @@ pub record IsMapText (frame : Network) (counted : List Counted) (d : Drawing) (t
 -- The text is a map of the set in the frame: the drawing of its levels, and squares that count its addresses.
 pub record IsSetMap (set : IpSet) (frame : Network) (text : List ℕ) : Type 0 where
   pub drawing : Drawing
-  pub drawn : IsDrawingOf (HasLevelClass (IsMember set)) level_classes frame drawing
+  pub drawn : IsDrawingOf (IsMember set) (HasLevelClass (IsMember set)) level_classes frame drawing
   pub counted : List Counted
   pub sets : map (λ c. c.set.now) counted ≡ set ∷ []
   pub page : IsMapText frame counted drawing text
@@ -37,7 +38,8 @@ pub record IsSetMap (set : IpSet) (frame : Network) (text : List ℕ) : Type 0 w
 -- count the addresses that only the first has, that only the second has, and that both have.
 pub record IsChangeMap (before after : IpSet) (frame : Network) (text : List ℕ) : Type 0 where
   pub drawing : Drawing
-  pub drawn : IsDrawingOf (HasChangeClass (IsMember before) (IsMember after)) change_classes frame drawing
+  pub drawn : IsDrawingOf (IsInEither (IsMember before) (IsMember after))
+      (HasChangeClass (IsMember before) (IsMember after)) change_classes frame drawing
   pub removed : IpSet
   pub is_removed : IsDifference removed before after
   pub added : IpSet

@@ -11,7 +11,7 @@ returns c =
     IfOk-weaker c.map_text.result (λ text. IsMapText n _ d (string_bytes text))
     (λ text. IsChangeMap c.args.before.now c.args.after.now n (string_bytes text)) (λ text page. record {
       drawing = d;
-      drawn = c.in_ok-drawing.ensures.drawing;
+      drawn = c.in_ok-drawing.ensures;
       removed = c.in_ok-removed.removed;
       is_removed = c.in_ok-removed.ensures.members;
       added = c.in_ok-added.added;

@@ -11,7 +11,7 @@ returns c =
     IfOk-weaker c.map_text.result (λ text. IsMapText n _ d (string_bytes text))
     (λ text. IsSetMap c.args.set.now n (string_bytes text)) (λ text page. record {
       drawing = d;
-      drawn = c.in_ok-drawing.ensures.drawing;
+      drawn = c.in_ok-drawing.ensures;
       counted = _;
       sets = refl;
       page = page;
