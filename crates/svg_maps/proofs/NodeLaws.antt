@@ -30,7 +30,7 @@ each_then : {X : Type 0} (f : X → Nodes) (xs : List X) (next : Nodes)
     → nodes_text (joined (nodes_of f xs) next) ≡ flat_map (λ x. nodes_text (f x)) xs ++ nodes_text next
 each_then f xs next = joined_text (nodes_of f xs) next ∙ ap (λ z. z ++ nodes_text next) (nodes_of_text f xs)
 
--- the nodes of the members so far, and those of one more
+-- the nodes of the members so far, and of one more
 pub one_more : {X : Type 0} (f : X → List ℕ) (xs : List X) (i : ℕ) (x : X) (old so_far new : List ℕ) → i < length xs
     → x ≡ get_or xs i x → so_far ≡ old ++ flat_map f (take i xs) → new ≡ so_far ++ f x
     → new ≡ old ++ flat_map f (take (i + 1) xs)

@@ -7,10 +7,6 @@ use Rattle.svg_text.specs.Escapes.{escaped}
 use Rattle.ipnet_maps.specs.declared.layout.Sides.{Sides}
 use Rattle.svg_maps.specs.Pages.{head_nodes, page_marks}
 
-pub two_marks : {A : Type 0} (f : A → Mark) (a b : A) (k l : Mark) → f a ≡ k → f b ≡ l
-    → map f (a ∷ b ∷ []) ≡ k ∷ l ∷ []
-two_marks f a b k l e1 e2 = λ i. e1 i ∷ e2 i ∷ []
-
 pub four_marks : {A : Type 0} (f : A → Mark) (a b c d : A) (k l m n : Mark) → f a ≡ k → f b ≡ l → f c ≡ m → f d ≡ n
     → map f (a ∷ b ∷ c ∷ d ∷ []) ≡ k ∷ l ∷ m ∷ n ∷ []
 four_marks f a b c d k l m n e1 e2 e3 e4 = λ i. e1 i ∷ e2 i ∷ e3 i ∷ e4 i ∷ []

@@ -131,7 +131,7 @@ chart_nodes layers squares labels sides scale =
     (element Elements.Group (cells_marks scale) (nodes_of square_nodes squares)
     (element Elements.Group small_marks (nodes_of label_nodes labels) end))))
 
--- What the page has, as lists and numbers.
+-- The parts of a page, as lists and numbers.
 pub record PageView : Type 0 where
   pub title : List ℕ
   pub summary : List ℕ
@@ -147,7 +147,7 @@ pub record PageView : Type 0 where
   pub sides : Sides
   pub scale : ℕ
 
--- What the page and the chart have.
+-- The parts of the page and of the chart.
 abbrev pub page_view : Page → Chart → PageView
 page_view p c = record {
   title = p.title.now;
@@ -195,7 +195,7 @@ place_marks place = text_mark Attributes.Transform (value_text (Values.Translate
 abbrev pub placed_nodes : Place → Nodes → Nodes
 placed_nodes place inside = element Elements.Group (place_marks place) inside end
 
--- What is in the document of a map.
+-- The nodes in the document of a map.
 abbrev pub content_nodes : PageView → Nodes
 content_nodes v =
     head_nodes v.title v.summary v.style v.area

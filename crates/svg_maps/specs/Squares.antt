@@ -25,7 +25,7 @@ AreCountTexts n (c ∷ counted) text = (first : List ℕ) × (rest : List ℕ) �
 abbrev pub title_start : Network → List ℕ
 title_start n = canonical_text n ++ codes ", " ++ decimal (block_size n) ++ codes " addresses"
 
--- What the title of a network says: its text, and how many of its addresses each set has.
+-- The title of a network: its text, and how many of its addresses each set has.
 -- Example: `10.20.5.0/24, 256 addresses, 57 used`.
 pub record IsTitle (n : Network) (counted : List Counted) (text : List ℕ) : Type 0 where
   pub counts : List ℕ

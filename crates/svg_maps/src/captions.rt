@@ -31,12 +31,15 @@ fn foot_of(alloc: Global, frame: &IpNet, depth: u8, note: &str) -> Result<String
 {
     let square_len = frame.prefix_len() + square_bits_of(frame.prefix_len(), depth);
     let cell_len = frame.prefix_len() + depth;
-    format!(in alloc;
-        "Reads like text: left to right, then down. A square is a /{square_len}. The smallest dot is a /{cell_len}.{note}"
-    )
+    let mut text = String::from_str(alloc, "Reads like text: left to right, then down.")?;
+    write!(
+        text,
+        " A square is a /{square_len}. The smallest dot is a /{cell_len}.{note}"
+    )?;
+    Ok(text)
 }
 
-/// Whether the map has heads of rows and columns: its squares are those of an octet.
+/// Whether the map has heads of rows and columns: its squares are all values of an octet.
 fn has_heads(frame_len: u8, depth: u8) -> bool {
     depth >= 6 && frame_len % 8 <= 2
 }

@@ -18,7 +18,7 @@ use svg_text::{
 pub struct Square {
     /// Its area, in cells.
     pub rectangle: Rectangle,
-    /// The part of the network's text that tells it from others on the map.
+    /// The part of the network's text that differs from all others on the map.
     pub name: String,
     /// Its title, which a browser shows.
     pub title: String,

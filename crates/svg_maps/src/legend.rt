@@ -11,7 +11,7 @@ pub(crate) const EDGE: u32 = 16;
 /// The height of a line, in pixels.
 pub(crate) const LINE: u32 = 18;
 
-/// What the colour says of a cell of several lists that only the list at this place has.
+/// The meaning of the colour of a cell that only the list at this place has.
 fn list_words(
     alloc: Global,
     names: &[&str],
@@ -25,7 +25,7 @@ fn list_words(
     }
 }
 
-/// What the colour of the class says of a cell, which has this prefix length.
+/// The meaning of the colour of the class, for cells of this prefix length.
 fn class_words(
     alloc: Global,
     class: Class,

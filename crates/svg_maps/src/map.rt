@@ -20,7 +20,7 @@ use std::alloc::{AllocError, Global};
 pub struct MapForm<'a> {
     /// The style sheet.
     pub style: &'a str,
-    /// What the map shows, before the text of the network in its title.
+    /// The first words of the title, before the text of the network.
     pub heading: &'a str,
     /// The names of the sets, for the legend of a map of several sets.
     pub names: &'a [&'a str],

@@ -1,9 +1,9 @@
-//! The names of squares: the parts of their texts that tell them apart.
+//! The names of squares: the parts of their texts that differ.
 
 use ipnet::{IpAddr, IpNet};
 use std::alloc::{AllocError, Global};
 
-/// The octets of the address that tell the network from others in the frame.
+/// The octets of the address in which networks of the frame differ.
 fn octets_name(
     alloc: Global,
     octets: [u8; 4],
@@ -22,7 +22,7 @@ fn octets_name(
     Ok(text)
 }
 
-/// The groups of 16 bits of the address that tell the network from others in the frame.
+/// The groups of 16 bits of the address in which networks of the frame differ.
 fn groups_name(
     alloc: Global,
     groups: [u16; 8],
@@ -41,7 +41,7 @@ fn groups_name(
     Ok(text)
 }
 
-/// Returns the part of the network's text that tells it from others in the frame.
+/// Returns the part of the network's text that differs from all others in the frame.
 ///
 /// ```text
 /// of 10.20.172.0/24 in a /16: .172; of 10.0.0.0/8 in a /0: 10; of 2001:db8:c000::/40 in a /32: :c000

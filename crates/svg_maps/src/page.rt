@@ -13,12 +13,12 @@ use svg_text::{
     Attribute, AttributeName, ElementName, Value, push_empty, push_end, push_leaf, push_start,
 };
 
-/// What is on a page beside the map.
+/// The parts of a page beside the map.
 #[derive(Clone, Copy)]
 pub struct Page<'a> {
     /// The title of the document.
     pub title: &'a str,
-    /// What the document shows, in a sentence.
+    /// A sentence about the document.
     pub summary: &'a str,
     /// The style sheet.
     pub style: &'a str,

@@ -12,7 +12,7 @@ use ipnet_pictures::outside_of;
 use ipnet_sets::IpSet;
 use std::alloc::{AllocError, Global};
 
-/// What the foot of a map says of the addresses that are not on it: nothing if there are none.
+/// The note at the foot of a map about addresses that are not on it; empty if there are none.
 fn note_of(alloc: Global, set: &IpSet, frame: &IpNet) -> Result<String, AllocError> {
     let outside = outside_of(alloc, set, frame)?;
     if outside.is_empty() {

@@ -23,7 +23,7 @@ const ALL_IPV6: &str = "340282366920938463463374607431768211456";
 /// A set whose addresses are counted in each square.
 #[derive(Clone, Copy)]
 pub struct Counted<'a> {
-    /// What is said of the addresses, after their number.
+    /// The words after the number of addresses.
     pub words: &'a str,
     /// The set.
     pub set: &'a IpSet,

@@ -6,9 +6,10 @@ use Rattle.std.proofs.lemmas.Bool.Decides.{nat_tests}
 use Rattle.std.proofs.lemmas.List.Concat.{flat_map-append}
 use Rattle.std.proofs.lemmas.Str.{chars-IsAscii}
 use Rattle.std.proofs.lemmas.Fmt.{decimal_by_steps}
-use Rattle.svg_text.specs.Escapes.{is_from_to, is_reserved, is_plain, pieces_of, piece_text, escaped_all, escaped, plain}
+use Rattle.svg_text.specs.Escapes.{is_from_to, is_reserved, is_plain, plain, pieces_of, piece_text}
+use Rattle.svg_text.specs.Escapes.{escaped_all, escaped}
 
-pub escaped_all-append : (xs ys : List ℕ) → escaped_all (xs ++ ys) ≡ escaped_all xs ++ escaped_all ys
+escaped_all-append : (xs ys : List ℕ) → escaped_all (xs ++ ys) ≡ escaped_all xs ++ escaped_all ys
 escaped_all-append xs ys =
     ap (flat_map piece_text) (flat_map-append pieces_of xs ys)
     ∙ flat_map-append piece_text (flat_map pieces_of xs) (flat_map pieces_of ys)
@@ -57,10 +58,10 @@ plain_all (b ∷ bs) e =
     escaped_all-append (b ∷ []) bs ∙ rw (h.0, plain_all bs h.1) refl
 
 -- A text of plain characters is its own escaped text.
-pub escaped_plain : (bs : List ℕ) → are_plain bs ≡ true → escaped bs ≡ bs
+escaped_plain : (bs : List ℕ) → are_plain bs ≡ true → escaped bs ≡ bs
 unfolding escaped
 escaped_plain bs e = ap escaped_all (chars-IsAscii bs (plain_below bs e)) ∙ plain_all bs e
 
--- What was appended is the escaped text of a text of plain characters.
+-- An appended text of plain characters is the escaped text of itself.
 pub appended_plain : (bs old new : List ℕ) → are_plain bs ≡ true → new ≡ old ++ bs → new ≡ old ++ escaped bs
 appended_plain bs old new e is = is ∙ ap (λ z. old ++ z) (sym (escaped_plain bs e))

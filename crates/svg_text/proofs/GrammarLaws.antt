@@ -50,11 +50,13 @@ whole_spread name marks inside rest = grind (arith, append_assoc)
 -- The text of nodes is in the grammar.
 pub nodes_content : (nodes : Nodes) → are_well_formed nodes ≡ true → IsContent (nodes_text nodes)
 nodes_content end e = nothing
-nodes_content (words text next) e = characters (escaped text) (nodes_text next) (escaped_safe text) (nodes_content next e)
+nodes_content (words text next) e =
+    characters (escaped text) (nodes_text next) (escaped_safe text) (nodes_content next e)
 nodes_content (empty name marks next) e =
     let h = and_parts (are_distinct (map (λ m. m.name) marks)) (are_well_formed next) e in
     subst IsContent (sym (empty_spread name marks (nodes_text next)))
-    (empty_element name (flat_map mark_text marks) (nodes_text next) (attributes_are marks h.0) (nodes_content next h.1))
+    (empty_element name (flat_map mark_text marks) (nodes_text next) (attributes_are marks h.0)
+    (nodes_content next h.1))
 nodes_content (element name marks inside next) e =
     let outer = and_parts (are_distinct (map (λ m. m.name) marks) && are_well_formed inside) (are_well_formed next) e in
     let h = and_parts (are_distinct (map (λ m. m.name) marks)) (are_well_formed inside) outer.0 in

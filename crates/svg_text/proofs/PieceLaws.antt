@@ -1,4 +1,4 @@
--- Pieces: what is true of those of any text, and that their texts are safe.
+-- Pieces: what is true of all pieces of a text, and that their texts are safe.
 use Rattle.std.proofs.Common.{◌≡◌, ◌<◌, ◌/◌, ◌%◌, ◌^◌, ℕ, Bool, true, false, List, [], ◌∷◌, ◌++◌, inl, inr}
 use Rattle.std.proofs.Common.{map, flat_map, cond, refl, sym, ap₂, ◌∙◌, arith, append-nil}
 use Rattle.std.proofs.Common.{lt-ltb, le-ltb}
@@ -10,7 +10,8 @@ use Rattle.std.proofs.lemmas.Bool.Decides.{nat_tests}
 use Rattle.std.proofs.lemmas.List.Concat.{flat_map-append}
 use lib.Utf8.{scalar, scalars, scalar_cases}
 use Rattle.svg_text.specs.Escapes.{is_plain, is_xml_character, is_referred, Piece, plain, reference, octet}
-use Rattle.svg_text.specs.Escapes.{pieces_of, piece_text, escaped, Item, character, number, item_text, IsSafeItem, IsSafeText}
+use Rattle.svg_text.specs.Escapes.{pieces_of, piece_text, escaped}
+use Rattle.svg_text.specs.Escapes.{Item, character, number, item_text, IsSafeItem, IsSafeText}
 use Rattle.svg_text.proofs.EscapeLaws.{plain_parts}
 
 pub all_append : {A : Type 0} (P : A → Type 0) (xs ys : List A) → AllByRecursion P xs → AllByRecursion P ys
@@ -42,7 +43,8 @@ are_bytes c s =
       | inr a ↦ elim (cases_lt c 2048) [
         | inl b ↦ rw (le-ltb c 128 a, lt-ltb c 2048 b) (omega arith, (omega arith, tt))
         | inr b ↦ elim (cases_lt c 65536) [
-          | inl d ↦ rw (le-ltb c 128 a, le-ltb c 2048 b, lt-ltb c 65536 d) (omega arith, (omega arith, (omega arith, tt)))
+          | inl d ↦ rw (le-ltb c 128 a, le-ltb c 2048 b, lt-ltb c 65536 d)
+              (omega arith, (omega arith, (omega arith, tt)))
           | inr d ↦ rw (le-ltb c 128 a, le-ltb c 2048 b, le-ltb c 65536 d)
               (omega (arith, top), (omega arith, (omega arith, (omega arith, tt))))
         ]
@@ -59,7 +61,8 @@ referred_or c true s = (omega (arith, scalar_fits c s), tt)
 referred_or c false s = octets_are (encode_utf8 c) (are_bytes c s)
 
 plain_or : (c : ℕ) (p : Bool) → is_plain c ≡ p → IsScalar c
-    → AllByRecursion IsPiece (cond p (plain c ∷ []) (cond (is_referred c) (reference c ∷ []) (map octet (encode_utf8 c))))
+    → AllByRecursion IsPiece
+    (cond p (plain c ∷ []) (cond (is_referred c) (reference c ∷ []) (map octet (encode_utf8 c))))
 plain_or c true e s = (e, tt)
 plain_or c false e s = referred_or c (is_referred c) s
 
@@ -97,7 +100,8 @@ plain_writable c false e = referred_writable c (is_referred c) refl
 pieces_writable : (cs : List ℕ) → AllByRecursion IsWritable (flat_map pieces_of cs)
 pieces_writable [] = tt
 pieces_writable (c ∷ cs) =
-    all_append IsWritable (pieces_of c) (flat_map pieces_of cs) (plain_writable c (is_plain c) refl) (pieces_writable cs)
+    all_append IsWritable (pieces_of c) (flat_map pieces_of cs) (plain_writable c (is_plain c) refl)
+    (pieces_writable cs)
 
 abbrev items_of : Piece → List Item
 items_of (plain c) = character c ∷ []

@@ -12,8 +12,8 @@ use Rattle.svg_text.specs.declared.name.AttributeName.{AttributeName}
 use Rattle.svg_text.specs.declared.name.AttributeName.TheVariants as Attributes
 use Rattle.svg_text.specs.Documents.{Mark, mark_text, tag_text, start_text, end_text, empty_text}
 use Rattle.svg_text.specs.Documents.{Nodes, end, words, empty, element, nodes_text}
-use Rattle.svg_text.specs.Escapes.{is_from_to, is_xml_character, Item, character, number, item_text, IsSafeItem, IsSafeText}
-use Rattle.svg_text.specs.Escapes.{escaped}
+use Rattle.svg_text.specs.Escapes.{is_from_to, is_xml_character, escaped}
+use Rattle.svg_text.specs.Escapes.{Item, character, number, item_text, IsSafeItem, IsSafeText}
 use Rattle.svg_text.specs.Names.{element_text, attribute_text}
 use Rattle.svg_text.specs.Grammar.{are_printable}
 use Rattle.svg_text.proofs.PieceLaws.{escaped_safe}
@@ -110,7 +110,8 @@ empty_shown name marks =
 end_shown : (name : ElementName) → are_printable (end_text name) ≡ true
 end_shown name =
     both (codes "</" ++ element_text name ++ codes ">") (10 ∷ [])
-    (both (codes "</" ++ element_text name) (codes ">") (both (codes "</") (element_text name) refl (element_shown name))
+    (both (codes "</" ++ element_text name) (codes ">")
+    (both (codes "</") (element_text name) refl (element_shown name))
     refl) refl
 
 -- The text of nodes is printable ASCII and line feeds.

@@ -1,6 +1,7 @@
 -- An escaped text reads back: no other text has this escaped text.
 use Rattle.std.proofs.Common.{◌≡◌, ◌<◌, ◌/◌, ◌%◌, ◌^◌, ℕ, Bool, true, false, List, [], ◌∷◌, ◌++◌, length, get_or, drop}
-use Rattle.std.proofs.Common.{map, flat_map, cond, decimal, codes, refl, sym, ap, ap₂, ◌∙◌, arith, IsUtf8, append_assoc, append-nil}
+use Rattle.std.proofs.Common.{map, flat_map, cond, decimal, codes, refl, sym, ap, ap₂, ◌∙◌, arith, IsUtf8}
+use Rattle.std.proofs.Common.{append_assoc, append-nil}
 use Rattle.std.specs.Char.{digit_char, digit_value, encode_utf8}
 use Rattle.std.specs.List.{AllByRecursion}
 use Rattle.std.specs.Str.{chars}
@@ -9,7 +10,8 @@ use Rattle.std.proofs.lemmas.Fmt.{decimal_is_IsNumeral, decimal_injective}
 use Rattle.std.proofs.lemmas.List.Concat.{flat_map-append}
 use Rattle.std.proofs.lemmas.Str.{scalars-chars, encodes-chars, digit_value-digit_char}
 use lib.Utf8.{encodes}
-use Rattle.svg_text.specs.Escapes.{is_reserved, is_plain, is_referred, Piece, plain, reference, octet, pieces_of, piece_text, escaped}
+use Rattle.svg_text.specs.Escapes.{is_reserved, is_plain, is_referred, Piece, plain, reference, octet}
+use Rattle.svg_text.specs.Escapes.{pieces_of, piece_text, escaped}
 use Rattle.svg_text.proofs.EscapeLaws.{plain_parts}
 use Rattle.svg_text.proofs.PieceLaws.{IsPiece, pieces_are}
 
@@ -37,7 +39,8 @@ digits_read (x ∷ xs) (y ∷ ys) s t p q e =
 number_read : (m n : ℕ) (s t : List ℕ) → m < 2 ^ 64 → n < 2 ^ 64 → decimal m ++ 59 ∷ s ≡ decimal n ++ 59 ∷ t
     → (m ≡ n) × (s ≡ t)
 number_read m n s t fits other e =
-    let h = digits_read (decimal m) (decimal n) s t (decimal_is_IsNumeral m fits).0.1 (decimal_is_IsNumeral n other).0.1 e in
+    let h = digits_read (decimal m) (decimal n) s t (decimal_is_IsNumeral m fits).0.1
+        (decimal_is_IsNumeral n other).0.1 e in
     (decimal_injective m n fits other h.0, h.1)
 
 spread : (n : ℕ) (s : List ℕ) → piece_text (reference n) ++ s ≡ 38 ∷ (35 ∷ (decimal n ++ 59 ∷ s))
@@ -59,7 +62,7 @@ no_reference c n s t e same =
     let one : c ≡ 38 = head_is c 38 s (35 ∷ (decimal n ++ 59 ∷ t)) (same ∙ spread n t) in
     not_reserved c one h.2
 
-pub piece_read : (p q : Piece) (s t : List ℕ) → IsPiece p → IsPiece q → piece_text p ++ s ≡ piece_text q ++ t
+piece_read : (p q : Piece) (s t : List ℕ) → IsPiece p → IsPiece q → piece_text p ++ s ≡ piece_text q ++ t
     → (p ≡ q) × (s ≡ t)
 piece_read (plain c) (plain d) s t p q e = (ap plain (head_is c d s t e), tail_is c d s t e)
 piece_read (plain c) (reference n) s t p q e = absurd (no_reference c n s t p e)

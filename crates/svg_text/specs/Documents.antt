@@ -62,7 +62,7 @@ nodes_text (empty name marks next) = empty_text name marks ++ nodes_text next
 nodes_text (element name marks inside next) =
     start_text name marks ++ nodes_text inside ++ end_text name ++ nodes_text next
 
--- The nodes of the first, and then those of the second.
+-- The nodes of the first, and then the nodes of the second.
 abbrev pub joined : Nodes → Nodes → Nodes
 joined end others = others
 joined (words text next) others = words text (joined next others)

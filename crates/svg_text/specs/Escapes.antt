@@ -38,7 +38,7 @@ pub data Piece : Type 0 where
   reference : ℕ → Piece
   octet : ℕ → Piece
 
--- The pieces of one character. The bytes of a character are those of UTF-8.
+-- The pieces of one character. The bytes of a character are its bytes in UTF-8.
 -- Example: `a` is one plain piece, `<` and `ü` are one reference each, and a line feed is one byte.
 abbrev pub pieces_of : ℕ → List Piece
 pieces_of c =
@@ -68,12 +68,13 @@ abbrev pub item_text : Item → List ℕ
 item_text (character c) = c ∷ []
 item_text (number n) = codes "&#" ++ decimal n ++ codes ";"
 
--- A character of a safe text is printable ASCII and not reserved. A reference is to a character that a document may have.
+-- A character of a safe text is printable ASCII and not reserved. A reference is to a character that a document may
+-- have.
 abbrev pub IsSafeItem : Item → Type 0
 IsSafeItem (character c) = (32 ≤ c) × (c ≤ 126) × (is_reserved c ≡ false)
 IsSafeItem (number n) = is_xml_character n ≡ true
 
--- The text is printable ASCII. Of the reserved characters it has only `&`, each in a reference such as `&#60;`.
+-- The text is printable ASCII. Its only reserved characters are `&`, each in a reference such as `&#60;`.
 pub record IsSafeText (text : List ℕ) : Type 0 where
   pub items : List Item
   pub safe : AllByRecursion IsSafeItem items

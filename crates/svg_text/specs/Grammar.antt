@@ -1,5 +1,6 @@
 -- The grammar of documents: a small part of XML 1.0 (sections 2.4, 3 and 3.1).
-use Rattle.std.specs.Prelude.{◌≡◌, ◌||◌, ◌&&◌, not, ℕ, Bool, true, nat_eq, List, [], ◌∷◌, ◌++◌, map, flat_map, codes, bytes_eq}
+use Rattle.std.specs.Prelude.{◌≡◌, ◌||◌, ◌&&◌, not, ℕ, Bool, true, nat_eq, List, [], ◌∷◌, ◌++◌, map, flat_map, codes}
+use Rattle.std.specs.Prelude.{bytes_eq}
 use Rattle.std.specs.List.{AllByRecursion, list_all}
 use Rattle.svg_text.specs.declared.name.ElementName.{ElementName}
 use Rattle.svg_text.specs.declared.name.AttributeName.{AttributeName}

@@ -4,7 +4,7 @@ ghost use Rattle.svg_text.specs.Documents.{Nodes, nodes_text};
 ghost use Rattle.svg_text.specs.Escapes.{escaped, IsSafeText};
 ghost use Rattle.svg_text.specs.Grammar.{IsContent, are_well_formed, are_printable};
 
-/// An escaped text is printable ASCII. Of the characters that XML reserves it has only `&`, each in a reference.
+/// An escaped text is printable ASCII. Its only characters that XML reserves are `&`, each in a reference.
 pub fn escaped_texts_are_safe()
     ensures { (text : List ℕ) → IsSafeText (escaped text) }
 {}

@@ -35,21 +35,24 @@ pub struct Attribute<'a> {
 
 /// Appends the number.
 fn push_number(text: &mut String, number: u32) -> Result<(), AllocError>
-    ensures { OnOk result (string_bytes text.new ≡ string_bytes text.old ++ escaped (value_text (Values.Number number))) }
+    ensures { OnOk result (string_bytes text.new
+        ≡ string_bytes text.old ++ escaped (value_text (Values.Number number))) }
 {
     write!(text, "{number}")
 }
 
 /// Appends the move.
 fn push_translate(text: &mut String, x: u32, y: u32) -> Result<(), AllocError>
-    ensures { OnOk result (string_bytes text.new ≡ string_bytes text.old ++ escaped (value_text (Values.Translate x y))) }
+    ensures { OnOk result (string_bytes text.new
+        ≡ string_bytes text.old ++ escaped (value_text (Values.Translate x y))) }
 {
     write!(text, "translate({x} {y})")
 }
 
 /// Appends the scale.
 fn push_scale(text: &mut String, factor: u32) -> Result<(), AllocError>
-    ensures { OnOk result (string_bytes text.new ≡ string_bytes text.old ++ escaped (value_text (Values.Scale factor))) }
+    ensures { OnOk result (string_bytes text.new
+        ≡ string_bytes text.old ++ escaped (value_text (Values.Scale factor))) }
 {
     write!(text, "scale({factor})")
 }

@@ -15,7 +15,8 @@ returns c =
     c.number_attribute-3.result c.number_attribute-4.result _ _ _ _ _ c.text_attribute.ensures
     c.number_attribute.ensures c.number_attribute-2.ensures c.number_attribute-3.ensures
     c.number_attribute-4.ensures in
-    on_ok_weaker c.push_end.result (λ e. element_appended Elements.Rect (square_marks s.rectangle) (element Elements.Title [] (words (string_bytes s.title) end) end) old start
+    let inside = element Elements.Title [] (words (string_bytes s.title) end) end in
+    on_ok_weaker c.push_end.result (λ e. element_appended Elements.Rect (square_marks s.rectangle) inside old start
     (string_bytes c.push_leaf.new.text) (string_bytes c.push_end.new.text)
     (c.in_ok-push_start.ensures ∙ ap (λ m. old ++ start_text Elements.Rect m) marks)
     (c.in_ok-push_leaf.ensures

@@ -1,4 +1,4 @@
--- The networks so far and those that the walk still yields are those of the walk.
+-- The networks so far, and the networks that the walk still yields, are all networks of the walk.
 use Rattle.std.proofs.Common.{◌≡◌, ◌++◌, map, length}
 use Rattle.ipnet.specs.NetworkOf.{ip_network}
 use Rattle.ipnet.specs.SubnetsLeft.{ip_subnets_left}

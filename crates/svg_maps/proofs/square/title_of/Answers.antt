@@ -9,5 +9,6 @@ returns c =
     let start = title_start (ip_network c.args.network.now) in record {
       counts = counts;
       each = each;
-      spelled = pushed ∙ ap (λ z. z ++ counts) (c.in_ok-push_title_start.ensures ∙ ap (λ z. z ++ start) c.new-text.ensures.bytes);
+      spelled = pushed ∙ ap (λ z. z ++ counts)
+          (c.in_ok-push_title_start.ensures ∙ ap (λ z. z ++ start) c.new-text.ensures.bytes);
     }
