@@ -11,6 +11,7 @@ use crate::forms::with_forms;
 use crate::lines::with_lines;
 use crate::listing::with_listings;
 use crate::lists::{Empties, Reports};
+use crate::map::with_map;
 use crate::plan::plan_command;
 use crate::prefixes::prefix_command;
 use crate::rules::with_rules;
@@ -354,7 +355,7 @@ fn command<'a>(alloc: Global) -> Result<Command<'a>, AllocError> {
         .about("Combines and compares lists of networks, addresses and ranges")
         .subcommand_required(true)
         .arg_required_else_help(true);
-    let command = with_bar(alloc, with_all(alloc, command)?)?;
+    let command = with_map(alloc, with_bar(alloc, with_all(alloc, command)?)?)?;
     let command = with_entries(alloc, command)?;
     with_rule_lists(alloc, with_listings(alloc, command)?)
 }

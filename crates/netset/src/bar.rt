@@ -9,6 +9,7 @@ use crate::output::Streams;
 use crate::{refused, session_of};
 use clap::{Arg, ArgMatches, Command};
 use ipnet_pictures::{BarForm, Frame, Marks, RowWidth};
+use netset_lib::Session;
 use netset_pictures::{
     BarRequest, LocaleValues, MarkChoice, chosen_marks, read_row_width, run_bar, run_comparison_bar,
 };
@@ -24,7 +25,8 @@ const IN: &str = "in";
 
 const IPV6: &str = "ipv6";
 
-const COMPARE: &str = "compare";
+/// The flag that compares two lists.
+pub const COMPARE: &str = "compare";
 
 const ASCII: &str = "ascii";
 
@@ -72,7 +74,7 @@ pub fn with_plan_bar<'a>(alloc: Global, command: Command<'a>) -> Result<Command<
 }
 
 /// Adds the options for the network that is drawn.
-fn with_frame<'a>(alloc: Global, command: Command<'a>) -> Result<Command<'a>, AllocError> {
+pub fn with_frame<'a>(alloc: Global, command: Command<'a>) -> Result<Command<'a>, AllocError> {
     let network = Arg::new(alloc, IN).long(IN).value_name("NETWORK").help(
         "Draw NETWORK; by default, the smallest network that contains all addresses of one family",
     );
@@ -153,7 +155,7 @@ pub fn form_of(
 }
 
 /// Reads the network to draw. If the word is not a network, it is reported, and the error is the exit status.
-fn frame_of(rt: &HostRuntime, matches: &ArgMatches) -> Result<Frame, u8> {
+pub fn frame_of(rt: &HostRuntime, matches: &ArgMatches) -> Result<Frame, u8> {
     match matches.get_str(IN) {
         Some(word) => match read_network(rt, word, grammar_of(matches)) {
             Some(network) => Ok(Frame::Named(network)),
@@ -175,6 +177,25 @@ fn request_of(
     Ok(BarRequest { frame, form })
 }
 
+/// Reads the lists of these names, for a picture of their addresses or of what changed between two of them. If that
+/// fails, it is reported, and the error is the exit status.
+pub fn read_pictured(
+    rt: &HostRuntime,
+    matches: &ArgMatches,
+    names: &[&str],
+    streams: &Streams<'_>,
+) -> Result<Session, u8> {
+    if reads_input_twice(names) {
+        return Err(refused(rt, ArgumentFailure::InputTwice));
+    }
+    let command = if matches.get_flag(COMPARE) {
+        netset_lib::Command::Compare
+    } else {
+        netset_lib::Command::Union
+    };
+    session_of(rt, command.work(flags_of(matches)), names, streams)
+}
+
 /// Reads the arguments and the lists, prints the bar, and returns the exit status.
 pub fn drawn(rt: &HostRuntime, matches: &ArgMatches, streams: &mut Streams<'_>) -> u8 {
     let request = match request_of(rt, matches, streams) {
@@ -182,22 +203,13 @@ pub fn drawn(rt: &HostRuntime, matches: &ArgMatches, streams: &mut Streams<'_>) 
         Err(status) => return status,
     };
     let names = matches.get_strs(FIRST).unwrap_or(&[STANDARD_INPUT]);
-    if reads_input_twice(names) {
-        return refused(rt, ArgumentFailure::InputTwice);
-    }
-    let compares = matches.get_flag(COMPARE);
-    let command = if compares {
-        netset_lib::Command::Compare
-    } else {
-        netset_lib::Command::Union
-    };
-    let session = match session_of(rt, command.work(flags_of(matches)), names, streams) {
+    let session = match read_pictured(rt, matches, names, streams) {
         Ok(session) => session,
         Err(status) => return status,
     };
     let out = &mut streams.answer;
     let faults = &mut streams.faults;
-    if compares {
+    if matches.get_flag(COMPARE) {
         run_comparison_bar(session, request, names, out, faults)
     } else {
         run_bar(session, request, names, out, faults)

@@ -12,6 +12,7 @@ mod leftovers;
 mod lines;
 mod listing;
 mod lists;
+mod map;
 mod output;
 mod plan;
 mod prefixes;
@@ -31,6 +32,7 @@ use crate::forms::form_of;
 use crate::lines::{LINES, filtered};
 use crate::listing::run_if_listing;
 use crate::lists::{read_lists, report_unread};
+use crate::map::{MAP, mapped};
 use crate::output::{CLOSED, Streams};
 use crate::plan::{PLAN, planned};
 use crate::prefixes::{PREFIX_LIST, matched};
@@ -133,6 +135,7 @@ fn ran(rt: &HostRuntime, matches: &ArgMatches, streams: &mut Streams<'_>) -> u8 
     match matches.subcommand() {
         Some((name, matches)) if name == PLAN => planned(rt, matches, streams),
         Some((name, matches)) if name == BAR => drawn(rt, matches, streams),
+        Some((name, matches)) if name == MAP => mapped(rt, matches, streams),
         Some((name, matches)) if name == CHANGES => changed(rt, matches, streams),
         Some((name, matches)) if name == APPLY => applied(rt, matches, streams),
         Some((name, matches)) if name == PREFIX_LIST => matched(rt, matches, streams),

@@ -60,7 +60,7 @@ pub fn run_bar<W: Write, X: Write>(
 }
 
 /// Whether the sets have the same addresses.
-fn are_same(one: &IpSet, other: &IpSet) -> bool
+pub(crate) fn are_same(one: &IpSet, other: &IpSet) -> bool
     ensures { IsTrue result ↔ (((x : Address) → IsMember one.now x → IsMember other.now x)
         × ((x : Address) → IsMember other.now x → IsMember one.now x)) }
 {

@@ -1,0 +1,61 @@
+use Rattle.std.proofs.Common.{refl, subst, inr, string_bytes}
+use Rattle.std.proofs.KnownBytes.{Keeps-refl}
+use Rattle.std.specs.Io.{StartsWith}
+use Rattle.std.specs.Io.KnownBytes.{Appends}
+use Rattle.netset_lib.proofs.ChangeLaws.{same_of_sets, other_of_sets}
+use Rattle.netset_pictures.proofs.map_program.run_change_map.Goals as goal
+
+pub returns-then-not-written-clause-cut_short : goal.returns-then-not-written-clause-cut_short
+returns-then-not-written-clause-cut_short g c = λ two grammar lists h.
+    let (front, begins, written) = c.written.ensures.front in
+    inr record {
+      text = string_bytes c.in-Ok-framed_change_map_text.text;
+      right = record {
+        before = c.in-Ok.pair.0;
+        after = c.in-Ok.pair.1;
+        pair = c.in-Ok.ensures.pair grammar lists h;
+        right = c.in-Ok-framed_change_map_text.ensures.map;
+      };
+      front = front;
+      begins = subst (λ z. StartsWith z front) c.as_bytes.ensures.value begins;
+      written = written;
+    }
+
+pub returns-then-are_same-clause-drawn : goal.returns-then-are_same-clause-drawn
+returns-then-are_same-clause-drawn g c = λ low grammar lists h. record {
+  text = string_bytes c.in-Ok-framed_change_map_text.text;
+  right = record {
+    before = c.in-Ok.pair.0;
+    after = c.in-Ok.pair.1;
+    pair = c.in-Ok.ensures.pair grammar lists h;
+    right = c.in-Ok-framed_change_map_text.ensures.map;
+  };
+  written = subst (Appends (g.W.Write.contents c.args.out.now) (g.W.Write.contents c.written.new.out))
+      c.as_bytes.ensures.value (c.if-not-written.ensures.whole refl);
+}
+
+pub returns-then-are_same-clause-same : goal.returns-then-are_same-clause-same
+returns-then-are_same-clause-same g c = λ zero grammar lists h.
+    same_of_sets grammar lists c.in-Ok.pair.0 c.in-Ok.pair.1 (c.in-Ok.ensures.pair grammar lists h)
+    (c.are_same.ensures.0 c.if-are_same.true).0 (c.are_same.ensures.0 c.if-are_same.true).1
+
+pub returns-clause-drawn : goal.returns-clause-drawn
+returns-clause-drawn g c = λ low grammar lists h. record {
+  text = string_bytes c.in-Ok-framed_change_map_text.text;
+  right = record {
+    before = c.in-Ok.pair.0;
+    after = c.in-Ok.pair.1;
+    pair = c.in-Ok.ensures.pair grammar lists h;
+    right = c.in-Ok-framed_change_map_text.ensures.map;
+  };
+  written = subst (Appends (g.W.Write.contents c.args.out.now) (g.W.Write.contents c.written.new.out))
+      c.as_bytes.ensures.value (c.if-not-written.ensures.whole refl);
+}
+
+pub returns-clause-different : goal.returns-clause-different
+returns-clause-different g c = λ one grammar lists h.
+    other_of_sets grammar lists c.in-Ok.pair.0 c.in-Ok.pair.1 (c.in-Ok.ensures.pair grammar lists h)
+    (λ to from. let same = c.are_same.ensures.1 (to, from) in let no = c.if-are_same.false in absurd cc)
+
+pub returns-clause-faultless : goal.returns-clause-faultless
+returns-clause-faultless g c = λ low. Keeps-refl (g.X.Write.contents c.args.faults.now)

@@ -1,0 +1,83 @@
+//! Maps of lists: the network that a map shows, and its document.
+ghost use Rattle.std.specs.Prelude.{◌≡◌, ◌↔◌, Some, Err, IfOk, string_bytes};
+ghost use Rattle.ipnet_pictures.specs.Frames.{HasNoFrame};
+ghost use Rattle.ipnet_sets.specs.Members.{IsMember, IsUnion};
+ghost use Rattle.ipnet_sets.specs.declared.set.IpSet.{IpSet};
+ghost use Rattle.netset_pictures.specs.MapAnswers.{theme_text, IsFramedMap, IsFramedChangeMap};
+ghost use Rattle.svg_maps.specs.declared.style.Theme.{Theme};
+ghost use Rattle.netset_pictures.specs.declared.bar.BarFailure.TheVariants.{NoFrame};
+
+use crate::bar::BarFailure;
+use ipnet_pictures::{Frame, frame_of};
+use ipnet_sets::IpSet;
+use std::alloc::Global;
+use svg_maps::{Theme, change_map_text, set_map_text};
+
+/// The network that a map shows, and its colours.
+#[derive(Clone, Copy, Debug, PartialEq, Eq)]
+pub struct MapRequest {
+    /// The network.
+    pub frame: Frame,
+    /// The colours.
+    pub theme: Theme,
+}
+
+/// Returns the colours that the text names, or `None` if it names none.
+///
+/// ```text
+/// "auto", "light" and "dark" are the three themes; "Dark" and "" are None
+/// ```
+pub fn read_theme(text: &str) -> Option<Theme>
+    ensures { (theme : Theme) → (result ≡ Some theme) ↔ (text.now ≡ theme_text theme) }
+{
+    match text {
+        "auto" => Some(Theme::Auto),
+        "light" => Some(Theme::Light),
+        "dark" => Some(Theme::Dark),
+        _ => None,
+    }
+}
+
+/// Returns the map of the set, as a document of SVG. The error is `NoFrame` if no network is named and the set has no
+/// address of the family, and otherwise `Memory`, only if memory runs out.
+///
+/// ```text
+/// of 10.0.0.0-10.0.0.9, without a named network: the map of 10.0.0.0/28
+/// ```
+pub fn framed_map_text(
+    alloc: Global,
+    set: &IpSet,
+    request: MapRequest,
+) -> Result<String, BarFailure>
+    ensures map { IfOk result (λ text. IsFramedMap set.now request.frame (string_bytes text)) }
+    ensures none { result ≡ Err NoFrame → HasNoFrame request.frame (IsMember set.now) }
+{
+    let Some(network) = frame_of(alloc, set, request.frame)? else {
+        return Err(BarFailure::NoFrame);
+    };
+    Ok(set_map_text(alloc, &network, set, request.theme)?)
+}
+
+/// Returns the map of the change from one set to the other, in the frame of all their addresses, as a document of SVG.
+/// The error is `NoFrame` if no network is named and neither set has an address of the family, and otherwise `Memory`,
+/// only if memory runs out.
+///
+/// ```text
+/// from 10.0.0.0-10.0.0.3 to 10.0.0.8, without a named network: the map of 10.0.0.0/28
+/// ```
+pub fn framed_change_map_text(
+    alloc: Global,
+    before: &IpSet,
+    after: &IpSet,
+    request: MapRequest,
+) -> Result<String, BarFailure>
+    ensures map { IfOk result (λ text. IsFramedChangeMap before.now after.now request.frame (string_bytes text)) }
+    ensures none { result ≡ Err NoFrame
+        → ((all : IpSet) × IsUnion all before.now after.now × HasNoFrame request.frame (IsMember all)) }
+{
+    let all = before.union(alloc, after)?;
+    let Some(network) = frame_of(alloc, &all, request.frame)? else {
+        return Err(BarFailure::NoFrame);
+    };
+    Ok(change_map_text(alloc, &network, before, after, request.theme)?)
+}

@@ -1,0 +1,59 @@
+-- Every page is a document: no tag in it has two attributes of one name.
+use Rattle.std.proofs.Common.{◌≡◌, Bool, true, ◌&&◌, List, [], ◌∷◌, map, refl}
+use Rattle.std.proofs.lemmas.Bool.{and_parts, and_from}
+use Rattle.svg_text.specs.declared.name.ElementName.TheVariants as Elements
+use Rattle.svg_text.specs.Documents.{Mark, Nodes, end, words, empty, element, joined}
+use Rattle.svg_text.specs.Grammar.{are_distinct, are_well_formed}
+use Rattle.svg_maps.specs.Pages.{nodes_of, label_nodes, swatch_nodes, layer_nodes, square_nodes, chart_nodes, PageView}
+use Rattle.svg_maps.specs.Pages.{cells_marks, small_marks, content_nodes, page_nodes, placed_nodes}
+
+abbrev names_differ : List Mark → Bool
+names_differ marks = are_distinct (map (λ m. m.name) marks)
+
+joined_formed : (first second : Nodes) → are_well_formed first ≡ true → are_well_formed second ≡ true
+    → are_well_formed (joined first second) ≡ true
+joined_formed end second e f = f
+joined_formed (words text next) second e f = joined_formed next second e f
+joined_formed (empty name marks next) second e f =
+    let h = and_parts (names_differ marks) (are_well_formed next) e in
+    and_from (names_differ marks) _ h.0 (joined_formed next second h.1 f)
+joined_formed (element name marks inside next) second e f =
+    let h = and_parts (names_differ marks && are_well_formed inside) (are_well_formed next) e in
+    and_from (names_differ marks && are_well_formed inside) _ h.0 (joined_formed next second h.1 f)
+
+all_formed : {X : Type 0} (f : X → Nodes) → ((x : X) → are_well_formed (f x) ≡ true) → (xs : List X)
+    → are_well_formed (nodes_of f xs) ≡ true
+all_formed f each [] = refl
+all_formed f each (x ∷ xs) = joined_formed (f x) (nodes_of f xs) (each x) (all_formed f each xs)
+
+-- an element in which the attributes have names of their own
+element_formed : (inside next : Nodes) → are_well_formed inside ≡ true → are_well_formed next ≡ true
+    → (are_well_formed inside && are_well_formed next) ≡ true
+element_formed inside next e f = and_from (are_well_formed inside) (are_well_formed next) e f
+
+chart_formed : (v : PageView) → are_well_formed (chart_nodes v.layers v.squares v.labels v.sides v.scale) ≡ true
+chart_formed v =
+    let small = element Elements.Group small_marks (nodes_of label_nodes v.labels) end in
+    let areas = element Elements.Group (cells_marks v.scale) (nodes_of square_nodes v.squares) small in
+    element_formed (nodes_of layer_nodes v.layers) areas (all_formed layer_nodes (λ l. refl) v.layers)
+    (element_formed (nodes_of square_nodes v.squares) small (all_formed square_nodes (λ s. refl) v.squares)
+    (element_formed (nodes_of label_nodes v.labels) end (all_formed label_nodes (λ l. refl) v.labels) refl))
+
+placed_formed : (v : PageView)
+    → are_well_formed (placed_nodes v.chart_place (chart_nodes v.layers v.squares v.labels v.sides v.scale)) ≡ true
+placed_formed v = element_formed (chart_nodes v.layers v.squares v.labels v.sides v.scale) end (chart_formed v) refl
+
+rest_formed : (v : PageView) → are_well_formed (joined (nodes_of label_nodes v.captions)
+    (joined (nodes_of label_nodes v.heads) (joined (nodes_of swatch_nodes v.swatches)
+    (placed_nodes v.chart_place (chart_nodes v.layers v.squares v.labels v.sides v.scale))))) ≡ true
+rest_formed v =
+    let placed = placed_nodes v.chart_place (chart_nodes v.layers v.squares v.labels v.sides v.scale) in
+    let swatches = joined (nodes_of swatch_nodes v.swatches) placed in
+    let heads = joined (nodes_of label_nodes v.heads) swatches in
+    joined_formed (nodes_of label_nodes v.captions) heads (all_formed label_nodes (λ l. refl) v.captions)
+    (joined_formed (nodes_of label_nodes v.heads) swatches (all_formed label_nodes (λ l. refl) v.heads)
+    (joined_formed (nodes_of swatch_nodes v.swatches) placed (all_formed swatch_nodes (λ s. refl) v.swatches)
+    (placed_formed v)))
+
+pub page_formed : (v : PageView) → are_well_formed (page_nodes v) ≡ true
+page_formed v = element_formed (content_nodes v) end (rest_formed v) refl

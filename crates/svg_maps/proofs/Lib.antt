@@ -1,0 +1,5 @@
+-- Lemmas.
+pub mod NodeLaws
+pub mod FormLaws
+pub mod PageLaws
+pub mod CountLaws

@@ -1,0 +1,18 @@
+use Rattle.std.proofs.Common.{refl, string_bytes}
+use Rattle.std.proofs.lemmas.Result.{IfOk-weaker}
+use Rattle.ipnet.specs.NetworkOf.{ip_network}
+use Rattle.svg_maps.specs.Maps.{IsMapText, IsSetMap}
+use Rattle.svg_maps.proofs.shown.set_map_text.Goals as goal
+
+pub returns : goal.returns
+returns c =
+    let n = ip_network c.args.frame.now in
+    let d = c.in_ok-drawing.drawing in
+    IfOk-weaker c.map_text.result (λ text. IsMapText n _ d (string_bytes text))
+    (λ text. IsSetMap c.args.set.now n (string_bytes text)) (λ text page. record {
+      drawing = d;
+      drawn = c.in_ok-drawing.ensures;
+      counted = _;
+      sets = refl;
+      page = page;
+    }) c.map_text.ensures

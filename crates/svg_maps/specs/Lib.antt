@@ -1,0 +1,6 @@
+-- The definitions that the contracts of this crate cite.
+pub mod ClassTexts
+pub mod Pages
+pub mod Squares
+pub mod Maps
+pub mod Styles

@@ -1,0 +1,209 @@
+-- Pages: the document of a map.
+use Rattle.std.specs.Prelude.{ℕ, ◌*◌, min, List, [], ◌∷◌, map, codes, decimal, string_bytes}
+use Rattle.ipnet_maps.specs.declared.drawing.Layer.{Layer}
+use Rattle.ipnet_maps.specs.declared.layout.Place.{Place}
+use Rattle.ipnet_maps.specs.declared.layout.Sides.{Sides}
+use Rattle.ipnet_maps.specs.declared.layout.Rectangle.{Rectangle}
+use Rattle.ipnet_maps.specs.Paths.{corner, path_of}
+use Rattle.svg_text.specs.declared.name.AttributeName.{AttributeName}
+use Rattle.svg_text.specs.declared.name.ElementName.TheVariants as Elements
+use Rattle.svg_text.specs.declared.name.AttributeName.TheVariants as Attributes
+use Rattle.svg_text.specs.declared.tag.Value.TheVariants as Values
+use Rattle.svg_text.specs.Documents.{Mark, Nodes, end, words, empty, element, joined, value_text}
+use Rattle.svg_maps.specs.declared.label.Anchor.{Anchor}
+use Rattle.svg_maps.specs.declared.label.Anchor.TheVariants as Anchors
+use Rattle.svg_maps.specs.declared.label.Ink.{Ink}
+use Rattle.svg_maps.specs.declared.label.Ink.TheVariants as Inks
+use Rattle.svg_maps.specs.declared.label.Label.{Label}
+use Rattle.svg_maps.specs.declared.label.Swatch.{Swatch}
+use Rattle.svg_maps.specs.declared.chart.Square.{Square}
+use Rattle.svg_maps.specs.declared.chart.Chart.{Chart}
+use Rattle.svg_maps.specs.declared.page.Page.{Page}
+use Rattle.svg_maps.specs.ClassTexts.{class_text}
+
+-- The attribute with this name and text.
+abbrev pub text_mark : AttributeName → List ℕ → Mark
+text_mark name value = record { name = name; value = value }
+
+-- The attribute with this name and number.
+abbrev pub number_mark : AttributeName → ℕ → Mark
+number_mark name n = record { name = name; value = decimal n }
+
+-- The nodes of all members of a list, one after the other.
+abbrev pub nodes_of : {X : Type 0} → (X → Nodes) → List X → Nodes
+nodes_of f [] = end
+nodes_of f (x ∷ xs) = joined (f x) (nodes_of f xs)
+
+-- The class of a label in the style sheet.
+abbrev pub ink_text : Ink → List ℕ
+ink_text Inks.Head = codes "ink head"
+ink_text Inks.Plain = codes "ink"
+ink_text Inks.Faint = codes "faint"
+ink_text Inks.Halo = codes "ink halo"
+
+-- The side of a label that is at its place.
+abbrev pub anchor_text : Anchor → List ℕ
+anchor_text Anchors.Start = codes "start"
+anchor_text Anchors.Middle = codes "middle"
+anchor_text Anchors.End = codes "end"
+
+-- A label.
+-- Example: `<text class="ink" text-anchor="start" x="16" y="50">10.20.0.0/16</text>`.
+abbrev pub label_nodes : Label → Nodes
+label_nodes l =
+    element Elements.Text
+    (text_mark Attributes.Class (ink_text l.ink) ∷ text_mark Attributes.TextAnchor (anchor_text l.anchor)
+    ∷ number_mark Attributes.X l.place.column ∷ number_mark Attributes.Y l.place.row ∷ [])
+    (words (string_bytes l.words) end) end
+
+-- A row of the legend: a rectangle in the colour of a class, and words.
+abbrev pub swatch_nodes : Swatch → Nodes
+swatch_nodes s =
+    empty Elements.Rect
+    (text_mark Attributes.Class (class_text s.class) ∷ number_mark Attributes.X s.place.column
+    ∷ number_mark Attributes.Y s.place.row ∷ number_mark Attributes.Width 14 ∷ number_mark Attributes.Height 11 ∷ [])
+    (label_nodes s.label)
+
+-- The cells of one class, as one path.
+-- Example: `<path class="s4" d="m0 0h16v1h-16z"/>`.
+abbrev pub layer_nodes : Layer → Nodes
+layer_nodes l =
+    empty Elements.Path
+    (text_mark Attributes.Class (class_text l.class)
+    ∷ text_mark Attributes.D (path_of corner l.rectangles.items) ∷ []) end
+
+-- The attributes of the area of a square.
+abbrev pub square_marks : Rectangle → List Mark
+square_marks r =
+    text_mark Attributes.Class (codes "hit") ∷ number_mark Attributes.X r.place.column
+    ∷ number_mark Attributes.Y r.place.row ∷ number_mark Attributes.Width r.sides.width
+    ∷ number_mark Attributes.Height r.sides.height ∷ []
+
+-- The area of a square, in cells, with its title. It is not visible, and a browser shows its title.
+abbrev pub square_nodes : Square → Nodes
+square_nodes s =
+    element Elements.Rect (square_marks s.rectangle)
+    (element Elements.Title [] (words (string_bytes s.title) end) end) end
+
+-- A number of cells in pixels, at this number of pixels a cell. No number is above 2^32 - 1.
+abbrev pub pixels : ℕ → ℕ → ℕ
+pixels scale n = min (n * scale) 4294967295
+
+-- A rectangle of cells in pixels.
+abbrev pub pixel_rectangle : ℕ → Rectangle → Rectangle
+pixel_rectangle scale r = record {
+  place = record { column = pixels scale r.place.column; row = pixels scale r.place.row };
+  sides = record { width = pixels scale r.sides.width; height = pixels scale r.sides.height };
+}
+
+-- The lines around the squares, in pixels.
+abbrev pub grid_rectangles : ℕ → List Square → List Rectangle
+grid_rectangles scale squares = map (λ s. pixel_rectangle scale s.rectangle) squares
+
+-- The attributes of a group whose parts have sharp edges, at this scale.
+abbrev pub cells_marks : ℕ → List Mark
+cells_marks scale =
+    text_mark Attributes.Transform (value_text (Values.Scale scale))
+    ∷ text_mark Attributes.ShapeRendering (codes "crispEdges") ∷ []
+
+-- The attributes of the ground of the map.
+abbrev pub ground_marks : Sides → ℕ → List Mark
+ground_marks sides scale =
+    text_mark Attributes.Class (codes "ground") ∷ number_mark Attributes.Width (pixels scale sides.width)
+    ∷ number_mark Attributes.Height (pixels scale sides.height) ∷ []
+
+-- The attributes of the lines around the squares.
+abbrev pub grid_marks : ℕ → List Square → List Mark
+grid_marks scale squares =
+    text_mark Attributes.Class (codes "grid") ∷ text_mark Attributes.ShapeRendering (codes "crispEdges")
+    ∷ text_mark Attributes.D (path_of corner (grid_rectangles scale squares)) ∷ []
+
+-- The attributes of the group of the labels on the map.
+abbrev pub small_marks : List Mark
+small_marks = text_mark Attributes.Class (codes "small") ∷ text_mark Attributes.PointerEvents (codes "none") ∷ []
+
+-- The map: its ground, a path for each class, the lines of its squares, their titles, and its labels.
+abbrev pub chart_nodes : List Layer → List Square → List Label → Sides → ℕ → Nodes
+chart_nodes layers squares labels sides scale =
+    empty Elements.Rect (ground_marks sides scale)
+    (element Elements.Group (cells_marks scale) (nodes_of layer_nodes layers)
+    (empty Elements.Path (grid_marks scale squares)
+    (element Elements.Group (cells_marks scale) (nodes_of square_nodes squares)
+    (element Elements.Group small_marks (nodes_of label_nodes labels) end))))
+
+-- The parts of a page, as lists and numbers.
+pub record PageView : Type 0 where
+  pub title : List ℕ
+  pub summary : List ℕ
+  pub style : List ℕ
+  pub captions : List Label
+  pub heads : List Label
+  pub swatches : List Swatch
+  pub area : Sides
+  pub chart_place : Place
+  pub layers : List Layer
+  pub squares : List Square
+  pub labels : List Label
+  pub sides : Sides
+  pub scale : ℕ
+
+-- The parts of the page and of the chart.
+abbrev pub page_view : Page → Chart → PageView
+page_view p c = record {
+  title = p.title.now;
+  summary = p.summary.now;
+  style = p.style.now;
+  captions = p.captions.now;
+  heads = p.heads.now;
+  swatches = p.swatches.now;
+  area = p.area;
+  chart_place = p.chart_place;
+  layers = c.layers.now;
+  squares = c.squares.now;
+  labels = c.labels.now;
+  sides = c.sides;
+  scale = c.scale;
+}
+
+-- The attributes of the document.
+abbrev pub root_marks : ℕ → ℕ → List Mark
+root_marks width height =
+    text_mark Attributes.Xmlns (codes "http://www.w3.org/2000/svg")
+    ∷ text_mark Attributes.ViewBox (value_text (Values.ViewBox width height)) ∷ number_mark Attributes.Width width
+    ∷ number_mark Attributes.Height height ∷ text_mark Attributes.Class (codes "netmap")
+    ∷ text_mark Attributes.Role (codes "img") ∷ []
+
+-- The attributes of the ground of the page.
+abbrev pub page_marks : ℕ → ℕ → List Mark
+page_marks width height =
+    text_mark Attributes.Class (codes "page") ∷ number_mark Attributes.Width width
+    ∷ number_mark Attributes.Height height ∷ []
+
+-- The title, the summary and the style sheet of the document, and the ground of the page, before the next nodes.
+abbrev pub head_nodes : (title summary style : List ℕ) → Sides → Nodes → Nodes
+head_nodes title summary style area next =
+    element Elements.Title [] (words title end)
+    (element Elements.Desc [] (words summary end)
+    (element Elements.Style [] (words style end)
+    (empty Elements.Rect (page_marks area.width area.height) next)))
+
+-- The attributes of a group at this place.
+abbrev pub place_marks : Place → List Mark
+place_marks place = text_mark Attributes.Transform (value_text (Values.Translate place.column place.row)) ∷ []
+
+-- The nodes in a group at this place.
+abbrev pub placed_nodes : Place → Nodes → Nodes
+placed_nodes place inside = element Elements.Group (place_marks place) inside end
+
+-- The nodes in the document of a map.
+abbrev pub content_nodes : PageView → Nodes
+content_nodes v =
+    head_nodes v.title v.summary v.style v.area
+    (joined (nodes_of label_nodes v.captions)
+    (joined (nodes_of label_nodes v.heads)
+    (joined (nodes_of swatch_nodes v.swatches)
+    (placed_nodes v.chart_place (chart_nodes v.layers v.squares v.labels v.sides v.scale)))))
+
+-- The document of a map.
+abbrev pub page_nodes : PageView → Nodes
+page_nodes v = element Elements.Svg (root_marks v.area.width v.area.height) (content_nodes v) end

@@ -1,0 +1,86 @@
+//! The texts beside a map: its title, its foot and its legend.
+ghost use Rattle.std.specs.Prelude.{◌+◌, ◌≤◌};
+ghost use Rattle.ipnet_base.specs.Address.{width};
+ghost use Rattle.ipnet.specs.NetworkOf.{ip_network};
+
+use crate::label::{Ink, Label, Swatch, label_at};
+use crate::legend::{EDGE, LINE, legend_of};
+use crate::map::MapForm;
+use crate::sheet::{Sheet, sheet_of, sides_of};
+use crate::square::square_bits_of;
+use ipnet::IpNet;
+use ipnet_maps::Drawing;
+use std::alloc::{AllocError, Global};
+
+/// The row of the first line of the legend, in pixels.
+const LEGEND: u32 = 62;
+
+/// The texts of a page, and its sizes.
+#[derive(Drop)]
+pub(crate) struct PageTexts {
+    pub(crate) title: String,
+    pub(crate) captions: Vec<Label>,
+    pub(crate) swatches: Vec<Swatch>,
+    pub(crate) sheet: Sheet,
+}
+
+/// The foot of the page.
+fn foot_of(alloc: Global, frame: &IpNet, depth: u8, note: &str) -> Result<String, AllocError>
+    requires few { depth ≤ 20 }
+    requires fits { (ip_network frame.now).prefix_len + depth ≤ width (ip_network frame.now).family }
+{
+    let square_len = frame.prefix_len() + square_bits_of(frame.prefix_len(), depth);
+    let cell_len = frame.prefix_len() + depth;
+    let mut text = String::from_str(alloc, "Reads like text: left to right, then down.")?;
+    write!(
+        text,
+        " A square is a /{square_len}. The smallest dot is a /{cell_len}.{note}"
+    )?;
+    Ok(text)
+}
+
+/// Whether the map has heads of rows and columns: its squares are all values of an octet.
+fn has_heads(frame_len: u8, depth: u8) -> bool {
+    depth >= 6 && frame_len % 8 <= 2
+}
+
+/// Returns the texts of the page, and its sizes. Fails only if memory runs out.
+pub(crate) fn captions_of(
+    alloc: Global,
+    frame: &IpNet,
+    drawing: &Drawing,
+    form: MapForm<'_>,
+    summary: &str,
+) -> Result<PageTexts, AllocError>
+    requires few { drawing.now.depth ≤ 20 }
+    requires fits { (ip_network frame.now).prefix_len + drawing.now.depth ≤ width (ip_network frame.now).family }
+{
+    let depth = drawing.depth;
+    let cell_len = frame.prefix_len() + depth;
+    let swatches = legend_of(
+        alloc,
+        drawing.layers.as_slice(),
+        form.names,
+        cell_len,
+        LEGEND,
+    )?;
+    let rows = u32::try_from(swatches.len()).unwrap_or(u32::MAX);
+    let top = rows.saturating_mul(LINE).saturating_add(LEGEND + 8);
+    let heads = has_heads(frame.prefix_len(), depth);
+    let sheet = sheet_of(sides_of(frame, depth), heads, top);
+    let heading = form.heading;
+    let network = frame.to_text();
+    let network = network.as_str();
+    let title = format!(in alloc; "{heading} {network}")?;
+    let mut captions = Vec::new(alloc);
+    captions.push(label_at(Ink::Head, EDGE, 26, title.clone()?))?;
+    captions.push(label_at(Ink::Plain, EDGE, 50, String::from_str(alloc, summary)?))?;
+    let foot = foot_of(alloc, frame, depth, form.note)?;
+    captions.push(label_at(Ink::Faint, EDGE, sheet.area.height.saturating_sub(10), foot))?;
+    Ok(PageTexts {
+        title,
+        captions,
+        swatches,
+        sheet,
+    })
+}

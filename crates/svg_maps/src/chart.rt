@@ -1,0 +1,229 @@
+//! The map on a page: its cells, its squares and its labels.
+ghost use Rattle.std.specs.Prelude.{◌≡◌, ◌++◌, IfOk, OnOk, flat_map, string_bytes};
+ghost use Rattle.svg_text.specs.Documents.{nodes_text, empty_text, start_text, end_text};
+ghost use Rattle.svg_text.specs.declared.name.ElementName.TheVariants as Elements;
+ghost use Rattle.svg_maps.specs.Pages.{layer_nodes, square_nodes, pixels, pixel_rectangle, grid_rectangles};
+ghost use Rattle.svg_maps.specs.Pages.{cells_marks, ground_marks, grid_marks, small_marks, label_nodes, chart_nodes};
+
+use crate::class::class_name;
+use crate::label::{Label, number_attribute, push_labels, text_attribute};
+use ipnet_maps::{Layer, Place, Rectangle, Sides, path_text};
+use std::alloc::{AllocError, Global};
+use svg_text::{
+    Attribute, AttributeName, ElementName, Value, push_empty, push_end, push_leaf, push_start,
+};
+
+/// A square of a map: a network whose area has a title.
+#[derive(Debug, Drop)]
+pub struct Square {
+    /// Its area, in cells.
+    pub rectangle: Rectangle,
+    /// The part of the network's text that differs from all others on the map.
+    pub name: String,
+    /// Its title, which a browser shows.
+    pub title: String,
+}
+
+/// The map on a page.
+#[derive(Clone, Copy)]
+pub struct Chart<'a> {
+    /// The cells of each class.
+    pub layers: &'a [Layer],
+    /// The squares.
+    pub squares: &'a [Square],
+    /// The labels on the map.
+    pub labels: &'a [Label],
+    /// How many cells the map is wide and high.
+    pub sides: Sides,
+    /// How many pixels a cell is wide and high.
+    pub scale: u32,
+}
+
+/// The number of cells in pixels.
+fn pixels_of(scale: u32, cells: u32) -> u32
+    ensures { result ≡ pixels scale cells }
+{
+    cells.saturating_mul(scale)
+}
+
+/// The rectangle in pixels.
+pub(crate) fn rectangle_in_pixels(scale: u32, rectangle: Rectangle) -> Rectangle
+    ensures { result ≡ pixel_rectangle scale rectangle }
+{
+    let place = Place {
+        column: pixels_of(scale, rectangle.place.column),
+        row: pixels_of(scale, rectangle.place.row),
+    };
+    let sides = Sides {
+        width: pixels_of(scale, rectangle.sides.width),
+        height: pixels_of(scale, rectangle.sides.height),
+    };
+    Rectangle { place, sides }
+}
+
+/// The lines around the squares, in pixels.
+fn grid_of(alloc: Global, scale: u32, squares: &[Square]) -> Result<Vec<Rectangle>, AllocError>
+    ensures { IfOk result (λ list. list.items ≡ grid_rectangles scale squares.now) }
+{
+    let mut rectangles = Vec::new(alloc);
+    for square in squares {
+        rectangles.push(rectangle_in_pixels(scale, square.rectangle))?;
+    }
+    Ok(rectangles)
+}
+
+/// Appends the cells of one class.
+fn push_layer(alloc: Global, text: &mut String, layer: &Layer) -> Result<(), AllocError>
+    ensures { OnOk result (string_bytes text.new ≡ string_bytes text.old ++ nodes_text (layer_nodes layer.now)) }
+{
+    let name = class_name(alloc, layer.class)?;
+    let path = path_text(alloc, layer.rectangles.as_slice())?;
+    let attributes = [
+        text_attribute(AttributeName::Class, name.as_str()),
+        text_attribute(AttributeName::D, path.as_str()),
+    ];
+    push_empty(text, ElementName::Path, &attributes)
+}
+
+/// Appends the cells of all classes.
+fn push_layers(alloc: Global, text: &mut String, layers: &[Layer]) -> Result<(), AllocError>
+    ensures { OnOk result (string_bytes text.new
+        ≡ string_bytes text.old ++ flat_map (λ l. nodes_text (layer_nodes l)) layers.now) }
+{
+    for layer in layers {
+        push_layer(alloc, text, layer)?;
+    }
+    Ok(())
+}
+
+/// Appends the area of a square.
+fn push_square(text: &mut String, square: &Square) -> Result<(), AllocError>
+    ensures { OnOk result (string_bytes text.new ≡ string_bytes text.old ++ nodes_text (square_nodes square.now)) }
+{
+    let attributes = [
+        text_attribute(AttributeName::Class, "hit"),
+        number_attribute(AttributeName::X, square.rectangle.place.column),
+        number_attribute(AttributeName::Y, square.rectangle.place.row),
+        number_attribute(AttributeName::Width, square.rectangle.sides.width),
+        number_attribute(AttributeName::Height, square.rectangle.sides.height),
+    ];
+    push_start(text, ElementName::Rect, &attributes)?;
+    push_leaf(text, ElementName::Title, &[], square.title.as_str())?;
+    push_end(text, ElementName::Rect)
+}
+
+/// Appends the areas of the squares.
+fn push_squares(text: &mut String, squares: &[Square]) -> Result<(), AllocError>
+    ensures { OnOk result (string_bytes text.new
+        ≡ string_bytes text.old ++ flat_map (λ s. nodes_text (square_nodes s)) squares.now) }
+{
+    for square in squares {
+        push_square(text, square)?;
+    }
+    Ok(())
+}
+
+/// Appends the ground of the map.
+fn push_ground(text: &mut String, sides: Sides, scale: u32) -> Result<(), AllocError>
+    ensures { OnOk result (string_bytes text.new
+        ≡ string_bytes text.old ++ empty_text Elements.Rect (ground_marks sides scale)) }
+{
+    let attributes = [
+        text_attribute(AttributeName::Class, "ground"),
+        number_attribute(AttributeName::Width, pixels_of(scale, sides.width)),
+        number_attribute(AttributeName::Height, pixels_of(scale, sides.height)),
+    ];
+    push_empty(text, ElementName::Rect, &attributes)
+}
+
+/// Appends the start of a group whose parts are in cells.
+fn push_cells_start(text: &mut String, scale: u32) -> Result<(), AllocError>
+    ensures { OnOk result (string_bytes text.new
+        ≡ string_bytes text.old ++ start_text Elements.Group (cells_marks scale)) }
+{
+    let attributes = [
+        Attribute {
+            name: AttributeName::Transform,
+            value: Value::Scale(scale),
+        },
+        text_attribute(AttributeName::ShapeRendering, "crispEdges"),
+    ];
+    push_start(text, ElementName::Group, &attributes)
+}
+
+/// Appends the lines around the squares.
+fn push_grid(
+    alloc: Global,
+    text: &mut String,
+    scale: u32,
+    squares: &[Square],
+) -> Result<(), AllocError>
+    ensures { OnOk result (string_bytes text.new
+        ≡ string_bytes text.old ++ empty_text Elements.Path (grid_marks scale squares.now)) }
+{
+    let rectangles = grid_of(alloc, scale, squares)?;
+    let path = path_text(alloc, rectangles.as_slice())?;
+    let attributes = [
+        text_attribute(AttributeName::Class, "grid"),
+        text_attribute(AttributeName::ShapeRendering, "crispEdges"),
+        text_attribute(AttributeName::D, path.as_str()),
+    ];
+    push_empty(text, ElementName::Path, &attributes)
+}
+
+/// Appends the labels on the map.
+fn push_small(text: &mut String, labels: &[Label]) -> Result<(), AllocError>
+    ensures { OnOk result (string_bytes text.new ≡ string_bytes text.old ++ start_text Elements.Group small_marks
+        ++ flat_map (λ l. nodes_text (label_nodes l)) labels.now ++ end_text Elements.Group) }
+{
+    let attributes = [
+        text_attribute(AttributeName::Class, "small"),
+        text_attribute(AttributeName::PointerEvents, "none"),
+    ];
+    push_start(text, ElementName::Group, &attributes)?;
+    push_labels(text, labels)?;
+    push_end(text, ElementName::Group)
+}
+
+/// Appends the cells of all classes, in a group of their own.
+fn push_cells(
+    alloc: Global,
+    text: &mut String,
+    layers: &[Layer],
+    scale: u32,
+) -> Result<(), AllocError>
+    ensures { OnOk result (string_bytes text.new ≡ string_bytes text.old
+        ++ start_text Elements.Group (cells_marks scale)
+        ++ flat_map (λ l. nodes_text (layer_nodes l)) layers.now ++ end_text Elements.Group) }
+{
+    push_cells_start(text, scale)?;
+    push_layers(alloc, text, layers)?;
+    push_end(text, ElementName::Group)
+}
+
+/// Appends the areas of the squares, in a group of their own.
+fn push_areas(text: &mut String, squares: &[Square], scale: u32) -> Result<(), AllocError>
+    ensures { OnOk result (string_bytes text.new ≡ string_bytes text.old
+        ++ start_text Elements.Group (cells_marks scale)
+        ++ flat_map (λ s. nodes_text (square_nodes s)) squares.now ++ end_text Elements.Group) }
+{
+    push_cells_start(text, scale)?;
+    push_squares(text, squares)?;
+    push_end(text, ElementName::Group)
+}
+
+/// Appends the map.
+pub(crate) fn push_chart(
+    alloc: Global,
+    text: &mut String,
+    chart: Chart<'_>,
+) -> Result<(), AllocError>
+    ensures { let c = chart.entry in OnOk result (string_bytes text.new ≡ string_bytes text.old
+        ++ nodes_text (chart_nodes c.layers.now c.squares.now c.labels.now c.sides c.scale)) }
+{
+    push_ground(text, chart.sides, chart.scale)?;
+    push_cells(alloc, text, chart.layers, chart.scale)?;
+    push_grid(alloc, text, chart.scale, chart.squares)?;
+    push_areas(text, chart.squares, chart.scale)?;
+    push_small(text, chart.labels)
+}

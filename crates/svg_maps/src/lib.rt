@@ -1,0 +1,25 @@
+//! Maps of networks as documents of SVG.
+#![tactic(auto)]
+
+pub mod captions;
+pub mod chart;
+pub mod class;
+pub mod label;
+pub mod laws;
+pub mod legend;
+pub mod map;
+pub mod name;
+pub mod page;
+pub mod sheet;
+pub mod shown;
+pub mod square;
+pub mod square_labels;
+pub mod style;
+
+pub use chart::{Chart, Square};
+pub use label::{Anchor, Ink, Label, Swatch};
+pub use map::{MapForm, map_text};
+pub use page::{Page, page_text};
+pub use shown::{change_map_text, set_map_text};
+pub use square::Counted;
+pub use style::{Theme, style_of};

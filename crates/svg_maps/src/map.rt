@@ -1,0 +1,73 @@
+//! Maps of sets: a set, a change of a set, or several sets in a network, as a document of SVG.
+ghost use Rattle.std.specs.Prelude.{◌+◌, ◌≤◌, IfOk, [], ◌∷◌, string_bytes};
+ghost use Rattle.ipnet_base.specs.Address.{width};
+ghost use Rattle.ipnet.specs.NetworkOf.{ip_network};
+ghost use Rattle.svg_maps.specs.Maps.{IsMapText};
+
+use crate::captions::captions_of;
+use crate::chart::Chart;
+use crate::legend::legend_of;
+use crate::page::{Page, page_text};
+use crate::sheet::{sheet_of, sides_of};
+use crate::square::{Counted, square_networks, squares_of, title_of};
+use crate::square_labels::square_labels;
+use ipnet::IpNet;
+use ipnet_maps::Drawing;
+use std::alloc::{AllocError, Global};
+
+/// How a map looks, and what its sets are called.
+#[derive(Clone, Copy)]
+pub struct MapForm<'a> {
+    /// The style sheet.
+    pub style: &'a str,
+    /// The first words of the title, before the text of the network.
+    pub heading: &'a str,
+    /// The names of the sets, for the legend of a map of several sets.
+    pub names: &'a [&'a str],
+    /// A text for the end of the foot.
+    pub note: &'a str,
+}
+
+/// Returns the document that shows the drawing of the frame. The title of each square says how many addresses each of
+/// the counted sets has in it. Fails only if memory runs out.
+///
+/// ```text
+/// of the drawing of 10.20.0.0/20 in 10.20.0.0/16: <svg ..> .. <path class="s4" d="m0 0h256v16h-256z"/> .. </svg>
+/// ```
+pub fn map_text(
+    alloc: Global,
+    frame: &IpNet,
+    drawing: &Drawing,
+    counted: &[Counted<'_>],
+    form: MapForm<'_>,
+) -> Result<String, AllocError>
+    requires few { drawing.now.depth ≤ 20 }
+    requires fits { (ip_network frame.now).prefix_len + drawing.now.depth ≤ width (ip_network frame.now).family }
+    ensures { IfOk result (λ text. IsMapText (ip_network frame.now) counted.now drawing.now (string_bytes text)) }
+{
+    let depth = drawing.depth;
+    let layers = drawing.layers.as_slice();
+    let networks = square_networks(alloc, frame, depth)?;
+    let squares = squares_of(alloc, frame, depth, networks.as_slice(), counted)?;
+    let summary = title_of(alloc, counted, frame)?;
+    let texts = captions_of(alloc, frame, drawing, form, summary.as_str())?;
+    let labels = square_labels(alloc, squares.as_slice(), texts.sheet)?;
+    let page = Page {
+        title: texts.title.as_str(),
+        summary: summary.as_str(),
+        style: form.style,
+        captions: texts.captions.as_slice(),
+        heads: labels.heads.as_slice(),
+        swatches: texts.swatches.as_slice(),
+        area: texts.sheet.area,
+        chart_place: texts.sheet.chart_place,
+    };
+    let chart = Chart {
+        layers,
+        squares: squares.as_slice(),
+        labels: labels.inside.as_slice(),
+        sides: sides_of(frame, depth),
+        scale: texts.sheet.scale,
+    };
+    page_text(alloc, page, chart)
+}

@@ -1,0 +1,71 @@
+//! The sizes of a map and of its page, in pixels.
+ghost use Rattle.std.specs.Prelude.{◌≡◌, ◌+◌, ◌^◌, ◌≤◌};
+ghost use Rattle.ipnet_base.specs.Address.{width};
+ghost use Rattle.ipnet.specs.NetworkOf.{ip_network};
+ghost use Rattle.ipnet_maps.specs.Cuts.{columns_in, rows_in};
+ghost use Rattle.ipnet_maps.specs.Squares.{square_cuts};
+
+use ipnet::IpNet;
+use ipnet_maps::{Layout, Place, Sides};
+
+/// The width of a map, in pixels, if its cells are smaller than `CELL`.
+const WIDTH: u32 = 1024;
+
+/// The greatest width of a cell, in pixels.
+const CELL: u32 = 64;
+
+/// The least width of a page, in pixels.
+const LEAST_WIDTH: u32 = 720;
+
+/// Returns how many cells the map of the frame is wide and high.
+pub(crate) fn sides_of(frame: &IpNet, depth: u8) -> Sides
+    requires few { depth ≤ 20 }
+    requires fits { (ip_network frame.now).prefix_len + depth ≤ width (ip_network frame.now).family }
+    ensures width { result.width ≡ 2 ^ columns_in (square_cuts (ip_network frame.now).prefix_len depth) }
+    ensures height { result.height ≡ 2 ^ rows_in (square_cuts (ip_network frame.now).prefix_len depth) }
+{
+    Layout::new(frame.prefix_len(), depth).sides()
+}
+
+/// Returns how many pixels a cell of the map is wide and high.
+pub(crate) fn scale_of(sides: Sides) -> u32
+    ensures least { 1 ≤ result }
+    ensures most { result ≤ 64 }
+{
+    (WIDTH / sides.width.max(1)).clamp(1, CELL)
+}
+
+/// The sizes of a page.
+#[derive(Clone, Copy)]
+pub(crate) struct Sheet {
+    /// How many pixels a cell is wide and high.
+    pub(crate) scale: u32,
+    /// The place of the map.
+    pub(crate) chart_place: Place,
+    /// How many pixels the page is wide and high.
+    pub(crate) area: Sides,
+    /// Whether the rows and columns of the map have heads.
+    pub(crate) has_heads: bool,
+}
+
+/// Returns the sizes of a page whose map has these sides, and begins below this row.
+pub(crate) fn sheet_of(sides: Sides, has_heads: bool, row: u32) -> Sheet {
+    let scale = scale_of(sides);
+    let column = if has_heads { 56 } else { 16 };
+    let row = row.saturating_add(if has_heads { 14 } else { 0 });
+    let width = sides
+        .width
+        .saturating_mul(scale)
+        .saturating_add(column + 16);
+    let height = sides.height.saturating_mul(scale).saturating_add(row);
+    let area = Sides {
+        width: width.max(LEAST_WIDTH),
+        height: height.saturating_add(30),
+    };
+    Sheet {
+        scale,
+        chart_place: Place { column, row },
+        area,
+        has_heads,
+    }
+}

@@ -1,0 +1,221 @@
+//! The squares of a map, with their titles.
+ghost use Rattle.std.specs.Prelude.{◌≡◌, ◌++◌, ◌+◌, ◌≤◌, List, ℕ, All, map, IfOk, OnOk, decimal, string_bytes};
+ghost use Rattle.ipnet_base.specs.Address.{width};
+ghost use Rattle.ipnet_base.specs.Network.{IsSubnetOf};
+ghost use Rattle.ipnet.specs.NetworkOf.{ip_network};
+ghost use Rattle.ipnet.specs.NetworkParts.{AreSubnetsOfLength};
+ghost use Rattle.ipnet.specs.SubnetsLeft.{ip_subnets_left};
+ghost use Rattle.ipnet_pictures.specs.Parts.{counted, block_size};
+ghost use Rattle.svg_maps.specs.Squares.{IsCountText, AreCountTexts, title_start, IsTitle, IsSquareOf};
+ghost use Rattle.svg_maps.specs.Squares.{first_bits, square_bits};
+
+use crate::chart::Square;
+use crate::name::short_name;
+use ipnet::{IpNet, IpSubnets};
+use ipnet_maps::rectangle_in;
+use ipnet_pictures::{count_in, host_bits_of};
+use ipnet_sets::IpSet;
+use std::alloc::{AllocError, Global};
+
+/// How many IPv6 addresses there are, 2^128: no `u128` holds the number.
+const ALL_IPV6: &str = "340282366920938463463374607431768211456";
+
+/// A set whose addresses are counted in each square.
+#[derive(Clone, Copy)]
+pub struct Counted<'a> {
+    /// The words after the number of addresses.
+    pub words: &'a str,
+    /// The set.
+    pub set: &'a IpSet,
+}
+
+/// The number of addresses of the network, or `None` if it is 2^128.
+fn size_of(network: &IpNet) -> Option<u128>
+    ensures { counted result ≡ block_size (ip_network network.now) }
+{
+    let bits = host_bits_of(network);
+    if bits == 128 {
+        return None;
+    }
+    Some(1u128 << bits)
+}
+
+/// Appends the number.
+fn push_count(text: &mut String, count: Option<u128>) -> Result<(), AllocError>
+    ensures { OnOk result (string_bytes text.new ≡ string_bytes text.old ++ decimal (counted count)) }
+{
+    match count {
+        Some(count) => write!(text, "{count}"),
+        None => text.push_str(ALL_IPV6),
+    }
+}
+
+/// Appends how many addresses of the network the set has.
+fn push_counted(
+    alloc: Global,
+    text: &mut String,
+    counted: &Counted<'_>,
+    network: &IpNet,
+) -> Result<(), AllocError>
+    ensures { OnOk result ((more : List ℕ) × IsCountText (ip_network network.now) counted.now more
+        × (string_bytes text.new ≡ string_bytes text.old ++ more)) }
+{
+    let count = count_in(alloc, counted.set, network)?;
+    text.push_str(", ")?;
+    push_count(text, count)?;
+    text.push_str(" ")?;
+    text.push_str(counted.words)?;
+    Ok(())
+}
+
+/// Appends how many addresses of the network each of the sets has.
+fn push_all_counted(
+    alloc: Global,
+    text: &mut String,
+    counted: &[Counted<'_>],
+    network: &IpNet,
+) -> Result<(), AllocError>
+    ensures { OnOk result ((more : List ℕ) × AreCountTexts (ip_network network.now) counted.now more
+        × (string_bytes text.new ≡ string_bytes text.old ++ more)) }
+{
+    for one in counted {
+        push_counted(alloc, text, one, network)?;
+    }
+    Ok(())
+}
+
+/// Appends the start of a title.
+fn push_title_start(text: &mut String, network: &IpNet) -> Result<(), AllocError>
+    ensures { OnOk result (string_bytes text.new
+        ≡ string_bytes text.old ++ title_start (ip_network network.now)) }
+{
+    text.push_str(network.to_text().as_str())?;
+    text.push_str(", ")?;
+    push_count(text, size_of(network))?;
+    text.push_str(" addresses")
+}
+
+/// Returns the title of the network.
+pub(crate) fn title_of(
+    alloc: Global,
+    counted: &[Counted<'_>],
+    network: &IpNet,
+) -> Result<String, AllocError>
+    ensures { IfOk result (λ text. IsTitle (ip_network network.now) counted.now (string_bytes text)) }
+{
+    let mut text = String::new(alloc);
+    push_title_start(&mut text, network)?;
+    push_all_counted(alloc, &mut text, counted, network)?;
+    Ok(text)
+}
+
+/// The number of bits of the address that the map shows in the octet in which it begins.
+fn first_bits_of(frame_len: u8, depth: u8) -> u8
+    ensures bits { result ≡ first_bits frame_len depth }
+    ensures few { result ≤ 8 }
+    ensures fits { result ≤ depth }
+{
+    depth.min(8 - frame_len % 8)
+}
+
+/// Returns the number of bits by which the squares of a map are longer than its frame.
+///
+/// ```text
+/// of a /16 with 16 bits: 8; of a /20 with 12 bits: 8; of a /30 with 2 bits: 2
+/// ```
+pub(crate) fn square_bits_of(frame_len: u8, depth: u8) -> u8
+    ensures bits { result ≡ square_bits frame_len depth }
+    ensures fits { result ≤ depth }
+{
+    let first = first_bits_of(frame_len, depth);
+    if first <= 5 {
+        first + (depth - first).min(8) / 2
+    } else {
+        first
+    }
+}
+
+/// The square of the network.
+fn square_of(
+    alloc: Global,
+    frame: &IpNet,
+    depth: u8,
+    network: &IpNet,
+    counted: &[Counted<'_>],
+) -> Result<Square, AllocError>
+    requires few { depth ≤ 20 }
+    requires fits { (ip_network frame.now).prefix_len + depth ≤ width (ip_network frame.now).family }
+    requires inside { IsSubnetOf (ip_network network.now) (ip_network frame.now) }
+    requires large { (ip_network network.now).prefix_len ≤ (ip_network frame.now).prefix_len + depth }
+    ensures { IfOk result (IsSquareOf (ip_network frame.now) depth (ip_network network.now).prefix_len counted.now) }
+{
+    let rectangle = rectangle_in(frame, depth, network);
+    let name = short_name(alloc, network, frame.prefix_len())?;
+    let title = title_of(alloc, counted, network)?;
+    Ok(Square {
+        rectangle,
+        name,
+        title,
+    })
+}
+
+/// The networks of the walk, in order.
+fn networks_of(alloc: Global, walk: IpSubnets) -> Result<Vec<IpNet>, AllocError>
+    ensures { IfOk result (λ list. map ip_network list.items ≡ ip_subnets_left walk) }
+{
+    let mut networks = Vec::new(alloc);
+    for network in walk {
+        networks.push(network)?;
+    }
+    Ok(networks)
+}
+
+/// The subnets of the network with this prefix length, in order.
+fn subnets_of(alloc: Global, network: &IpNet, len: u8) -> Result<Vec<IpNet>, AllocError>
+    requires long { (ip_network network.now).prefix_len ≤ len }
+    requires fits { len ≤ width (ip_network network.now).family }
+    ensures { IfOk result (λ list. AreSubnetsOfLength (ip_network network.now) len (map ip_network list.items)) }
+{
+    match network.subnets(len) {
+        Ok(walk) => networks_of(alloc, walk),
+        Err(_) => Err(AllocError),
+    }
+}
+
+/// Returns the networks of the squares of the map of the frame: those that are longer than the frame by as many bits as
+/// `square_bits` says. Fails only if memory runs out.
+pub(crate) fn square_networks(
+    alloc: Global,
+    frame: &IpNet,
+    depth: u8,
+) -> Result<Vec<IpNet>, AllocError>
+    requires { (ip_network frame.now).prefix_len + depth ≤ width (ip_network frame.now).family }
+    ensures { let n = ip_network frame.now in IfOk result (λ list. All (λ k. IsSubnetOf (ip_network k) n
+        × ((ip_network k).prefix_len ≡ n.prefix_len + square_bits n.prefix_len depth)) list.items) }
+{
+    let len = frame.prefix_len() + square_bits_of(frame.prefix_len(), depth);
+    subnets_of(alloc, frame, len)
+}
+
+/// Returns the squares of the networks, with their titles. Fails only if memory runs out.
+pub(crate) fn squares_of(
+    alloc: Global,
+    frame: &IpNet,
+    depth: u8,
+    networks: &[IpNet],
+    counted: &[Counted<'_>],
+) -> Result<Vec<Square>, AllocError>
+    requires few { depth ≤ 20 }
+    requires fits { (ip_network frame.now).prefix_len + depth ≤ width (ip_network frame.now).family }
+    requires inside { let n = ip_network frame.now in All (λ k. IsSubnetOf (ip_network k) n
+        × ((ip_network k).prefix_len ≡ n.prefix_len + square_bits n.prefix_len depth)) networks.now }
+    ensures { let n = ip_network frame.now in IfOk result (λ squares.
+        All (IsSquareOf n depth (n.prefix_len + square_bits n.prefix_len depth) counted.now) squares.items) }
+{
+    let mut squares = Vec::new(alloc);
+    for network in networks {
+        let square = square_of(alloc, frame, depth, network, counted)?;
+        squares.push(square)?;
+    }
+    Ok(squares)
+}
