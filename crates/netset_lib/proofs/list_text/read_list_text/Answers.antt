@@ -7,4 +7,4 @@ returns c =
     whole_list c.args.grammar c.args.bytes.now c.skip_mark.result.now c.new-lines.result c.read.new.self
     c.new-builder.result c.read.new.made c.in_ok-set.set c.new-lines.ensures.grammar c.new-lines.ensures.first
     c.new-lines.ensures.line c.new-lines.ensures.none c.skip_mark.ensures c.in_ok-read.ensures c.new-builder.ensures
-    c.in_ok-set.ensures
+    c.in_ok-set.ensures.members
