@@ -7,7 +7,7 @@ use crate::label::{Ink, Label, Swatch, label_at};
 use crate::legend::{EDGE, LINE, legend_of};
 use crate::map::MapForm;
 use crate::sheet::{Sheet, sheet_of, sides_of};
-use crate::square::square_bits_of;
+use crate::square::first_bits_of;
 use ipnet::IpNet;
 use ipnet_maps::Drawing;
 use std::alloc::{AllocError, Global};
@@ -29,7 +29,7 @@ fn foot_of(alloc: Global, frame: &IpNet, depth: u8, note: &str) -> Result<String
     requires few { depth ≤ 20 }
     requires fits { (ip_network frame.now).prefix_len + depth ≤ width (ip_network frame.now).family }
 {
-    let square_len = frame.prefix_len() + square_bits_of(frame.prefix_len(), depth);
+    let square_len = frame.prefix_len() + first_bits_of(frame.prefix_len(), depth);
     let cell_len = frame.prefix_len() + depth;
     let mut text = String::from_str(alloc, "Reads like text: left to right, then down.")?;
     write!(

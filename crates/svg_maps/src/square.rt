@@ -110,7 +110,7 @@ pub(crate) fn title_of(
 }
 
 /// The number of bits of the address that the map shows in the octet in which it begins.
-fn first_bits_of(frame_len: u8, depth: u8) -> u8
+pub(crate) fn first_bits_of(frame_len: u8, depth: u8) -> u8
     ensures bits { result ≡ first_bits frame_len depth }
     ensures few { result ≤ 8 }
     ensures fits { result ≤ depth }
