@@ -7,7 +7,7 @@ use Rattle.std.proofs.KnownBytes.{Appends-kept}
 use Rattle.ipnet_base.specs.Address.{IPv4, IPv6, family_index}
 use Rattle.ipnet_text.specs.Pieces.{IsInPieces}
 use Rattle.ipnet_text.proofs.WritingLaws.{all_written, whole_front}
-use Rattle.netset_lib.specs.RuleAnswers.{IsWritten, IsFrontWritten}
+use Rattle.ipnet_text.specs.Outputs.{IsWritten, IsFrontWritten}
 use Rattle.netset_entries.specs.declared.span.Span.{Span}
 use Rattle.netset_entries.specs.EntryTexts.{IsFront}
 use Rattle.netset_entries.specs.NumberedEntries.{NumberedEntry}

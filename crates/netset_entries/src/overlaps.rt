@@ -16,7 +16,7 @@ ghost use Rattle.netset_entries.specs.Sweeps.{pair_of, met, asked_pairs, pairs_o
 ghost use Rattle.netset_entries.specs.Sweeps.{AreRuns};
 ghost use Rattle.netset_lib.specs.Answers.{range_text};
 ghost use Rattle.netset_lib.specs.EntryOf.{entry_range};
-ghost use Rattle.netset_lib.specs.RuleAnswers.{IsWritten, IsFrontWritten};
+ghost use Rattle.ipnet_text.specs.Outputs.{IsWritten, IsFrontWritten};
 
 use crate::entry_list::EntryLine;
 use crate::lines::{WriteFailure, push_entry, write_if_long};

@@ -4,7 +4,7 @@ ghost use Rattle.std.specs.Io.KnownBytes.{Keeps};
 ghost use Rattle.netset_entries.specs.EntryLineOf.{numbered};
 ghost use Rattle.netset_entries.specs.Overlaps.{HoldsOfOne, HoldsOfTwo, HasOverlap, HasNoOverlap, IsOverlapText};
 ghost use Rattle.netset_entries.specs.Overlaps.{IsOverlapAnswer, IsOverlapAnswerOfTwo};
-ghost use Rattle.netset_lib.specs.RuleAnswers.{IsWritten, IsFrontWritten};
+ghost use Rattle.ipnet_text.specs.Outputs.{IsWritten, IsFrontWritten};
 
 use crate::entry_list::{EntryLine, entry_list};
 use crate::lines::{WriteFailure, report_refused, report_unwritten};

@@ -6,7 +6,7 @@ ghost use Rattle.netset_entries.specs.Covers.{dropped_of, IsCoveredWithin};
 ghost use Rattle.netset_entries.specs.EntryTexts.{entry_line_at, IsFront};
 ghost use Rattle.netset_entries.specs.Redundancy.{witness_lines, dropped_lines};
 ghost use Rattle.netset_entries.specs.Redundancy.{IsRedundantText, HasDropped, AreAllKept};
-ghost use Rattle.netset_lib.specs.RuleAnswers.{IsWritten, IsFrontWritten};
+ghost use Rattle.ipnet_text.specs.Outputs.{IsWritten, IsFrontWritten};
 ghost use Rattle.netset_entries.specs.EntryLineOf.{numbered};
 
 use crate::entry_list::EntryLine;

@@ -3,7 +3,7 @@ ghost use Rattle.std.specs.Prelude.{◌≡◌, ◌≤◌, ◌⊎◌};
 ghost use Rattle.std.specs.Io.KnownBytes.{Keeps};
 ghost use Rattle.netset_entries.specs.NumberedEntries.{HoldsOfEntries};
 ghost use Rattle.netset_entries.specs.Redundancy.{IsRedundantAnswer, HasDropped, AreAllKept};
-ghost use Rattle.netset_lib.specs.RuleAnswers.{IsWritten, IsFrontWritten};
+ghost use Rattle.ipnet_text.specs.Outputs.{IsWritten, IsFrontWritten};
 
 use crate::entry_list::entry_list;
 use crate::lines::{WriteFailure, report_refused, report_unwritten};

@@ -7,7 +7,7 @@ ghost use Rattle.netset_entries.specs.Supernets.{AreSupernets, AreSupernetLines,
 
 use ipnet::IpNet;
 use ipnet_sets::IpSet;
-use netset_lib::lines_of_networks;
+use ipnet_text::lines_of_networks;
 use std::alloc::{AllocError, Global};
 
 /// Appends the network, if there is one.

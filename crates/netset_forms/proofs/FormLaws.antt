@@ -13,7 +13,8 @@ use Rattle.netset_lib.specs.declared.answer.Request.{Request}
 use Rattle.netset_lib.specs.Lists.{IsInEntries}
 use Rattle.netset_lib.specs.Operations.{IsInResult}
 use Rattle.netset_lib.specs.PlanAnswers.{IsResultSet}
-use Rattle.netset_lib.specs.RuleAnswers.{IsPermittedBy, IsPermittedSet, IsWritten, IsFrontWritten}
+use Rattle.ipnet_text.specs.Outputs.{IsWritten, IsFrontWritten}
+use Rattle.netset_lib.specs.RuleAnswers.{IsPermittedBy, IsPermittedSet}
 use Rattle.netset_forms.specs.declared.form.AnswerForm.{AnswerForm}
 use Rattle.netset_forms.specs.declared.form.AnswerForm.TheVariants as Forms
 use Rattle.netset_forms.specs.declared.form.FormRequest.{FormRequest}

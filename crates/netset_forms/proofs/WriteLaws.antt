@@ -5,7 +5,7 @@ use Rattle.std.specs.Io.KnownBytes.{Appends, Keeps}
 use Rattle.std.proofs.KnownBytes.{Appends-kept}
 use Rattle.ipnet_text.specs.Pieces.{IsInPieces}
 use Rattle.ipnet_text.proofs.WritingLaws.{front_written, all_written, whole_front}
-use Rattle.netset_lib.specs.RuleAnswers.{IsWritten, IsFrontWritten}
+use Rattle.ipnet_text.specs.Outputs.{IsWritten, IsFrontWritten}
 use Rattle.netset_forms.specs.declared.parts.Parts.{Parts}
 use Rattle.netset_forms.specs.FormSteps.{PutsSome, CutsSome, IsCut, IsTextIfSome, FitsIfSome, ArePartTexts}
 use Rattle.netset_forms.proofs.BlockItems.{text_if_some}

@@ -2,7 +2,7 @@
 ghost use Rattle.std.specs.Prelude.{◌⊎◌, OnOk, OnErr, IfErr};
 ghost use Rattle.std.specs.Io.KnownBytes.{Keeps};
 ghost use Rattle.ipnet_sets.specs.Members.{IsMember};
-ghost use Rattle.netset_lib.specs.RuleAnswers.{IsWritten, IsFrontWritten};
+ghost use Rattle.ipnet_text.specs.Outputs.{IsWritten, IsFrontWritten};
 ghost use Rattle.netset_forms.specs.Forms.{IsFormText, IsFormFailure};
 ghost use Rattle.netset_forms.specs.FormSteps.{PutsSome, CutsSome, IsTextIfSome, FitsIfSome, ArePartTexts};
 

@@ -1,7 +1,5 @@
 -- The queries on a list of rules, and the answers.
-use Rattle.std.specs.Prelude.{◌≡◌, ◌≢◌, ◌↔◌, ℕ, zero, suc, List, [], ◌∷◌, ◌++◌, codes, decimal, map, Option}
-use Rattle.std.specs.Io.{StartsWith}
-use Rattle.std.specs.Io.KnownBytes.{Appends}
+use Rattle.std.specs.Prelude.{◌≡◌, ◌≢◌, ◌↔◌, ℕ, zero, suc, List, [], ◌∷◌, ◌++◌, codes, decimal, map}
 use Rattle.ipnet_base.specs.Address.{Address, IsAddress}
 use Rattle.ipnet.specs.declared.parser.Grammar.{Grammar}
 use Rattle.ipnet_rules.specs.declared.rules.Action.{Action}
@@ -104,17 +102,3 @@ pub record IsOneUnreached (grammar : Grammar) (bytes : List ℕ) : Type 0 where
   pub none : contents.refused ≡ []
   pub index : ℕ
   pub unreached : IsUnreached contents.rules index
-
--- There is a text with this property, and all of it was written.
-pub record IsWritten (IsText : List ℕ → Type 0) (held held_after : Option (List ℕ)) : Type 0 where
-  pub text : List ℕ
-  pub right : IsText text
-  pub written : Appends held held_after text
-
--- There is a text with this property, and a front of it was written, perhaps all of it.
-pub record IsFrontWritten (IsText : List ℕ → Type 0) (held held_after : Option (List ℕ)) : Type 0 where
-  pub text : List ℕ
-  pub right : IsText text
-  pub front : List ℕ
-  pub begins : StartsWith text front
-  pub written : Appends held held_after front

@@ -8,7 +8,7 @@ use Rattle.netset_lib.specs.declared.command.Work.{Work}
 use Rattle.netset_lib.specs.declared.session.Session.{Session}
 use Rattle.netset_lib.specs.Counts.{Names}
 use Rattle.netset_lib.specs.Replies.{IsWorkAnswer}
-use Rattle.netset_lib.specs.RuleAnswers.{IsWritten, IsFrontWritten}
+use Rattle.ipnet_text.specs.Outputs.{IsWritten, IsFrontWritten}
 use Rattle.netset_lib.specs.Sessions.{WereCombined, WereCompared}
 
 -- The work has an answer over the lists, and all of it was written.

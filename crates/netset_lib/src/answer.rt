@@ -1,18 +1,17 @@
 //! What is asked of lists, and the text of a set.
-ghost use Rattle.std.specs.Prelude.{◌≡◌, ◌≤◌, ◌++◌, ◌∷◌, [], IfOk, OnOk, map, string_bytes};
+ghost use Rattle.std.specs.Prelude.{◌≡◌, ◌≤◌, ◌++◌, ◌∷◌, [], IfOk, OnOk, string_bytes};
 ghost use Rattle.ipnet_base.specs.Address.{ip_address};
 ghost use Rattle.ipnet_base.specs.RangeOf.{ip_range};
-ghost use Rattle.ipnet.specs.CanonicalTexts.{address_text, canonical_text};
-ghost use Rattle.ipnet.specs.NetworkOf.{ip_network};
+ghost use Rattle.ipnet.specs.CanonicalTexts.{address_text};
 ghost use Rattle.ipnet_sets.specs.Members.{IsMember};
-ghost use Rattle.ipnet_text.specs.LineTexts.{text_of_lines};
 ghost use Rattle.netset_lib.specs.Answers.{range_text, AreNetworkLines, AreRangeLines, IsSetText};
 
 use crate::operation::Operation;
 use crate::refused::RefusedLines;
 use ipnet::text_laws::{ipv4_address_text_is_of_octets, ipv6_address_text_is_of_groups};
-use ipnet::{Grammar, IpAddr, IpAddrRange, IpNet, ipv4_addr_text, ipv6_addr_text};
+use ipnet::{Grammar, IpAddr, IpAddrRange, ipv4_addr_text, ipv6_addr_text};
 use ipnet_sets::IpSet;
+use ipnet_text::lines_of_networks;
 use std::alloc::{AllocError, Global};
 
 /// How a set is written.
@@ -62,15 +61,6 @@ pub enum Failure {
     Memory,
 }
 
-/// Appends the network's text and a newline.
-fn push_network(text: &mut String, network: IpNet) -> Result<(), AllocError>
-    ensures { OnOk result
-        (string_bytes text.new ≡ (string_bytes text.old ++ canonical_text (ip_network network)) ++ 10 ∷ []) }
-{
-    text.push_str(network.to_text().as_str())?;
-    text.push_str("\n")
-}
-
 /// Appends the address's text.
 fn push_address(text: &mut String, address: IpAddr) -> Result<(), AllocError>
     ensures { let a = ip_address address in
@@ -100,21 +90,6 @@ fn push_range(text: &mut String, range: IpAddrRange) -> Result<(), AllocError>
         text.push_str("\n")?;
     }
     Ok(())
-}
-
-/// Returns the text of the networks, one a line. Fails only if memory runs out.
-///
-/// ```text
-/// of 10.0.0.0/8 and fd00::/8: "10.0.0.0/8\nfd00::/8\n"
-/// ```
-pub fn lines_of_networks(alloc: Global, networks: &[IpNet]) -> Result<String, AllocError>
-    ensures { IfOk result (λ text. string_bytes text ≡ text_of_lines (map ip_network networks.now)) }
-{
-    let mut text = String::new(alloc);
-    for network in networks {
-        push_network(&mut text, *network)?;
-    }
-    Ok(text)
 }
 
 /// The fewest networks of the set, one a line.

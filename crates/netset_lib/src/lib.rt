@@ -50,7 +50,7 @@ mod text_route;
 mod text_table;
 mod word;
 
-pub use answer::{Answer, Failure, Form, Request, lines_of_networks, lines_of_ranges};
+pub use answer::{Answer, Failure, Form, Request, lines_of_ranges};
 pub use apply::{ChangeFailure, changed_text};
 pub use apply_program::run_apply;
 pub use cause::{Cause, cause_of};

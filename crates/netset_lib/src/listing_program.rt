@@ -3,7 +3,7 @@ ghost use Rattle.std.specs.Prelude.{◌≡◌, ◌≤◌, ◌⊎◌};
 ghost use Rattle.std.specs.Io.KnownBytes.{Keeps};
 ghost use Rattle.ipnet.specs.NetworkOf.{ip_network};
 ghost use Rattle.netset_lib.specs.Listings.{IsSplitText, HasNoSplit, IsHostsText};
-ghost use Rattle.netset_lib.specs.RuleAnswers.{IsWritten, IsFrontWritten};
+ghost use Rattle.ipnet_text.specs.Outputs.{IsWritten, IsFrontWritten};
 
 use crate::listing::{write_addresses, write_networks};
 use ipnet::IpNet;

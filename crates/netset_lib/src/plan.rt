@@ -11,12 +11,12 @@ ghost use Rattle.netset_lib.specs.PlanAnswers.{HasOnly, IsPlanFamily, IsPlanText
 ghost use Rattle.netset_lib.specs.Planning.{family_of};
 ghost use Rattle.netset_lib.specs.declared.plan.PlanFailure.TheVariants.{NoPlacement, Memory};
 
-use crate::answer::lines_of_networks;
 use crate::operation::Families;
 use ipnet::IpNet;
 use ipnet_pools::PoolError;
 use ipnet_pools::plan::{plan_ipv4, plan_ipv6};
 use ipnet_sets::IpSet;
+use ipnet_text::lines_of_networks;
 use std::alloc::{AllocError, Global};
 use std::io::Write;
 use thiserror::Error;

@@ -3,7 +3,8 @@ ghost use Rattle.std.specs.Prelude.{◌≡◌, ◌≢◌, ◌≤◌, ◌⊎◌, 
 ghost use Rattle.std.specs.Io.KnownBytes.{Keeps};
 ghost use Rattle.ipnet.specs.declared.parser.Grammar.{Grammar};
 ghost use Rattle.netset_lib.specs.declared.rule_answer.RuleQuery.TheVariants.{Unreached};
-ghost use Rattle.netset_lib.specs.RuleAnswers.{IsRuleAnswer, IsWritten, IsFrontWritten, IsOneUnreached, AreAllReached};
+ghost use Rattle.ipnet_text.specs.Outputs.{IsWritten, IsFrontWritten};
+ghost use Rattle.netset_lib.specs.RuleAnswers.{IsRuleAnswer, IsOneUnreached, AreAllReached};
 ghost use Rattle.netset_lib.specs.RuleContentsOf.{contents_of};
 ghost use Rattle.netset_lib.specs.RuleLines.{IsRuleList};
 

@@ -1,7 +1,7 @@
 //! The command `route --with-text` of the program, over any writers.
 ghost use Rattle.std.specs.Prelude.{◌≡◌, ◌≤◌, ◌⊎◌, true, false};
 ghost use Rattle.std.specs.Io.KnownBytes.{Keeps};
-ghost use Rattle.netset_lib.specs.RuleAnswers.{IsWritten, IsFrontWritten};
+ghost use Rattle.ipnet_text.specs.Outputs.{IsWritten, IsFrontWritten};
 ghost use Rattle.netset_lib.specs.TextTables.{IsTextRouteAnswer};
 
 use crate::answer::Failure;

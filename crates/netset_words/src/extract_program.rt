@@ -1,7 +1,7 @@
 //! The command `extract` of the program, over any writers.
 ghost use Rattle.std.specs.Prelude.{◌≡◌, ◌≢◌, ◌⊎◌, List, ℕ};
 ghost use Rattle.std.specs.Io.KnownBytes.{Keeps};
-ghost use Rattle.netset_lib.specs.RuleAnswers.{IsWritten, IsFrontWritten};
+ghost use Rattle.ipnet_text.specs.Outputs.{IsWritten, IsFrontWritten};
 ghost use Rattle.netset_words.specs.Extractions.{WereExtracted, refused_count};
 ghost use Rattle.netset_words.specs.Extracts.{IsExtractAnswer};
 ghost use Rattle.netset_words.specs.declared.item.ExtractRequest.{ExtractRequest};
