@@ -40,7 +40,7 @@ number_read : (m n : ℕ) (s t : List ℕ) → m < 2 ^ 64 → n < 2 ^ 64 → dec
     → (m ≡ n) × (s ≡ t)
 number_read m n s t fits other e =
     let h = digits_read (decimal m) (decimal n) s t (decimal_is_IsNumeral m fits).0.1
-        (decimal_is_IsNumeral n other).0.1 e in
+    (decimal_is_IsNumeral n other).0.1 e in
     (decimal_injective m n fits other h.0, h.1)
 
 spread : (n : ℕ) (s : List ℕ) → piece_text (reference n) ++ s ≡ 38 ∷ (35 ∷ (decimal n ++ 59 ∷ s))
