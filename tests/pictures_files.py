@@ -165,8 +165,8 @@ class Picture:
         return largest.at("x", "y") + (largest.side("width"), largest.side("height"))
 
     def layers(self, theme):
-        """The paths that paint."""
-        return [one for one in self.paints(theme) if one.element.tag == SVG + "path"]
+        """The paths that paint. A class without cells has a path without data."""
+        return [one for one in self.paints(theme) if one.element.tag == SVG + "path" and one.element.get("d")]
 
     def rings(self):
         """The middle of each circle, in pixels."""
