@@ -8,6 +8,7 @@ pub mod JoinLaws
 pub mod PushedLaws
 pub mod ManyLaws
 pub mod SetRangeLaws
+pub mod WithinLaws
 pub mod NetworkListLaws
 pub mod SetEqualLaws
 pub mod FewestRanges

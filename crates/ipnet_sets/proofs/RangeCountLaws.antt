@@ -93,6 +93,17 @@ one_more_range s a few f ranges first h k =
       halves (length (boundaries_of s f)) (length (boundaries_of a f)) 1 (few f),
     )
 
+-- two boundaries more are one range more
+pub one_more_pair : (s a : IpSet) → ((f : Family) → length (boundaries_of s f) ≤ length (boundaries_of a f) + 2)
+    → HasOneMoreRange s a
+one_more_pair s a few f ranges first h k =
+    omega (
+      arith,
+      count_in_family s f ranges h,
+      count_in_family a f first k,
+      halves (length (boundaries_of s f)) (length (boundaries_of a f)) 2 (few f),
+    )
+
 -- the boundaries of a complement, by the lists that hold them
 pub one_more_boundary : (a : IpSet) (ipv4 ipv6 first4 first6 : List ℕ) → first4 ≡ a.ipv4.items → first6 ≡ a.ipv6.items
     → length ipv4 ≤ length first4 + 1 → length ipv6 ≤ length first6 + 1

@@ -1,6 +1,7 @@
 -- The definitions that the contracts of this crate use.
 pub mod Boundaries
 pub mod Members
+pub mod Parts
 pub mod SetRanges
 pub mod Supernets
 pub mod Gather

@@ -1,13 +1,14 @@
 //! Sets of the numbers of one family. Each is stored by its boundaries: the ascending list of the numbers at which it
 //! begins or ends. A number is inside if an odd number of the boundaries are at most it. An end at the family's last
 //! number is left out.
-ghost use Rattle.std.specs.Prelude.{◌≡◌, ℕ, ◌+◌, ◌^◌, ◌<◌, ◌≤◌, ◌⊎◌, ◌↔◌, IsTrue, true, false, not, List, [], ◌∷◌};
+ghost use Rattle.std.specs.Prelude.{◌≡◌, ℕ, ◌+◌, ◌^◌, ◌%◌, ◌<◌, ◌≤◌, ◌⊎◌, ◌↔◌, IsTrue, true, false, not, List, [], ◌∷◌};
 ghost use Rattle.std.specs.Prelude.{◌++◌, length, map, take, drop, All, IfOk, OnOk, IsNone, IfSome};
 ghost use Rattle.ipnet_base.specs.Address.{greatest_number};
 ghost use Rattle.ipnet_sets.specs.Boundaries.{is_inside, combined, AreBoundaries, IsBoundary, IsSplitAt};
 ghost use Rattle.ipnet_sets.specs.SetRanges.{range_of};
 ghost use Rattle.ipnet_sets.specs.BoundaryRanges.{ranges_of, count_of, before_last};
 ghost use Rattle.ipnet_sets.specs.Boundaries.{IsLeastInside, IsGreatestInside};
+ghost use Rattle.ipnet_sets.specs.Parts.{IsPartBetween};
 
 use crate::number::{Number, NumberRange};
 use crate::operation::Operation;
@@ -147,6 +148,47 @@ fn boundaries_up_to<T: Number>(boundaries: &[T], number: T) -> usize
         }
     }
     low
+}
+
+/// Returns the boundaries from the place on, after the first number if that is inside: if the place is odd.
+fn begun_at<T: Number>(
+    alloc: Global,
+    boundaries: &[T],
+    place: usize,
+    first: T,
+) -> Result<Vec<T>, AllocError>
+    requires { place ≤ length boundaries.now }
+    ensures inside { place % 2 ≡ 1 → IfOk result (λ part. part.items ≡ first ∷ drop place boundaries.now) }
+    ensures outside { ¬ (place % 2 ≡ 1) → IfOk result (λ part. part.items ≡ drop place boundaries.now) }
+{
+    let mut part = Vec::new(alloc);
+    if place % 2 == 1 {
+        part.push(first)?;
+    }
+    part.extend_from_slice(&boundaries[place..])?;
+    Ok(part)
+}
+
+/// Returns the set of the numbers from the first to the last that are in the set. Allocates nothing if there are none.
+pub(crate) fn part_between<T: Number>(
+    alloc: Global,
+    boundaries: &[T],
+    first: T,
+    last: T,
+) -> Result<Vec<T>, AllocError>
+    requires boundaries { AreBoundaries T.family (map T.number boundaries.now) }
+    requires ordered { T.number first ≤ T.number last }
+    ensures { IfOk result (λ part. IsPartBetween T.family (map T.number boundaries.now) (T.number first) (T.number last)
+        (map T.number part.items)) }
+{
+    last.fits();
+    let before = boundaries_up_to(boundaries, first);
+    let after = boundaries_up_to(boundaries, last);
+    let mut part = begun_at(alloc, &boundaries[..after], before, first)?;
+    if after % 2 == 1 && last.is_below(T::last()) {
+        part.push(last.next())?;
+    }
+    Ok(part)
 }
 
 /// Whether the number is in the set.

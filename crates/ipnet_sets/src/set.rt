@@ -20,6 +20,7 @@ pub mod builder;
 pub mod laws;
 mod many;
 mod supernets;
+mod within;
 
 /// A set of IPv4 and IPv6 addresses.
 ///

@@ -1,0 +1,318 @@
+-- The part of a set of numbers from a first to a last number, and the part of a set of addresses in a block.
+use Rattle.std.proofs.Common.{◌≡◌, ℕ, zero, suc, ◌+◌, ◌-◌, ◌^◌, ◌%◌, ◌<◌, ◌≤◌, ◌↔◌, Bool, true, false, not}
+use Rattle.std.proofs.Common.{List, [], ◌∷◌, ◌++◌, length, take, drop, get_or, map, All}
+use Rattle.std.proofs.Common.{refl, sym, ap, ◌∙◌, subst, arith, inl, inr, le-leb, eq-eqb}
+use Rattle.std.proofs.lemmas.Bool.{cases_lt, ne_eqb}
+use Rattle.std.proofs.lemmas.List.{get_or-take, get_or-drop, length-take-le, length-drop, length_push, drop-map, take-map}
+use Rattle.std.proofs.lemmas.List.Elements.{All-push, All-weaker}
+use Rattle.ipnet_base.specs.Address.{Family, IPv4, IPv6, Address, width, greatest_number}
+use Rattle.ipnet_base.specs.Network.{Network, IsNetwork, IsLeastOf, IsGreatestOf}
+use Rattle.ipnet_base.proofs.FamilyLaws.{cases_family}
+use Rattle.ipnet_sets.specs.declared.set.IpSet.{IpSet}
+use Rattle.ipnet_sets.specs.Boundaries.{is_inside, by_family, AreBoundaries, IsSplitAt}
+use Rattle.ipnet_sets.specs.Members.{boundaries_of, is_member, IsMember, HasOneMoreRange}
+use Rattle.ipnet_sets.specs.Parts.{IsInPart, IsPartBetween}
+use Rattle.ipnet_sets.proofs.InsideLaws.{AreAscending, is_odd, odd_more, not_twice, ascending_push}
+use Rattle.ipnet_sets.proofs.InsideLaws.{inside_front, inside_before, inside_from, inside_push_before}
+use Rattle.ipnet_sets.proofs.MemberLaws.{HasBoundaries, block_from_to, fits_to}
+use Rattle.ipnet_sets.proofs.RangeCountLaws.{one_more_pair}
+
+-- ---- numbers
+
+-- whether a number is inside turns at each boundary up to it
+abbrev turned : Bool → Bool → Bool
+turned true inside = not inside
+turned false inside = inside
+
+turned_again : (odd inside : Bool) → not (turned odd inside) ≡ turned (not odd) inside
+turned_again true inside = not_twice inside
+turned_again false inside = refl
+
+inside_past : (p : ℕ) (ts : List ℕ) (x : ℕ) → p ≤ length ts → ((k d : ℕ) → k < p → get_or ts k d ≤ x)
+    → is_inside ts x ≡ turned (is_odd p) (is_inside (drop p ts) x)
+inside_past zero ts x within h = refl
+inside_past (suc p) [] x within h = absurd (omega (arith, within))
+inside_past (suc p) (t ∷ ts) x within h =
+    let more : p + 1 ≡ suc p = omega arith in
+    rw (le-leb t x (h 0 t (omega arith)))
+    (ap not (inside_past p ts x (omega (arith, within)) (λ k d l. h (suc k) d (omega (arith, l))))
+    ∙ turned_again (is_odd p) (is_inside (drop p ts) x)
+    ∙ ap (λ odd. turned odd (is_inside (drop p ts) x)) (sym (odd_more p) ∙ ap is_odd more))
+
+-- the places of the first and of the last number are in order
+pub places_ordered : (ts : List ℕ) (first last before after : ℕ) → IsSplitAt ts first before → IsSplitAt ts last after
+    → first ≤ last → before ≤ after
+places_ordered ts first last before after h k le = elim (cases_lt after before) [
+  | inr ge ↦ ge
+  | inl lt ↦ absurd (omega (
+    arith,
+    le,
+    h.up_to after 0 lt,
+    k.above after 0 (omega arith) (omega (arith, lt, h.within)),
+  ))
+]
+
+-- the boundaries between the two places
+record AreBetween (ts : List ℕ) (first last before after : ℕ) (middle : List ℕ) : Type 0 where
+  pub ascending : AreAscending middle
+  pub above : All (λ t. first < t) middle
+  pub up_to : All (λ t. t ≤ last) middle
+  pub size : length middle ≡ after - before
+  pub ordered : before ≤ after
+  pub within : after ≤ length ts
+  pub members : (x : ℕ) → first ≤ x → x ≤ last → is_inside ts x ≡ turned (is_odd before) (is_inside middle x)
+
+between_places : (ts : List ℕ) (first last before after : ℕ) → AreAscending ts → IsSplitAt ts first before
+    → IsSplitAt ts last after → first ≤ last → AreBetween ts first last before after (drop before (take after ts))
+between_places ts first last before after asc h k le = record {
+  ascending = λ i j d l m.
+      let inner : before + j < after = in_front j m in
+      omega (
+        arith,
+        at i d (omega (arith, l, m)),
+        at j d m,
+        asc (before + i) (before + j) d (omega (arith, l)) (omega (arith, inner, k.within)),
+      );
+  above = λ i d l. omega (
+    arith,
+    at i d l,
+    h.above (before + i) d (omega arith) (omega (arith, in_front i l, k.within)),
+  );
+  up_to = λ i d l. omega (arith, at i d l, k.up_to (before + i) d (in_front i l));
+  size = length-drop before (take after ts) ∙ ap (λ n. n - before) size;
+  ordered = ordered;
+  within = k.within;
+  members = λ x from to.
+      inside_front ts after x (λ i d m l. omega (arith, to, k.above i d m l))
+      ∙ inside_past before (take after ts) x (omega (arith, size, ordered)) (λ i d l.
+      omega (arith, get_or-take after ts i d (omega (arith, l, ordered)), h.up_to i d l, from));
+}
+  where
+    size : length (take after ts) ≡ after
+    size = length-take-le after ts k.within
+
+    ordered : before ≤ after
+    ordered = places_ordered ts first last before after h k le
+
+    in_front : (i : ℕ) → i < length (drop before (take after ts)) → before + i < after
+    in_front i l = omega (arith, l, length-drop before (take after ts), size)
+
+    at : (i d : ℕ) → i < length (drop before (take after ts))
+        → get_or (drop before (take after ts)) i d ≡ get_or ts (before + i) d
+    at i d l = get_or-drop before (take after ts) i d ∙ get_or-take after ts (before + i) d (in_front i l)
+
+-- the same with the first number, if it is inside
+pub record IsBegun (ts : List ℕ) (first last after : ℕ) (front : List ℕ) : Type 0 where
+  pub ascending : AreAscending front
+  pub from : All (λ t. first ≤ t) front
+  pub up_to : All (λ t. t ≤ last) front
+  pub parity : length front % 2 ≡ after % 2
+  pub size : length front ≤ length ts + 1
+  pub members : (x : ℕ) → first ≤ x → x ≤ last → is_inside front x ≡ is_inside ts x
+
+pub begun_outside : (ts : List ℕ) (first last before after : ℕ) (front : List ℕ) → AreAscending ts
+    → IsSplitAt ts first before → IsSplitAt ts last after → first ≤ last → (before % 2 ≡ 1 → ⊥)
+    → front ≡ drop before (take after ts) → IsBegun ts first last after front
+begun_outside ts first last before after front asc h k le even e = subst (IsBegun ts first last after) (sym e) (
+    let b = between_places ts first last before after asc h k le in
+    record {
+      ascending = b.ascending;
+      from = All-weaker (λ t. first < t) (λ t. first ≤ t) (λ t l. omega (arith, l)) (drop before (take after ts)) b.above;
+      up_to = b.up_to;
+      parity = omega (arith, b.size, b.ordered, before_even);
+      size = omega (arith, b.size, b.within);
+      members = λ x from to. sym (b.members x from to ∙ ap (λ odd. turned odd (is_inside (drop before (take after ts)) x))
+          (ne_eqb (before % 2) 1 even));
+    }
+    )
+  where
+    before_even : before % 2 ≡ 0
+    before_even = elim (cases_lt (before % 2) 1) [
+      | inl lt ↦ omega (arith, lt)
+      | inr ge ↦ absurd (even (omega (arith, ge)))
+    ]
+
+ascending_cons : (t : ℕ) (ts : List ℕ) → AreAscending ts → All (λ u. t < u) ts → AreAscending (t ∷ ts)
+ascending_cons t ts asc above zero zero d l m = absurd (omega (arith, l))
+ascending_cons t ts asc above zero (suc j) d l m = above j d (omega (arith, m))
+ascending_cons t ts asc above (suc i) zero d l m = absurd (omega (arith, l))
+ascending_cons t ts asc above (suc i) (suc j) d l m = asc i j d (omega (arith, l)) (omega (arith, m))
+
+all_cons : (P : ℕ → Type 0) (t : ℕ) (ts : List ℕ) → P t → All P ts → All P (t ∷ ts)
+all_cons P t ts p h zero d l = p
+all_cons P t ts p h (suc k) d l = h k d (omega (arith, l))
+
+pub begun_inside : (ts : List ℕ) (first last before after : ℕ) (front : List ℕ) → AreAscending ts
+    → IsSplitAt ts first before → IsSplitAt ts last after → first ≤ last → before % 2 ≡ 1
+    → front ≡ first ∷ drop before (take after ts) → IsBegun ts first last after front
+begun_inside ts first last before after front asc h k le odd e = subst (IsBegun ts first last after) (sym e) (
+    let b = between_places ts first last before after asc h k le in
+    let middle : List ℕ = drop before (take after ts) in
+    record {
+      ascending = ascending_cons first middle b.ascending b.above;
+      from = all_cons (λ t. first ≤ t) first middle (omega arith)
+          (All-weaker (λ t. first < t) (λ t. first ≤ t) (λ t l. omega (arith, l)) middle b.above);
+      up_to = all_cons (λ t. t ≤ last) first middle le b.up_to;
+      parity = omega (arith, b.size, b.ordered, odd);
+      size = omega (arith, b.size, b.within);
+      members = λ x from to. rw (le-leb first x from) (sym (b.members x from to
+          ∙ ap (λ o. turned o (is_inside middle x)) (eq-eqb (before % 2) 1 odd)));
+    }
+    )
+
+-- the words of these boundaries
+pub begun_words : {X : Type 0} (number : X → ℕ) (words part : List X) (word : X) (first last before after : ℕ)
+    → AreAscending (map number words) → IsSplitAt (map number words) first before
+    → IsSplitAt (map number words) last after → first ≤ last → number word ≡ first
+    → (before % 2 ≡ 1 → part ≡ word ∷ drop before (take after words))
+    → ((before % 2 ≡ 1 → ⊥) → part ≡ drop before (take after words))
+    → IsBegun (map number words) first last after (map number part)
+begun_words number words part word first last before after asc h k le e inside outside = elim (cases_lt (before % 2) 1) [
+  | inl lt ↦
+      let even : before % 2 ≡ 1 → ⊥ = λ o. omega (arith, o, lt) in
+      begun_outside (map number words) first last before after (map number part) asc h k le even
+      (ap (map number) (outside even) ∙ middle)
+  | inr ge ↦
+      let odd : before % 2 ≡ 1 = omega (arith, ge) in
+      begun_inside (map number words) first last before after (map number part) asc h k le odd
+      (ap (map number) (inside odd) ∙ ap (λ z. z ∷ map number (drop before (take after words))) e
+      ∙ ap (λ zs. first ∷ zs) middle)
+]
+  where
+    middle : map number (drop before (take after words)) ≡ drop before (take after (map number words))
+    middle = sym (drop-map number before (take after words)) ∙ ap (drop before) (sym (take-map number after words))
+
+-- and with the end after the last number, if that is inside
+finished : (f : Family) (ts part : List ℕ) (first last : ℕ) → AreBoundaries f part → All (λ t. first ≤ t) part
+    → ((x : ℕ) → first ≤ x → x ≤ last → is_inside part x ≡ is_inside ts x)
+    → ((x : ℕ) → last < x → x ≤ greatest_number f → is_inside part x ≡ false) → length part ≤ length ts + 2
+    → IsPartBetween f ts first last part
+finished f ts part first last are from inner beyond few = record {
+  are = are;
+  members = λ x fits. elim (cases_lt x first) [
+    | inl below ↦
+        let out : is_inside part x ≡ false
+        = inside_before part x (All-weaker (λ t. first ≤ t) (λ t. x < t) (λ t l. omega (arith, l, below)) part from) in
+        (λ i. absurd (cc), λ p. absurd (omega (arith, p.1, below)))
+    | inr ge ↦ elim (cases_lt last x) [
+      | inl over ↦
+          let out : is_inside part x ≡ false = beyond x over fits in
+          (λ i. absurd (cc), λ p. absurd (omega (arith, p.2, over)))
+      | inr to ↦ (λ i. (sym (inner x ge to) ∙ i, ge, to), λ p. inner x ge to ∙ p.0)
+    ]
+  ];
+  no_more = few;
+}
+
+pub finished_closed : (f : Family) (ts front part : List ℕ) (first last after next : ℕ)
+    → IsBegun ts first last after front → first ≤ last → after % 2 ≡ 1 → next ≡ last + 1 → last < greatest_number f
+    → part ≡ front ++ next ∷ [] → IsPartBetween f ts first last part
+finished_closed f ts front part first last after next b le odd e fits g =
+    subst (IsPartBetween f ts first last) (sym g) (
+    finished f ts (front ++ next ∷ []) first last
+    (record {
+      ascending = ascending_push front next b.ascending below;
+      fits = All-push (λ t. t ≤ greatest_number f) front next
+          (All-weaker (λ t. t ≤ last) (λ t. t ≤ greatest_number f) (λ t l. omega (arith, l, fits)) front b.up_to)
+          (omega (arith, e, fits));
+    })
+    (All-push (λ t. first ≤ t) front next b.from (omega (arith, e, le)))
+    (λ x from to. inside_push_before front next x (omega (arith, to, e)) ∙ b.members x from to)
+    (λ x over fit.
+    inside_from (front ++ next ∷ []) x (All-push (λ t. t ≤ x) front next
+    (All-weaker (λ t. t ≤ last) (λ t. t ≤ x) (λ t l. omega (arith, l, over)) front b.up_to)
+    (omega (arith, e, over)))
+    ∙ ne_eqb (length (front ++ next ∷ []) % 2) 1 (λ o. omega (arith, o, size, b.parity, odd)))
+    (omega (arith, size, b.size))
+    )
+  where
+    size : length (front ++ next ∷ []) ≡ length front + 1
+    size = length_push front next
+
+    below : All (λ t. t < next) front
+    below = All-weaker (λ t. t ≤ last) (λ t. t < next) (λ t l. omega (arith, l, e)) front b.up_to
+
+pub finished_open : (f : Family) (ts front : List ℕ) (first last after : ℕ) → IsBegun ts first last after front
+    → last ≤ greatest_number f → (after % 2 ≡ 1 → greatest_number f ≤ last) → IsPartBetween f ts first last front
+finished_open f ts front first last after b fits end =
+    finished f ts front first last
+    (record {
+      ascending = b.ascending;
+      fits = All-weaker (λ t. t ≤ last) (λ t. t ≤ greatest_number f) (λ t l. omega (arith, l, fits)) front b.up_to;
+    })
+    b.from b.members
+    (λ x over fit. inside_from front x
+    (All-weaker (λ t. t ≤ last) (λ t. t ≤ x) (λ t l. omega (arith, l, over)) front b.up_to)
+    ∙ ne_eqb (length front % 2) 1 (λ o. let after_odd : after % 2 ≡ 1 = sym b.parity ∙ o in
+    omega (arith, end after_odd, over, fit)))
+    (omega (arith, b.size))
+
+-- ---- addresses
+
+-- no boundaries in the other family
+pub no_ipv6 : (ipv4 ipv6 : List ℕ) → ipv6 ≡ [] → (f : Family) → (f ≡ IPv4 → ⊥)
+    → by_family (map (λ n. n) ipv4) (map (λ n. n) ipv6) f ≡ []
+no_ipv6 ipv4 ipv6 e IPv4 other = absurd (other refl)
+no_ipv6 ipv4 ipv6 e IPv6 other = ap (map (λ n. n)) e
+
+pub no_ipv4 : (ipv4 ipv6 : List ℕ) → ipv4 ≡ [] → (f : Family) → (f ≡ IPv6 → ⊥)
+    → by_family (map (λ n. n) ipv4) (map (λ n. n) ipv6) f ≡ []
+no_ipv4 ipv4 ipv6 e IPv4 other = ap (map (λ n. n)) e
+no_ipv4 ipv4 ipv6 e IPv6 other = absurd (other refl)
+
+-- the part in a block has the boundaries of one family
+pub within_block : (s part : IpSet) (n : Network) (low high : Address) (slice items : List ℕ) (first last : ℕ)
+    → IsNetwork n → IsLeastOf n low → IsGreatestOf n high → first ≡ low.number → last ≡ high.number
+    → HasBoundaries s n.family slice → IsPartBetween n.family (map (λ n. n) slice) first last (map (λ n. n) items)
+    → HasBoundaries part n.family items → ((f : Family) → (f ≡ n.family → ⊥) → boundaries_of part f ≡ [])
+    → (x : Address) → IsMember part x ↔ IsInPart (IsMember s) n x
+within_block s part n low high slice items first last valid least greatest e g of_s between of_part none x =
+    elim (cases_family x.family n.family) [
+      | inr other ↦
+          let out : is_member part x ≡ false = ap (λ z. is_inside z x.number) (none x.family other) in (
+            λ m. let inside = m.inside in absurd (cc),
+            λ i. absurd (other i.in_block.same_family),
+          )
+      | inl same ↦ (
+        λ m.
+            let found = (members (fits_to n.family x.number (subst (λ f. x.number < 2 ^ width f) same m.fits))).0
+            (in_family part items of_part same ∙ m.inside) in
+            record {
+              in_block = (block_from_to n low high least greatest x).1 (record {
+                family_of_start = same ∙ sym least.inside.same_family;
+                family_of_end = same ∙ sym greatest.inside.same_family;
+                from_start = omega (arith, e, found.1);
+                to_end = omega (arith, g, found.2);
+              });
+              in_set = record { fits = m.fits; inside = sym (in_family s slice of_s same) ∙ found.0 };
+            },
+        λ i.
+            let to = (block_from_to n low high least greatest x).0 i.in_block in
+            record {
+              fits = i.in_set.fits;
+              inside = sym (in_family part items of_part same)
+                  ∙ (members (fits_to n.family x.number (subst (λ f. x.number < 2 ^ width f) same i.in_set.fits))).1
+                  (in_family s slice of_s same ∙ i.in_set.inside, omega (arith, e, to.from_start), omega (arith, g, to.to_end));
+            },
+      )
+    ]
+  where
+    members : x.number ≤ greatest_number n.family → (is_inside (map (λ n. n) items) x.number ≡ true)
+        ↔ ((is_inside (map (λ n. n) slice) x.number ≡ true) × (first ≤ x.number) × (x.number ≤ last))
+    members fits = between.members x.number fits
+
+    in_family : (t : IpSet) (numbers : List ℕ) → HasBoundaries t n.family numbers → x.family ≡ n.family
+        → is_inside (map (λ n. n) numbers) x.number ≡ is_member t x
+    in_family t numbers h same =
+        ap (λ z. is_inside z x.number) h ∙ ap (λ f. is_inside (boundaries_of t f) x.number) (sym same)
+
+-- and at most one range more than the set
+pub within_ranges : (s part : IpSet) (f : Family) (slice items : List ℕ) (first last : ℕ) → HasBoundaries s f slice
+    → IsPartBetween f (map (λ n. n) slice) first last (map (λ n. n) items) → HasBoundaries part f items
+    → ((g : Family) → (g ≡ f → ⊥) → boundaries_of part g ≡ []) → HasOneMoreRange part s
+within_ranges s part f slice items first last of_s between of_part none = one_more_pair part s (λ g.
+    elim (cases_family g f) [
+      | inl same ↦ subst (λ h. length (boundaries_of part h) ≤ length (boundaries_of s h) + 2) (sym same)
+          (omega (arith, between.no_more, ap length of_s, ap length of_part))
+      | inr other ↦ let empty = ap length (none g other) in omega (arith, empty)
+    ])
