@@ -12,7 +12,8 @@ use Rattle.ipnet_base.proofs.ListLaws.{pairs_head, pairs_tail, pairs_cons}
 use Rattle.ipnet_sets.specs.Members.{IsCountOf}
 use Rattle.ipnet_pictures.specs.declared.share.Level.{Level}
 use Rattle.ipnet_pictures.specs.declared.share.Level.TheVariants as level
-use Rattle.ipnet_pictures.specs.Parts.{IsInPart, HasSome, HasNone, IsLevelOf, block_size}
+use Rattle.ipnet_sets.specs.Parts.{IsInPart}
+use Rattle.ipnet_pictures.specs.Parts.{HasSome, HasNone, IsLevelOf, block_size}
 use Rattle.ipnet_pictures.specs.Shares.{IsShare}
 use Rattle.ipnet_pictures.proofs.PartLaws.{same_count, block_counted, part_fits, nothing_counted, nothing_shown}
 use Rattle.ipnet_maps.specs.declared.drawing.Class.{Class}

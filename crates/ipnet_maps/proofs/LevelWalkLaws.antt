@@ -18,7 +18,8 @@ use Rattle.ipnet.specs.NetworkParts.{network_at}
 use Rattle.ipnet_sets.specs.Members.{IsCountOf}
 use Rattle.ipnet_pictures.specs.declared.share.Level.{Level}
 use Rattle.ipnet_pictures.specs.declared.share.Level.TheVariants.{Nothing, Whole}
-use Rattle.ipnet_pictures.specs.Parts.{IsInPart, HasSome, IsLevelOf, block_size}
+use Rattle.ipnet_sets.specs.Parts.{IsInPart}
+use Rattle.ipnet_pictures.specs.Parts.{HasSome, IsLevelOf, block_size}
 use Rattle.ipnet_pictures.specs.Shares.{IsShare}
 use Rattle.ipnet_pictures.proofs.PartLaws.{same_count, block_counted, part_fits}
 use Rattle.ipnet_maps.specs.declared.levels.KnownCells.{KnownCells}

@@ -20,7 +20,6 @@ use crate::layout::Rectangle;
 use crate::levels::{LevelCells, level_cells};
 use crate::several::shared_class_cells;
 use ipnet::IpNet;
-use ipnet_pictures::part_in;
 use ipnet_sets::IpSet;
 use std::alloc::{AllocError, Global};
 
@@ -219,7 +218,7 @@ pub fn draw_set(alloc: Global, frame: &IpNet, set: &IpSet) -> Result<Drawing, Al
     ensures { IfOk result (IsDrawingOf (IsMember set.now) (HasLevelClass (IsMember set.now)) level_classes
         (ip_network frame.now)) }
 {
-    let part = part_in(alloc, set, frame)?;
+    let part = set.within(alloc, frame)?;
     draw_to(alloc, frame, &Lists::One(part), greatest_depth_of(frame))
 }
 
@@ -241,8 +240,8 @@ pub fn draw_change(
     ensures { IfOk result (IsDrawingOf (IsInEither (IsMember before.now) (IsMember after.now))
         (HasChangeClass (IsMember before.now) (IsMember after.now)) change_classes (ip_network frame.now)) }
 {
-    let first = part_in(alloc, before, frame)?;
-    let second = part_in(alloc, after, frame)?;
+    let first = before.within(alloc, frame)?;
+    let second = after.within(alloc, frame)?;
     draw_to(
         alloc,
         frame,
@@ -257,7 +256,7 @@ fn parts_in(alloc: Global, frame: &IpNet, sets: &[IpSet]) -> Result<Vec<IpSet>, 
 {
     let mut parts = Vec::new(alloc);
     for set in sets {
-        let part = part_in(alloc, set, frame)?;
+        let part = set.within(alloc, frame)?;
         parts.push(part)?;
     }
     Ok(parts)

@@ -7,7 +7,8 @@ use Rattle.ipnet_base.proofs.ListLaws.{contains_here, contains_there}
 use Rattle.ipnet_pictures.specs.declared.change.Change.{Change}
 use Rattle.ipnet_pictures.specs.declared.change.Change.TheVariants.{Unused, Unchanged, Removed, Added, Mixed}
 use Rattle.ipnet_pictures.specs.Changes.{IsOnlyIn, IsChange}
-use Rattle.ipnet_pictures.specs.Parts.{IsInPart, HasNone, HasSome}
+use Rattle.ipnet_sets.specs.Parts.{IsInPart}
+use Rattle.ipnet_pictures.specs.Parts.{HasNone, HasSome}
 
 -- the change of the parts of two sets is the change of the sets, in a smaller block
 some_of_parts : (A B PA PB : Address → Type 0) (n k : Network) → ((y : Address) → PA y ↔ IsInPart A n y)

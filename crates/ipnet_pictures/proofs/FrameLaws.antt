@@ -7,7 +7,8 @@ use Rattle.ipnet.specs.NetworkOf.{ip_network}
 use Rattle.ipnet_sets.specs.declared.set.IpSet.{IpSet}
 use Rattle.ipnet_sets.specs.Members.{IsMember, IsMemberOf, HasFamily}
 use Rattle.ipnet_sets.specs.Supernets.{IsSmallestAround}
-use Rattle.ipnet_pictures.specs.Parts.{IsInPart, HasNone}
+use Rattle.ipnet_sets.specs.Parts.{IsInPart}
+use Rattle.ipnet_pictures.specs.Parts.{HasNone}
 
 -- all addresses of a part are of the network's family
 of_family : (A : Address → Type 0) (n : Network) (s : IpSet) → ((x : Address) → IsMember s x ↔ IsInPart A n x)

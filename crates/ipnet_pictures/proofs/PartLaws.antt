@@ -23,7 +23,8 @@ use Rattle.ipnet_sets.proofs.CountSums.{one_count}
 use Rattle.ipnet_sets.proofs.SetEqualLaws.{member_or_not}
 use Rattle.ipnet_pictures.specs.declared.share.Level.{Level}
 use Rattle.ipnet_pictures.specs.declared.share.Level.TheVariants.{Nothing, BelowThird, FromThird, FromTwoThirds, Whole}
-use Rattle.ipnet_pictures.specs.Parts.{IsInPart, HasNone, HasAll, IsLevelOf, block_size, counted}
+use Rattle.ipnet_sets.specs.Parts.{IsInPart}
+use Rattle.ipnet_pictures.specs.Parts.{HasNone, HasAll, IsLevelOf, block_size, counted}
 use Rattle.ipnet_pictures.specs.Shares.{IsShare, tenths}
 
 -- two sets with the same addresses have the same count

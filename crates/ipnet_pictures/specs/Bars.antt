@@ -10,7 +10,8 @@ use Rattle.ipnet_pictures.specs.declared.share.Level.{Level}
 use Rattle.ipnet_pictures.specs.declared.marks.RowWidth.{RowWidth}
 use Rattle.ipnet_pictures.specs.MarkTexts.{mark_len, row_len, marks_text, percent_text}
 use Rattle.ipnet_pictures.specs.Outsides.{IsOutsideText}
-use Rattle.ipnet_pictures.specs.Parts.{IsInPart, AreLevelsOf, block_size}
+use Rattle.ipnet_sets.specs.Parts.{IsInPart}
+use Rattle.ipnet_pictures.specs.Parts.{AreLevelsOf, block_size}
 use Rattle.ipnet_pictures.specs.Shares.{tenths}
 use Rattle.ipnet_pictures.specs.Summaries.{IsSummary}
 

@@ -12,7 +12,7 @@ use Rattle.ipnet_pictures.specs.Bars.{AreBarRows, AreRows, row_head, first_line}
 use Rattle.ipnet_pictures.specs.Changes.{IsOnlyIn, AreChangesOf}
 use Rattle.ipnet_pictures.specs.MarkTexts.{mark_len}
 use Rattle.ipnet_pictures.specs.Outsides.{IsOutsideText}
-use Rattle.ipnet_pictures.specs.Parts.{IsInPart}
+use Rattle.ipnet_sets.specs.Parts.{IsInPart}
 
 -- The text of the mark of a change; `·` is 194 183 in UTF-8.
 abbrev pub change_text : Marks → Change → List ℕ

@@ -6,7 +6,8 @@ use Rattle.ipnet.specs.NetworkOf.{ip_network}
 use Rattle.ipnet_sets.specs.Supernets.{IsSmallestAround}
 use Rattle.ipnet_pictures.specs.declared.frame.Frame.{Frame}
 use Rattle.ipnet_pictures.specs.declared.frame.Frame.TheVariants.{Named, Ipv6, FirstFamily}
-use Rattle.ipnet_pictures.specs.Parts.{IsInPart, HasNone}
+use Rattle.ipnet_sets.specs.Parts.{IsInPart}
+use Rattle.ipnet_pictures.specs.Parts.{HasNone}
 
 -- The network of all addresses of a family: 0.0.0.0/0 or ::/0.
 abbrev pub all_of : Family → Network

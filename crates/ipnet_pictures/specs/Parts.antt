@@ -1,18 +1,13 @@
--- Parts: the addresses of a set in a block, how many they are, and the levels of the subnets of a network.
+-- Parts: how many addresses of a set are in a block, and the levels of the subnets of a network.
 use Rattle.std.specs.Prelude.{ℕ, ◌^◌, List, Option, Some, None}
 use Rattle.std.specs.List.{AllZip}
 use Rattle.ipnet_base.specs.Address.{Address}
 use Rattle.ipnet_base.specs.Network.{Network, InBlock, host_bits}
 use Rattle.ipnet.specs.NetworkParts.{AreSubnetsOfLength}
 use Rattle.ipnet_sets.specs.Members.{IsCountOf}
+use Rattle.ipnet_sets.specs.Parts.{IsInPart}
 use Rattle.ipnet_pictures.specs.declared.share.Level.{Level}
 use Rattle.ipnet_pictures.specs.Shares.{IsShare}
-
--- The address is in the block, and in the set.
--- Example: of the set 10.0.0.0 to 10.0.0.9, the part in 10.0.0.8/29 is 10.0.0.8 and 10.0.0.9.
-pub record IsInPart (InSet : Address → Type 0) (n : Network) (x : Address) : Type 0 where
-  pub in_block : InBlock n x
-  pub in_set : InSet x
 
 -- The block has no address of the set. Example: 10.0.0.16/28 has none of 10.0.0.0 to 10.0.0.9.
 abbrev pub HasNone : (Address → Type 0) → Network → Type 0

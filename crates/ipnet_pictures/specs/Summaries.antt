@@ -7,7 +7,8 @@ use Rattle.ipnet_base.specs.Blocks.{AreMaximalBlocks}
 use Rattle.ipnet.specs.CanonicalTexts.{canonical_text}
 use Rattle.ipnet_sets.specs.Members.{IsCountOf}
 use Rattle.ipnet_pictures.specs.MarkTexts.{percent_text}
-use Rattle.ipnet_pictures.specs.Parts.{IsInPart, block_size}
+use Rattle.ipnet_sets.specs.Parts.{IsInPart}
+use Rattle.ipnet_pictures.specs.Parts.{block_size}
 use Rattle.ipnet_pictures.specs.Shares.{tenths}
 
 -- The address is in the network, and not in the set.

@@ -7,7 +7,8 @@ ghost use Rattle.ipnet.specs.CanonicalTexts.{canonical_text};
 ghost use Rattle.ipnet_sets.specs.Members.{IsMember, IsCountOf};
 ghost use Rattle.ipnet_pictures.specs.Bars.{AreBarRows, IsRow, AreRows, row_head, first_line, IsBar};
 ghost use Rattle.ipnet_pictures.specs.MarkTexts.{mark_len, percent_text};
-ghost use Rattle.ipnet_pictures.specs.Parts.{IsInPart, block_size, counted};
+ghost use Rattle.ipnet_sets.specs.Parts.{IsInPart};
+ghost use Rattle.ipnet_pictures.specs.Parts.{block_size, counted};
 ghost use Rattle.ipnet_pictures.specs.Shares.{tenths};
 
 use crate::marks::{

@@ -6,7 +6,7 @@ ghost use Rattle.ipnet.specs.NetworkOf.{ip_network};
 ghost use Rattle.ipnet_sets.specs.Members.{IsMember, IsSubset};
 ghost use Rattle.ipnet_pictures.specs.Changes.{IsOnlyIn, IsChange, AreChangesOf};
 
-use crate::part::{part_in, subnets_of};
+use crate::part::subnets_of;
 use ipnet::{IpAddr, IpNet};
 use ipnet_sets::IpSet;
 use std::alloc::{AllocError, Global};
@@ -55,8 +55,8 @@ pub fn change_in(
 ) -> Result<Change, AllocError>
     ensures { IfOk result (IsChange (IsMember before.now) (IsMember after.now) (ip_network network.now)) }
 {
-    let first = part_in(alloc, before, network)?;
-    let second = part_in(alloc, after, network)?;
+    let first = before.within(alloc, network)?;
+    let second = after.within(alloc, network)?;
     let removed = first_only_in(alloc, &first, &second)?;
     let added = first_only_in(alloc, &second, &first)?;
     match (removed, added) {
@@ -106,8 +106,8 @@ pub fn changes_in(
     ensures { IfOk result (λ changes. AreChangesOf (IsMember before.now) (IsMember after.now)
         (ip_network network.now) prefix_len changes.items) }
 {
-    let first = part_in(alloc, before, network)?;
-    let second = part_in(alloc, after, network)?;
+    let first = before.within(alloc, network)?;
+    let second = after.within(alloc, network)?;
     let cells = subnets_of(alloc, network, prefix_len)?;
     changes_of(alloc, &first, &second, cells.as_slice())
 }

@@ -5,9 +5,9 @@ ghost use Rattle.ipnet.specs.NetworkOf.{ip_network};
 ghost use Rattle.ipnet_sets.specs.Members.{IsMember, IsMemberOf, HasFamily};
 ghost use Rattle.ipnet_sets.specs.Supernets.{IsSmallestAround};
 ghost use Rattle.ipnet_pictures.specs.Frames.{all_of, IsFrame, HasNoFrame};
-ghost use Rattle.ipnet_pictures.specs.Parts.{IsInPart, HasNone};
+ghost use Rattle.ipnet_sets.specs.Parts.{IsInPart};
+ghost use Rattle.ipnet_pictures.specs.Parts.{HasNone};
 
-use crate::part::part_in;
 use ipnet::{IpNet, Ipv6Net};
 use ipnet_sets::IpSet;
 use std::alloc::{AllocError, Global};
@@ -47,7 +47,7 @@ pub fn frame_in(alloc: Global, set: &IpSet, network: &IpNet) -> Result<Option<Ip
         IsSmallestAround (IsInPart (IsMember set.now) (ip_network network.now)) (ip_network frame))) }
     ensures none { IfOk result (λ found. IsNone found ↔ HasNone (IsMember set.now) (ip_network network.now)) }
 {
-    let part = part_in(alloc, set, network)?;
+    let part = set.within(alloc, network)?;
     Ok(smallest_around(&part, network))
 }
 

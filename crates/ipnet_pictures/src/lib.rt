@@ -17,6 +17,6 @@ pub use comparison_bar::comparison_bar_text;
 pub use frame::{Frame, frame_in, frame_of};
 pub use marks::{Marks, RowWidth, mark_len_of, row_len_of};
 pub use outside::outside_of;
-pub use part::{count_in, host_bits_of, last_place, level_in, levels_in, part_in};
+pub use part::{count_in, host_bits_of, last_place, level_in, levels_in, size_of, subnets_of};
 pub use share::{Level, level_of, tenths_of};
-pub use summary::{free_in, largest_of};
+pub use summary::{free_in, largest_of, push_count};

@@ -7,26 +7,14 @@ ghost use Rattle.ipnet.specs.NetworkOf.{ip_network};
 ghost use Rattle.ipnet.specs.NetworkParts.{AreSubnetsOfLength};
 ghost use Rattle.ipnet.specs.SubnetsLeft.{ip_subnets_left};
 ghost use Rattle.ipnet_sets.specs.Members.{IsMember, IsCountOf};
-ghost use Rattle.ipnet_pictures.specs.Parts.{IsInPart, HasNone, HasAll, IsLevelOf, AreLevelsOf, block_size, counted};
+ghost use Rattle.ipnet_sets.specs.Parts.{IsInPart};
+ghost use Rattle.ipnet_pictures.specs.Parts.{HasNone, HasAll, IsLevelOf, AreLevelsOf, block_size, counted};
 ghost use Rattle.ipnet_pictures.specs.declared.share.Level.TheVariants.{Nothing, Whole};
 
 use crate::share::{Level, level_of};
 use ipnet::{IpNet, IpSubnets};
 use ipnet_sets::IpSet;
 use std::alloc::{AllocError, Global};
-
-/// Returns the addresses of the set that are in the network's block. Fails only if memory runs out.
-///
-/// ```text
-/// of 10.0.0.0-10.0.0.9 in 10.0.0.8/29: 10.0.0.8-10.0.0.9
-/// ```
-pub fn part_in(alloc: Global, set: &IpSet, network: &IpNet) -> Result<IpSet, AllocError>
-    ensures { IfOk result (λ s. (x : Address)
-        → IsMember s x ↔ IsInPart (IsMember set.now) (ip_network network.now) x) }
-{
-    let block = IpSet::from_network(alloc, network)?;
-    set.intersection(alloc, &block)
-}
 
 /// Returns the number of addresses of the set that are in the network's block, or `None` if they are all 2^128
 /// addresses of IPv6. Fails only if memory runs out.
@@ -39,7 +27,7 @@ pub fn count_in(alloc: Global, set: &IpSet, network: &IpNet) -> Result<Option<u1
         IsCountOf (IsInPart (IsMember set.now) (ip_network network.now)) (counted count)) }
     ensures part { IfOk result (λ count. counted count ≤ block_size (ip_network network.now)) }
 {
-    let part = part_in(alloc, set, network)?;
+    let part = set.within(alloc, network)?;
     match network {
         IpNet::V4(_) => Ok(Some(u128::from(part.ipv4_count()))),
         IpNet::V6(_) => Ok(part.ipv6_count()),
@@ -66,6 +54,21 @@ pub fn last_place(network: &IpNet) -> u128
         return u128::MAX;
     }
     (1u128 << bits) - 1
+}
+
+/// Returns the number of addresses of the network's block, or `None` if they are all 2^128 addresses of IPv6.
+///
+/// ```text
+/// of 10.0.0.8/29: Some(8); of 10.0.0.1/32: Some(1); of ::/0: None
+/// ```
+pub fn size_of(network: &IpNet) -> Option<u128>
+    ensures { counted result ≡ block_size (ip_network network.now) }
+{
+    let bits = host_bits_of(network);
+    if bits == 128 {
+        return None;
+    }
+    Some(1u128 << bits)
 }
 
 /// Returns the level of the network's block: the share of its addresses that are in the set. Fails only if memory runs
@@ -104,13 +107,17 @@ pub fn levels_in(
     ensures { IfOk result (λ levels.
         AreLevelsOf (IsMember set.now) (ip_network network.now) prefix_len levels.items) }
 {
-    let part = part_in(alloc, set, network)?;
+    let part = set.within(alloc, network)?;
     let cells = subnets_of(alloc, network, prefix_len)?;
     levels_of(alloc, &part, cells.as_slice())
 }
 
-/// Returns the subnets of the network with this prefix length, in order.
-pub(crate) fn subnets_of(
+/// Returns the subnets of the network with this prefix length, in order. Fails only if memory runs out.
+///
+/// ```text
+/// of 10.0.0.5/28, 30: 10.0.0.0/30, 10.0.0.4/30, 10.0.0.8/30, 10.0.0.12/30
+/// ```
+pub fn subnets_of(
     alloc: Global,
     network: &IpNet,
     prefix_len: u8,

@@ -11,7 +11,7 @@ ghost use Rattle.ipnet_pictures.specs.Summaries.{free_line, IsLargest, IsLargerO
 
 use crate::bar::share_of;
 use crate::marks::{push_number, push_percent};
-use crate::part::{count_in, last_place};
+use crate::part::{count_in, size_of};
 use ipnet::IpNet;
 use ipnet_sets::IpSet;
 use std::alloc::{AllocError, Global};
@@ -19,8 +19,12 @@ use std::alloc::{AllocError, Global};
 /// How many IPv6 addresses there are, 2^128: no `u128` holds the number.
 const ALL_IPV6: &str = "340282366920938463463374607431768211456";
 
-/// Appends the count.
-pub(crate) fn push_count(text: &mut String, count: Option<u128>) -> Result<(), AllocError>
+/// Appends the number of addresses in decimal; `None` is 2^128, as in `count_in`. Fails only if memory runs out.
+///
+/// ```text
+/// Some(10) appends 10; None appends 340282366920938463463374607431768211456
+/// ```
+pub fn push_count(text: &mut String, count: Option<u128>) -> Result<(), AllocError>
     ensures { OnOk result (string_bytes text.new ≡ string_bytes text.old ++ decimal (counted count)) }
 {
     match count {
@@ -38,7 +42,7 @@ fn push_used(text: &mut String, count: Option<u128>, network: &IpNet) -> Result<
     text.push_str("used ")?;
     push_count(text, count)?;
     text.push_str(" of ")?;
-    push_count(text, last_place(network).checked_add(1))?;
+    push_count(text, size_of(network))?;
     text.push_str(", ")?;
     push_percent(text, share_of(count, network))?;
     text.push_str("\n")

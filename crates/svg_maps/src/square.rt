@@ -11,14 +11,11 @@ ghost use Rattle.svg_maps.specs.Squares.{first_bits, square_bits};
 
 use crate::chart::Square;
 use crate::name::short_name;
-use ipnet::{IpNet, IpSubnets};
+use ipnet::IpNet;
 use ipnet_maps::rectangle_in;
-use ipnet_pictures::{count_in, host_bits_of};
+use ipnet_pictures::{count_in, push_count, size_of, subnets_of};
 use ipnet_sets::IpSet;
 use std::alloc::{AllocError, Global};
-
-/// How many IPv6 addresses there are, 2^128: no `u128` holds the number.
-const ALL_IPV6: &str = "340282366920938463463374607431768211456";
 
 /// A set whose addresses are counted in each square.
 #[derive(Clone, Copy)]
@@ -27,27 +24,6 @@ pub struct Counted<'a> {
     pub words: &'a str,
     /// The set.
     pub set: &'a IpSet,
-}
-
-/// The number of addresses of the network, or `None` if it is 2^128.
-fn size_of(network: &IpNet) -> Option<u128>
-    ensures { counted result ≡ block_size (ip_network network.now) }
-{
-    let bits = host_bits_of(network);
-    if bits == 128 {
-        return None;
-    }
-    Some(1u128 << bits)
-}
-
-/// Appends the number.
-fn push_count(text: &mut String, count: Option<u128>) -> Result<(), AllocError>
-    ensures { OnOk result (string_bytes text.new ≡ string_bytes text.old ++ decimal (counted count)) }
-{
-    match count {
-        Some(count) => write!(text, "{count}"),
-        None => text.push_str(ALL_IPV6),
-    }
 }
 
 /// Appends how many addresses of the network the set has.
@@ -157,29 +133,6 @@ fn square_of(
         name,
         title,
     })
-}
-
-/// The networks of the walk, in order.
-fn networks_of(alloc: Global, walk: IpSubnets) -> Result<Vec<IpNet>, AllocError>
-    ensures { IfOk result (λ list. map ip_network list.items ≡ ip_subnets_left walk) }
-{
-    let mut networks = Vec::new(alloc);
-    for network in walk {
-        networks.push(network)?;
-    }
-    Ok(networks)
-}
-
-/// The subnets of the network with this prefix length, in order.
-fn subnets_of(alloc: Global, network: &IpNet, len: u8) -> Result<Vec<IpNet>, AllocError>
-    requires long { (ip_network network.now).prefix_len ≤ len }
-    requires fits { len ≤ width (ip_network network.now).family }
-    ensures { IfOk result (λ list. AreSubnetsOfLength (ip_network network.now) len (map ip_network list.items)) }
-{
-    match network.subnets(len) {
-        Ok(walk) => networks_of(alloc, walk),
-        Err(_) => Err(AllocError),
-    }
 }
 
 /// Returns the networks of the squares of the map of the frame: those that are longer than the frame by as many bits as

@@ -4,7 +4,8 @@ use Rattle.ipnet_base.specs.Network.{Network}
 use Rattle.ipnet.specs.NetworkOf.{ip_network}
 use Rattle.ipnet_sets.specs.Members.{IsMember, IsCountOf}
 use Rattle.ipnet_pictures.specs.declared.share.Level.TheVariants.{Whole}
-use Rattle.ipnet_pictures.specs.Parts.{IsInPart, counted}
+use Rattle.ipnet_sets.specs.Parts.{IsInPart}
+use Rattle.ipnet_pictures.specs.Parts.{counted}
 use Rattle.ipnet_pictures.specs.Shares.{IsShare}
 use Rattle.ipnet_pictures.proofs.PartLaws.{part_fits, whole_size, nothing_shown, whole_shown}
 use Rattle.ipnet_pictures.proofs.part.level_in.Goals as goal

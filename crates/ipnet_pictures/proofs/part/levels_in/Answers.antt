@@ -19,7 +19,7 @@ returns c =
       cells = map ip_network cells;
       subnets = c.in_ok-cells.ensures;
       each = levels_of_part (IsMember set) (IsMember c.in_ok-part.part) n (map ip_network cells) levels.items
-          c.in_ok-part.ensures (λ k h. ((c.in_ok-cells.ensures.members k).0 h).within)
+          c.in_ok-part.ensures.members (λ k h. ((c.in_ok-cells.ensures.members k).0 h).within)
           (subst (λ z. AllZip (IsLevelOf (IsMember c.in_ok-part.part)) (map ip_network z) levels.items)
           c.as_slice.ensures.value each);
     })

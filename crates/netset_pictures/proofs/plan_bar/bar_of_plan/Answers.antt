@@ -1,6 +1,6 @@
 use Rattle.std.proofs.Common.{rules, subst, inr}
 use Rattle.ipnet.specs.NetworkOf.{ip_network}
-use Rattle.ipnet_pictures.specs.Parts.{IsInPart}
+use Rattle.ipnet_sets.specs.Parts.{IsInPart}
 use Rattle.ipnet_sets.specs.Members.{IsMember}
 use Rattle.ipnet_sets.specs.Supernets.{IsSmallestAround}
 use Rattle.netset_pictures.proofs.plan_bar.bar_of_plan.Goals as goal
