@@ -179,12 +179,10 @@ pub ipv6_counted : (s : IpSet) (count : Option ℕ)
 ipv6_counted s None none some = all_ipv6 s (none.0 refl)
 ipv6_counted s (Some count) none some = some
 
-pub ipv6_part_counted : (s part : IpSet) (n : Network) (count : Option ℕ) → n.family ≡ IPv6
-    → ((x : Address) → IsMember part x ↔ IsInPart (IsMember s) n x)
-    → IsNone count ↔ ((x : Address) → IsAddress x → x.family ≡ IPv6 → IsMember part x)
-    → IfSome count (IsCountOf (IsMemberOf IPv6 part)) → IsCountOf (IsInPart (IsMember s) n) (counted count)
-ipv6_part_counted s part n count of_family is_part none some =
-    part_counted s part n IPv6 (counted count) of_family is_part (ipv6_counted part count none some)
+-- a set within a block is its part
+pub own_part : (s : IpSet) (n : Network) → ((x : Address) → IsMember s x → InBlock n x) → (x : Address)
+    → IsMember s x ↔ IsInPart (IsMember s) n x
+own_part s n within x = (λ m. record { in_block = within x m; in_set = m }, λ i. i.in_set)
 
 -- the parts of two sets with the same addresses have the same count
 pub same_part_count : (A B : Address → Type 0) (n : Network) (count : ℕ) → ((x : Address) → A x ↔ B x)

@@ -47,6 +47,9 @@ pub fn frame_in(alloc: Global, set: &IpSet, network: &IpNet) -> Result<Option<Ip
         IsSmallestAround (IsInPart (IsMember set.now) (ip_network network.now)) (ip_network frame))) }
     ensures none { IfOk result (λ found. IsNone found ↔ HasNone (IsMember set.now) (ip_network network.now)) }
 {
+    if set.is_within(network) {
+        return Ok(smallest_around(set, network));
+    }
     let part = set.within(alloc, network)?;
     Ok(smallest_around(&part, network))
 }

@@ -6,7 +6,7 @@ ghost use Rattle.ipnet_base.specs.Network.{host_bits};
 ghost use Rattle.ipnet.specs.NetworkOf.{ip_network};
 ghost use Rattle.ipnet.specs.NetworkParts.{AreSubnetsOfLength};
 ghost use Rattle.ipnet.specs.SubnetsLeft.{ip_subnets_left};
-ghost use Rattle.ipnet_sets.specs.Members.{IsMember, IsCountOf};
+ghost use Rattle.ipnet_sets.specs.Members.{IsMember, IsMemberOf, IsCountOf};
 ghost use Rattle.ipnet_sets.specs.Parts.{IsInPart};
 ghost use Rattle.ipnet_pictures.specs.Parts.{HasNone, HasAll, IsLevelOf, AreLevelsOf, block_size, counted};
 ghost use Rattle.ipnet_pictures.specs.declared.share.Level.TheVariants.{Nothing, Whole};
@@ -15,6 +15,16 @@ use crate::share::{Level, level_of};
 use ipnet::{IpNet, IpSubnets};
 use ipnet_sets::IpSet;
 use std::alloc::{AllocError, Global};
+
+/// The number of addresses of the set that are of the network's family, or `None` if they are all 2^128 of IPv6.
+fn count_of_family(set: &IpSet, network: &IpNet) -> Option<u128>
+    ensures { IsCountOf (IsMemberOf (ip_network network.now).family set.now) (counted result) }
+{
+    match network {
+        IpNet::V4(_) => Some(u128::from(set.ipv4_count())),
+        IpNet::V6(_) => set.ipv6_count(),
+    }
+}
 
 /// Returns the number of addresses of the set that are in the network's block, or `None` if they are all 2^128
 /// addresses of IPv6. Fails only if memory runs out.
@@ -27,11 +37,11 @@ pub fn count_in(alloc: Global, set: &IpSet, network: &IpNet) -> Result<Option<u1
         IsCountOf (IsInPart (IsMember set.now) (ip_network network.now)) (counted count)) }
     ensures part { IfOk result (λ count. counted count ≤ block_size (ip_network network.now)) }
 {
-    let part = set.within(alloc, network)?;
-    match network {
-        IpNet::V4(_) => Ok(Some(u128::from(part.ipv4_count()))),
-        IpNet::V6(_) => Ok(part.ipv6_count()),
+    if set.is_within(network) {
+        return Ok(count_of_family(set, network));
     }
+    let part = set.within(alloc, network)?;
+    Ok(count_of_family(&part, network))
 }
 
 /// Returns the number of host bits of the network: 0 to 128.
@@ -117,11 +127,7 @@ pub fn levels_in(
 /// ```text
 /// of 10.0.0.5/28, 30: 10.0.0.0/30, 10.0.0.4/30, 10.0.0.8/30, 10.0.0.12/30
 /// ```
-pub fn subnets_of(
-    alloc: Global,
-    network: &IpNet,
-    prefix_len: u8,
-) -> Result<Vec<IpNet>, AllocError>
+pub fn subnets_of(alloc: Global, network: &IpNet, prefix_len: u8) -> Result<Vec<IpNet>, AllocError>
     requires long { (ip_network network.now).prefix_len ≤ prefix_len }
     requires fits { prefix_len ≤ width (ip_network network.now).family }
     ensures { IfOk result (λ list.

@@ -5,12 +5,13 @@ use Rattle.std.proofs.Common.{refl, sym, ap, ◌∙◌, subst, arith, inl, inr, 
 use Rattle.std.proofs.lemmas.Bool.{cases_lt, ne_eqb}
 use Rattle.std.proofs.lemmas.List.{get_or-take, get_or-drop, length-take-le, length-drop, length_push, drop-map, take-map}
 use Rattle.std.proofs.lemmas.List.Elements.{All-push, All-weaker}
-use Rattle.ipnet_base.specs.Address.{Family, IPv4, IPv6, Address, width, greatest_number}
-use Rattle.ipnet_base.specs.Network.{Network, IsNetwork, IsLeastOf, IsGreatestOf}
+use Rattle.ipnet_base.specs.Address.{Family, IPv4, IPv6, Address, width, greatest_number, family_index}
+use Rattle.ipnet_base.specs.Network.{Network, IsNetwork, IsLeastOf, IsGreatestOf, InBlock}
+use Rattle.ipnet_base.proofs.BlockLaws.{between_from_block, block_from_between}
 use Rattle.ipnet_base.proofs.FamilyLaws.{cases_family}
 use Rattle.ipnet_sets.specs.declared.set.IpSet.{IpSet}
 use Rattle.ipnet_sets.specs.Boundaries.{is_inside, by_family, AreBoundaries, IsSplitAt}
-use Rattle.ipnet_sets.specs.Members.{boundaries_of, is_member, IsMember, HasOneMoreRange}
+use Rattle.ipnet_sets.specs.Members.{boundaries_of, is_member, IsMember, HasOneMoreRange, IsAtMost, IsFirstOf, IsLastOf}
 use Rattle.ipnet_sets.specs.Parts.{IsInPart, IsPartBetween}
 use Rattle.ipnet_sets.proofs.InsideLaws.{AreAscending, is_odd, odd_more, not_twice, ascending_push}
 use Rattle.ipnet_sets.proofs.InsideLaws.{inside_front, inside_before, inside_from, inside_push_before}
@@ -316,3 +317,22 @@ within_ranges s part f slice items first last of_s between of_part none = one_mo
           (omega (arith, between.no_more, ap length of_s, ap length of_part))
       | inr other ↦ let empty = ap length (none g other) in omega (arith, empty)
     ])
+
+-- a set is within a block if its first and its last address are
+pub between_ends : (InSet : Address → Type 0) (n : Network) (first last : Address) → IsFirstOf InSet first
+    → IsLastOf InSet last → InBlock n first → InBlock n last → (x : Address) → InSet x → InBlock n x
+between_ends InSet n first last is_first is_last at_first at_last x member =
+    go (is_first.first x member) (is_last.last x member)
+  where
+    same : first.family ≡ last.family
+    same = at_first.same_family ∙ sym at_last.same_family
+
+    go : IsAtMost first x → IsAtMost x last → InBlock n x
+    go (inl before) (inl after) = absurd (omega (arith, before, after, ap family_index same))
+    go (inl before) (inr (e, le)) = absurd (omega (arith, before, ap family_index same, ap family_index e))
+    go (inr (e, le)) (inl after) = absurd (omega (arith, after, ap family_index same, ap family_index e))
+    go (inr (e, le)) (inr (g, lf)) = block_from_between n x (record {
+      of_family = sym e ∙ at_first.same_family;
+      from_start = omega (arith, le, (between_from_block n first at_first).from_start);
+      to_end = omega (arith, lf, (between_from_block n last at_last).to_end);
+    })

@@ -1,6 +1,7 @@
 //! The addresses of a set that are in a network.
-ghost use Rattle.std.specs.Prelude.{◌↔◌, IfOk};
+ghost use Rattle.std.specs.Prelude.{◌↔◌, IsTrue, IfOk};
 ghost use Rattle.ipnet_base.specs.Address.{Address};
+ghost use Rattle.ipnet_base.specs.Network.{InBlock};
 ghost use Rattle.ipnet.specs.NetworkOf.{ip_network};
 ghost use Rattle.ipnet_sets.specs.Parts.{IsInPart};
 
@@ -40,6 +41,20 @@ impl IpSet {
                 let ipv4 = Vec::new(alloc);
                 Ok(IpSet { ipv4, ipv6 })
             }
+        }
+    }
+    /// Returns whether all addresses of the set are in the network's block. Allocates nothing; the time does not depend
+    /// on the set.
+    ///
+    /// ```text
+    /// 10.0.0.8-10.0.0.9 is within 10.0.0.8/29, and not within 10.0.0.8/32; the empty set is within each network
+    /// ```
+    pub fn is_within(&self, network: &IpNet) -> bool
+        ensures { IsTrue result ↔ ((x : Address) → IsMember self.now x → InBlock (ip_network network.now) x) }
+    {
+        match (self.first(), self.last()) {
+            (Some(first), Some(last)) => network.contains(&first) && network.contains(&last),
+            _ => true,
         }
     }
 }
