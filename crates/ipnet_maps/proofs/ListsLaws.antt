@@ -30,10 +30,10 @@ use Rattle.ipnet_maps.proofs.SharedClassLaws.{HaveSameIn, any_moved, shared_clas
 use Rattle.ipnet_maps.proofs.SharedClassLaws.{classes_of_sets}
 
 pub classes_of_lists : (lists : Lists) → AreClasses (IsListed lists) (HasClass lists) (classes_of lists)
-classes_of_lists (lists.One set) = classes_of_levels (IsMember set) (member_or_not set)
+classes_of_lists (lists.One set) = classes_of_levels (IsMember set.now) (member_or_not set.now)
 classes_of_lists (lists.Change before after) =
-    classes_of_change (IsMember before) (IsMember after) (member_or_not before) (member_or_not after)
-classes_of_lists (lists.Several sets) = classes_of_sets sets.items
+    classes_of_change (IsMember before.now) (IsMember after.now) (member_or_not before.now) (member_or_not after.now)
+classes_of_lists (lists.Several sets) = classes_of_sets sets.now
 
 -- ---- fewer bits
 

@@ -16,21 +16,21 @@ use Rattle.ipnet_maps.specs.Drawings.{IsDepthOf, IsRectangleCount, AreLayersOf}
 
 -- The address is in one of the sets.
 abbrev pub IsListed : Lists → Address → Type 0
-IsListed (One set) = IsMember set
-IsListed (Change before after) = IsInEither (IsMember before) (IsMember after)
-IsListed (Several sets) = λ x. Any (λ set. IsMember set x) sets.items
+IsListed (One set) = IsMember set.now
+IsListed (Change before after) = IsInEither (IsMember before.now) (IsMember after.now)
+IsListed (Several sets) = λ x. Any (λ set. IsMember set x) sets.now
 
 -- The cell has this class.
 abbrev pub HasClass : Lists → Class → Network → Type 0
-HasClass (One set) = HasLevelClass (IsMember set)
-HasClass (Change before after) = HasChangeClass (IsMember before) (IsMember after)
-HasClass (Several sets) = HasSharedClass sets.items
+HasClass (One set) = HasLevelClass (IsMember set.now)
+HasClass (Change before after) = HasChangeClass (IsMember before.now) (IsMember after.now)
+HasClass (Several sets) = HasSharedClass sets.now
 
 -- The classes that a cell can have, in the order of the layers.
 abbrev pub classes_of : Lists → List Class
 classes_of (One set) = level_classes
 classes_of (Change before after) = change_classes
-classes_of (Several sets) = shared_classes sets.items
+classes_of (Several sets) = shared_classes sets.now
 
 -- With more bits there are more rectangles than a map may have.
 abbrev pub IsTooDeepAfter : Lists → Network → ℕ → Type 0

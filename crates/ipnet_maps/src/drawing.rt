@@ -1,5 +1,5 @@
 //! A drawing of sets in a frame: the rectangles of each class of cells.
-ghost use Rattle.std.specs.Prelude.{Any, IfOk, IfSome, IfNone};
+ghost use Rattle.std.specs.Prelude.{◌↔◌, IsTrue, All, Any, IfOk, IfSome, IfNone};
 ghost use Rattle.std.specs.List.{AllZip};
 ghost use Rattle.ipnet_base.specs.Address.{Address};
 ghost use Rattle.ipnet_base.specs.Blocks.{IsInEither};
@@ -73,14 +73,14 @@ pub struct Drawing {
 }
 
 /// The sets that a map shows, without what is outside its frame.
-#[derive(Drop)]
-pub(crate) enum Lists {
+#[derive(Clone, Copy)]
+pub(crate) enum Lists<'a> {
     /// One set.
-    One(IpSet),
+    One(&'a IpSet),
     /// A set before and after a change.
-    Change(IpSet, IpSet),
+    Change(&'a IpSet, &'a IpSet),
     /// Several sets.
-    Several(Vec<IpSet>),
+    Several(&'a [IpSet]),
 }
 
 /// Returns the cells of each class of one set, in the order of the layers.
@@ -160,14 +160,18 @@ fn change_class_cells(
 }
 
 /// Returns the cells of each class, in the order of the layers.
-fn class_cells(alloc: Global, lists: &Lists, cell_len: u8) -> Result<Vec<ClassCells>, AllocError>
+fn class_cells(
+    alloc: Global,
+    lists: &Lists<'_>,
+    cell_len: u8,
+) -> Result<Vec<ClassCells>, AllocError>
     ensures { IfOk result (λ list.
         AllZip (IsClassCells (HasClass lists.now) cell_len) (classes_of lists.now) list.items) }
 {
     match lists {
         Lists::One(set) => level_class_cells(alloc, set, cell_len),
         Lists::Change(before, after) => change_class_cells(alloc, before, after, cell_len),
-        Lists::Several(sets) => shared_class_cells(alloc, sets.as_slice(), cell_len),
+        Lists::Several(sets) => shared_class_cells(alloc, sets, cell_len),
     }
 }
 
@@ -175,7 +179,7 @@ fn class_cells(alloc: Global, lists: &Lists, cell_len: u8) -> Result<Vec<ClassCe
 fn drawn_at(
     alloc: Global,
     frame: &IpNet,
-    lists: &Lists,
+    lists: &Lists<'_>,
     depth: u8,
 ) -> Result<Option<Drawing>, AllocError>
     requires depth { IsDepthOf (ip_network frame.now) depth }
@@ -192,7 +196,12 @@ fn drawn_at(
 }
 
 /// Returns the map that shows as many bits as it can, and at most this many.
-fn draw_to(alloc: Global, frame: &IpNet, lists: &Lists, depth: u8) -> Result<Drawing, AllocError>
+fn draw_to(
+    alloc: Global,
+    frame: &IpNet,
+    lists: &Lists<'_>,
+    depth: u8,
+) -> Result<Drawing, AllocError>
     requires depth { IsDepthOf (ip_network frame.now) depth }
     requires inside { (x : Address) → IsListed lists.now x → InBlock (ip_network frame.now) x }
     requires deeper { IsTooDeepAfter lists.now (ip_network frame.now) depth }
@@ -218,8 +227,12 @@ pub fn draw_set(alloc: Global, frame: &IpNet, set: &IpSet) -> Result<Drawing, Al
     ensures { IfOk result (IsDrawingOf (IsMember set.now) (HasLevelClass (IsMember set.now)) level_classes
         (ip_network frame.now)) }
 {
+    let depth = greatest_depth_of(frame);
+    if set.is_within(frame) {
+        return draw_to(alloc, frame, &Lists::One(set), depth);
+    }
     let part = set.within(alloc, frame)?;
-    draw_to(alloc, frame, &Lists::One(part), greatest_depth_of(frame))
+    draw_to(alloc, frame, &Lists::One(&part), depth)
 }
 
 /// Returns the map of the change of a set in the frame, if `before` becomes `after`: a layer each for the cells that
@@ -240,14 +253,13 @@ pub fn draw_change(
     ensures { IfOk result (IsDrawingOf (IsInEither (IsMember before.now) (IsMember after.now))
         (HasChangeClass (IsMember before.now) (IsMember after.now)) change_classes (ip_network frame.now)) }
 {
+    let depth = greatest_depth_of(frame);
+    if before.is_within(frame) && after.is_within(frame) {
+        return draw_to(alloc, frame, &Lists::Change(before, after), depth);
+    }
     let first = before.within(alloc, frame)?;
     let second = after.within(alloc, frame)?;
-    draw_to(
-        alloc,
-        frame,
-        &Lists::Change(first, second),
-        greatest_depth_of(frame),
-    )
+    draw_to(alloc, frame, &Lists::Change(&first, &second), depth)
 }
 
 /// Returns the parts of the sets that are in the frame, in order.
@@ -260,6 +272,13 @@ fn parts_in(alloc: Global, frame: &IpNet, sets: &[IpSet]) -> Result<Vec<IpSet>, 
         parts.push(part)?;
     }
     Ok(parts)
+}
+
+/// Returns whether all addresses of the sets are in the frame.
+fn are_within(sets: &[IpSet], frame: &IpNet) -> bool
+    ensures { IsTrue result ↔ All (λ set. (x : Address) → IsMember set x → InBlock (ip_network frame.now) x) sets.now }
+{
+    sets.iter().all(|set| set.is_within(frame))
 }
 
 /// Returns the map of several sets in the frame: a layer for the cells in which two sets share an address, one for the
@@ -277,11 +296,10 @@ pub fn draw_sets(alloc: Global, frame: &IpNet, sets: &[IpSet]) -> Result<Drawing
     ensures { IfOk result (IsDrawingOf (λ x. Any (λ set. IsMember set x) sets.now) (HasSharedClass sets.now)
         (shared_classes sets.now) (ip_network frame.now)) }
 {
+    let depth = greatest_depth_of(frame);
+    if are_within(sets, frame) {
+        return draw_to(alloc, frame, &Lists::Several(sets), depth);
+    }
     let parts = parts_in(alloc, frame, sets)?;
-    draw_to(
-        alloc,
-        frame,
-        &Lists::Several(parts),
-        greatest_depth_of(frame),
-    )
+    draw_to(alloc, frame, &Lists::Several(parts.as_slice()), depth)
 }

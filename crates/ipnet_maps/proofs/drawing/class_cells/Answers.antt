@@ -1,6 +1,5 @@
 use Rattle.std.proofs.Common.{IfOk, sym, subst}
 use Rattle.std.specs.List.{AllZip}
-use Rattle.ipnet_maps.specs.Classes.{HasSharedClass, shared_classes}
 use Rattle.ipnet_maps.specs.Layers.{IsClassCells}
 use Rattle.ipnet_maps.specs.Lists.{HasClass, classes_of}
 use Rattle.ipnet_maps.proofs.drawing.class_cells.Goals as goal
@@ -21,6 +20,4 @@ pub returns-in-Several : goal.returns-in-Several
 returns-in-Several c =
     subst (λ z. IfOk c.shared_class_cells.result
     (λ list. AllZip (IsClassCells (HasClass z) c.args.cell_len) (classes_of z) list.items)) (sym c.in-Several.is)
-    (subst (λ s. IfOk c.shared_class_cells.result
-    (λ list. AllZip (IsClassCells (HasSharedClass s) c.args.cell_len) (shared_classes s) list.items))
-    c.as_slice.ensures.value c.shared_class_cells.ensures)
+    c.shared_class_cells.ensures

@@ -14,9 +14,9 @@ returns c =
     let second = c.in_ok-second.second in
     let before = c.args.before.now in
     let after = c.args.after.now in
-    IfOk-weaker c.draw_to.result (IsDrawingOf (IsInEither (IsMember first) (IsMember second))
+    IfOk-weaker c.draw_to-2.result (IsDrawingOf (IsInEither (IsMember first) (IsMember second))
     (HasChangeClass (IsMember first) (IsMember second)) change_classes frame)
     (IsDrawingOf (IsInEither (IsMember before) (IsMember after)) (HasChangeClass (IsMember before) (IsMember after))
     change_classes frame)
     (λ d h. change_drawing before after first second frame c.in_ok-first.ensures.members c.in_ok-second.ensures.members d h)
-    c.draw_to.ensures
+    c.draw_to-2.ensures

@@ -11,6 +11,6 @@ returns c =
     let frame = ip_network c.args.frame.now in
     let part = c.in_ok-part.part in
     let set = c.args.set.now in
-    IfOk-weaker c.draw_to.result (IsDrawingOf (IsMember part) (HasLevelClass (IsMember part)) level_classes frame)
+    IfOk-weaker c.draw_to-2.result (IsDrawingOf (IsMember part) (HasLevelClass (IsMember part)) level_classes frame)
     (IsDrawingOf (IsMember set) (HasLevelClass (IsMember set)) level_classes frame)
-    (λ d h. set_drawing set part frame c.in_ok-part.ensures.members d h) c.draw_to.ensures
+    (λ d h. set_drawing set part frame c.in_ok-part.ensures.members d h) c.draw_to-2.ensures
