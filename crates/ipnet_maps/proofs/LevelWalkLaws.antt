@@ -46,7 +46,7 @@ network_within n cell z le near inside =
     nested n cell z near inside (omega (arith, w, le))
 
 -- what lies between two addresses of a block is in the block
-between_block : (n : Network) (x y z : Address) → InBlock n x → InBlock n z → IsAddressBefore x y
+pub between_block : (n : Network) (x y z : Address) → InBlock n x → InBlock n z → IsAddressBefore x y
     → IsAddressBefore y z → InBlock n y
 between_block n x y z in_x in_z before after =
     let p = between_from_block n x in_x in
@@ -68,7 +68,7 @@ between_block n x y z in_x in_z before after =
       ]
     ]
 
-not_before : (x : Address) → IsAddressBefore x x → ⊥
+pub not_before : (x : Address) → IsAddressBefore x x → ⊥
 not_before x (inl lt) = omega (arith, lt)
 not_before x (inr b) = omega (arith, b.1)
 
@@ -78,7 +78,7 @@ not_before x (inr b) = omega (arith, b.1)
 abbrev pub IsBlockBefore : Network → Network → Type 0
 IsBlockBefore n k = (x y : Address) → InBlock n x → InBlock k y → IsAddressBefore x y
 
-block_before : (InSet : Address → Type 0) (n k : Network) → IsMaximal InSet 0 n → IsMaximal InSet 0 k → IsBefore n k
+pub block_before : (InSet : Address → Type 0) (n k : Network) → IsMaximal InSet 0 n → IsMaximal InSet 0 k → IsBefore n k
     → IsBlockBefore n k
 block_before InSet n k p q before x y a b =
     elim (lies_before_from_maximal InSet 0 n k p q before) [

@@ -13,6 +13,7 @@ pub mod LevelLaws
 pub mod LevelWalkLaws
 pub mod LevelOrderLaws
 pub mod DrawingLaws
+pub mod RunLaws
 pub mod ClassLaws
 pub mod ChangeClassLaws
 pub mod LayerLaws

@@ -10,4 +10,5 @@ pub mod LevelSteps
 pub mod Classes
 pub mod Drawings
 pub mod Layers
+pub mod Runs
 pub mod Lists

@@ -17,7 +17,7 @@ use ipnet_sets::IpSet;
 use std::alloc::{AllocError, Global};
 
 /// A map has at most this many rectangles.
-const MOST_RECTANGLES: u32 = 65_536;
+pub(crate) const MOST_RECTANGLES: u32 = 65_536;
 
 /// The cells of one class.
 #[derive(Drop)]

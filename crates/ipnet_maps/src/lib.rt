@@ -11,7 +11,8 @@ pub mod layout;
 pub mod levels;
 pub mod path;
 pub mod places;
-pub(crate) mod several;
+pub(crate) mod runs;
+mod several;
 pub mod shared;
 
 pub use cells::{cells_with_all, cells_with_some};

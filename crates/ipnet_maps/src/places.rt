@@ -1,7 +1,7 @@
 //! The rectangle of a network in the map of a frame.
 ghost use Rattle.std.specs.Prelude.{◌≡◌, ◌+◌, ◌-◌, ◌<◌, ◌≤◌, ◌^◌, ◌↔◌, map, All, Any, IfOk};
 ghost use Rattle.std.specs.List.{AllZip};
-ghost use Rattle.ipnet_base.specs.Address.{Address, width};
+ghost use Rattle.ipnet_base.specs.Address.{Address, width, ip_address};
 ghost use Rattle.ipnet_base.specs.Network.{InBlock, IsSubnetOf};
 ghost use Rattle.ipnet.specs.NetworkOf.{ip_network};
 ghost use Rattle.ipnet.specs.NetworkParts.{network_at};
@@ -13,11 +13,11 @@ use ipnet::{IpAddr, IpNet};
 use ipnet_sets::IpSet;
 use std::alloc::{AllocError, Global};
 
-/// The network's address as a number.
-fn number_of(network: &IpNet) -> u128
-    ensures { result ≡ (ip_network network.now).number }
+/// The address as a number.
+pub(crate) fn number_of(address: IpAddr) -> u128
+    ensures { result ≡ (ip_address address).number }
 {
-    match network.addr() {
+    match address {
         IpAddr::V4(address) => u128::from(address.to_bits()),
         IpAddr::V6(address) => address.to_bits(),
     }
@@ -35,7 +35,7 @@ fn number_inside(frame: &IpNet, network: &IpNet) -> u32
     if host_bits == 128 {
         return 0;
     }
-    let prefix = number_of(network) >> host_bits;
+    let prefix = number_of(network.addr()) >> host_bits;
     (prefix % (1u128 << bits)) as u32
 }
 

@@ -3,7 +3,8 @@ use Rattle.std.proofs.Common.{◌≡◌, ℕ, zero, suc, ◌+◌, ◌-◌, ◌^�
 use Rattle.std.proofs.Common.{List, [], ◌∷◌, ◌++◌, length, take, drop, get_or, map, All}
 use Rattle.std.proofs.Common.{refl, sym, ap, ◌∙◌, subst, arith, inl, inr, le-leb, eq-eqb}
 use Rattle.std.proofs.lemmas.Bool.{cases_lt, ne_eqb}
-use Rattle.std.proofs.lemmas.List.{get_or-take, get_or-drop, length-take-le, length-drop, length_push, drop-map, take-map}
+use Rattle.std.proofs.lemmas.List.{get_or-take, get_or-drop, length-take-le, length-drop, length_push}
+use Rattle.std.proofs.lemmas.List.{drop-map, take-map}
 use Rattle.std.proofs.lemmas.List.Elements.{All-push, All-weaker}
 use Rattle.ipnet_base.specs.Address.{Family, IPv4, IPv6, Address, width, greatest_number, family_index}
 use Rattle.ipnet_base.specs.Network.{Network, IsNetwork, IsLeastOf, IsGreatestOf, InBlock}
@@ -111,18 +112,20 @@ pub record IsBegun (ts : List ℕ) (first last after : ℕ) (front : List ℕ) :
   pub size : length front ≤ length ts + 1
   pub members : (x : ℕ) → first ≤ x → x ≤ last → is_inside front x ≡ is_inside ts x
 
-pub begun_outside : (ts : List ℕ) (first last before after : ℕ) (front : List ℕ) → AreAscending ts
+begun_outside : (ts : List ℕ) (first last before after : ℕ) (front : List ℕ) → AreAscending ts
     → IsSplitAt ts first before → IsSplitAt ts last after → first ≤ last → (before % 2 ≡ 1 → ⊥)
     → front ≡ drop before (take after ts) → IsBegun ts first last after front
 begun_outside ts first last before after front asc h k le even e = subst (IsBegun ts first last after) (sym e) (
     let b = between_places ts first last before after asc h k le in
     record {
       ascending = b.ascending;
-      from = All-weaker (λ t. first < t) (λ t. first ≤ t) (λ t l. omega (arith, l)) (drop before (take after ts)) b.above;
+      from = All-weaker (λ t. first < t) (λ t. first ≤ t) (λ t l. omega (arith, l))
+          (drop before (take after ts)) b.above;
       up_to = b.up_to;
       parity = omega (arith, b.size, b.ordered, before_even);
       size = omega (arith, b.size, b.within);
-      members = λ x from to. sym (b.members x from to ∙ ap (λ odd. turned odd (is_inside (drop before (take after ts)) x))
+      members = λ x from to. sym (b.members x from to
+          ∙ ap (λ odd. turned odd (is_inside (drop before (take after ts)) x))
           (ne_eqb (before % 2) 1 even));
     }
     )
@@ -143,7 +146,7 @@ all_cons : (P : ℕ → Type 0) (t : ℕ) (ts : List ℕ) → P t → All P ts �
 all_cons P t ts p h zero d l = p
 all_cons P t ts p h (suc k) d l = h k d (omega (arith, l))
 
-pub begun_inside : (ts : List ℕ) (first last before after : ℕ) (front : List ℕ) → AreAscending ts
+begun_inside : (ts : List ℕ) (first last before after : ℕ) (front : List ℕ) → AreAscending ts
     → IsSplitAt ts first before → IsSplitAt ts last after → first ≤ last → before % 2 ≡ 1
     → front ≡ first ∷ drop before (take after ts) → IsBegun ts first last after front
 begun_inside ts first last before after front asc h k le odd e = subst (IsBegun ts first last after) (sym e) (
@@ -168,17 +171,18 @@ pub begun_words : {X : Type 0} (number : X → ℕ) (words part : List X) (word 
     → (before % 2 ≡ 1 → part ≡ word ∷ drop before (take after words))
     → ((before % 2 ≡ 1 → ⊥) → part ≡ drop before (take after words))
     → IsBegun (map number words) first last after (map number part)
-begun_words number words part word first last before after asc h k le e inside outside = elim (cases_lt (before % 2) 1) [
-  | inl lt ↦
-      let even : before % 2 ≡ 1 → ⊥ = λ o. omega (arith, o, lt) in
-      begun_outside (map number words) first last before after (map number part) asc h k le even
-      (ap (map number) (outside even) ∙ middle)
-  | inr ge ↦
-      let odd : before % 2 ≡ 1 = omega (arith, ge) in
-      begun_inside (map number words) first last before after (map number part) asc h k le odd
-      (ap (map number) (inside odd) ∙ ap (λ z. z ∷ map number (drop before (take after words))) e
-      ∙ ap (λ zs. first ∷ zs) middle)
-]
+begun_words number words part word first last before after asc h k le e inside outside =
+    elim (cases_lt (before % 2) 1) [
+      | inl lt ↦
+          let even : before % 2 ≡ 1 → ⊥ = λ o. omega (arith, o, lt) in
+          begun_outside (map number words) first last before after (map number part) asc h k le even
+          (ap (map number) (outside even) ∙ middle)
+      | inr ge ↦
+          let odd : before % 2 ≡ 1 = omega (arith, ge) in
+          begun_inside (map number words) first last before after (map number part) asc h k le odd
+          (ap (map number) (inside odd) ∙ ap (λ z. z ∷ map number (drop before (take after words))) e
+          ∙ ap (λ zs. first ∷ zs) middle)
+    ]
   where
     middle : map number (drop before (take after words)) ≡ drop before (take after (map number words))
     middle = sym (drop-map number before (take after words)) ∙ ap (drop before) (sym (take-map number after words))
@@ -292,8 +296,11 @@ within_block s part n low high slice items first last valid least greatest e g o
             record {
               fits = i.in_set.fits;
               inside = sym (in_family part items of_part same)
-                  ∙ (members (fits_to n.family x.number (subst (λ f. x.number < 2 ^ width f) same i.in_set.fits))).1
-                  (in_family s slice of_s same ∙ i.in_set.inside, omega (arith, e, to.from_start), omega (arith, g, to.to_end));
+                  ∙ (members (fits_to n.family x.number (subst (λ f. x.number < 2 ^ width f) same i.in_set.fits))).1 (
+                    in_family s slice of_s same ∙ i.in_set.inside,
+                    omega (arith, e, to.from_start),
+                    omega (arith, g, to.to_end),
+                  );
             },
       )
     ]

@@ -18,5 +18,6 @@ returns c =
     (HasChangeClass (IsMember first) (IsMember second)) change_classes frame)
     (IsDrawingOf (IsInEither (IsMember before) (IsMember after)) (HasChangeClass (IsMember before) (IsMember after))
     change_classes frame)
-    (λ d h. change_drawing before after first second frame c.in_ok-first.ensures.members c.in_ok-second.ensures.members d h)
+    (λ d h. change_drawing before after first second frame c.in_ok-first.ensures.members
+    c.in_ok-second.ensures.members d h)
     c.draw_to-2.ensures
