@@ -1,5 +1,5 @@
 -- The classes of the cells of a map.
-use Rattle.std.proofs.Common.{◌≡◌, ◌≢◌, ℕ, ◌-◌, ◌*◌, ◌^◌, ◌≤◌, ◌⊎◌, ◌↔◌, inl, inr}
+use Rattle.std.proofs.Common.{◌≡◌, ◌≢◌, ℕ, ◌-◌, ◌*◌, ◌^◌, ◌<◌, ◌≤◌, ◌⊎◌, ◌↔◌, inl, inr}
 use Rattle.std.proofs.Common.{List, [], ◌∷◌, length, AllPairs, All, Contains}
 use Rattle.std.proofs.Common.{refl, sym, ap, ap₂, ◌∙◌, subst, arith}
 use Rattle.std.proofs.lemmas.Bool.{cases_lt, cases_eq}
@@ -10,6 +10,7 @@ use Rattle.ipnet_base.proofs.DecidedLaws.{IsDecided}
 use Rattle.ipnet_base.proofs.ListLaws.{all_at, contains_nil, contains_here, contains_there, contains_cases}
 use Rattle.ipnet_base.proofs.ListLaws.{pairs_head, pairs_tail, pairs_cons}
 use Rattle.ipnet_sets.specs.Members.{IsCountOf}
+use Rattle.ipnet_sets.proofs.CountSums.{one_count}
 use Rattle.ipnet_pictures.specs.declared.share.Level.{Level}
 use Rattle.ipnet_pictures.specs.declared.share.Level.TheVariants as level
 use Rattle.ipnet_sets.specs.Parts.{IsInPart}
@@ -205,6 +206,45 @@ classes_of_levels InSet decided = record {
       subst (λ z. HasLevelClass InSet z k) x.2
       (class_of_level InSet k x.0 x.1 (level_of_same InSet n k x.0 same x.3));
 }
+
+-- it can be decided whether a cell has a class
+both_decided : {P Q : Type 0} → P ⊎ (P → ⊥) → Q ⊎ (Q → ⊥) → (P × Q) ⊎ ((P × Q) → ⊥)
+both_decided (inl p) (inl q) = inl (p, q)
+both_decided (inl p) (inr out) = inr (λ b. out b.1)
+both_decided (inr out) q = inr (λ b. out b.0)
+
+less_decided : (m n : ℕ) → (m < n) ⊎ (m < n → ⊥)
+less_decided m n = elim (cases_lt m n) [ inl lt ↦ inl lt | inr ge ↦ inr (λ lt. omega (arith, lt, ge)) ]
+
+most_decided : (m n : ℕ) → (m ≤ n) ⊎ (m ≤ n → ⊥)
+most_decided m n = elim (cases_lt n m) [ inl gt ↦ inr (λ le. omega (arith, gt, le)) | inr le ↦ inl le ]
+
+share_decided : (l : Level) (count size : ℕ) → IsShare l count size ⊎ (IsShare l count size → ⊥)
+share_decided level.Nothing count size = cases_eq count 0
+share_decided level.BelowThird count size = both_decided (less_decided 0 count) (less_decided (count * 3) size)
+share_decided level.FromThird count size =
+    both_decided (most_decided size (count * 3)) (less_decided (count * 3) (size * 2))
+share_decided level.FromTwoThirds count size =
+    both_decided (most_decided (size * 2) (count * 3)) (less_decided count size)
+share_decided level.Whole count size = cases_eq count size
+
+level_decided : (InSet : Address → Type 0) → IsDecided InSet → (n : Network) (l : Level)
+    → IsLevelOf InSet n l ⊎ (IsLevelOf InSet n l → ⊥)
+level_decided InSet decided n l =
+    let part = part_counted InSet decided n in
+    elim (share_decided l part.0 (block_size n)) [
+      | inl share ↦ inl (record { count = part.0; is_count = part.1; share = share })
+      | inr out ↦ inr (λ h. out (subst (λ z. IsShare l z (block_size n))
+          (one_count (IsInPart InSet n) h.count part.0 h.is_count part.1) h.share))
+    ]
+
+pub level_class_decided : (InSet : Address → Type 0) → IsDecided InSet → (q : Class) (n : Network)
+    → HasLevelClass InSet q n ⊎ (HasLevelClass InSet q n → ⊥)
+level_class_decided InSet decided BelowThird n = level_decided InSet decided n level.BelowThird
+level_class_decided InSet decided FromThird n = level_decided InSet decided n level.FromThird
+level_class_decided InSet decided FromTwoThirds n = level_decided InSet decided n level.FromTwoThirds
+level_class_decided InSet decided Whole n = level_decided InSet decided n level.Whole
+level_class_decided InSet decided q n = inr (λ h. h)
 
 -- the class of a cell depends only on the part of the set in it
 pub level_class_of_part : (A B : Address → Type 0) (q : Class) (n : Network)

@@ -1,5 +1,5 @@
 -- The sets that a map shows: their classes, and how many bits of them a map can show.
-use Rattle.std.proofs.Common.{◌≡◌, ℕ, ◌-◌, ◌<◌, ◌⊎◌, ◌↔◌, inl, inr, ap, subst, sym, arith}
+use Rattle.std.proofs.Common.{◌≡◌, ℕ, ◌+◌, ◌-◌, ◌<◌, ◌⊎◌, ◌↔◌, inl, inr, ap, ◌∙◌, subst, sym, arith}
 use Rattle.std.proofs.Common.{List, [], ◌∷◌, Any}
 use Rattle.std.specs.List.{AllZip}
 use Rattle.std.proofs.lemmas.Slice.Zip.{AllZip-long}
@@ -21,11 +21,14 @@ use Rattle.ipnet_maps.specs.Classes.{HasLevelClass, level_classes, HasChangeClas
 use Rattle.ipnet_maps.specs.Classes.{HasSharedClass, single_classes, shared_classes}
 use Rattle.ipnet_maps.specs.Drawings.{IsDepthOf, IsRectangleCount, IsDrawingOf}
 use Rattle.ipnet_maps.specs.Lists.{IsPartOf, IsListed, HasClass, classes_of, IsTooDeepAfter, IsTooDeep, IsDrawnAt}
+use Rattle.ipnet_maps.specs.Lists.{AreDivided}
+use Rattle.ipnet_maps.specs.Runs.{HasManyRuns}
 use Rattle.ipnet_maps.proofs.ChangeClassLaws.{classes_of_change, change_class_of_part}
-use Rattle.ipnet_maps.proofs.ClassLaws.{classes_of_levels, level_class_of_part}
+use Rattle.ipnet_maps.proofs.ClassLaws.{classes_of_levels, level_class_of_part, level_class_decided}
 use Rattle.ipnet_maps.proofs.DrawingLaws.{AreClasses}
 use Rattle.ipnet_maps.proofs.DrawnPartLaws.{drawing_of_part}
 use Rattle.ipnet_maps.proofs.MemberLaws.{zip_weaker}
+use Rattle.ipnet_maps.proofs.RunLaws.{many_runs}
 use Rattle.ipnet_maps.proofs.SharedClassLaws.{HaveSameIn, any_moved, shared_class_moved, shared_class_turned}
 use Rattle.ipnet_maps.proofs.SharedClassLaws.{classes_of_sets}
 
@@ -36,6 +39,20 @@ classes_of_lists (lists.Change before after) =
 classes_of_lists (lists.Several sets) = classes_of_sets sets.now
 
 -- ---- fewer bits
+
+-- more parts than a map may have rectangles have more rectangles
+pub divided_too_deep : (lists : Lists) (frame : Network) (depth prefix_len len : ℕ) → prefix_len ≡ frame.prefix_len
+    → len ≡ prefix_len + depth → 16 < depth → ((x : Address) → IsListed lists x → InBlock frame x)
+    → AreDivided lists len → IsTooDeep lists frame depth
+divided_too_deep (lists.One set) frame depth prefix_len len p e more inside many = (
+  more,
+  many_runs (IsMember set.now) (HasLevelClass (IsMember set.now)) level_classes frame depth
+      (classes_of_levels (IsMember set.now) (member_or_not set.now)) inside (λ x m. m.fits)
+      (level_class_decided (IsMember set.now) (member_or_not set.now))
+      (subst (HasManyRuns (IsMember set.now)) (e ∙ ap (λ z. z + depth) p) many),
+)
+divided_too_deep (lists.Change before after) frame depth prefix_len len p e more inside many = absurd many
+divided_too_deep (lists.Several sets) frame depth prefix_len len p e more inside many = absurd many
 
 pub depth_less : (frame : Network) (depth : ℕ) → IsDepthOf frame depth → 16 < depth → IsDepthOf frame (depth - 2)
 depth_less frame depth h more = record {

@@ -1,28 +1,26 @@
 -- Runs of cells: each begins with a block of the set, and no rectangle has addresses of two of them.
-use Rattle.std.proofs.Common.{◌≡◌, ℕ, ◌+◌, ◌-◌, ◌*◌, ◌/◌, ◌^◌, ◌<◌, ◌≤◌, ◌⊎◌, ◌↔◌, inl, inr, Option, Some, None, IfSome}
-use Rattle.std.proofs.Common.{List, [], ◌∷◌, ◌++◌, length, Contains, All, AllPairs, Any}
+use Rattle.std.proofs.Common.{◌≡◌, ℕ, ◌+◌, ◌-◌, ◌*◌, ◌/◌, ◌^◌, ◌<◌, ◌≤◌, ◌⊎◌, inl, inr, Option, Some, None, IfSome}
+use Rattle.std.proofs.Common.{List, [], ◌∷◌, ◌++◌, length, Contains, AllPairs}
 use Rattle.std.proofs.Common.{refl, sym, ap, ◌∙◌, subst, arith, append_assoc, get_or, pow_pos}
 use Rattle.std.specs.List.{AllZip}
 use Rattle.std.proofs.Math.Nat.{div-lt_iff_lt-mul, div-mul-le_self, mul-div_cancel}
-use Rattle.std.proofs.lemmas.Bool.{cases_eq, cases_lt}
+use Rattle.std.proofs.lemmas.Bool.{cases_lt}
 use Rattle.std.proofs.lemmas.List.{length_push, length-append}
 use Rattle.std.proofs.lemmas.List.Elements.{All-push, Contains-append_left, Contains-append_right, Contains-append_cases}
 use Rattle.ipnet_base.specs.Address.{Family, IPv4, IPv6, Address, IsAddress, IsAddressBefore, family_index, width}
 use Rattle.ipnet_base.specs.Network.{Network, InBlock, IsLeastOf, IsGreatestOf, IsBefore}
-use Rattle.ipnet_base.specs.Blocks.{IsCoveredBy, AreMaximalBlocks}
+use Rattle.ipnet_base.specs.Blocks.{AreMaximalBlocks}
 use Rattle.ipnet_base.proofs.BlockLaws.{own, own_in}
 use Rattle.ipnet_base.proofs.CoverLaws.{cover_one}
 use Rattle.ipnet_base.proofs.DecidedLaws.{IsDecided, IsDecided-cover}
 use Rattle.ipnet_base.proofs.ExactCoverLaws.{IsExactCover-of_maximal}
-use Rattle.ipnet_base.proofs.ListLaws.{contains_nil, contains_here, contains_there, contains_cases, all_at}
+use Rattle.ipnet_base.proofs.ListLaws.{contains_nil, contains_here, contains_cases, all_at}
 use Rattle.ipnet_base.proofs.ListLaws.{pairs_head, pairs_tail, pairs_append, pairs_from_members, partners_no_more}
 use Rattle.ipnet.specs.NetworkOf.{ip_network}
 use Rattle.ipnet.specs.NetworkParts.{network_at}
 use Rattle.ipnet.specs.declared.net.IpNet.{IpNet}
 use Rattle.ipnet_pictures.specs.Parts.{HasSome, HasNone}
-use Rattle.ipnet_sets.specs.Parts.{IsInPart}
 use Rattle.ipnet_maps.specs.declared.drawing.Class.{Class}
-use Rattle.ipnet_maps.specs.Cells.{IsInCell}
 use Rattle.ipnet_maps.specs.Drawings.{IsShown, IsRectangleCount, total_of}
 use Rattle.ipnet_maps.specs.Runs.{IsCellBetween, IsCutOff, HasRuns, HasManyRuns}
 use Rattle.ipnet_maps.proofs.CellLaws.{cell_has}
@@ -47,17 +45,20 @@ below_by_prefix d a b some lt = elim (cases_lt a b) [
 pub cell_between : (n k : Network) (low high : Address) (len bits : ℕ) → n.family ≡ k.family → IsGreatestOf n low
     → IsLeastOf k high → bits ≡ width n.family - len → low.number / 2 ^ bits + 1 < high.number / 2 ^ bits
     → IsCellBetween len n k
-cell_between n k low high len bits same greatest least e lt = (z, λ w near.
-    let cell : w.number / 2 ^ bits ≡ low.number / 2 ^ bits + 1
-    = subst (λ b. w.number / 2 ^ b ≡ next * 2 ^ bits / 2 ^ b) (sym e) near.same_prefix
-    ∙ mul-div_cancel next {n = 2 ^ bits} (pow_pos bits) in
-    let after : low.number < w.number
-    = below_by_prefix (2 ^ bits) low.number w.number (pow_pos bits) (omega (arith, cell)) in
-    let before : w.number < high.number
-    = below_by_prefix (2 ^ bits) w.number high.number (pow_pos bits) (omega (arith, cell, lt)) in (
-      λ x inside. inr (inside.same_family ∙ sym near.same_family, omega (arith, after, greatest.greatest x inside)),
-      λ y inside. inr (near.same_family ∙ same ∙ sym inside.same_family, omega (arith, before, least.least y inside)),
-    ))
+cell_between n k low high len bits same greatest least e lt = (
+  z,
+  λ w near.
+      let cell : w.number / 2 ^ bits ≡ low.number / 2 ^ bits + 1
+      = subst (λ b. w.number / 2 ^ b ≡ next * 2 ^ bits / 2 ^ b) (sym e) near.same_prefix
+      ∙ mul-div_cancel next {n = 2 ^ bits} (pow_pos bits) in
+      let after : low.number < w.number
+      = below_by_prefix (2 ^ bits) low.number w.number (pow_pos bits) (omega (arith, cell)) in
+      let before : w.number < high.number
+      = below_by_prefix (2 ^ bits) w.number high.number (pow_pos bits) (omega (arith, cell, lt)) in (
+        λ x inside. inr (inside.same_family ∙ sym near.same_family, omega (arith, after, greatest.greatest x inside)),
+        λ y inside. inr (near.same_family ∙ same ∙ sym inside.same_family, omega (arith, before, least.least y inside)),
+      ),
+)
   where
     next : ℕ
     next = low.number / 2 ^ bits + 1

@@ -12,6 +12,7 @@ use Rattle.ipnet_maps.specs.declared.drawing.Lists.{Lists}
 use Rattle.ipnet_maps.specs.declared.drawing.Lists.TheVariants.{One, Change, Several}
 use Rattle.ipnet_maps.specs.Classes.{HasLevelClass, level_classes, HasChangeClass, change_classes}
 use Rattle.ipnet_maps.specs.Classes.{HasSharedClass, shared_classes}
+use Rattle.ipnet_maps.specs.Runs.{HasManyRuns}
 use Rattle.ipnet_maps.specs.Drawings.{IsDepthOf, IsRectangleCount, AreLayersOf}
 
 -- The address is in one of the sets.
@@ -31,6 +32,12 @@ abbrev pub classes_of : Lists → List Class
 classes_of (One set) = level_classes
 classes_of (Change before after) = change_classes
 classes_of (Several sets) = shared_classes sets.now
+
+-- Cells without an address divide the set of a map of one set into more parts than a map may have rectangles.
+abbrev pub AreDivided : Lists → ℕ → Type 0
+AreDivided (One set) len = HasManyRuns (IsMember set.now) len
+AreDivided (Change before after) len = ⊥
+AreDivided (Several sets) len = ⊥
 
 -- With more bits there are more rectangles than a map may have.
 abbrev pub IsTooDeepAfter : Lists → Network → ℕ → Type 0

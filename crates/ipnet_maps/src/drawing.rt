@@ -9,7 +9,7 @@ ghost use Rattle.ipnet_sets.specs.Members.{IsMember};
 ghost use Rattle.ipnet_maps.specs.Drawings.{IsDepthOf, IsDrawingOf};
 ghost use Rattle.ipnet_maps.specs.Layers.{IsClassCells};
 ghost use Rattle.ipnet_maps.specs.Lists.{IsPartOf, IsListed, HasClass, classes_of, IsDrawnAt, IsTooDeep};
-ghost use Rattle.ipnet_maps.specs.Lists.{IsTooDeepAfter};
+ghost use Rattle.ipnet_maps.specs.Lists.{IsTooDeepAfter, AreDivided};
 ghost use Rattle.ipnet_maps.specs.Classes.{HasLevelClass, level_classes, HasChangeClass, change_classes};
 ghost use Rattle.ipnet_maps.specs.Classes.{HasSharedClass, shared_classes};
 
@@ -18,6 +18,7 @@ use crate::depth::greatest_depth_of;
 use crate::layers::{ClassCells, are_few, layers_of};
 use crate::layout::Rectangle;
 use crate::levels::{LevelCells, level_cells};
+use crate::runs::has_many_runs;
 use crate::several::shared_class_cells;
 use ipnet::IpNet;
 use ipnet_sets::IpSet;
@@ -195,6 +196,36 @@ fn drawn_at(
     Ok(Some(Drawing { depth, layers }))
 }
 
+/// Whether empty cells divide the sets into more parts than a map may have rectangles. False if that is not known: if
+/// there is not one set.
+fn are_divided(lists: &Lists<'_>, cell_len: u8) -> bool
+    ensures { IsTrue result → AreDivided lists.now cell_len }
+{
+    match lists {
+        Lists::One(set) => has_many_runs(set, cell_len),
+        _ => false,
+    }
+}
+
+/// Returns the map that shows this many bits, or `None` if it would have more than 65,536 rectangles. Of many such maps
+/// it makes no lists of cells.
+fn drawn_if_few(
+    alloc: Global,
+    frame: &IpNet,
+    lists: &Lists<'_>,
+    depth: u8,
+) -> Result<Option<Drawing>, AllocError>
+    requires depth { IsDepthOf (ip_network frame.now) depth }
+    requires inside { (x : Address) → IsListed lists.now x → InBlock (ip_network frame.now) x }
+    ensures drawn { IfOk result (λ found. IfSome found (IsDrawnAt lists.now (ip_network frame.now) depth)) }
+    ensures many { IfOk result (λ found. IfNone found (IsTooDeep lists.now (ip_network frame.now) depth)) }
+{
+    if depth > 16 && are_divided(lists, frame.prefix_len() + depth) {
+        return Ok(None);
+    }
+    drawn_at(alloc, frame, lists, depth)
+}
+
 /// Returns the map that shows as many bits as it can, and at most this many.
 fn draw_to(
     alloc: Global,
@@ -208,7 +239,7 @@ fn draw_to(
     ensures { IfOk result (IsDrawingOf (IsListed lists.now) (HasClass lists.now) (classes_of lists.now)
         (ip_network frame.now)) }
 {
-    match drawn_at(alloc, frame, lists, depth)? {
+    match drawn_if_few(alloc, frame, lists, depth)? {
         Some(drawing) => Ok(drawing),
         None => draw_to(alloc, frame, lists, depth - 2),
     }
