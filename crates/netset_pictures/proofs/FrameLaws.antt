@@ -4,7 +4,7 @@ use Rattle.ipnet_base.specs.Address.{Address, IPv4, IPv6}
 use Rattle.ipnet_base.specs.Network.{Network}
 use Rattle.ipnet_pictures.specs.declared.frame.Frame.{Frame}
 use Rattle.ipnet_pictures.specs.declared.frame.Frame.TheVariants.{Named, Ipv6, FirstFamily}
-use Rattle.ipnet_pictures.specs.Frames.{IsFrame, IsFrameOf, HasNoFrame, all_of}
+use Rattle.ipnet_pictures.specs.Frames.{IsFrame, HasNoFrame, all_of}
 use Rattle.ipnet_pictures.specs.Parts.{IsInPart, HasNone}
 use Rattle.ipnet_sets.specs.Supernets.{IsSmallestAround}
 

@@ -1,4 +1,4 @@
-use Rattle.std.proofs.Common.{refl, subst, inr, map, string_bytes}
+use Rattle.std.proofs.Common.{subst, inr, map, string_bytes}
 use Rattle.std.specs.Io.{StartsWith}
 use Rattle.std.specs.Io.KnownBytes.{Appends}
 use Rattle.netset_pictures.specs.MapAnswers.{IsFramedSetsMap}
