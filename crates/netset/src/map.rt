@@ -20,7 +20,7 @@ const THEMES: &[&str] = &["auto", "light", "dark"];
 /// Adds the command `map`.
 pub fn with_map<'a>(alloc: Global, command: Command<'a>) -> Result<Command<'a>, AllocError> {
     let about =
-        "A network as a picture in SVG: what a list covers, what each of several does, or what changed between two";
+        "A network as a picture in SVG: what up to six lists cover, or what changed between two";
     let compare = "Show what changed between two lists; status 1 if they differ";
     let theme = Arg::new(alloc, THEME)
         .long(THEME)
