@@ -177,14 +177,19 @@ fn request_of(
     Ok(BarRequest { frame, form })
 }
 
-/// Reads the lists of these names, for a picture of their addresses or of what changed between two of them. If that
-/// fails, it is reported, and the error is the exit status.
-pub fn read_pictured(
+/// The names of the lists of a picture: standard input, if no list is named.
+pub fn names_of<'a>(matches: &'a ArgMatches<'a>) -> &'a [&'a str] {
+    matches.get_strs(FIRST).unwrap_or(&[STANDARD_INPUT])
+}
+
+/// Reads the lists, for a picture of their addresses or of what changed between two of them, and returns their names
+/// too. If that fails, it is reported, and the error is the exit status.
+pub fn read_pictured<'a>(
     rt: &HostRuntime,
-    matches: &ArgMatches,
-    names: &[&str],
+    matches: &'a ArgMatches<'a>,
     streams: &Streams<'_>,
-) -> Result<Session, u8> {
+) -> Result<(&'a [&'a str], Session), u8> {
+    let names = names_of(matches);
     if reads_input_twice(names) {
         return Err(refused(rt, ArgumentFailure::InputTwice));
     }
@@ -193,7 +198,8 @@ pub fn read_pictured(
     } else {
         netset_lib::Command::Union
     };
-    session_of(rt, command.work(flags_of(matches)), names, streams)
+    let session = session_of(rt, command.work(flags_of(matches)), names, streams)?;
+    Ok((names, session))
 }
 
 /// Reads the arguments and the lists, prints the bar, and returns the exit status.
@@ -202,9 +208,8 @@ pub fn drawn(rt: &HostRuntime, matches: &ArgMatches, streams: &mut Streams<'_>) 
         Ok(request) => request,
         Err(status) => return status,
     };
-    let names = matches.get_strs(FIRST).unwrap_or(&[STANDARD_INPUT]);
-    let session = match read_pictured(rt, matches, names, streams) {
-        Ok(session) => session,
+    let (names, session) = match read_pictured(rt, matches, streams) {
+        Ok(read) => read,
         Err(status) => return status,
     };
     let out = &mut streams.answer;

@@ -1,11 +1,12 @@
 //! The command `map`: its arguments, and its runs.
-use crate::arguments::{FIRST, STANDARD_INPUT, any_files, command_of, flag};
-use crate::bar::{COMPARE, frame_of, read_pictured, with_frame};
+use crate::arguments::{any_files, command_of, flag};
+use crate::bar::{COMPARE, frame_of, names_of, read_pictured, with_frame};
 use crate::output::Streams;
 use clap::{Arg, ArgMatches, Command};
-use netset_pictures::{MapRequest, read_theme, run_change_map, run_map};
+use netset_pictures::{MapRequest, read_theme, run_change_map, run_map, run_sets_map};
 use std::alloc::{AllocError, Global};
-use svg_maps::Theme;
+use std::io::Write;
+use svg_maps::{MOST_LISTS, Theme};
 
 /// The name of the command.
 pub const MAP: &str = "map";
@@ -18,7 +19,8 @@ const THEMES: &[&str] = &["auto", "light", "dark"];
 
 /// Adds the command `map`.
 pub fn with_map<'a>(alloc: Global, command: Command<'a>) -> Result<Command<'a>, AllocError> {
-    let about = "A network as a picture in SVG: what the lists cover, or what changed between two";
+    let about =
+        "A network as a picture in SVG: what up to six lists cover, or what changed between two";
     let compare = "Show what changed between two lists; status 1 if they differ";
     let theme = Arg::new(alloc, THEME)
         .long(THEME)
@@ -32,6 +34,18 @@ pub fn with_map<'a>(alloc: Global, command: Command<'a>) -> Result<Command<'a>, 
     command.subcommand(map)
 }
 
+/// Whether the lists are too many for one map. If so, it is reported.
+fn are_too_many(rt: &HostRuntime, matches: &ArgMatches) -> bool {
+    let are_many = !matches.get_flag(COMPARE) && names_of(matches).len() > MOST_LISTS;
+    if are_many {
+        let _ = writeln!(
+            rt.stderr(),
+            "netset: a map shows at most {MOST_LISTS} lists: unite some of them first"
+        );
+    }
+    are_many
+}
+
 /// Reads the arguments and the lists, prints the map, and returns the exit status.
 pub fn mapped(rt: &HostRuntime, matches: &ArgMatches, streams: &mut Streams<'_>) -> u8 {
     let frame = match frame_of(rt, matches) {
@@ -42,16 +56,20 @@ pub fn mapped(rt: &HostRuntime, matches: &ArgMatches, streams: &mut Streams<'_>)
     let theme = matches.get_str(THEME).and_then(read_theme);
     let theme = theme.unwrap_or(Theme::Auto);
     let request = MapRequest { frame, theme };
-    let names = matches.get_strs(FIRST).unwrap_or(&[STANDARD_INPUT]);
-    let session = match read_pictured(rt, matches, names, streams) {
-        Ok(session) => session,
+    if are_too_many(rt, matches) {
+        return 2;
+    }
+    let (names, session) = match read_pictured(rt, matches, streams) {
+        Ok(read) => read,
         Err(status) => return status,
     };
     let out = &mut streams.answer;
     let faults = &mut streams.faults;
     if matches.get_flag(COMPARE) {
         run_change_map(session, request, names, out, faults)
-    } else {
+    } else if names.len() == 1 {
         run_map(session, request, names, out, faults)
+    } else {
+        run_sets_map(session, request, names, out, faults)
     }
 }

@@ -26,6 +26,7 @@ pub mod Replies
 pub mod PlanAnswers
 pub mod Planning
 pub mod PairSets
+pub mod SetsOf
 pub mod Changes
 pub mod ChangeSteps
 pub mod Listings

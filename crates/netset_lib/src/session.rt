@@ -15,6 +15,7 @@ ghost use Rattle.netset_lib.specs.Sessions.{IsReplyOf};
 
 pub mod pair;
 pub mod result;
+pub mod sets;
 pub mod stream;
 
 use crate::answer::{Answer, Failure, Request, set_text};

@@ -5,13 +5,15 @@ use Rattle.ipnet.specs.declared.parser.Grammar.{Grammar}
 use Rattle.ipnet_pictures.specs.declared.frame.Frame.{Frame}
 use Rattle.ipnet_pictures.specs.Frames.{IsFrame}
 use Rattle.ipnet_sets.specs.declared.set.IpSet.{IpSet}
+use Rattle.ipnet_sets.specs.ManySets.{IsInSome}
 use Rattle.ipnet_sets.specs.Members.{IsMember, IsUnion}
 use Rattle.netset_lib.specs.declared.answer.Request.{Request}
 use Rattle.netset_lib.specs.PairSets.{ArePairSets}
 use Rattle.netset_lib.specs.PlanAnswers.{IsResultSet}
+use Rattle.netset_lib.specs.SetsOf.{AreSetsOf}
 use Rattle.svg_maps.specs.declared.style.Theme.{Theme}
 use Rattle.svg_maps.specs.declared.style.Theme.TheVariants.{Auto, Light, Dark}
-use Rattle.svg_maps.specs.Maps.{IsSetMap, IsChangeMap}
+use Rattle.svg_maps.specs.Maps.{IsSetMap, IsChangeMap, IsSetsMap}
 
 -- The colours of a map, as a word of a command line.
 abbrev pub theme_text : Theme → List ℕ
@@ -25,6 +27,13 @@ pub record IsFramedMap (set : IpSet) (frame : Frame) (text : List ℕ) : Type 0 
   pub network : Network
   pub is_frame : IsFrame frame (IsMember set) network
   pub shown : IsSetMap set network text
+
+-- The text is the map of the sets, which have these names, in the frame of all addresses that they have together.
+-- Example: the map of 10.0.0.0/28 for 10.0.0.0 to 10.0.0.3 and 10.0.0.8 to 10.0.0.9.
+pub record IsFramedSetsMap (sets : List IpSet) (names : List (List ℕ)) (frame : Frame) (text : List ℕ) : Type 0 where
+  pub network : Network
+  pub is_frame : IsFrame frame (IsInSome IsMember sets) network
+  pub shown : IsSetsMap sets names network text
 
 -- The text is the map of the change from one set to the other, in the frame of all addresses that they have together.
 -- Example: the map of 10.0.0.0/28 for 10.0.0.0 to 10.0.0.3 and 10.0.0.8 to 10.0.0.9.
@@ -40,6 +49,13 @@ pub record IsMapAnswer (request : Request) (lists : List (List ℕ)) (frame : Fr
   pub set : IpSet
   pub result : IsResultSet request lists set
   pub right : IsFramedMap set frame text
+
+-- No line of the lists is refused, and the text is the map of their addresses, each list by its name.
+pub record IsSetsMapAnswer (request : Request) (lists names : List (List ℕ)) (frame : Frame) (text : List ℕ)
+    : Type 0 where
+  pub sets : List IpSet
+  pub of_lists : AreSetsOf request.grammar lists sets
+  pub right : IsFramedSetsMap sets names frame text
 
 -- No line of the two lists is refused, and the text is the map of the change from the first list to the second.
 pub record IsChangeMapAnswer (grammar : Grammar) (lists : List (List ℕ)) (frame : Frame) (text : List ℕ) : Type 0 where

@@ -1,9 +1,10 @@
 //! Maps of lists: the network that a map shows, and its document.
-ghost use Rattle.std.specs.Prelude.{◌≡◌, ◌↔◌, Some, Err, IfOk, string_bytes};
+ghost use Rattle.std.specs.Prelude.{◌≡◌, ◌↔◌, Some, Err, IfOk, map, string_bytes};
 ghost use Rattle.ipnet_pictures.specs.Frames.{HasNoFrame};
+ghost use Rattle.ipnet_sets.specs.ManySets.{IsInSome};
 ghost use Rattle.ipnet_sets.specs.Members.{IsMember, IsUnion};
 ghost use Rattle.ipnet_sets.specs.declared.set.IpSet.{IpSet};
-ghost use Rattle.netset_pictures.specs.MapAnswers.{theme_text, IsFramedMap, IsFramedChangeMap};
+ghost use Rattle.netset_pictures.specs.MapAnswers.{theme_text, IsFramedMap, IsFramedSetsMap, IsFramedChangeMap};
 ghost use Rattle.svg_maps.specs.declared.style.Theme.{Theme};
 ghost use Rattle.netset_pictures.specs.declared.bar.BarFailure.TheVariants.{NoFrame};
 
@@ -11,7 +12,7 @@ use crate::bar::BarFailure;
 use ipnet_pictures::{Frame, frame_of};
 use ipnet_sets::IpSet;
 use std::alloc::Global;
-use svg_maps::{Theme, change_map_text, set_map_text};
+use svg_maps::{Theme, change_map_text, set_map_text, sets_map_text};
 
 /// The network that a map shows, and its colours.
 #[derive(Clone, Copy, Debug, PartialEq, Eq)]
@@ -56,6 +57,30 @@ pub fn framed_map_text(
         return Err(BarFailure::NoFrame);
     };
     Ok(set_map_text(alloc, &network, set, request.theme)?)
+}
+
+/// Returns the map of the sets, which have these names, in the frame of all their addresses, as a document of SVG. The
+/// error is `NoFrame` if no network is named and no set has an address of the family, and otherwise `Memory`, only if
+/// memory runs out.
+///
+/// ```text
+/// of 10.0.0.0-10.0.0.3 and 10.0.0.8, without a named network: the map of 10.0.0.0/28
+/// ```
+pub fn framed_sets_map_text(
+    alloc: Global,
+    sets: &[IpSet],
+    names: &[&str],
+    request: MapRequest,
+) -> Result<String, BarFailure>
+    ensures map { IfOk result (λ text.
+        IsFramedSetsMap sets.now (map (λ name. name.now) names.now) request.frame (string_bytes text)) }
+    ensures none { result ≡ Err NoFrame → HasNoFrame request.frame (IsInSome IsMember sets.now) }
+{
+    let all = IpSet::union_all(alloc, sets)?;
+    let Some(network) = frame_of(alloc, &all, request.frame)? else {
+        return Err(BarFailure::NoFrame);
+    };
+    Ok(sets_map_text(alloc, &network, sets, names, request.theme)?)
 }
 
 /// Returns the map of the change from one set to the other, in the frame of all their addresses, as a document of SVG.

@@ -1,18 +1,15 @@
 //! The command `map` of the program, over any writers.
-ghost use Rattle.std.specs.Prelude.{◌≡◌, ◌≤◌, ◌⊎◌, List, ℕ};
+ghost use Rattle.std.specs.Prelude.{◌≡◌, ◌≤◌, ◌⊎◌, List, ℕ, map};
 ghost use Rattle.std.specs.Io.KnownBytes.{Keeps};
 ghost use Rattle.ipnet.specs.declared.parser.Grammar.{Grammar};
 ghost use Rattle.netset_lib.specs.Replies.{AreSameLists, AreOtherLists};
-ghost use Rattle.ipnet_text.specs.Outputs.{IsWritten, IsFrontWritten};
-ghost use Rattle.netset_lib.specs.Sessions.{WereRead};
-ghost use Rattle.netset_lib.specs.declared.answer.Request.{Request};
-ghost use Rattle.netset_lib.specs.declared.command.Work.TheVariants.{Combine, Ask};
-ghost use Rattle.netset_lib.specs.declared.query.Query.TheVariants.{Compare};
-ghost use Rattle.netset_pictures.specs.MapAnswers.{IsMapAnswer, IsChangeMapAnswer};
+ghost use Rattle.netset_lib.specs.Runs.{WritesAnswer, WritesFront, WritesComparison, WritesComparisonFront};
+ghost use Rattle.netset_lib.specs.Sessions.{WereCompared};
+ghost use Rattle.netset_pictures.specs.MapAnswers.{IsMapAnswer, IsSetsMapAnswer, IsChangeMapAnswer};
 
 use crate::bar_program::are_same;
-use crate::map::{MapRequest, framed_change_map_text, framed_map_text};
-use netset_lib::{Session, report_failure, written};
+use crate::map::{MapRequest, framed_change_map_text, framed_map_text, framed_sets_map_text};
+use netset_lib::{Session, report_failure, set_or_report, write_answer, write_or_report};
 use std::io::Write;
 
 /// Writes the map of the session's lists to `out`, as `framed_map_text` makes it of the addresses of the operation, and
@@ -40,21 +37,14 @@ pub fn run_map<W: Write, X: Write>(
     faults: &mut X,
 ) -> u8
     ensures status { (result ≡ 0) ⊎ (result ≡ 2) }
-    ensures drawn { result ≡ 0 → (r : Request) → (lists : List (List ℕ)) → WereRead (Combine r) lists session
-        → IsWritten (IsMapAnswer r lists request.frame) (W.contents out.old) (W.contents out.new) }
-    ensures cut_short { result ≡ 2 → (r : Request) → (lists : List (List ℕ)) → WereRead (Combine r) lists session
-        → Keeps (W.contents out.old) (W.contents out.new)
-        ⊎ IsFrontWritten (IsMapAnswer r lists request.frame)
-        (W.contents out.old) (W.contents out.new) }
+    ensures drawn { result ≡ 0 → WritesAnswer (λ r lists.
+        IsMapAnswer r lists request.frame) session (W.contents out.old) (W.contents out.new) }
+    ensures cut_short { result ≡ 2 → WritesFront (λ r lists.
+        IsMapAnswer r lists request.frame) session (W.contents out.old) (W.contents out.new) }
     ensures faultless { result ≡ 0 → Keeps (X.contents faults.old) (X.contents faults.new) }
 {
-    let alloc = session.alloc();
-    let set = match session.into_set() {
-        Ok(set) => set,
-        Err(failure) => {
-            let _ = report_failure(faults, names, &failure);
-            return 2;
-        }
+    let Some((alloc, set)) = set_or_report(session, names, faults) else {
+        return 2;
     };
     let text = match framed_map_text(alloc, &set, request) {
         Ok(text) => text,
@@ -63,11 +53,58 @@ pub fn run_map<W: Write, X: Write>(
             return 2;
         }
     };
-    if !written(out, text.as_bytes()) {
-        let _ = writeln!(faults, "netset: output cannot be written");
-        return 2;
-    }
-    0
+    write_answer(out, faults, text.as_bytes())
+}
+
+/// Writes the map of the session's lists to `out`, each list in its colour, as `framed_sets_map_text` makes it, and
+/// returns the exit status. The session has read the lists for an operation, as `Union`.
+///
+/// `names` are the names of the lists, in order, for the map and for the reports on `faults`. If a report cannot be
+/// written, the status is the same.
+///
+/// | Status | On `faults` | When |
+/// |---|---|---|
+/// | 2 | as `run` reports it | the operation takes another number of lists, or lines of them are not entries |
+/// | 2 | `netset: no address to draw: name a network with --in` | as `BarFailure::NoFrame` says |
+/// | 2 | `netset: out of memory` | memory runs out |
+/// | 2 | `netset: output cannot be written` | a write fails, or the flush after it; the map may be out in part |
+/// | 0 | nothing | otherwise |
+///
+/// ```text
+/// "10.0.0.0/31\n" and "10.0.0.1/32\n", in 10.0.0.0/30: status 0, and out gets a document
+/// ```
+pub fn run_sets_map<W: Write, X: Write>(
+    session: Session,
+    request: MapRequest,
+    names: &[&str],
+    out: &mut W,
+    faults: &mut X,
+) -> u8
+    ensures status { (result ≡ 0) ⊎ (result ≡ 2) }
+    ensures drawn { result ≡ 0 → WritesAnswer (λ r lists.
+        IsSetsMapAnswer r lists (map (λ name. name.now) names.now) request.frame) session
+        (W.contents out.old) (W.contents out.new) }
+    ensures cut_short { result ≡ 2 → WritesFront (λ r lists.
+        IsSetsMapAnswer r lists (map (λ name. name.now) names.now) request.frame) session
+        (W.contents out.old) (W.contents out.new) }
+    ensures faultless { result ≡ 0 → Keeps (X.contents faults.old) (X.contents faults.new) }
+{
+    let alloc = session.alloc();
+    let sets = match session.into_sets() {
+        Ok(sets) => sets,
+        Err(failure) => {
+            let _ = report_failure(faults, names, &failure);
+            return 2;
+        }
+    };
+    let text = match framed_sets_map_text(alloc, sets.as_slice(), names, request) {
+        Ok(text) => text,
+        Err(failure) => {
+            let _ = writeln!(faults, "netset: {failure}");
+            return 2;
+        }
+    };
+    write_answer(out, faults, text.as_bytes())
 }
 
 /// Writes the map of the change from the first list to the second to `out`, as `framed_change_map_text` makes it, and
@@ -96,19 +133,14 @@ pub fn run_change_map<W: Write, X: Write>(
     faults: &mut X,
 ) -> u8
     ensures status { result ≤ 2 }
-    ensures drawn { result ≤ 1 → (grammar : Grammar) → (lists : List (List ℕ))
-        → WereRead (Ask Compare grammar) lists session
-        → IsWritten (IsChangeMapAnswer grammar lists request.frame)
-        (W.contents out.old) (W.contents out.new) }
+    ensures drawn { result ≤ 1 → WritesComparison (λ grammar lists.
+        IsChangeMapAnswer grammar lists request.frame) session (W.contents out.old) (W.contents out.new) }
     ensures different { result ≡ 1 → (grammar : Grammar) → (lists : List (List ℕ))
-        → WereRead (Ask Compare grammar) lists session → AreOtherLists grammar lists }
+        → WereCompared grammar lists session → AreOtherLists grammar lists }
     ensures same { result ≡ 0 → (grammar : Grammar) → (lists : List (List ℕ))
-        → WereRead (Ask Compare grammar) lists session → AreSameLists grammar lists }
-    ensures cut_short { result ≡ 2 → (grammar : Grammar) → (lists : List (List ℕ))
-        → WereRead (Ask Compare grammar) lists session
-        → Keeps (W.contents out.old) (W.contents out.new)
-        ⊎ IsFrontWritten (IsChangeMapAnswer grammar lists request.frame)
-        (W.contents out.old) (W.contents out.new) }
+        → WereCompared grammar lists session → AreSameLists grammar lists }
+    ensures cut_short { result ≡ 2 → WritesComparisonFront (λ grammar lists.
+        IsChangeMapAnswer grammar lists request.frame) session (W.contents out.old) (W.contents out.new) }
     ensures faultless { result ≤ 1 → Keeps (X.contents faults.old) (X.contents faults.new) }
 {
     let alloc = session.alloc();
@@ -126,8 +158,7 @@ pub fn run_change_map<W: Write, X: Write>(
             return 2;
         }
     };
-    if !written(out, text.as_bytes()) {
-        let _ = writeln!(faults, "netset: output cannot be written");
+    if !write_or_report(out, faults, text.as_bytes()) {
         return 2;
     }
     if are_same(&before, &after) { 0 } else { 1 }

@@ -1,11 +1,13 @@
 -- Maps: the document that shows a drawing of sets.
-use Rattle.std.specs.Prelude.{◌≡◌, ℕ, ◌+◌, ◌^◌, List, [], ◌∷◌, map, All}
+use Rattle.std.specs.Prelude.{◌≡◌, ℕ, ◌+◌, ◌^◌, List, [], ◌∷◌, ◌++◌, length, map, All, codes}
 use Rattle.ipnet_base.specs.Blocks.{IsInEither}
 use Rattle.ipnet_base.specs.Network.{Network}
 use Rattle.ipnet_sets.specs.declared.set.IpSet.{IpSet}
+use Rattle.ipnet_sets.specs.ManySets.{IsInSome}
 use Rattle.ipnet_sets.specs.Members.{IsMember, IsDifference, IsIntersection}
 use Rattle.ipnet_maps.specs.declared.drawing.Drawing.{Drawing}
 use Rattle.ipnet_maps.specs.Classes.{HasLevelClass, level_classes, HasChangeClass, change_classes}
+use Rattle.ipnet_maps.specs.Classes.{HasSharedClass, shared_classes}
 use Rattle.ipnet_maps.specs.Drawings.{IsDrawingOf}
 use Rattle.ipnet_maps.specs.Cuts.{columns_in, rows_in}
 use Rattle.ipnet_maps.specs.Squares.{square_cuts}
@@ -27,15 +29,19 @@ pub record IsMapText (frame : Network) (counted : List Counted) (d : Drawing) (t
   pub spelled : text ≡ nodes_text (page_nodes view)
 
 -- The text is a map of the set in the frame: the drawing of its levels, and squares that count its addresses.
+-- Example: the title of a square is `10.20.5.0/24, 256 addresses, 57 used`.
 pub record IsSetMap (set : IpSet) (frame : Network) (text : List ℕ) : Type 0 where
   pub drawing : Drawing
   pub drawn : IsDrawingOf (IsMember set) (HasLevelClass (IsMember set)) level_classes frame drawing
   pub counted : List Counted
   pub sets : map (λ c. c.set.now) counted ≡ set ∷ []
+  pub words : map (λ c. c.words.now) counted ≡ codes "used" ∷ []
   pub page : IsMapText frame counted drawing text
 
 -- The text is a map of the change from one set to the other in the frame: the drawing of the changes, and squares that
 -- count the addresses that only the first has, that only the second has, and that both have.
+-- Example: the title of a square is
+-- `10.20.5.0/24, 256 addresses, 3 only in the first, 0 only in the second, 57 in both`.
 pub record IsChangeMap (before after : IpSet) (frame : Network) (text : List ℕ) : Type 0 where
   pub drawing : Drawing
   pub drawn : IsDrawingOf (IsInEither (IsMember before) (IsMember after))
@@ -48,4 +54,21 @@ pub record IsChangeMap (before after : IpSet) (frame : Network) (text : List ℕ
   pub is_kept : IsIntersection kept before after
   pub counted : List Counted
   pub sets : map (λ c. c.set.now) counted ≡ removed ∷ added ∷ kept ∷ []
+  pub words : map (λ c. c.words.now) counted
+      ≡ codes "only in the first" ∷ codes "only in the second" ∷ codes "in both" ∷ []
+  pub page : IsMapText frame counted drawing text
+
+-- The words after the number of addresses of the list with this name. Example: `in office.txt`.
+abbrev pub list_words : List ℕ → List ℕ
+list_words name = codes "in " ++ name
+
+-- The text is a map of the sets in the frame: the drawing of the cells that one set has, or several, and squares that
+-- count the addresses of each set, by its name if each set has one.
+-- Example: the title of a square is `10.20.5.0/24, 256 addresses, 57 in office.txt, 0 in vpn.txt`.
+pub record IsSetsMap (sets : List IpSet) (names : List (List ℕ)) (frame : Network) (text : List ℕ) : Type 0 where
+  pub drawing : Drawing
+  pub drawn : IsDrawingOf (IsInSome IsMember sets) (HasSharedClass sets) (shared_classes sets) frame drawing
+  pub counted : List Counted
+  pub each : map (λ c. c.set.now) counted ≡ sets
+  pub words : length names ≡ length sets → map (λ c. c.words.now) counted ≡ map list_words names
   pub page : IsMapText frame counted drawing text

@@ -12,8 +12,14 @@ use ipnet::IpNet;
 use ipnet_maps::Drawing;
 use std::alloc::{AllocError, Global};
 
-/// The row of the first line of the legend, in pixels.
-const LEGEND: u32 = 62;
+/// The row of the first line of the summary, in pixels.
+const SUMMARY: u32 = 50;
+
+/// The number of pixels from a line of the summary to the legend.
+const TO_LEGEND: u32 = 12;
+
+/// The number of bytes of a line of the summary, unless one count is longer. Such a line fits the smallest page.
+const MOST_BYTES: usize = 100;
 
 /// The texts of a page, and its sizes.
 #[derive(Drop)]
@@ -39,6 +45,43 @@ fn foot_of(alloc: Global, frame: &IpNet, depth: u8, note: &str) -> Result<String
     Ok(text)
 }
 
+/// The summary in lines, each of which ends after a count.
+fn summary_lines(alloc: Global, summary: &str) -> Result<Vec<String>, AllocError> {
+    let mut lines = Vec::new(alloc);
+    let mut line = String::new(alloc);
+    for part in summary.split(", ") {
+        if !line.is_empty() {
+            line.push_str(",")?;
+            if line.len().saturating_add(part.len()) < MOST_BYTES {
+                line.push_str(" ")?;
+            } else {
+                lines.push(line)?;
+                line = String::new(alloc);
+            }
+        }
+        line.push_str(part)?;
+    }
+    lines.push(line)?;
+    Ok(lines)
+}
+
+/// Appends the lines of the summary, and returns the row of the last one.
+fn push_summary(
+    alloc: Global,
+    captions: &mut Vec<Label>,
+    summary: &str,
+) -> Result<u32, AllocError> {
+    let lines = summary_lines(alloc, summary)?;
+    let mut last = SUMMARY;
+    let mut row = SUMMARY;
+    for line in lines {
+        captions.push(label_at(Ink::Plain, EDGE, row, line))?;
+        last = row;
+        row = row.saturating_add(LINE);
+    }
+    Ok(last)
+}
+
 /// Whether the map has heads of rows and columns: its squares are all values of an octet.
 fn has_heads(frame_len: u8, depth: u8) -> bool {
     depth >= 6 && frame_len % 8 <= 2
@@ -57,24 +100,22 @@ pub(crate) fn captions_of(
 {
     let depth = drawing.depth;
     let cell_len = frame.prefix_len() + depth;
-    let swatches = legend_of(
-        alloc,
-        drawing.layers.as_slice(),
-        form.names,
-        cell_len,
-        LEGEND,
-    )?;
-    let rows = u32::try_from(swatches.len()).unwrap_or(u32::MAX);
-    let top = rows.saturating_mul(LINE).saturating_add(LEGEND + 8);
-    let heads = has_heads(frame.prefix_len(), depth);
-    let sheet = sheet_of(sides_of(frame, depth), heads, top);
     let heading = form.heading;
     let network = frame.to_text();
     let network = network.as_str();
     let title = format!(in alloc; "{heading} {network}")?;
     let mut captions = Vec::new(alloc);
     captions.push(label_at(Ink::Head, EDGE, 26, title.clone()?))?;
-    captions.push(label_at(Ink::Plain, EDGE, 50, String::from_str(alloc, summary)?))?;
+    let row = push_summary(alloc, &mut captions, summary)?.saturating_add(TO_LEGEND);
+    let layers = drawing.layers.as_slice();
+    let swatches = legend_of(alloc, layers, form.names, cell_len, row)?;
+    let rows = u32::try_from(swatches.len()).unwrap_or(u32::MAX);
+    let top = rows
+        .saturating_mul(LINE)
+        .saturating_add(row)
+        .saturating_add(8);
+    let heads = has_heads(frame.prefix_len(), depth);
+    let sheet = sheet_of(sides_of(frame, depth), heads, top);
     let foot = foot_of(alloc, frame, depth, form.note)?;
     captions.push(label_at(Ink::Faint, EDGE, sheet.area.height.saturating_sub(10), foot))?;
     Ok(PageTexts {

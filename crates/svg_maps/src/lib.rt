@@ -20,6 +20,6 @@ pub use chart::{Chart, Square};
 pub use label::{Anchor, Ink, Label, Swatch};
 pub use map::{MapForm, map_text};
 pub use page::{Page, page_text};
-pub use shown::{change_map_text, set_map_text};
+pub use shown::{change_map_text, set_map_text, sets_map_text};
 pub use square::Counted;
-pub use style::{Theme, style_of};
+pub use style::{MOST_LISTS, Theme, style_of};

@@ -1,16 +1,19 @@
-//! Maps of a set and of a change, as documents of SVG.
-ghost use Rattle.std.specs.Prelude.{IfOk, string_bytes};
+//! Maps of a set, of a change and of several sets, as documents of SVG.
+ghost use Rattle.std.specs.Prelude.{◌≡◌, IfOk, length, map, string_bytes};
 ghost use Rattle.ipnet.specs.NetworkOf.{ip_network};
-ghost use Rattle.svg_maps.specs.Maps.{IsSetMap, IsChangeMap};
+ghost use Rattle.svg_maps.specs.Maps.{IsSetMap, IsChangeMap, IsSetsMap, list_words};
 
 use crate::map::{MapForm, map_text};
 use crate::square::Counted;
 use crate::style::{Theme, style_of};
 use ipnet::IpNet;
-use ipnet_maps::{draw_change, draw_set};
+use ipnet_maps::{draw_change, draw_set, draw_sets};
 use ipnet_pictures::outside_of;
 use ipnet_sets::IpSet;
 use std::alloc::{AllocError, Global};
+
+/// The words after the number of addresses of a list without a name.
+const NO_NAME: &str = "in a list without a name";
 
 /// The note at the foot of a map about addresses that are not on it; empty if there are none.
 fn note_of(alloc: Global, set: &IpSet, frame: &IpNet) -> Result<String, AllocError> {
@@ -100,4 +103,84 @@ pub fn change_map_text(
         note: note.as_str(),
     };
     map_text(alloc, frame, &drawing, &counted, form)
+}
+
+/// Returns the words after the number of addresses of the list with this name.
+fn words_of(alloc: Global, name: &str) -> Result<String, AllocError>
+    ensures { IfOk result (λ words. string_bytes words ≡ list_words name.now) }
+{
+    let mut words = String::from_str(alloc, "in ")?;
+    words.push_str(name)?;
+    Ok(words)
+}
+
+/// Returns the words after the number of addresses of each list.
+fn all_words(alloc: Global, names: &[&str]) -> Result<Vec<String>, AllocError>
+    ensures { IfOk result (λ list. map string_bytes list.items ≡ map (λ name. list_words name.now) names.now) }
+{
+    let mut list = Vec::new(alloc);
+    for name in names {
+        let words = words_of(alloc, name)?;
+        list.push(words)?;
+    }
+    Ok(list)
+}
+
+/// Returns the sets as they are counted in each square.
+fn counted_of<'a>(
+    alloc: Global,
+    sets: &'a [IpSet],
+    words: &'a [String],
+) -> Result<Vec<Counted<'a>>, AllocError>
+    ensures sets { IfOk result (λ list. map (λ c. c.set.now) list.items ≡ sets.now) }
+    ensures words { IfOk result (λ list. length words.now ≡ length sets.now
+        → map (λ c. c.words.now) list.items ≡ map string_bytes words.now) }
+{
+    let mut list = Vec::new(alloc);
+    for place in 0..sets.len() {
+        let words = match words.get(place) {
+            Some(words) => words.as_str(),
+            None => NO_NAME,
+        };
+        let set = &sets[place];
+        list.push(Counted { words, set })?;
+    }
+    Ok(list)
+}
+
+/// Returns the map of the sets in the frame, as a document of SVG. `names` are their names, in order. Fails only if
+/// memory runs out.
+///
+/// Each set has its colour, which is pale if the set does not have all addresses of a cell. A cell is black if two sets
+/// share an address of it, and grey if two have addresses of it and share none. The title of a square says how many of
+/// its addresses are in each set, and the foot how many addresses of the sets are outside the frame. The first
+/// `MOST_LISTS` sets have a colour.
+///
+/// ```text
+/// of 10.20.0.0/24 and 10.20.1.0/24, named a and b, in 10.20.0.0/16: the title of the first square is
+/// "10.20.0.0/24, 256 addresses, 256 in a, 0 in b"
+/// ```
+pub fn sets_map_text(
+    alloc: Global,
+    frame: &IpNet,
+    sets: &[IpSet],
+    names: &[&str],
+    theme: Theme,
+) -> Result<String, AllocError>
+    ensures { IfOk result (λ text.
+        IsSetsMap sets.now (map (λ name. name.now) names.now) (ip_network frame.now) (string_bytes text)) }
+{
+    let drawing = draw_sets(alloc, frame, sets)?;
+    let style = style_of(alloc, theme)?;
+    let all = IpSet::union_all(alloc, sets)?;
+    let note = note_of(alloc, &all, frame)?;
+    let words = all_words(alloc, names)?;
+    let counted = counted_of(alloc, sets, words.as_slice())?;
+    let form = MapForm {
+        style: style.as_str(),
+        heading: "Lists in",
+        names,
+        note: note.as_str(),
+    };
+    map_text(alloc, frame, &drawing, counted.as_slice(), form)
 }

@@ -4,6 +4,9 @@ ghost use Rattle.svg_maps.specs.Styles.{rule_text};
 
 use std::alloc::{AllocError, Global};
 
+/// The most lists that one map shows, each in its own colour.
+pub const MOST_LISTS: usize = 6;
+
 /// The colours of a map.
 #[derive(Clone, Copy, Debug, PartialEq, Eq)]
 pub enum Theme {

@@ -1,13 +1,12 @@
 use Rattle.std.proofs.Common.{refl, subst, inr, string_bytes}
-use Rattle.std.proofs.KnownBytes.{Keeps-refl}
 use Rattle.std.specs.Io.{StartsWith}
 use Rattle.std.specs.Io.KnownBytes.{Appends}
 use Rattle.netset_lib.proofs.ChangeLaws.{same_of_sets, other_of_sets}
 use Rattle.netset_pictures.proofs.map_program.run_change_map.Goals as goal
 
-pub returns-then-not-written-clause-cut_short : goal.returns-then-not-written-clause-cut_short
-returns-then-not-written-clause-cut_short g c = λ two grammar lists h.
-    let (front, begins, written) = c.written.ensures.front in
+pub returns-then-not-write_or_report-clause-cut_short : goal.returns-then-not-write_or_report-clause-cut_short
+returns-then-not-write_or_report-clause-cut_short g c = λ two grammar lists h.
+    let (front, begins, written) = c.write_or_report.ensures.front in
     inr record {
       text = string_bytes c.in-Ok-framed_change_map_text.text;
       right = record {
@@ -30,8 +29,8 @@ returns-then-are_same-clause-drawn g c = λ low grammar lists h. record {
     pair = c.in-Ok.ensures.pair grammar lists h;
     right = c.in-Ok-framed_change_map_text.ensures.map;
   };
-  written = subst (Appends (g.W.Write.contents c.args.out.now) (g.W.Write.contents c.written.new.out))
-      c.as_bytes.ensures.value (c.if-not-written.ensures.whole refl);
+  written = subst (Appends (g.W.Write.contents c.args.out.now) (g.W.Write.contents c.write_or_report.new.out))
+      c.as_bytes.ensures.value (c.if-not-write_or_report.ensures.whole refl);
 }
 
 pub returns-then-are_same-clause-same : goal.returns-then-are_same-clause-same
@@ -48,8 +47,8 @@ returns-clause-drawn g c = λ low grammar lists h. record {
     pair = c.in-Ok.ensures.pair grammar lists h;
     right = c.in-Ok-framed_change_map_text.ensures.map;
   };
-  written = subst (Appends (g.W.Write.contents c.args.out.now) (g.W.Write.contents c.written.new.out))
-      c.as_bytes.ensures.value (c.if-not-written.ensures.whole refl);
+  written = subst (Appends (g.W.Write.contents c.args.out.now) (g.W.Write.contents c.write_or_report.new.out))
+      c.as_bytes.ensures.value (c.if-not-write_or_report.ensures.whole refl);
 }
 
 pub returns-clause-different : goal.returns-clause-different
@@ -58,4 +57,4 @@ returns-clause-different g c = λ one grammar lists h.
     (λ to from. let same = c.are_same.ensures.1 (to, from) in let no = c.if-are_same.false in absurd cc)
 
 pub returns-clause-faultless : goal.returns-clause-faultless
-returns-clause-faultless g c = λ low. Keeps-refl (g.X.Write.contents c.args.faults.now)
+returns-clause-faultless g c = λ low. c.if-not-write_or_report.ensures.faultless refl

@@ -1,17 +1,18 @@
-use Rattle.std.proofs.Common.{refl, subst, inr, string_bytes}
+use Rattle.std.proofs.Common.{subst, inr, string_bytes}
+use Rattle.std.proofs.KnownBytes.{Keeps-trans}
 use Rattle.std.specs.Io.{StartsWith}
 use Rattle.std.specs.Io.KnownBytes.{Appends}
 use Rattle.netset_pictures.proofs.map_program.run_map.Goals as goal
 
-pub returns-then-not-written-clause-cut_short : goal.returns-then-not-written-clause-cut_short
-returns-then-not-written-clause-cut_short g c = λ two r lists h.
-    let (front, begins, written) = c.written.ensures.front in
+pub returns-clause-cut_short : goal.returns-clause-cut_short
+returns-clause-cut_short g c = λ two r lists h.
+    let (front, begins, written) = c.write_answer.ensures.front in
     inr record {
-      text = string_bytes c.in-Ok-framed_map_text.text;
+      text = string_bytes c.in-Ok.text;
       right = record {
-        set = c.in-Ok.set;
-        result = c.in-Ok.ensures.set r lists h;
-        right = c.in-Ok-framed_map_text.ensures.map;
+        set = c.in-Some.set;
+        result = c.in-Some.ensures.set r lists h;
+        right = c.in-Ok.ensures.map;
       };
       front = front;
       begins = subst (λ z. StartsWith z front) c.as_bytes.ensures.value begins;
@@ -20,12 +21,18 @@ returns-then-not-written-clause-cut_short g c = λ two r lists h.
 
 pub returns-clause-drawn : goal.returns-clause-drawn
 returns-clause-drawn g c = λ zero r lists h. record {
-  text = string_bytes c.in-Ok-framed_map_text.text;
+  text = string_bytes c.in-Ok.text;
   right = record {
-    set = c.in-Ok.set;
-    result = c.in-Ok.ensures.set r lists h;
-    right = c.in-Ok-framed_map_text.ensures.map;
+    set = c.in-Some.set;
+    result = c.in-Some.ensures.set r lists h;
+    right = c.in-Ok.ensures.map;
   };
-  written = subst (Appends (g.W.Write.contents c.args.out.now) (g.W.Write.contents c.written.new.out))
-      c.as_bytes.ensures.value (c.if-not-written.ensures.whole refl);
+  written = subst (Appends (g.W.Write.contents c.args.out.now) (g.W.Write.contents c.write_answer.new.out))
+      c.as_bytes.ensures.value (c.write_answer.ensures.whole zero);
 }
+
+pub returns-clause-faultless : goal.returns-clause-faultless
+returns-clause-faultless g c = λ zero.
+    Keeps-trans (g.X.Write.contents c.args.faults.now) (g.X.Write.contents c.set_or_report.new.faults)
+    (g.X.Write.contents c.write_answer.new.faults) c.in-Some.ensures.faultless
+    (c.write_answer.ensures.faultless zero)

@@ -20,5 +20,6 @@ returns c =
       is_kept = c.in_ok-kept.ensures.members;
       counted = _;
       sets = refl;
+      words = refl;
       page = page;
     }) c.map_text.ensures

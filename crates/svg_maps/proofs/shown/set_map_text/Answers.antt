@@ -14,5 +14,6 @@ returns c =
       drawn = c.in_ok-drawing.ensures;
       counted = _;
       sets = refl;
+      words = refl;
       page = page;
     }) c.map_text.ensures

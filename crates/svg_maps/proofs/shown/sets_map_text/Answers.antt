@@ -1,0 +1,37 @@
+use Rattle.std.proofs.Common.{◌≡◌, ◌∙◌, ◌∷◌, List, [], ℕ, refl, sym, ap, length, map, string_bytes}
+use Rattle.std.proofs.lemmas.List.{length-map}
+use Rattle.std.proofs.lemmas.Result.{IfOk-weaker}
+use Rattle.std.specs.Borrow.{Bor}
+use Rattle.ipnet.specs.NetworkOf.{ip_network}
+use Rattle.svg_maps.specs.Maps.{IsMapText, IsSetsMap, list_words}
+use Rattle.svg_maps.proofs.shown.sets_map_text.Goals as goal
+
+words_of_names : (names : List (Bor (List ℕ)))
+    → map (λ name. list_words name.now) names ≡ map list_words (map (λ name. name.now) names)
+words_of_names [] = refl
+words_of_names (name ∷ names) = ap (λ z. list_words name.now ∷ z) (words_of_names names)
+
+pub returns : goal.returns
+returns c =
+    let n = ip_network c.args.frame.now in
+    let d = c.in_ok-drawing.drawing in
+    let sets = c.args.sets.now in
+    let given = c.args.names.now in
+    let names = map (λ name. name.now) given in
+    let words = c.in_ok-words.words.items in
+    let counted = c.as_slice-2.result.now in
+    let as_many : length c.as_slice.result.now ≡ length given =
+    ap (λ z. length z) c.as_slice.ensures.value ∙ sym (length-map words string_bytes)
+    ∙ ap (λ z. length z) c.in_ok-words.ensures ∙ length-map given (λ name. list_words name.now) in
+    IfOk-weaker c.map_text.result (λ text. IsMapText n counted d (string_bytes text))
+    (λ text. IsSetsMap sets names n (string_bytes text)) (λ text page. record {
+      drawing = d;
+      drawn = c.in_ok-drawing.ensures;
+      counted = counted;
+      each = ap (λ z. map (λ k. k.set.now) z) c.as_slice-2.ensures.value ∙ c.in_ok-counted.ensures.sets;
+      words = λ same. ap (λ z. map (λ k. k.words.now) z) c.as_slice-2.ensures.value
+          ∙ c.in_ok-counted.ensures.words (as_many ∙ sym (length-map given (λ name. name.now)) ∙ same)
+          ∙ ap (λ z. map string_bytes z) c.as_slice.ensures.value ∙ c.in_ok-words.ensures
+          ∙ words_of_names given;
+      page = page;
+    }) c.map_text.ensures
