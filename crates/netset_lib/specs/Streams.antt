@@ -5,8 +5,8 @@ use Rattle.std.specs.Io.KnownBytes.{Appends, Keeps}
 use Rattle.ipnet.specs.declared.parser.Grammar.{Grammar}
 use Rattle.ipnet.specs.Lines.{lines_of}
 use Rattle.ipnet_text.specs.Inputs.{GaveWhole}
-use Rattle.netset_lib.specs.declared.answer.Failure.{Failure}
-use Rattle.netset_lib.specs.declared.answer.Failure.TheVariants as Failures
+use Rattle.netset_lib.specs.declared.failure.Failure.{Failure}
+use Rattle.netset_lib.specs.declared.failure.Failure.TheVariants as Failures
 use Rattle.netset_lib.specs.declared.answerer.Answerer.{Answerer}
 use Rattle.netset_lib.specs.declared.command.Work.{Work}
 use Rattle.netset_lib.specs.declared.command.Work.TheVariants.{Combine, Ask}

@@ -7,7 +7,6 @@ ghost use Rattle.ipnet_sets.specs.Members.{IsMember};
 ghost use Rattle.netset_lib.specs.Answers.{range_text, AreNetworkLines, AreRangeLines, IsSetText};
 
 use crate::operation::Operation;
-use crate::refused::RefusedLines;
 use ipnet::text_laws::{ipv4_address_text_is_of_octets, ipv6_address_text_is_of_groups};
 use ipnet::{Grammar, IpAddr, IpAddrRange, ipv4_addr_text, ipv6_addr_text};
 use ipnet_sets::IpSet;
@@ -46,19 +45,6 @@ pub struct Answer {
     /// Whether two compared lists have the same addresses, a filter printed an entry, or each entry has a route. Other
     /// work always succeeds.
     pub succeeded: bool,
-}
-
-/// Why there is no answer.
-#[derive(Debug, Drop)]
-pub enum Failure {
-    /// The work takes another number of lists.
-    Count,
-    /// The complement of a list without an entry was asked for the families of the list.
-    NoFamily,
-    /// Some lines are not entries.
-    Refused(RefusedLines),
-    /// Memory ran out.
-    Memory,
 }
 
 /// Appends the address's text.

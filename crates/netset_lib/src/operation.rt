@@ -138,7 +138,7 @@ fn complement_of(alloc: Global, families: Families, set: &IpSet) -> Result<IpSet
 
 /// Returns the result of the operation on the sets, or the empty set if it takes another number of sets. Fails if
 /// memory runs out.
-pub(crate) fn combined(
+pub(crate) fn combine_sets(
     alloc: Global,
     operation: Operation,
     sets: &[IpSet],
