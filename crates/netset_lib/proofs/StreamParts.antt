@@ -4,11 +4,10 @@ use Rattle.std.proofs.Common.{IfSome, IfErr, Result, Ok, Err, ◌⊎◌, inl, in
 use Rattle.std.proofs.Common.{append_assoc, append-nil, string_bytes}
 use Rattle.std.proofs.Math.Seq.{take-append_seam}
 use Rattle.std.specs.Io.{StartsWith}
-use Rattle.std.specs.Io.KnownBytes.{Appends, Keeps, Consumes}
+use Rattle.std.specs.Io.KnownBytes.{Appends, Keeps}
 use Rattle.std.proofs.KnownBytes.{Appends-trans, Consumes-whole, Keeps-trans, starts_with_rest}
 use Rattle.ipnet.specs.declared.parser.Grammar.{Grammar}
 use Rattle.ipnet.specs.Lines.{lines_of}
-use Rattle.ipnet_text.specs.Inputs.{GaveWhole}
 use Rattle.netset_lib.specs.declared.answerer.Answerer.{Answerer}
 use Rattle.netset_lib.specs.declared.answerer.Answers.{Answers}
 use Rattle.netset_lib.specs.declared.command.Work.{Work}
