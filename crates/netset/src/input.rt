@@ -19,7 +19,7 @@ pub struct Unread {
     code: Option<i32>,
 }
 
-/// Where the bytes of a list come from.
+/// The source of a list's bytes.
 #[derive(Drop)]
 enum Source {
     Standard(Stdin),

@@ -78,6 +78,15 @@ pub struct Reports {
 }
 
 impl Reports {
+    /// Reports the number of bytes of a list: if the progress is to be reported, or to a terminal, once the lists have
+    /// many bytes. `total` is the number of bytes of all lists up to this one.
+    fn report_count(self, rt: &HostRuntime, name: &str, count: usize, total: usize) {
+        if self.progress || total >= MUCH && rt.stderr().is_terminal() {
+            let shown = name.as_bytes().escape_ascii();
+            let _ = writeln!(rt.stderr(), "netset: {shown}: {count} bytes read");
+        }
+    }
+
     /// Returns whether a list with this name may have no entry, and reports its name if it should be. Standard input
     /// may always be empty.
     fn allow_empty(self, rt: &HostRuntime, name: &str, what: &str) -> bool {
@@ -87,14 +96,6 @@ impl Reports {
         let shown = name.as_bytes().escape_ascii();
         let _ = writeln!(rt.stderr(), "netset: {shown}: no {what}");
         self.empties != Empties::Refuse
-    }
-}
-
-/// Reports the number of bytes of a list: always, or only to a terminal.
-fn tell_count(rt: &HostRuntime, name: &str, count: usize, always: bool) {
-    if always || rt.stderr().is_terminal() {
-        let name = name.as_bytes().escape_ascii();
-        let _ = writeln!(rt.stderr(), "netset: {name}: {count} bytes read");
     }
 }
 
@@ -116,9 +117,7 @@ pub fn read_lists<'a, L: ListReader>(
         let refused = lists.count_refused();
         let count = read_list(rt, lists, name).map_err(|unread| (*name, unread))?;
         total = total.saturating_add(count);
-        if reports.progress || total >= MUCH {
-            tell_count(rt, name, count, reports.progress);
-        }
+        reports.report_count(rt, name, count, total);
         let is_empty = !lists.has_entries() && lists.count_refused() == refused;
         if is_empty && !reports.allow_empty(rt, name, "entries") {
             allowed = false;
@@ -140,9 +139,7 @@ pub fn read_rules(
         Ok(list) => list,
         Err(failure) => return Err(input.unread(failure)),
     };
-    if reports.progress || input.count >= MUCH {
-        tell_count(rt, name, input.count, reports.progress);
-    }
+    reports.report_count(rt, name, input.count, input.count);
     let is_empty = list.rules.is_empty() && list.refused.is_empty();
     if is_empty && !reports.allow_empty(rt, name, "rules") {
         return Ok(None);
@@ -158,9 +155,7 @@ pub fn read_whole(rt: &HostRuntime, name: &str, reports: Reports) -> Result<Vec<
         Ok(bytes) => bytes,
         Err(failure) => return Err(input.unread(failure)),
     };
-    if reports.progress || bytes.len() >= MUCH {
-        tell_count(rt, name, bytes.len(), reports.progress);
-    }
+    reports.report_count(rt, name, bytes.len(), bytes.len());
     Ok(bytes)
 }
 
