@@ -1,6 +1,7 @@
 //! Lists of addresses as people keep them, with networks, addresses, ranges and comments: read, and combined.
 #![tactic(auto)]
 
+mod address_text;
 pub mod answer;
 mod answerer;
 pub mod apply;
@@ -52,6 +53,7 @@ mod text_table;
 mod word;
 pub mod write;
 
+pub use address_text::ip_addr_text;
 pub use answer::{Answer, Form, Request, lines_of_ranges};
 pub use apply::{ChangeFailure, changed_text};
 pub use apply_program::run_apply;

@@ -39,7 +39,7 @@ pub struct Refused<C> {
     pub cause: C,
 }
 
-/// A refused line whose text is part of the list's bytes. The fields are those of `Refused`.
+/// A refused line whose text is part of the list's bytes. It has the fields of `Refused`.
 #[derive(Drop)]
 pub struct RefusedPart<'a, C> {
     /// The index of its list.

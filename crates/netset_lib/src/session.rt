@@ -100,7 +100,7 @@ fn has_no_family(work: Work, sets: &[IpSet]) -> bool
     is_named_complement(work) && is_one_empty(sets)
 }
 
-/// Puts a set behind the others. Fails if memory runs out.
+/// Appends a set. Fails if memory runs out.
 fn keep(sets: &mut Vec<IpSet>, set: IpSet) -> Result<(), AllocError>
     ensures { OnOk result (sets.new.items ≡ sets.old.items ++ set ∷ []) }
 {

@@ -248,10 +248,8 @@ impl LineFilter {
             → ¬ (TakesCount (Combine request) (length lists)) → result ≡ Err Failure.Count }
     {
         let set = session.into_set()?;
-        match side_set(alloc, how.side, set) {
-            Ok(set) => Ok(LineFilter::new(alloc, how, set)),
-            Err(_) => Err(Failure::Memory),
-        }
+        let side = side_set(alloc, how.side, set)?;
+        Ok(LineFilter::new(alloc, how, side))
     }
 
     /// A filter by this set that has read no line.

@@ -35,7 +35,7 @@ impl Session {
 
     /// Returns the addresses that the operation makes of the lists that were read.
     ///
-    /// The errors are those of `answer`. The work of a query makes no addresses: its error is `Count`.
+    /// The errors are the errors of `answer`. The work of a query makes no addresses: its error is `Count`.
     ///
     /// ```text
     /// Difference of "10.0.0.0/30\n" and "10.0.0.3\n":  the set of 10.0.0.0 to 10.0.0.2

@@ -15,6 +15,7 @@ returns-clause-good c = (
   record {
     count = c.if-not-takes.ensures.0 refl;
     none = c.if-self-ne0.false;
-    named = λ named set is. c.has_no_family.ensures.no c.if-has_no_family.false named set (c.as_slice.ensures.value ∙ is);
+    named = λ named set is.
+        c.has_no_family.ensures.no c.if-has_no_family.false named set (c.as_slice.ensures.value ∙ is);
   },
 )

@@ -21,7 +21,7 @@ returns-clause-set c = λ request lists h.
     let s = c.in_ok-sets.field-0 in
     let q = c.in-Combine.request in
     let good = c.in_ok-sets.ensures.good in
-    result_right q request lists s c.in_ok-combine_sets.field-0 (subst (WereRead (Combine request) lists) (sym good.0) h)
-    good.1 (ap (λ z. z.work) good.0 ∙ c.in-Combine.is)
+    result_right q request lists s c.in_ok-combine_sets.field-0
+    (subst (WereRead (Combine request) lists) (sym good.0) h) good.1 (ap (λ z. z.work) good.0 ∙ c.in-Combine.is)
     (subst (λ z. (x : Address) → IsMember c.in_ok-combine_sets.field-0 x ↔ IsInResult IsMember q.operation z x)
     c.as_slice.ensures.value c.in_ok-combine_sets.ensures)
