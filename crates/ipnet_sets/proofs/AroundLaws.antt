@@ -1,5 +1,5 @@
 -- The smallest network around the numbers of one family, and around the members of a set.
-use Rattle.std.proofs.Common.{◌≡◌, ℕ, ◌≤◌, ◌↔◌, Bool, true, false, List, map, sym, ap, ◌∙◌, subst, arith, inl, inr}
+use Rattle.std.proofs.Common.{◌≡◌, ℕ, ◌≤◌, ◌↔◌, true, false, List, map, sym, ◌∙◌, subst, arith, inl, inr}
 use Rattle.std.proofs.Common.{refl, ◌<◌, ◌^◌, subst₂, Option, Some, None, IfSome}
 use Rattle.std.proofs.lemmas.Bool.{cases_Bool, true≢false}
 use Rattle.ipnet_base.specs.Address.{Family, Address, address_at, width, greatest_number}

@@ -17,7 +17,7 @@ use Rattle.ipnet_sets.specs.Routes.{Route, networks_of, IsLongestMatch, IsLonges
 use Rattle.ipnet_sets.specs.TableImages.{route_count, AreRoutesIn, IsTableImageOf}
 use Rattle.ipnet_sets.specs.ByteTableImages.{numbered, joined_values, stated_length, table_part, ends_place}
 use Rattle.ipnet_sets.specs.ByteTableImages.{values_place, value_start, HasByteTableHeader, IsByteTableImageOf, HasEnds}
-use Rattle.ipnet_sets.proofs.RouteOrderLaws.{element_at}
+use Rattle.ipnet_sets.proofs.LastPassing.{element_at}
 use Rattle.ipnet_sets.proofs.TableImageLaws.{IsFound}
 
 -- a route whose value is bytes, and one whose value is a number

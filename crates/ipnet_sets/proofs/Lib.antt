@@ -20,6 +20,7 @@ pub mod HashLaws
 pub mod SetAlgebra
 pub mod RouteLaws
 pub mod CoveringLaws
+pub mod LastPassing
 pub mod RouteOrderLaws
 pub mod RouteMatchLaws
 pub mod RouteWithinLaws
@@ -28,6 +29,7 @@ pub mod RouteValueLaws
 pub mod RouteLackingLaws
 pub mod ChunkLaws
 pub mod RouteMapLaws
+pub mod RouteMapChanges
 pub mod ClimbLaws
 pub mod SharedBitLaws
 pub mod AroundLaws

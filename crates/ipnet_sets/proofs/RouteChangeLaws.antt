@@ -11,7 +11,7 @@ use Rattle.ipnet.specs.NetworkOf.{ip_network}
 use Rattle.ipnet_sets.specs.Routes.{Route, ip_routes, ip_networks}
 use Rattle.ipnet_sets.specs.RouteSteps.{IsTable, AreChanged}
 use Rattle.ipnet_sets.proofs.RouteLaws.{ascending_of, network_of_route}
-use Rattle.ipnet_sets.proofs.RouteOrderLaws.{element_at}
+use Rattle.ipnet_sets.proofs.LastPassing.{element_at}
 
 -- one route more
 pub changed_push : {V W : Type 0} (made : V → W → Type 0) (xs : List (IpNet × V)) (ys : List (IpNet × W))

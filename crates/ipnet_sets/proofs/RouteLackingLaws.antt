@@ -13,7 +13,7 @@ use Rattle.ipnet.specs.NetworkOf.{ip_network}
 use Rattle.ipnet_sets.specs.Routes.{Route, networks_of, ip_routes, ip_networks, AreLacking}
 use Rattle.ipnet_sets.specs.RouteSteps.{IsTable}
 use Rattle.ipnet_sets.proofs.RouteLaws.{one_value, same_networks, network_of_route, ascending_of}
-use Rattle.ipnet_sets.proofs.RouteOrderLaws.{element_at}
+use Rattle.ipnet_sets.proofs.LastPassing.{element_at}
 
 -- the elements of the list that pass the test, in its order
 pub record AreThose {X : Type 0} (R : X → X → Type 0) (Fits : X → Type 0) (xs found : List X) : Type 0 where

@@ -22,7 +22,7 @@ use Rattle.ipnet_sets.specs.RouteMapSteps.{holds_block, holders, holders_of}
 use Rattle.ipnet_sets.proofs.RouteLaws.{all_valid, network_of_route, same_networks, one_value, host}
 use Rattle.ipnet_sets.proofs.RouteLaws.{host_in, in_from_host}
 use Rattle.ipnet_sets.proofs.CoveringLaws.{not_after}
-use Rattle.ipnet_sets.proofs.RouteMapLaws.{ordered_routes}
+use Rattle.ipnet_sets.proofs.RouteMapChanges.{ordered_routes}
 
 and_both : (a b : Bool) → (a && b) ≡ true → (a ≡ true) × (b ≡ true)
 and_both true b e = (refl, e)

@@ -20,7 +20,7 @@ use Rattle.ipnet_sets.specs.RouteSteps.{IsTable, IsPlaceAfter, IsNearest, AreLin
 use Rattle.ipnet_sets.proofs.RouteLaws.{value_at, ascending_of, all_valid, network_of_route}
 use Rattle.ipnet_sets.proofs.RouteLaws.{host, host_in, in_from_host}
 use Rattle.ipnet_sets.proofs.CoveringLaws.{holder_before, no_longer}
-use Rattle.ipnet_sets.proofs.RouteOrderLaws.{element_at}
+use Rattle.ipnet_sets.proofs.LastPassing.{element_at}
 
 -- the list of the one element at a place
 take_one : {X : Type 0} (xs : List X) (i : ℕ) (x : X) → i < length xs → get_or xs i x ≡ x → take 1 (drop i xs) ≡ x ∷ []

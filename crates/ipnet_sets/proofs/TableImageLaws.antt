@@ -17,7 +17,7 @@ use Rattle.ipnet_sets.specs.TableImages.{AreRoutesIn, AreStartsIn, IsSomeRoute}
 use Rattle.ipnet_sets.proofs.RouteLaws.{table_of, read_at, IsPlaceBetween, IsSearchedTo, place_down, place_up}
 use Rattle.ipnet_sets.proofs.RouteLaws.{searched_found, searched_on}
 use Rattle.ipnet_sets.proofs.CoveringLaws.{none_contains, longest_found}
-use Rattle.ipnet_sets.proofs.RouteOrderLaws.{element_at}
+use Rattle.ipnet_sets.proofs.LastPassing.{element_at}
 
 abbrev from_some : {X : Type 0} → Option X → X → X
 from_some (Some y) d = y

@@ -2,6 +2,7 @@
 ghost use Rattle.std.specs.Prelude.{IfOk};
 ghost use Rattle.ipnet_sets.specs.Members.{IsResultOf, HasNoMoreRanges};
 
+use crate::boundaries;
 use crate::set::IpSet;
 use std::alloc::{AllocError, Global};
 
@@ -41,11 +42,18 @@ impl IpSet {
         ensures members { IfOk result (λ s. IsResultOf operation s self.now other.now) }
         ensures ranges { IfOk result (λ s. HasNoMoreRanges s self.now other.now) }
     {
-        match operation {
-            Operation::Union => self.union(alloc, other),
-            Operation::Intersection => self.intersection(alloc, other),
-            Operation::Difference => self.difference(alloc, other),
-            Operation::SymmetricDifference => self.symmetric_difference(alloc, other),
-        }
+        let ipv4 = boundaries::combine(
+            alloc,
+            operation,
+            self.ipv4.as_slice(),
+            other.ipv4.as_slice(),
+        )?;
+        let ipv6 = boundaries::combine(
+            alloc,
+            operation,
+            self.ipv6.as_slice(),
+            other.ipv6.as_slice(),
+        )?;
+        Ok(IpSet { ipv4, ipv6 })
     }
 }

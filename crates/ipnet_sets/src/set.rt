@@ -95,32 +95,6 @@ impl IpSet {
         IpSet::from_range(alloc, network.network(), network.broadcast())
     }
 
-    /// Returns the result of the operation on this set and the other.
-    fn combined(
-        &self,
-        alloc: Global,
-        operation: Operation,
-        other: &IpSet,
-    ) -> Result<IpSet, AllocError>
-        ensures members { IfOk result (λ s. (x : Address)
-            → is_member s x ≡ combined operation (is_member self.now x) (is_member other.now x)) }
-        ensures ranges { IfOk result (λ s. HasNoMoreRanges s self.now other.now) }
-    {
-        let ipv4 = boundaries::combine(
-            alloc,
-            operation,
-            self.ipv4.as_slice(),
-            other.ipv4.as_slice(),
-        )?;
-        let ipv6 = boundaries::combine(
-            alloc,
-            operation,
-            self.ipv6.as_slice(),
-            other.ipv6.as_slice(),
-        )?;
-        Ok(IpSet { ipv4, ipv6 })
-    }
-
     /// The addresses that are in this set or in the other. Fails only when memory runs out.
     ///
     /// ```text
@@ -130,7 +104,7 @@ impl IpSet {
         ensures members { IfOk result (λ s. IsUnion s self.now other.now) }
         ensures ranges { IfOk result (λ s. HasNoMoreRanges s self.now other.now) }
     {
-        self.combined(alloc, Operation::Union, other)
+        self.combine(alloc, Operation::Union, other)
     }
 
     /// The addresses that are in this set and in the other. Fails only when memory runs out.
@@ -142,7 +116,7 @@ impl IpSet {
         ensures members { IfOk result (λ s. IsIntersection s self.now other.now) }
         ensures ranges { IfOk result (λ s. HasNoMoreRanges s self.now other.now) }
     {
-        self.combined(alloc, Operation::Intersection, other)
+        self.combine(alloc, Operation::Intersection, other)
     }
 
     /// The addresses that are in this set and not in the other. Fails only when memory runs out.
@@ -154,7 +128,7 @@ impl IpSet {
         ensures members { IfOk result (λ s. IsDifference s self.now other.now) }
         ensures ranges { IfOk result (λ s. HasNoMoreRanges s self.now other.now) }
     {
-        self.combined(alloc, Operation::Difference, other)
+        self.combine(alloc, Operation::Difference, other)
     }
 
     /// The addresses that are in exactly one of the two sets. Fails only if memory runs out.
@@ -166,7 +140,7 @@ impl IpSet {
         ensures members { IfOk result (λ s. IsSymmetricDifference s self.now other.now) }
         ensures ranges { IfOk result (λ s. HasNoMoreRanges s self.now other.now) }
     {
-        self.combined(alloc, Operation::SymmetricDifference, other)
+        self.combine(alloc, Operation::SymmetricDifference, other)
     }
 
     /// The addresses of both families that are not in this set. Fails only when memory runs out.

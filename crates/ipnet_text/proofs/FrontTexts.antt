@@ -8,19 +8,16 @@ use Rattle.std.proofs.lemmas.Bool.{cases_lt}
 use Rattle.std.proofs.lemmas.Str.{digit_value_digit}
 use Rattle.std.proofs.lemmas.Str.Parse.{digit_from_value}
 use Rattle.std.specs.Char.{digit_value}
-use Rattle.std.specs.Int.{w32, from_be_bytes}
+use Rattle.std.specs.Net.Addr.{ipv4_octets, ipv4_bits}
+use Rattle.std.specs.declared.net.ipv4_addr.Ipv4Addr.{Ipv4Addr}
 use Rattle.std.specs.Str.Parse.{AllDigits}
+use Rattle.ipnet_base.specs.Address.{ipv4_address}
 use Rattle.ipnet.specs.AddressTexts.{IsIpv4AddressText, IsJoined}
 use Rattle.ipnet.specs.Lines.{lines_of}
-use Rattle.ipnet.specs.NetworkOf.{ipv4_network_of}
+use Rattle.ipnet.specs.NetworkParts.{network_at}
 use Rattle.ipnet.specs.NetworkTexts.{IsIpv4NetworkText}
 use Rattle.ipnet.specs.Numerals.{IsDecimal, IsOctet}
 use Rattle.ipnet.specs.declared.parser.Grammar.TheVariants.{Strict}
-
--- the number at the front, the byte that ends it, and the bytes after that
-pub record IsCut (bytes digits after : List ℕ) (end n : ℕ) : Type 0 where
-  pub spelled : bytes ≡ digits ++ end ∷ after
-  pub octet : IsOctet Strict digits n
 
 -- the bytes from a place on, as a slice has them
 abbrev pub rest_from : ℕ → List ℕ → List ℕ
@@ -40,10 +37,6 @@ cut_byte bytes i end within is =
     ∙ ap (λ b. take i bytes ++ b ∷ drop (suc i) bytes) is
     ∙ ap (λ k. take i bytes ++ end ∷ drop k bytes) (sym (add-one i))
     ∙ ap (λ z. take i bytes ++ end ∷ z) (sym (rest_is (i + 1) bytes))
-
-cut_at : (bytes : List ℕ) (i end n : ℕ) → i < length bytes → get_or bytes i 0 ≡ end → IsOctet Strict (take i bytes) n
-    → IsCut bytes (take i bytes) (rest_from (i + 1) bytes) end n
-cut_at bytes i end n within is octet = record { spelled = cut_byte bytes i end within is; octet = octet }
 
 -- ---- no byte of the line ends a line
 
@@ -89,7 +82,7 @@ first_line_of Writes bytes line rest len spelled size unbroken is =
 -- ---- the prefix length
 
 -- three digits without a leading zero write at least 100
-pub prefix_len_short : (digits : List ℕ) (n : ℕ) → IsOctet Strict digits n → n ≤ 32 → IsDecimal Strict 2 32 digits n
+prefix_len_short : (digits : List ℕ) (n : ℕ) → IsOctet Strict digits n → n ≤ 32 → IsDecimal Strict 2 32 digits n
 prefix_len_short digits n h small = record {
   digits = h.digits;
   value = h.value;
@@ -114,141 +107,64 @@ prefix_len_short digits n h small = record {
 
 -- ---- the line of an IPv4 network
 
--- what writes the network of four octets and a prefix length
-abbrev pub WritesIpv4 : ℕ → ℕ → ℕ → ℕ → ℕ → List ℕ → Type 0
-WritesIpv4 a b c d n text = IsIpv4NetworkText Strict text (ipv4_network_of (from_be_bytes w32 (a ∷ b ∷ c ∷ d ∷ [])) n)
-
--- the five numbers of the line, the bytes that they are spelled in, and the bytes after the line
-pub record IsFront (bytes second third fourth fifth t₁ t₂ t₃ t₄ t₅ rest : List ℕ) (a b c d n : ℕ) : Type 0 where
-  pub is_a : IsCut bytes t₁ second 46 a
-  pub is_b : IsCut second t₂ third 46 b
-  pub is_c : IsCut third t₃ fourth 46 c
-  pub is_d : IsCut fourth t₄ fifth 47 d
-  pub is_n : IsCut fifth t₅ rest 10 n
-  pub small : n ≤ 32
-
--- the line of these texts
-abbrev line_text : List ℕ → List ℕ → List ℕ → List ℕ → List ℕ → List ℕ
-line_text t₁ t₂ t₃ t₄ t₅ = (t₁ ++ 46 ∷ (t₂ ++ 46 ∷ (t₃ ++ 46 ∷ t₄))) ++ (47 ∷ []) ++ t₅
-
-front_spelled : (bytes second third fourth fifth t₁ t₂ t₃ t₄ t₅ rest : List ℕ) (a b c d n : ℕ)
-    → IsFront bytes second third fourth fifth t₁ t₂ t₃ t₄ t₅ rest a b c d n
-    → bytes ≡ line_text t₁ t₂ t₃ t₄ t₅ ++ 10 ∷ rest
-front_spelled bytes second third fourth fifth t₁ t₂ t₃ t₄ t₅ rest a b c d n h =
-    h.is_a.spelled
-    ∙ rw (h.is_b.spelled, h.is_c.spelled, h.is_d.spelled, h.is_n.spelled) (simp append_assoc)
-
-front_unbroken : (bytes second third fourth fifth t₁ t₂ t₃ t₄ t₅ rest : List ℕ) (a b c d n : ℕ)
-    → IsFront bytes second third fourth fifth t₁ t₂ t₃ t₄ t₅ rest a b c d n
-    → IsUnbroken (line_text t₁ t₂ t₃ t₄ t₅)
-front_unbroken bytes second third fourth fifth t₁ t₂ t₃ t₄ t₅ rest a b c d n h =
-    let one = unbroken_digits 10 t₁ (omega arith) h.is_a.octet.digits.1 in
-    let two = unbroken_digits 10 t₂ (omega arith) h.is_b.octet.digits.1 in
-    let three = unbroken_digits 10 t₃ (omega arith) h.is_c.octet.digits.1 in
-    let four = unbroken_digits 10 t₄ (omega arith) h.is_d.octet.digits.1 in
-    let five = unbroken_digits 10 t₅ (omega arith) h.is_n.octet.digits.1 in
-    let dot : 46 ≢ 10 = λ e. omega (arith, e) in
-    let slash : 47 ≢ 10 = λ e. omega (arith, e) in
-    let address = t₁ ++ 46 ∷ (t₂ ++ 46 ∷ (t₃ ++ 46 ∷ t₄)) in
-    unbroken_append (address ++ 47 ∷ []) t₅
-    (unbroken_append address (47 ∷ [])
-    (unbroken_append t₁ (46 ∷ (t₂ ++ 46 ∷ (t₃ ++ 46 ∷ t₄))) one
-    (dot, unbroken_append t₂ (46 ∷ (t₃ ++ 46 ∷ t₄)) two (dot, unbroken_append t₃ (46 ∷ t₄) three (dot, four))))
-    (slash, tt)) five
-
-front_network : (bytes second third fourth fifth t₁ t₂ t₃ t₄ t₅ rest : List ℕ) (a b c d n : ℕ)
-    → IsFront bytes second third fourth fifth t₁ t₂ t₃ t₄ t₅ rest a b c d n
-    → IsIpv4NetworkText Strict (line_text t₁ t₂ t₃ t₄ t₅) (ipv4_network_of (from_be_bytes w32 (a ∷ b ∷ c ∷ d ∷ [])) n)
-front_network bytes second third fourth fifth t₁ t₂ t₃ t₄ t₅ rest a b c d n h = record {
-  address_text = t₁ ++ 46 ∷ (t₂ ++ 46 ∷ (t₃ ++ 46 ∷ t₄));
-  length_text = t₅;
-  octets = a ∷ b ∷ c ∷ d ∷ [];
-  spelled = refl;
-  writes_address = (
-    (
-      t₁,
-      t₂ ++ 46 ∷ (t₃ ++ 46 ∷ t₄),
-      simp append_assoc,
-      h.is_a.octet,
-      (t₂, t₃ ++ 46 ∷ t₄, simp append_assoc, h.is_b.octet, (t₃, t₄, simp append_assoc, h.is_c.octet, h.is_d.octet)),
-    ),
-    refl,
-  );
-  writes_length = prefix_len_short t₅ n h.is_n.octet h.small;
+pub network_text : (text digits : List ℕ) (a : Ipv4Addr) (p : ℕ) → IsIpv4AddressText Strict text (ipv4_octets a)
+    → IsOctet Strict digits p → p ≤ 32
+    → IsIpv4NetworkText Strict (text ++ 47 ∷ digits) (network_at (ipv4_address a) p)
+unfolding ipv4_bits
+network_text text digits a p h octet small = record {
+  address_text = text;
+  length_text = digits;
+  octets = ipv4_octets a;
+  spelled = sym (append_assoc text (47 ∷ []) digits);
+  writes_address = h;
+  writes_length = prefix_len_short digits p octet small;
   family = refl;
   number = refl;
 }
 
-front_length : (t₁ t₂ t₃ t₄ t₅ : List ℕ) (i j k l m : ℕ) → length t₁ ≡ i → length t₂ ≡ j → length t₃ ≡ k
-    → length t₄ ≡ l → length t₅ ≡ m → length (line_text t₁ t₂ t₃ t₄ t₅) ≡ i + j + k + l + m + 4
-front_length t₁ t₂ t₃ t₄ t₅ i j k l m e₁ e₂ e₃ e₄ e₅ =
+unbroken_octets : (text octets : List ℕ) → IsJoined (codes ".") (IsOctet Strict) text octets → IsUnbroken text
+unbroken_octets text [] h = rw (h) tt
+unbroken_octets text (n ∷ []) h = unbroken_digits 10 text (omega arith) h.digits.1
+unbroken_octets text (n ∷ m ∷ octets) (first, rest, spelled, octet, later) =
+    subst IsUnbroken (sym (spelled ∙ append_assoc first (46 ∷ []) rest))
+    (unbroken_append first (46 ∷ rest) (unbroken_digits 10 first (omega arith) octet.digits.1)
+    (λ e. omega (arith, e), unbroken_octets rest (m ∷ octets) later))
+
+-- the address, "/" and the prefix length, by the places of the bytes that end them
+pub front_at : (bytes : List ℕ) (len digits : ℕ) (a : Ipv4Addr) (p : ℕ) → 20 ≤ length bytes → len ≤ 15 → digits ≤ 3
+    → IsIpv4AddressText Strict (take len bytes) (ipv4_octets a) → get_or bytes len 0 ≡ 47
+    → IsOctet Strict (take digits (rest_from (len + 1) bytes)) p → get_or (rest_from (len + 1) bytes) digits 0 ≡ 10
+    → p ≤ 32
+    → IsFirstLine (λ text. IsIpv4NetworkText Strict text (network_at (ipv4_address a) p)) bytes (len + 1 + digits)
+front_at bytes len digits a p long few few_digits is slash octet newline small =
+    let text = take len bytes in
+    let rest = rest_from (len + 1) bytes in
+    let number = take digits rest in
+    let after = rest_from (digits + 1) rest in
+    let size : length rest ≡ length bytes - (len + 1) = length_rest (len + 1) bytes in
+    let spelled : bytes ≡ (text ++ 47 ∷ number) ++ 10 ∷ after =
+    cut_byte bytes len 47 (omega (arith, long, few)) slash
+    ∙ ap (λ z. text ++ 47 ∷ z) (cut_byte rest digits 10 (omega (arith, long, few, few_digits, size)) newline)
+    ∙ sym (append_assoc text (47 ∷ number) (10 ∷ after)) in
+    let count : length (text ++ 47 ∷ number) ≡ len + 1 + digits =
     omega (
       arith,
-      e₁,
-      e₂,
-      e₃,
-      e₄,
-      e₅,
-      length-append ((t₁ ++ 46 ∷ (t₂ ++ 46 ∷ (t₃ ++ 46 ∷ t₄))) ++ 47 ∷ []) t₅,
-      length-append (t₁ ++ 46 ∷ (t₂ ++ 46 ∷ (t₃ ++ 46 ∷ t₄))) (47 ∷ []),
-      length-append t₁ (46 ∷ (t₂ ++ 46 ∷ (t₃ ++ 46 ∷ t₄))),
-      length-append t₂ (46 ∷ (t₃ ++ 46 ∷ t₄)),
-      length-append t₃ (46 ∷ t₄),
-    )
+      length-append text (47 ∷ number),
+      length-take-le len bytes (omega (arith, long, few)),
+      length-take-le digits rest (omega (arith, long, few, few_digits, size)),
+    ) in
+    let whole : IsUnbroken (text ++ 47 ∷ number) =
+    unbroken_append text (47 ∷ number) (unbroken_octets text (ipv4_octets a) is.0)
+    (λ e. omega (arith, e), unbroken_digits 10 number (omega arith) octet.digits.1) in
+    first_line_of (λ t. IsIpv4NetworkText Strict t (network_at (ipv4_address a) p)) bytes (text ++ 47 ∷ number) after
+    (len + 1 + digits) spelled count whole (network_text text number a p is octet small)
 
-pub front_is : (bytes second third fourth fifth t₁ t₂ t₃ t₄ t₅ rest : List ℕ) (a b c d n i j k l m : ℕ)
-    → IsFront bytes second third fourth fifth t₁ t₂ t₃ t₄ t₅ rest a b c d n
-    → length t₁ ≡ i → length t₂ ≡ j → length t₃ ≡ k → length t₄ ≡ l → length t₅ ≡ m
-    → IsFirstLine (WritesIpv4 a b c d n) bytes (i + j + k + l + m + 4)
-front_is bytes second third fourth fifth t₁ t₂ t₃ t₄ t₅ rest a b c d n i j k l m h e₁ e₂ e₃ e₄ e₅ =
-    first_line_of (WritesIpv4 a b c d n) bytes (line_text t₁ t₂ t₃ t₄ t₅) rest (i + j + k + l + m + 4)
-    (front_spelled bytes second third fourth fifth t₁ t₂ t₃ t₄ t₅ rest a b c d n h)
-    (front_length t₁ t₂ t₃ t₄ t₅ i j k l m e₁ e₂ e₃ e₄ e₅)
-    (front_unbroken bytes second third fourth fifth t₁ t₂ t₃ t₄ t₅ rest a b c d n h)
-    (front_network bytes second third fourth fifth t₁ t₂ t₃ t₄ t₅ rest a b c d n h)
+-- ---- an IPv4 address at the front
 
 -- the bytes after the one that ends the number, which is among the first four
 after_short : (bytes : List ℕ) (i least : ℕ) → i ≤ 3 → 4 + least ≤ length bytes
     → least ≤ length (rest_from (i + 1) bytes)
 after_short bytes i least few long = omega (arith, few, long, length_rest (i + 1) bytes)
-
--- the five numbers, by the places of the bytes that end them
-pub front_at : (bytes : List ℕ) (i j k l m a b c d n : ℕ) → 20 ≤ length bytes
-    → i ≤ 3 → j ≤ 3 → k ≤ 3 → l ≤ 3 → m ≤ 3
-    → IsOctet Strict (take i bytes) a → get_or bytes i 0 ≡ 46
-    → IsOctet Strict (take j (rest_from (i + 1) bytes)) b → get_or (rest_from (i + 1) bytes) j 0 ≡ 46
-    → IsOctet Strict (take k (rest_from (j + 1) (rest_from (i + 1) bytes))) c
-    → get_or (rest_from (j + 1) (rest_from (i + 1) bytes)) k 0 ≡ 46
-    → IsOctet Strict (take l (rest_from (k + 1) (rest_from (j + 1) (rest_from (i + 1) bytes)))) d
-    → get_or (rest_from (k + 1) (rest_from (j + 1) (rest_from (i + 1) bytes))) l 0 ≡ 47
-    → IsOctet Strict (take m (rest_from (l + 1) (rest_from (k + 1) (rest_from (j + 1) (rest_from (i + 1) bytes))))) n
-    → get_or (rest_from (l + 1) (rest_from (k + 1) (rest_from (j + 1) (rest_from (i + 1) bytes)))) m 0 ≡ 10
-    → n ≤ 32 → IsFirstLine (WritesIpv4 a b c d n) bytes (i + j + k + l + m + 4)
-front_at bytes i j k l m a b c d n long few₁ few₂ few₃ few₄ few₅ is_a end_a is_b end_b is_c end_c is_d end_d is_n end_n
-    small =
-    let second = rest_from (i + 1) bytes in
-    let third = rest_from (j + 1) second in
-    let fourth = rest_from (k + 1) third in
-    let fifth = rest_from (l + 1) fourth in
-    let long₂ : 16 ≤ length second = after_short bytes i 16 few₁ long in
-    let long₃ : 12 ≤ length third = after_short second j 12 few₂ long₂ in
-    let long₄ : 8 ≤ length fourth = after_short third k 8 few₃ long₃ in
-    let long₅ : 4 ≤ length fifth = after_short fourth l 4 few₄ long₄ in
-    front_is bytes second third fourth fifth (take i bytes) (take j second) (take k third) (take l fourth)
-    (take m fifth) (rest_from (m + 1) fifth) a b c d n i j k l m
-    (record {
-      is_a = cut_at bytes i 46 a (omega arith) end_a is_a;
-      is_b = cut_at second j 46 b (omega arith) end_b is_b;
-      is_c = cut_at third k 46 c (omega arith) end_c is_c;
-      is_d = cut_at fourth l 47 d (omega arith) end_d is_d;
-      is_n = cut_at fifth m 10 n (omega arith) end_n is_n;
-      small = small;
-    })
-    (length-take-le i bytes (omega arith)) (length-take-le j second (omega arith))
-    (length-take-le k third (omega arith))
-    (length-take-le l fourth (omega arith)) (length-take-le m fifth (omega arith))
-
--- ---- an IPv4 address at the front
 
 -- what comes before a byte, that byte, and the front of what comes after it
 pub take_cut : (bytes : List ℕ) (i n end : ℕ) → i < length bytes → get_or bytes i 0 ≡ end

@@ -122,20 +122,16 @@ fn ipv4_line(bytes: &[u8]) -> Option<(Ipv4Net, usize)>
     if bytes.len() < LONGEST_IPV4 {
         return None;
     }
-    let (a, first) = octet_before(bytes, b'.')?;
-    let second_on = &bytes[first + 1..];
-    let (b, second) = octet_before(second_on, b'.')?;
-    let third_on = &second_on[second + 1..];
-    let (c, third) = octet_before(third_on, b'.')?;
-    let fourth_on = &third_on[third + 1..];
-    let (d, fourth) = octet_before(fourth_on, b'/')?;
-    let prefix_on = &fourth_on[fourth + 1..];
-    let (prefix_len, digits) = octet_before(prefix_on, b'\n')?;
+    let (address, len) = ipv4_addr_at(bytes)?;
+    if bytes[len] != b'/' {
+        return None;
+    }
+    let (prefix_len, digits) = octet_before(&bytes[len + 1..], b'\n')?;
     if prefix_len > 32 {
         return None;
     }
-    let network = Ipv4Net::new_assert(Ipv4Addr::new(a, b, c, d), prefix_len);
-    Some((network, first + second + third + fourth + digits + 4))
+    let network = Ipv4Net::new_assert(address, prefix_len);
+    Some((network, len + 1 + digits))
 }
 
 /// The value of the byte as a hexadecimal digit, if it is one.

@@ -1,9 +1,9 @@
 //! The command `apply`: its arguments, and its run.
 use crate::arguments::{
-    ArgumentFailure, FIRST, OTHERS, STANDARD_INPUT, command_of, first, flag, flags_of, other,
-    reads_input_twice,
+    ArgumentFailure, FIRST, OTHERS, command_of, first, flag, flags_of, other, reads_input_twice,
 };
-use crate::lists::{read_whole, report_unread};
+use crate::input::{STANDARD_INPUT, report_unread};
+use crate::lists::read_whole;
 use crate::output::Streams;
 use crate::{refused, session_of};
 use clap::{ArgMatches, Command};

@@ -8,6 +8,7 @@ use crate::changes::changes_command;
 use crate::entries::with_entries;
 use crate::extract::extract_command;
 use crate::forms::with_forms;
+pub use crate::input::STANDARD_INPUT;
 use crate::lines::with_lines;
 use crate::listing::with_listings;
 use crate::lists::{Empties, Reports};
@@ -22,9 +23,6 @@ use netset_lib::{Flags, Query, Work};
 use std::alloc::{AllocError, Global};
 use std::env;
 use std::io::ErrorKind;
-
-/// The name of standard input.
-pub const STANDARD_INPUT: &str = "-";
 
 /// The id of the list that is named first.
 pub const FIRST: &str = "first";

@@ -1,9 +1,9 @@
 //! The commands about the entries of lists: their arguments, and their runs.
 use crate::arguments::{
-    ArgumentFailure, FIRST, OTHERS, STANDARD_INPUT, command_of, flags_of, one_file, other,
-    reads_input_twice,
+    ArgumentFailure, FIRST, OTHERS, command_of, flags_of, one_file, other, reads_input_twice,
 };
 use crate::extract::grammar_of;
+use crate::input::STANDARD_INPUT;
 use crate::output::Streams;
 use crate::prefixes::bytes_of;
 use crate::{refused, session_of};

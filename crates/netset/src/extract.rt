@@ -1,8 +1,7 @@
 //! The command `extract`: its arguments, and its run.
-use crate::arguments::{
-    ArgumentFailure, FIRST, STANDARD_INPUT, any_files, command_of, flag, reads_input_twice,
-};
-use crate::lists::{read_lists, report_unread};
+use crate::arguments::{ArgumentFailure, FIRST, any_files, command_of, flag, reads_input_twice};
+use crate::input::{STANDARD_INPUT, report_unread};
+use crate::lists::read_lists;
 use crate::output::Streams;
 use crate::refused;
 use clap::{Arg, ArgAction, ArgMatches, Command};

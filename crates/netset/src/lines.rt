@@ -1,16 +1,13 @@
 //! The command `filter --lines`: its flags, and its run.
-use crate::arguments::{
-    ArgumentFailure, FIRST, OTHERS, STANDARD_INPUT, flag, flags_of, reads_input_twice,
-};
+use crate::arguments::{ArgumentFailure, FIRST, OTHERS, flag, flags_of, reads_input_twice};
 use crate::extract::grammar_of;
-use crate::lists::{report_unread, unopened};
+use crate::input::{STANDARD_INPUT, open_list, report_unread};
 use crate::output::Streams;
 use crate::{refused, session_of};
 use clap::{Arg, ArgAction, ArgMatches, Command};
 use netset_lib::{Side, report_failure};
 use netset_words::{LineFilter, LinesRequest, run_lines};
 use std::alloc::{AllocError, Global};
-use std::fs::File;
 
 /// The name of the flag for whole lines.
 pub const LINES: &str = "lines";
@@ -83,13 +80,10 @@ fn filter_named(
     streams: &mut Streams<'_>,
 ) -> u8 {
     let (out, faults) = (&mut streams.answer, &mut streams.faults);
-    if log == STANDARD_INPUT {
-        return run_lines(filter, names, &mut rt.stdin(), out, faults);
-    }
-    match File::open(rt, log) {
-        Ok(mut file) => run_lines(filter, names, &mut file, out, faults),
-        Err(error) => {
-            report_unread(rt, log, &unopened(&error));
+    match open_list(rt, log) {
+        Ok(mut input) => run_lines(filter, names, &mut input, out, faults),
+        Err(unread) => {
+            report_unread(rt, log, &unread);
             2
         }
     }

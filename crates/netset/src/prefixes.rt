@@ -1,8 +1,9 @@
 //! The command `prefix-list`: its arguments, and its run.
 use crate::arguments::{
-    ArgumentFailure, FIRST, OTHERS, STANDARD_INPUT, command_of, first, other, reads_input_twice,
+    ArgumentFailure, FIRST, OTHERS, command_of, first, other, reads_input_twice,
 };
-use crate::lists::{read_filled, report_unread};
+use crate::input::{STANDARD_INPUT, report_unread};
+use crate::lists::read_filled;
 use crate::output::Streams;
 use crate::refused;
 use clap::{ArgMatches, Command};

@@ -2,9 +2,10 @@
 ghost use Rattle.std.specs.Prelude.{◌≡◌, codes, Some, IfSome};
 ghost use Rattle.netset.specs.Arguments.{IsQueryOf};
 
-use crate::arguments::{FIRST, STANDARD_INPUT, command_of, first, operation_command};
+use crate::arguments::{FIRST, command_of, first, operation_command};
 use crate::forms::form_of;
-use crate::lists::{read_rules, report_unread};
+use crate::input::{STANDARD_INPUT, report_unread};
+use crate::lists::read_rules;
 use crate::output::Streams;
 use clap::{Arg, ArgMatches, Command};
 use ipnet::Grammar;

@@ -2,8 +2,9 @@
 ghost use Rattle.std.specs.Prelude.{codes};
 ghost use Rattle.netset.specs.Arguments.{IsFlag};
 
-use crate::arguments::{ArgumentFailure, FIRST, OTHERS, STANDARD_INPUT, flag, reads_input_twice};
+use crate::arguments::{ArgumentFailure, FIRST, OTHERS, flag, reads_input_twice};
 use crate::extract::grammar_of;
+use crate::input::STANDARD_INPUT;
 use crate::output::Streams;
 use crate::prefixes::bytes_of;
 use crate::refused;

@@ -22,10 +22,9 @@ use crate::entry_list::EntryLine;
 use crate::lines::{WriteFailure, push_entry, write_if_long};
 use crate::runs::runs_of;
 use crate::span::{Family, Span, span_of, spans_of};
-use ipnet::text_laws::{ipv4_address_text_is_of_octets, ipv6_address_text_is_of_groups};
-use ipnet::{IpAddr, ipv4_addr_text, ipv6_addr_text};
+use ipnet::IpAddr;
 use ipnet_text::write_whole;
-use netset_lib::Entry;
+use netset_lib::{Entry, ip_addr_text};
 use std::alloc::{AllocError, Global};
 use std::io::Write;
 
@@ -58,16 +57,7 @@ fn push_address(text: &mut Vec<u8>, address: IpAddr) -> Result<(), AllocError>
     ensures { let a = ip_address address in
         OnOk result (text.new.items ≡ text.old.items ++ address_text a.family a.number) }
 {
-    match address {
-        IpAddr::V4(address) => {
-            ipv4_address_text_is_of_octets(address);
-            text.extend_from_slice(ipv4_addr_text(address).as_str().as_bytes())
-        }
-        IpAddr::V6(address) => {
-            ipv6_address_text_is_of_groups(address);
-            text.extend_from_slice(ipv6_addr_text(address).as_str().as_bytes())
-        }
-    }
+    text.extend_from_slice(ip_addr_text(address).as_str().as_bytes())
 }
 
 /// Returns the last address that the entries share, if they share one. They are of one family.

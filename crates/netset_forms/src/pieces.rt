@@ -8,10 +8,10 @@ ghost use Rattle.netset_forms.specs.Forms.{network_row};
 ghost use Rattle.netset_forms.specs.FormSteps.{IsCut};
 
 use arrayvec::ArrayString;
-use ipnet::text_laws::{ipv4_address_text_is_of_octets, ipv6_address_text_is_of_groups};
-use ipnet::{IpAddr, IpNet, ipv4_addr_text, ipv6_addr_text};
+use ipnet::{IpAddr, IpNet};
 use ipnet_text::pieces::PIECE;
 use ipnet_text::write_whole;
+use netset_lib::ip_addr_text;
 use std::io;
 use std::io::Write;
 
@@ -49,16 +49,7 @@ fn put_address<W: Write>(
     ensures cut { let a = ip_address address in OnErr result (IsCut (W.contents out.old) (W.contents out.new)
         piece.old.bytes (address_text a.family a.number)) }
 {
-    match address {
-        IpAddr::V4(address) => {
-            ipv4_address_text_is_of_octets(address);
-            put(out, piece, ipv4_addr_text(address).as_str())
-        }
-        IpAddr::V6(address) => {
-            ipv6_address_text_is_of_groups(address);
-            put(out, piece, ipv6_addr_text(address).as_str())
-        }
-    }
+    put(out, piece, ip_addr_text(address).as_str())
 }
 
 /// Appends the texts of two addresses to the piece, and this text between them.

@@ -1,5 +1,5 @@
 -- An answer, read as a list, has the addresses of its set.
-use Rattle.std.proofs.Common.{◌≡◌, ◌≢◌, ℕ, ◌+◌, ◌-◌, ◌^◌, ◌<◌, ◌≤◌, ◌⊎◌, ◌↔◌, Bool, true, false, List, [], ◌∷◌, ◌++◌}
+use Rattle.std.proofs.Common.{◌≡◌, ◌≢◌, ℕ, ◌+◌, ◌^◌, ◌<◌, ◌≤◌, ◌↔◌, Bool, true, false, List, [], ◌∷◌, ◌++◌}
 use Rattle.std.proofs.Common.{All, Any, Contains, map, refl, sym, ap, ◌∙◌, subst, arith, inl, inr, length, drop}
 use Rattle.std.proofs.Common.{nat_eq}
 use Rattle.std.proofs.Common.{if◌then◌else◌, codes, decimal, append_assoc}

@@ -1,12 +1,11 @@
 -- The answers to entries that were made one by one, and the answers to the query.
-use Rattle.std.proofs.Common.{◌≡◌, ◌⊎◌, ◌↔◌, Bool, true, false, ℕ, List, [], ◌∷◌, ◌++◌, All}
-use Rattle.std.proofs.Common.{Option, Some, None, refl, sym, ap}
-use Rattle.std.proofs.Common.{◌∙◌, subst, inl, inr, append-nil, string_bytes}
+use Rattle.std.proofs.Common.{◌≡◌, Bool, true, false, ℕ, List, [], ◌∷◌, ◌++◌, All}
+use Rattle.std.proofs.Common.{Some, None, refl, sym}
+use Rattle.std.proofs.Common.{subst, inl, inr, append-nil, string_bytes}
 use Rattle.std.proofs.lemmas.List.Elements.{All-nil, All-cons}
-use Rattle.ipnet_base.specs.Address.{Address, IsAddress}
+use Rattle.ipnet_base.specs.Address.{Address}
 use Rattle.ipnet.specs.declared.net.IpNet.{IpNet}
 use Rattle.ipnet_sets.specs.Members.{IsMember}
-use Rattle.ipnet_sets.specs.declared.set.IpSet.{IpSet}
 use Rattle.ipnet_sets.specs.declared.routes.RouteTable.{RouteTable}
 use Rattle.netset_lib.specs.declared.answerer.Answerer.{Answerer}
 use Rattle.netset_lib.specs.declared.answerer.Answerer.TheVariants as Answerers

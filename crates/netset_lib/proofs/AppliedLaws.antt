@@ -1,19 +1,18 @@
 -- Changes that are applied to the list before make the list after.
 use Rattle.std.proofs.Common.{◌≡◌, ◌↔◌, ℕ, List, [], ◌∷◌, All, Contains, refl, sym, ap, ◌∙◌, subst, arith, inl, inr}
 use Rattle.ipnet_base.specs.Address.{Address, IsAddress}
-use Rattle.ipnet_base.specs.Blocks.{IsMaximal, AreMaximalBlocks}
-use Rattle.ipnet_base.specs.Network.{Network, InBlock}
+use Rattle.ipnet_base.specs.Blocks.{AreMaximalBlocks}
+use Rattle.ipnet_base.specs.Network.{Network}
 use Rattle.ipnet_base.proofs.ListLaws.{all_from_members}
 use Rattle.ipnet_base.proofs.UniqueLaws.{AreMaximalBlocks-same_set}
 use Rattle.ipnet_sets.proofs.SetRangeLaws.{any_cases, any_here}
 use Rattle.netset_lib.specs.declared.answer.Form.{Form}
 use Rattle.netset_lib.specs.declared.answer.Request.{Request}
 use Rattle.netset_lib.specs.declared.change_line.ChangeCause.{ChangeCause}
-use Rattle.netset_lib.specs.declared.operation.Operation.{Operation}
 use Rattle.netset_lib.specs.declared.operation.Operation.TheVariants as Operations
 use Rattle.netset_lib.specs.Answers.{AreListsRead, IsAnswer, IsSetText}
-use Rattle.netset_lib.specs.Changes.{ListChange, Added, Removed, AreChanges, IsChangesAnswer, text_of_changes}
-use Rattle.netset_lib.specs.ChangeLists.{IsAnswerNetwork, Fits, IsChangeList, IsKeptOrAdded, IsInChanged}
+use Rattle.netset_lib.specs.Changes.{ListChange, Added, Removed, AreChanges, IsChangesAnswer}
+use Rattle.netset_lib.specs.ChangeLists.{IsAnswerNetwork, IsChangeList, IsKeptOrAdded, IsInChanged}
 use Rattle.netset_lib.specs.ChangeLists.{IsChangedText, IsChangedAnswer, HaveRefusedChanges}
 use Rattle.netset_lib.specs.ContentLines.{RefusedContent}
 use Rattle.netset_lib.specs.Lists.{ListEntry, IsListRead, IsInEntries}

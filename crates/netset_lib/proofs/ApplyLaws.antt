@@ -1,20 +1,17 @@
 -- The networks of a set, and the set that changes of its networks make.
-use Rattle.std.proofs.Common.{◌≡◌, ◌≢◌, ℕ, ◌+◌, ◌/◌, ◌^◌, ◌<◌, ◌≤◌, ◌↔◌, ◌⊎◌, List, [], ◌∷◌, ◌++◌, All, Contains}
+use Rattle.std.proofs.Common.{◌≡◌, ◌≢◌, ℕ, ◌^◌, ◌<◌, ◌↔◌, ◌⊎◌, List, [], ◌∷◌, ◌++◌, All, Contains}
 use Rattle.std.proofs.Common.{refl}
 use Rattle.std.proofs.Common.{sym, ap, ◌∙◌, subst, arith, inl, inr, Bool, true, false, not, IsTrue, Some}
 use Rattle.std.proofs.lemmas.Bool.{cases_lt}
 use Rattle.std.proofs.lemmas.List.Elements.{All-contains, Contains-append_left, Contains-append_right}
 use Rattle.std.proofs.lemmas.List.Elements.{Contains-append_cases}
-use Rattle.ipnet_base.specs.Address.{Address, IsAddress, width}
-use Rattle.ipnet_base.specs.Blocks.{IsInside, IsMaximal, IsCoveredBy}
-use Rattle.ipnet_base.specs.Network.{Network, IsNetwork, IsTruncated, InBlock, IsSubnetOf, IsSupernetOf, host_bits}
+use Rattle.ipnet_base.specs.Address.{Address, width}
+use Rattle.ipnet_base.specs.Blocks.{IsCoveredBy}
+use Rattle.ipnet_base.specs.Network.{Network, IsNetwork, IsTruncated, InBlock, IsSupernetOf}
 use Rattle.ipnet_base.proofs.BlockLaws.{own_in}
 use Rattle.ipnet_base.proofs.DecidedLaws.{IsDecided}
 use Rattle.ipnet_base.proofs.ListLaws.{contains_nil, contains_here, contains_cases, any_from_contains}
 use Rattle.ipnet_base.proofs.MaximalLaws.{maximal_above, one_maximal, IsInside-of_block}
-use Rattle.ipnet_base.proofs.NestingLaws.{nested, bits_from_subnet}
-use Rattle.ipnet_base.proofs.NetworkLaws.{same_from_block}
-use Rattle.ipnet_base.proofs.SupernetLaws.{supernet_below, supernet_bits}
 use Rattle.ipnet_sets.specs.declared.set.IpSet.{IpSet}
 use Rattle.ipnet_sets.specs.Members.{IsMember, IsUnion, IsDifference, HasAddressesOf, is_member}
 use Rattle.ipnet.specs.declared.parser.Grammar.{Grammar}

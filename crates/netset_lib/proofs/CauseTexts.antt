@@ -1,11 +1,11 @@
 -- Why a text is not an entry.
-use Rattle.std.proofs.Common.{◌≡◌, ◌≢◌, ◌↔◌, ℕ, ◌<◌, ◌≤◌, ◌^◌, List, [], ◌∷◌, length, true, false, Bool, IsTrue}
-use Rattle.std.proofs.Common.{◌&&◌, ◌==◌, refl, sym, ap, ◌∙◌, subst, arith, inl, inr, drop, lit<}
-use Rattle.std.proofs.Common.{Option, Some, None, IfSome, IfOk, Result, Err}
+use Rattle.std.proofs.Common.{◌≡◌, ◌≢◌, ◌↔◌, ℕ, ◌<◌, ◌^◌, List, [], ◌∷◌, length, true, false, Bool, IsTrue}
+use Rattle.std.proofs.Common.{◌&&◌, refl, sym, ap, ◌∙◌, subst, arith, inl, inr}
+use Rattle.std.proofs.Common.{Option, Some, None, IfSome, Result, Err}
 use Rattle.std.proofs.lemmas.Bool.{cases_lt}
 use Rattle.std.proofs.lemmas.Str.Parse.{IsNumeralModel, numerals_by_value, tells_all_ascii_digits, parse_digits}
 use Rattle.std.specs.Char.{is_ascii_digit}
-use Rattle.std.specs.List.{after_first, before_first, list_all, position_or_len}
+use Rattle.std.specs.List.{list_all}
 use Rattle.std.specs.Result.{OkIff}
 use Rattle.std.specs.Str.{all_ascii_digits}
 use Rattle.std.specs.Str.Parse.{digits_value, ParsesUnsigned}
@@ -13,11 +13,11 @@ use Rattle.ipnet_base.specs.Address.{Family, Address, IPv4}
 use Rattle.ipnet.specs.declared.parser.Grammar.{Grammar}
 use Rattle.ipnet.specs.declared.parser.Grammar.TheVariants.{Legacy}
 use Rattle.netset_lib.specs.declared.cause.Cause.{Cause}
-use Rattle.netset_lib.specs.Causes.{AreAddresses, Explains, IsReportedCause, IsCutAt, IsFirstOf, IsMaskNumber}
+use Rattle.netset_lib.specs.Causes.{AreAddresses, IsReportedCause, IsMaskNumber}
 use Rattle.netset_lib.specs.Causes.{IsMaskText, IsOfFamily, WritesAbove}
 use Rattle.netset_lib.specs.CauseSteps.{WriteEnds}
 use Rattle.netset_lib.specs.Entries.{IsAddressText, IsNoEntry, ReadsAs, after_blanks, before_blanks}
-use Rattle.netset_lib.proofs.EntryTexts.{none_of, ok_map, one_address, some_of}
+use Rattle.netset_lib.proofs.EntryTexts.{none_of, one_address}
 
 -- ---- truth values
 

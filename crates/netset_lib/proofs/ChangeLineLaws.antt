@@ -10,7 +10,6 @@ use Rattle.netset_lib.specs.declared.change_line.Sign.TheVariants.{Plus, Minus}
 use Rattle.netset_lib.specs.declared.changes.Change.{Change}
 use Rattle.netset_lib.specs.declared.network_entry.NetworkCause.{NetworkCause}
 use Rattle.netset_lib.specs.ApplySteps.{signed, IsMisfit}
-use Rattle.netset_lib.specs.Changes.{ListChange}
 use Rattle.netset_lib.specs.ChangeLists.{sign_of, IsChangeText, Fits, IsFittingChange, IsChangeCause}
 use Rattle.netset_lib.specs.ChangeSteps.{change_of}
 use Rattle.netset_lib.specs.NetworkEntries.{IsNetworkWord, IsNoNetworkWord, IsNetworkCause}

@@ -1,15 +1,11 @@
 -- The text of changes, read as a list of changes, is these changes.
-use Rattle.std.proofs.Common.{◌≡◌, ◌≢◌, ℕ, ◌+◌, ◌-◌, ◌<◌, ◌≤◌, ◌⊎◌, ◌↔◌, Bool, true, false, List, [], ◌∷◌, ◌++◌, All}
-use Rattle.std.proofs.Common.{Contains, map, refl, sym, ap, ap₂, ◌∙◌, subst, arith, inl, inr, length, drop, take}
-use Rattle.std.proofs.Common.{codes}
+use Rattle.std.proofs.Common.{◌≡◌, ◌≢◌, ℕ, ◌+◌, ◌-◌, ◌<◌, false, List, [], ◌∷◌, ◌++◌, All}
+use Rattle.std.proofs.Common.{map, refl, sym, ap, ap₂, ◌∙◌, subst, arith, inl, inr, length, drop}
 use Rattle.std.proofs.Common.{get_or, append_assoc, suc}
 use Rattle.std.specs.Char.{is_ascii_whitespace}
-use Rattle.std.specs.List.{prefix_len, position_or_len, before_first, suffix_len}
-use Rattle.std.proofs.lemmas.List.{get_or-reverse, length-reverse, length-append}
-use Rattle.std.proofs.lemmas.List.Elements.{All-nil, All-cons, All-head, All-tail, All-weaker, All-append, All-get_or}
-use Rattle.ipnet_base.specs.Address.{Address}
-use Rattle.ipnet_base.specs.Network.{Network, IsNetwork, IsTruncated, InBlock, HaveSameBlock}
-use Rattle.ipnet_base.specs.Ranges.{AddressRange}
+use Rattle.std.specs.List.{prefix_len, suffix_len}
+use Rattle.std.proofs.lemmas.List.Elements.{All-nil, All-cons, All-head, All-tail, All-weaker, All-get_or}
+use Rattle.ipnet_base.specs.Network.{Network, IsNetwork, IsTruncated, HaveSameBlock}
 use Rattle.ipnet_base.proofs.BlockLaws.{between_from_block, block_from_between}
 use Rattle.ipnet_base.proofs.NetworkLaws.{same_from_block}
 use Rattle.ipnet.specs.CanonicalTexts.{canonical_text}
@@ -18,16 +14,15 @@ use Rattle.ipnet.specs.declared.parser.Grammar.{Grammar}
 use Rattle.ipnet.specs.declared.parser.Grammar.TheVariants.{Strict}
 use Rattle.ipnet.proofs.PrintedTexts.{canonical_is_read}
 use Rattle.ipnet_sets.specs.SetRanges.{IsInRange}
-use Rattle.ipnet_text.proofs.LineCuts.{empty_text}
 use Rattle.netset_lib.specs.declared.change_line.ChangeCause.{ChangeCause}
 use Rattle.netset_lib.specs.declared.change_line.ChangeCause.TheVariants as Causes
 use Rattle.netset_lib.specs.Changes.{ListChange, Added, Removed, changed_network, change_line, text_of_changes}
-use Rattle.netset_lib.specs.ChangeLists.{sign_of, HasSign, IsChangeText, Fits, IsFittingChange, IsChangeCause}
+use Rattle.netset_lib.specs.ChangeLists.{sign_of, IsChangeText, Fits, IsFittingChange, IsChangeCause}
 use Rattle.netset_lib.specs.ChangeLists.{IsChangeList}
 use Rattle.netset_lib.specs.ContentLines.{ContentLine, RefusedContent, AreNumbered, AreItems}
-use Rattle.netset_lib.specs.Entries.{IsEntryWord, block_range}
-use Rattle.netset_lib.specs.Lists.{IsContents, AreContents, Opens, without_blanks, after_mark}
-use Rattle.netset_lib.specs.NetworkEntries.{IsNetworkWord, IsNoNetworkWord}
+use Rattle.netset_lib.specs.Entries.{block_range}
+use Rattle.netset_lib.specs.Lists.{IsContents, AreContents, without_blanks, after_mark}
+use Rattle.netset_lib.specs.NetworkEntries.{IsNetworkWord}
 use Rattle.netset_lib.specs.RuleLines.{leading_word, after_word}
 use Rattle.netset_lib.proofs.AddressBytes.{IsPlainByte}
 use Rattle.netset_lib.proofs.AnswerReading.{text_of, lines_of_text, no_mark, no_newline, canonical_some}

@@ -1,5 +1,5 @@
 -- The comment of a line, and its first word.
-use Rattle.std.proofs.Common.{◌≡◌, ℕ, ◌+◌, ◌-◌, ◌<◌, ◌≤◌, ◌⊎◌, true, false, List, [], length, get_or, take, drop, arith}
+use Rattle.std.proofs.Common.{◌≡◌, ℕ, ◌+◌, ◌-◌, ◌<◌, ◌≤◌, true, false, List, length, get_or, take, drop, arith}
 use Rattle.std.proofs.Common.{sym, ap, ◌∙◌, subst, inl, inr, take_all, length-drop}
 use Rattle.std.specs.Char.{is_ascii_whitespace}
 use Rattle.std.specs.List.{position_or_len, prefix_len}

@@ -1,5 +1,5 @@
 -- The lines of a list that are not empty, as they are read one after another, and what is read of each.
-use Rattle.std.proofs.Common.{◌≡◌, ◌≢◌, ℕ, ◌+◌, ◌<◌, ◌≤◌, zero, suc, List, [], ◌∷◌, ◌++◌, length, map, take, get_or}
+use Rattle.std.proofs.Common.{◌≡◌, ℕ, ◌+◌, ◌<◌, ◌≤◌, List, [], ◌∷◌, ◌++◌, length, map, take, get_or}
 use Rattle.std.proofs.Common.{refl}
 use Rattle.std.proofs.Common.{sym, ap, ◌∙◌, subst, arith, inl, inr, append_assoc, append-nil, Result, Ok, Err}
 use Rattle.std.proofs.Common.{take_all, All, IfOk, IfErr}
@@ -8,7 +8,7 @@ use Rattle.std.proofs.lemmas.List.Elements.{All-nil, All-cons}
 use Rattle.ipnet.specs.declared.parser.Grammar.{Grammar}
 use Rattle.ipnet.specs.Lines.{lines_of}
 use Rattle.netset_lib.specs.ContentLineOf.{AddsLine, AddsRead}
-use Rattle.netset_lib.specs.ContentLines.{ContentLine, RefusedContent, AreNumbered, IsNextItem, IsNextRefused}
+use Rattle.netset_lib.specs.ContentLines.{ContentLine, RefusedContent, AreNumbered}
 use Rattle.netset_lib.specs.ContentLines.{AreItems}
 use Rattle.netset_lib.specs.Lists.{IsContents, AreContents}
 

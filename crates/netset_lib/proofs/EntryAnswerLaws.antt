@@ -1,5 +1,5 @@
 -- Answers to the entries of a list, and whether one of them was found: for some entries, and for others after them.
-use Rattle.std.proofs.Common.{◌≡◌, ◌⊎◌, ◌↔◌, Bool, true, false, ◌||◌, ℕ, List, [], ◌∷◌, ◌++◌, All, Any, refl, sym, ap}
+use Rattle.std.proofs.Common.{◌≡◌, ◌⊎◌, ◌↔◌, Bool, true, false, ◌||◌, ℕ, List, [], ◌∷◌, ◌++◌, All, Any, sym, ap}
 use Rattle.std.proofs.Common.{◌∙◌, subst, inl, inr, append_assoc}
 use Rattle.std.proofs.lemmas.List.Elements.{All-nil, All-cons, All-head, All-tail, All-append}
 use Rattle.ipnet_base.proofs.ListLaws.{contains_nil}

@@ -1,17 +1,16 @@
 -- Entries that lie in a set, and entries that are kept.
-use Rattle.std.proofs.Common.{◌≡◌, ℕ, ◌^◌, ◌↔◌, Bool, IsTrue, List, [], ◌∷◌, ◌++◌, All, refl, sym, ap, ◌∙◌}
-use Rattle.std.proofs.Common.{subst, arith, inl, inr, append_assoc}
+use Rattle.std.proofs.Common.{◌≡◌, ℕ, ◌^◌, ◌↔◌, Bool, IsTrue, List, [], ◌∷◌, ◌++◌, refl, ap, ◌∙◌}
+use Rattle.std.proofs.Common.{arith, inl, inr, append_assoc}
 use Rattle.ipnet_base.specs.Address.{Address, IsAddress, width}
 use Rattle.ipnet_base.specs.Ranges.{AddressRange}
-use Rattle.ipnet_sets.specs.declared.set.IpSet.{IpSet}
-use Rattle.ipnet_sets.specs.Members.{IsMember, IsFromTo}
+use Rattle.ipnet_sets.specs.Members.{IsFromTo}
 use Rattle.ipnet_sets.specs.SetRanges.{IsInRange}
 use Rattle.netset_lib.specs.declared.filter.Side.{Side}
 use Rattle.netset_lib.specs.declared.filter.Side.TheVariants.{Inside, Outside}
 use Rattle.netset_lib.specs.EntryAnswers.{AreAnswers}
 use Rattle.netset_lib.specs.Filtering.{HasAddresses, IsFilterLine}
 use Rattle.netset_lib.specs.Filters.{IsOnSide, LiesIn, AreKept, text_of_entries}
-use Rattle.netset_lib.specs.Lists.{ListEntry, IsInEntries}
+use Rattle.netset_lib.specs.Lists.{ListEntry}
 
 -- ---- entries that are kept
 

@@ -12,7 +12,7 @@ use Rattle.ipnet.specs.Numerals.{IsOctet}
 use Rattle.ipnet.specs.declared.net.IpNet.TheVariants as Nets
 use Rattle.ipnet.specs.declared.net.ipv4_net.Ipv4Net.{Ipv4Net}
 use Rattle.ipnet.specs.declared.parser.Grammar.TheVariants.{Strict}
-use Rattle.ipnet_text.proofs.FrontTexts.{prefix_len_short}
+use Rattle.ipnet_text.proofs.FrontTexts.{network_text}
 use Rattle.netset_lib.specs.declared.entry.Entry.TheVariants as Entries
 use Rattle.netset_lib.specs.Entries.{IsAddressText, IsEntryWord}
 use Rattle.netset_lib.specs.EntryOf.{entry_range}
@@ -33,16 +33,7 @@ pub network_entry : (text digits : List ℕ) (a : Ipv4Addr) (p : ℕ) (n : Ipv4N
     → IsEntryWord Strict (text ++ 47 ∷ digits) (entry_range (Entries.Network (Nets.V4 n)))
 unfolding ipv4_bits
 network_entry text digits a p n h octet small is =
-    let writes : IsIpv4NetworkText Strict (text ++ 47 ∷ digits) (network_at (ipv4_address a) p) = record {
-      address_text = text;
-      length_text = digits;
-      octets = ipv4_octets a;
-      spelled = sym (append_assoc text (47 ∷ []) digits);
-      writes_address = h;
-      writes_length = prefix_len_short digits p octet small;
-      family = refl;
-      number = refl;
-    } in
+    let writes = network_text text digits a p h octet small in
     inl (inl record {
       network = ipv4_network n;
       writes = inl (inl (subst (IsIpv4NetworkText Strict (text ++ 47 ∷ digits)) (sym is) writes));

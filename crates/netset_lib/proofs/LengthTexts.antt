@@ -1,6 +1,6 @@
 -- Prefix lengths as texts.
-use Rattle.std.proofs.Common.{◌≡◌, ◌≢◌, ◌↔◌, ◌++◌, ℕ, ◌<◌, ◌^◌, List, ◌∷◌, length, true, false, sym, ◌∙◌, subst}
-use Rattle.std.proofs.Common.{Result, Option, Some, None, Bor, codes, inl, inr}
+use Rattle.std.proofs.Common.{◌≡◌, ◌≢◌, ◌↔◌, ℕ, List, ◌∷◌, true, false, sym, ◌∙◌, subst}
+use Rattle.std.proofs.Common.{Option, Some, None, Bor, inl, inr}
 use Rattle.std.specs.Char.{is_ascii_digit}
 use Rattle.std.specs.List.{list_all}
 use Rattle.std.specs.Option.{MatchOption}

@@ -1,16 +1,15 @@
 -- Lines of bytes, what they hold, and entries as text.
-use Rattle.std.proofs.Common.{◌≡◌, ℕ, ◌+◌, ◌-◌, ◌<◌, ◌≤◌, Bool, true, false, List, [], ◌∷◌, ◌++◌, All, length}
+use Rattle.std.proofs.Common.{◌≡◌, ℕ, ◌+◌, ◌-◌, ◌<◌, ◌≤◌, List, [], ◌∷◌, ◌++◌, All, length}
 use Rattle.std.proofs.Common.{get_or}
-use Rattle.std.proofs.Common.{take, drop, refl, sym, ap, ◌∙◌, subst, arith, inl, inr, append_assoc, eq-eqb, eqb-true}
+use Rattle.std.proofs.Common.{take, drop, refl, sym, ◌∙◌, subst, arith, inl, inr, append_assoc, eq-eqb, eqb-true}
 use Rattle.std.proofs.Common.{take_all, add-one, length-drop}
 use Rattle.std.specs.Char.{is_ascii_whitespace}
-use Rattle.std.specs.List.{position_or_len, prefix_len}
+use Rattle.std.specs.List.{prefix_len}
 use Rattle.std.specs.Str.{IsUtf8, IsTrimAscii}
-use Rattle.std.proofs.lemmas.List.Sums.{position_or_len_is}
 use Rattle.std.proofs.lemmas.List.Elements.{All-append, All-cons, All-weaker}
 use Rattle.std.proofs.lemmas.Str.{IsUtf8-from_ascii}
 use Rattle.std.proofs.lemmas.Str.Ascii.{IsAscii-from_all, trim_ascii_is}
-use Rattle.memchr.specs.Find.{NoneBefore, Nowhere, Passes, is_byte, is_byte2}
+use Rattle.memchr.specs.Find.{NoneBefore, Nowhere, Passes, is_byte}
 use Rattle.ipnet_base.specs.Address.{Address}
 use Rattle.ipnet_base.specs.Ranges.{AddressRange}
 use Rattle.ipnet.specs.declared.parser.Grammar.{Grammar}

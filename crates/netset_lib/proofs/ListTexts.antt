@@ -1,5 +1,5 @@
 -- A list that is read from its first line to its last.
-use Rattle.std.proofs.Common.{◌≡◌, ℕ, ◌+◌, ◌↔◌, List, [], ◌++◌, ap, sym, subst, append-nil, refl}
+use Rattle.std.proofs.Common.{◌≡◌, ℕ, ◌+◌, ◌↔◌, List, [], ◌++◌, subst, append-nil, refl}
 use Rattle.ipnet_base.specs.Address.{Address}
 use Rattle.ipnet.specs.declared.parser.Grammar.{Grammar}
 use Rattle.ipnet.specs.Lines.{lines_of}
@@ -8,7 +8,7 @@ use Rattle.ipnet_sets.specs.declared.set.builder.IpSetBuilder.{IpSetBuilder}
 use Rattle.ipnet_sets.specs.Members.{IsMember}
 use Rattle.ipnet_sets.specs.Pushed.{IsPushed}
 use Rattle.netset_lib.specs.declared.reader.LineReader.{LineReader}
-use Rattle.netset_lib.specs.Lists.{ListEntry, AreRead, AreContents, IsListRead, HaveAddresses, after_mark}
+use Rattle.netset_lib.specs.Lists.{ListEntry, AreRead, AreContents, HaveAddresses, after_mark}
 use Rattle.netset_lib.specs.ListTexts.{IsReadList}
 use Rattle.netset_lib.specs.Reading.{ReadsLines}
 use Rattle.netset_lib.specs.RefusedLines.{AreRefused}

@@ -1,7 +1,6 @@
 -- Lists that are read one after the other, and what a session keeps of them.
-use Rattle.std.proofs.Common.{◌≡◌, ◌≢◌, ℕ, ◌+◌, ◌↔◌, List, [], ◌∷◌, ◌++◌, length, refl, sym, ap, ◌∙◌, Option, Some}
-use Rattle.std.proofs.Common.{arith, subst, append_assoc, append-nil, length-append, inl, inr, string_bytes}
-use Rattle.ipnet_base.specs.Address.{Address, IsAddress}
+use Rattle.std.proofs.Common.{◌≡◌, ℕ, ◌+◌, List, [], ◌∷◌, ◌++◌, length, refl, sym, ap, ◌∙◌, Option}
+use Rattle.std.proofs.Common.{arith, subst, append_assoc, append-nil, length-append}
 use Rattle.ipnet.specs.declared.parser.Grammar.{Grammar}
 use Rattle.ipnet_sets.specs.declared.set.IpSet.{IpSet}
 use Rattle.ipnet_sets.specs.Members.{IsMember}
@@ -10,7 +9,7 @@ use Rattle.netset_lib.specs.declared.command.Work.{Work}
 use Rattle.netset_lib.specs.declared.reading.Reading.{Reading}
 use Rattle.netset_lib.specs.declared.session.Session.{Session}
 use Rattle.netset_lib.specs.Answers.{AreListsRead}
-use Rattle.netset_lib.specs.Lists.{ListEntry, Refusal, IsListRead, IsInEntries, HaveAddresses}
+use Rattle.netset_lib.specs.Lists.{ListEntry, Refusal, IsListRead, HaveAddresses}
 use Rattle.netset_lib.specs.ListSets.{HaveMembers}
 use Rattle.netset_lib.specs.Reading.{Adds, WasMadeOf}
 use Rattle.netset_lib.specs.Replies.{work_grammar}

@@ -1,13 +1,10 @@
 -- Texts that are one network.
-use Rattle.std.proofs.Common.{◌≡◌, ◌≢◌, ℕ, ◌+◌, ◌-◌, ◌*◌, ◌/◌, ◌^◌, ◌<◌, ◌≤◌, List, [], ◌++◌, ◌∷◌, All, refl, sym, ap}
-use Rattle.std.proofs.Common.{◌∙◌, subst, arith, inl, inr, append_assoc, Result, Ok, Err, IfErr}
-use Rattle.ipnet_base.specs.Address.{Address, width, ip_address}
-use Rattle.ipnet_base.specs.Network.{Network, IsNetwork, IsTruncated, IsTruncationOf, host_bits, first_of, last_of}
-use Rattle.ipnet_base.specs.Network.{InBlock}
-use Rattle.ipnet_base.specs.Ranges.{AddressRange}
+use Rattle.std.proofs.Common.{◌≡◌, ◌≢◌, ℕ, ◌+◌, ◌-◌, ◌^◌, List, [], ◌∷◌, All, refl, sym, ap}
+use Rattle.std.proofs.Common.{◌∙◌, subst, inl, inr, append_assoc, Result, Ok, Err, IfErr}
+use Rattle.ipnet_base.specs.Address.{Address, width}
+use Rattle.ipnet_base.specs.Network.{Network, IsNetwork, IsTruncationOf, host_bits}
 use Rattle.ipnet_base.proofs.NetworkLaws.{truncation_from_relation, truncation_twice, truncated_from_number}
 use Rattle.ipnet.specs.declared.parser.Grammar.{Grammar}
-use Rattle.ipnet.specs.NetworkOf.{ip_network}
 use Rattle.ipnet.specs.NetworkParts.{network_at}
 use Rattle.ipnet_sets.specs.SetRanges.{range_of}
 use Rattle.netset_lib.specs.declared.entry.Entry.{Entry}
@@ -15,7 +12,6 @@ use Rattle.netset_lib.specs.declared.entry.Entry.TheVariants as Entries
 use Rattle.netset_lib.specs.declared.network_entry.NetworkCause.{NetworkCause}
 use Rattle.netset_lib.specs.declared.network_entry.NetworkCause.TheVariants as Causes
 use Rattle.netset_lib.specs.Entries.{block_range, IsNetworkOrMasked, IsAddressText, IsEntryText, IsNoEntry}
-use Rattle.netset_lib.specs.Entries.{IsRangeEntry, JoinsAddresses}
 use Rattle.netset_lib.specs.EntryOf.{entry_range, IsWrittenAs}
 use Rattle.netset_lib.specs.NetworkEntries.{IsNetworkWord, IsNoNetworkWord, IsSomeRange, IsNetworkCause}
 use Rattle.netset_lib.specs.NetworkSteps.{IsRange}

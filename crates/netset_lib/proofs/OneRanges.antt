@@ -1,12 +1,12 @@
 -- A set has one list of ranges that do not touch.
-use Rattle.std.proofs.Common.{◌≡◌, ℕ, ◌+◌, ◌-◌, ◌<◌, ◌≤◌, ◌⊎◌, ◌↔◌, List, [], ◌∷◌, Contains, AllPairs, Any, refl, sym}
+use Rattle.std.proofs.Common.{◌≡◌, ℕ, ◌+◌, ◌-◌, ◌≤◌, ◌⊎◌, List, [], ◌∷◌, Contains, AllPairs, refl, sym}
 use Rattle.std.proofs.Common.{ap}
 use Rattle.std.proofs.Common.{◌∙◌, subst, arith, inl, inr}
 use Rattle.std.proofs.lemmas.Bool.{cases_order}
 use Rattle.std.proofs.lemmas.List.Elements.{All-contains}
-use Rattle.ipnet_base.specs.Address.{Family, IPv4, IPv6, Address, family_index}
+use Rattle.ipnet_base.specs.Address.{Family, Address, family_index}
 use Rattle.ipnet_base.specs.Ranges.{AddressRange}
-use Rattle.ipnet_base.proofs.ListLaws.{contains_here, contains_there, contains_cases, contains_nil, pairs_head}
+use Rattle.ipnet_base.proofs.ListLaws.{contains_cases, contains_nil, pairs_head}
 use Rattle.ipnet_base.proofs.ListLaws.{pairs_tail, same_from_members, any_from_contains, pairs_from_members}
 use Rattle.ipnet_sets.specs.SetRanges.{AreRangesOf, IsInRange, LiesApart}
 

@@ -1,6 +1,6 @@
 -- A list can be read in only one way.
-use Rattle.std.proofs.Common.{◌≡◌, ◌≢◌, ℕ, ◌+◌, ◌-◌, ◌<◌, ◌≤◌, List, [], ◌∷◌, ◌++◌, All, refl, sym, ap, ◌∙◌, subst}
-use Rattle.std.proofs.Common.{arith, inl, inr, length, append_assoc, take, drop, Option, ◌⊎◌, ap₂}
+use Rattle.std.proofs.Common.{◌≡◌, ◌≢◌, ℕ, ◌+◌, ◌<◌, List, [], ◌∷◌, ◌++◌, All, refl, sym, ap, ◌∙◌, subst}
+use Rattle.std.proofs.Common.{arith, inl, inr, append_assoc, take, drop, Option, ◌⊎◌, ap₂}
 use Rattle.std.proofs.lemmas.Bool.{cases_order}
 use Rattle.std.specs.Char.{digit_value}
 use Rattle.std.specs.Str.Parse.{AllDigits}
@@ -23,7 +23,7 @@ use Rattle.netset_lib.specs.Causes.{causes, IsFirstOf, IsReportedCause}
 use Rattle.netset_lib.specs.Entries.{IsAddressText, IsMaskedBy, IsMaskedText, IsNetworkOrMasked}
 use Rattle.netset_lib.specs.Entries.{IsPlainEntry, IsEntryText, IsRangeEntry, IsRangeFrom, before_blanks}
 use Rattle.netset_lib.specs.Entries.{after_blanks, block_range}
-use Rattle.netset_lib.specs.Lists.{Opens, IsCommentAt, IsContents, AreContents, ListEntry, Refusal, AreRead}
+use Rattle.netset_lib.specs.Lists.{IsCommentAt, IsContents, AreContents, ListEntry, Refusal, AreRead}
 use Rattle.netset_lib.specs.Lists.{IsListRead}
 use Rattle.netset_lib.specs.Lists.{without_blanks, HidesEntry, after_mark}
 use Rattle.netset_lib.proofs.AddressBytes.{IsAddressByte, ipv4_bytes, ipv6_bytes, middle, one_front}

@@ -1,7 +1,7 @@
 -- The bounds of a line of a prefix list, and the verdicts on a list of networks.
-use Rattle.std.proofs.Common.{◌≡◌, ◌≢◌, ◌↔◌, ◌⊎◌, ℕ, ◌+◌, List, [], ◌∷◌, ◌++◌, Any, Option, Some, None, Result, Ok}
+use Rattle.std.proofs.Common.{◌≡◌, ◌≢◌, ◌↔◌, ◌⊎◌, ℕ, List, [], ◌∷◌, ◌++◌, Option, Some, None, Result, Ok}
 use Rattle.std.proofs.Common.{Err}
-use Rattle.std.proofs.Common.{IfOk, IfErr, IsNone, Bool, true, false, IsTrue, map, refl, sym, ap, ◌∙◌, subst, inl}
+use Rattle.std.proofs.Common.{IfOk, IfErr, Bool, IsTrue, refl, sym, ap, ◌∙◌, subst, inl}
 use Rattle.std.proofs.Common.{inr}
 use Rattle.std.proofs.Common.{append_assoc, append-nil, codes, ◌<◌, arith}
 use Rattle.std.specs.Str.{IsUtf8}
@@ -25,7 +25,7 @@ use Rattle.netset_lib.specs.declared.prefix_line.PrefixCause.TheVariants as Caus
 use Rattle.netset_lib.proofs.AddressBytes.{IsAddressByte, decimal_bytes}
 use Rattle.netset_lib.specs.NetworkEntries.{IsNetworkWord}
 use Rattle.netset_lib.specs.PrefixAnswers.{ListNetwork, verdict_line, AreVerdicts, IsOneDenied}
-use Rattle.netset_lib.specs.PrefixLines.{HasBound, IsBoundsText, IsPrefixText, IsPrefixCause, network_word}
+use Rattle.netset_lib.specs.PrefixLines.{IsBoundsText, IsPrefixText, IsPrefixCause, network_word}
 use Rattle.netset_lib.specs.PrefixLines.{bounds_text}
 use Rattle.netset_lib.specs.PrefixSteps.{HasPair, IsRuleOf, IsBoundsCause}
 use Rattle.netset_lib.specs.RuleLines.{word_of, leading_word, after_word, HasRuleWord}

@@ -1,5 +1,5 @@
 -- The addresses of an entry, as those of its range.
-use Rattle.std.proofs.Common.{◌≡◌, ℕ, ◌≤◌, ◌*◌, ◌/◌, ◌⊎◌, ◌↔◌, List, [], ◌∷◌, ◌++◌, refl, sym, ap, ◌∙◌, arith, inl, inr}
+use Rattle.std.proofs.Common.{◌≡◌, ℕ, ◌*◌, ◌/◌, ◌⊎◌, ◌↔◌, List, [], ◌∷◌, ◌++◌, refl, sym, ◌∙◌, arith, inl, inr}
 use Rattle.std.proofs.Common.{add-zero}
 use Rattle.ipnet_base.specs.Address.{Family, IPv4, IPv6, Address, address_at, width}
 use Rattle.ipnet_base.specs.Ranges.{AddressRange}

@@ -1,10 +1,10 @@
 -- The search for the longest network that holds an entry, and the lines of entries. A network holds all of a range with
 -- an address where it has the two ends, so the search asks for these alone: it begins at the longest network with the
 -- first one, and climbs from supernet to supernet, past which no network of the table with both ends can be longer.
-use Rattle.std.proofs.Common.{◌≡◌, ℕ, ◌<◌, ◌≤◌, ◌+◌, ◌↔◌, List, [], ◌∷◌, ◌++◌, All, Option, Some, None}
-use Rattle.std.proofs.Common.{Bool, IsTrue, false, refl, sym, ap, ◌∙◌, subst, arith, inl, inr, append_assoc, append-nil}
+use Rattle.std.proofs.Common.{◌≡◌, ℕ, ◌<◌, ◌≤◌, ◌+◌, ◌↔◌, List, [], ◌∷◌, All, Option, Some, None}
+use Rattle.std.proofs.Common.{Bool, IsTrue, false, refl, sym, ap, ◌∙◌, subst, arith, inl, inr}
 use Rattle.std.proofs.lemmas.Bool.{cases_order, true≢false}
-use Rattle.std.proofs.lemmas.List.Elements.{All-nil, All-cons, All-head, All-tail}
+use Rattle.std.proofs.lemmas.List.Elements.{All-nil, All-cons}
 use Rattle.ipnet_base.specs.Address.{Family, Address, address_at, width}
 use Rattle.ipnet_base.specs.Network.{Network, IsNetwork, InBlock, IsTruncated, IsSupernetOf, host_bits}
 use Rattle.ipnet_base.specs.Network.{IsLeastOf, IsGreatestOf, first_of, last_of, truncation}
@@ -21,8 +21,8 @@ use Rattle.ipnet_sets.specs.SetRanges.{IsInRange}
 use Rattle.ipnet_sets.specs.declared.routes.RouteTable.{RouteTable}
 use Rattle.netset_lib.specs.Entries.{IsEntryText}
 use Rattle.netset_lib.specs.Lists.{ListEntry, Refusal, AreRead}
-use Rattle.netset_lib.specs.RouteAnswers.{IsTableNetwork, Holds, HaveNone, IsRouteLine}
-use Rattle.netset_lib.specs.Routing.{AreTableNetworks, InTable, HasEnds, HoldsEnds, IsLongestIfAny, route_line}
+use Rattle.netset_lib.specs.RouteAnswers.{Holds, HaveNone, IsRouteLine}
+use Rattle.netset_lib.specs.Routing.{InTable, HasEnds, HoldsEnds, IsLongestIfAny, route_line}
 use Rattle.netset_lib.proofs.TableLaws.{network_of_route, some_route, table_good}
 
 -- ---- the climb

@@ -1,5 +1,5 @@
 -- What a session keeps of lists, and the answer that it makes of that.
-use Rattle.std.proofs.Common.{◌≡◌, ◌≢◌, ℕ, ◌+◌, ◌↔◌, Bool, true, false, not, List, [], ◌∷◌, ◌++◌, All, length, refl}
+use Rattle.std.proofs.Common.{◌≡◌, ◌≢◌, ℕ, ◌↔◌, Bool, true, false, not, List, [], ◌∷◌, ◌++◌, All, length, refl}
 use Rattle.std.proofs.Common.{sym, ap, ◌∙◌, subst, arith, string_bytes, Some}
 use Rattle.ipnet_base.specs.Address.{Address, address_at}
 use Rattle.ipnet.specs.declared.parser.Grammar.{Grammar}
@@ -17,11 +17,10 @@ use Rattle.netset_lib.specs.declared.answerer.Answerer.{Answerer}
 use Rattle.netset_lib.specs.declared.query.Query.{Query}
 use Rattle.netset_lib.specs.declared.query.Query.TheVariants.{Count, Compare, Filter, Route}
 use Rattle.netset_lib.specs.declared.session.Session.{Session}
-use Rattle.netset_lib.specs.Answers.{AreListsRead, IsSetText, IsAnswer, IsNamedComplement, IsNamedOperation}
+use Rattle.netset_lib.specs.Answers.{AreListsRead, IsSetText, IsNamedComplement}
 use Rattle.netset_lib.specs.Answering.{IsAnswererFor, AreAnswersBy}
-use Rattle.netset_lib.specs.Counts.{Names, IsComparison, IsCountAnswer, IsCompareAnswer}
+use Rattle.netset_lib.specs.Counts.{Names, IsComparison}
 use Rattle.netset_lib.specs.EntryAnswers.{IsFoundIn}
-use Rattle.netset_lib.specs.Filters.{IsFilterAnswer}
 use Rattle.netset_lib.specs.Lists.{ListEntry, Refusal, AreRead, IsInEntries, HaveAddresses}
 use Rattle.netset_lib.specs.ListSets.{HaveMembers}
 use Rattle.netset_lib.specs.Operations.{IsInResult, IsCountFor}
@@ -30,9 +29,8 @@ use Rattle.netset_lib.specs.PlanAnswers.{IsResultSet}
 use Rattle.netset_lib.specs.declared.operation.Families.TheVariants.{Named}
 use Rattle.netset_lib.specs.declared.operation.Operation.TheVariants.{Complement}
 use Rattle.netset_lib.specs.Replies.{work_grammar, TakesCount, IsWorkAnswer, AreReplies, IsFoundFor, IsKept}
-use Rattle.netset_lib.specs.Replies.{HasNoRoute, IsOutcome, AreCompared, HasFound}
-use Rattle.netset_lib.specs.RouteAnswers.{IsRouteAnswer}
-use Rattle.netset_lib.specs.Sessions.{WereRead, IsState, IsAskState, IsReplyOf}
+use Rattle.netset_lib.specs.Replies.{HasNoRoute, IsOutcome}
+use Rattle.netset_lib.specs.Sessions.{WereRead, IsGood, IsState, IsAskState, IsReplyOf}
 use Rattle.netset_lib.proofs.AnswerTexts.{text_of_same}
 use Rattle.netset_lib.proofs.AnsweringLaws.{replies_right, found_right}
 use Rattle.netset_lib.proofs.CountTexts.{comparison_same}
@@ -86,12 +84,6 @@ asked_second query old s answerer entries (first ∷ second ∷ before) one stat
 pub count_taken : (work : Work) (lists : List (List ℕ)) (s : Session) → WereRead work lists s
     → TakesCount s.work s.reading.lines.list ↔ TakesCount work (length lists)
 count_taken work lists s h = rw (h.same_work, h.count) (λ t. t, λ t. t)
-
--- the set that an operation makes of the sets has the addresses of its result on the lists
-pub operation_taken : (q request : Request) (lists : List (List ℕ)) (s : Session) → WereRead (Combine request) lists s
-    → s.work ≡ Combine q → IsCountFor q.operation s.reading.lines.list → IsCountFor request.operation (length lists)
-operation_taken q request lists s h is taken =
-    (count_taken (Combine request) lists s h).0 (subst (λ w. TakesCount w s.reading.lines.list) (sym is) taken)
 
 -- the entries of each list have an address
 second_some : (grammar : Grammar) (lists : List (List ℕ)) (first second : List ListEntry)
@@ -172,26 +164,24 @@ family_some (set ∷ other ∷ sets) entries members some e =
 
 -- the set that an operation makes of the sets is that of its result on the lists
 pub result_right : (q request : Request) (lists : List (List ℕ)) (s : Session) (set : IpSet)
-    → WereRead (Combine request) lists s → s.work ≡ Combine q → s.reading.lines.refused.count ≡ 0
-    → ((x : Address) → IsMember set x ↔ IsInResult IsMember q.operation s.sets.items x)
-    → IsCountFor request.operation (length lists)
-    → (IsNamedOperation request.operation → (one : IpSet) → s.sets.items ≡ one ∷ [] → ¬ (HasNoAddress one))
-    → IsResultSet request lists set
-result_right q request lists s set h is none same count some =
+    → WereRead (Combine request) lists s → IsGood s → s.work ≡ Combine q
+    → ((x : Address) → IsMember set x ↔ IsInResult IsMember q.operation s.sets.items x) → IsResultSet request lists set
+result_right q request lists s set h good is same =
     let both : Combine q ≡ Combine request = sym is ∙ h.same_work in
     let one : q ≡ request = cc in
     let of : (x : Address) → IsMember set x ↔ IsInResult IsMember request.operation s.sets.items x =
     subst (λ (r : Request). (x : Address) → IsMember set x ↔ IsInResult IsMember r.operation s.sets.items x) one same in
     record {
-      count = count;
+      count = (count_taken (Combine request) lists s h).0 good.count;
       entries = h.entries;
       read = subst (AreListsRead request.grammar 0 lists h.entries)
-          (none_of_length h.refusals (sym h.kept.count ∙ none)) h.read;
+          (none_of_length h.refusals (sym h.kept.count ∙ good.none)) h.read;
       right = λ x. (
         λ m. (result_same x request.operation s.sets.items h.entries h.state).0 ((of x).0 m),
         λ k. (of x).1 ((result_same x request.operation s.sets.items h.entries h.state).1 k),
       );
-      named = λ is_named. family_some s.sets.items h.entries h.state (some is_named);
+      named = λ is_named. family_some s.sets.items h.entries h.state
+          (good.named (subst IsNamedComplement (sym h.same_work) is_named));
     }
 
 -- ---- the two sets of a comparison
@@ -210,11 +200,12 @@ two_sets sets (x ∷ y ∷ z ∷ front) one other first second members is =
     absurd (subst (λ z. HaveMembers z (first ∷ second ∷ [])) is members).1.1
 
 pub pair_right : (grammar : Grammar) (lists : List (List ℕ)) (s : Session) (front : List IpSet) (one other : IpSet)
-    → WereRead (Ask Compare grammar) lists s → s.reading.lines.refused.count ≡ 0 → length lists ≡ 2
-    → s.sets.items ≡ (front ++ one ∷ []) ++ other ∷ [] → ArePairSets grammar lists one other
-pair_right grammar lists s front one other h none two is =
-    go h.entries (lists_count grammar 0 lists h.entries h.refusals h.read ∙ two)
-    (subst (AreListsRead grammar 0 lists h.entries) (none_of_length h.refusals (sym h.kept.count ∙ none)) h.read)
+    → WereRead (Ask Compare grammar) lists s → IsGood s → s.sets.items ≡ (front ++ one ∷ []) ++ other ∷ []
+    → ArePairSets grammar lists one other
+pair_right grammar lists s front one other h good is =
+    go h.entries (lists_count grammar 0 lists h.entries h.refusals h.read
+    ∙ (count_taken (Ask Compare grammar) lists s h).0 good.count)
+    (subst (AreListsRead grammar 0 lists h.entries) (none_of_length h.refusals (sym h.kept.count ∙ good.none)) h.read)
     h.state
   where
     go : (entries : List (List ListEntry)) → length entries ≡ 2 → AreListsRead grammar 0 lists entries []
@@ -312,15 +303,14 @@ module _ (names : Names) (lists : List (List ℕ)) (s : Session) (answer : Answe
   right_by_entries (Ask Route grammar) (a ∷ b ∷ c ∷ others) count same read state some reply =
       absurd (omega (arith, count, same))
 
-  pub right_answer : (work : Work) → WereRead work lists s → TakesCount work (length lists)
-      → s.reading.lines.refused.count ≡ 0
-      → (IsNamedComplement s.work → (set : IpSet) → s.sets.items ≡ set ∷ [] → ¬ (HasNoAddress set))
+  pub right_answer : (work : Work) → WereRead work lists s → IsGood s
       → IsReplyOf s.work names s.sets.items s.answers answer
       → IsWorkAnswer work names lists (string_bytes answer.text) × IsOutcome work lists answer.succeeded
-  right_answer work h count none some reply =
-      right_by_entries work h.entries count (lists_count (work_grammar work) 0 lists h.entries h.refusals h.read)
+  right_answer work h good reply =
+      right_by_entries work h.entries ((count_taken work lists s h).0 good.count)
+      (lists_count (work_grammar work) 0 lists h.entries h.refusals h.read)
       (subst (AreListsRead (work_grammar work) 0 lists h.entries)
-      (none_of_length h.refusals (sym h.kept.count ∙ none)) h.read) h.state
+      (none_of_length h.refusals (sym h.kept.count ∙ good.none)) h.read) h.state
       (subst (λ w. IsNamedComplement w → (set : IpSet) → s.sets.items ≡ set ∷ [] → ¬ (HasNoAddress set)) h.same_work
-      some)
+      good.named)
       (subst (λ w. IsReplyOf w names s.sets.items s.answers answer) h.same_work reply)

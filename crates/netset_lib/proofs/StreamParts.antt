@@ -4,11 +4,10 @@ use Rattle.std.proofs.Common.{IfSome, IfErr, Result, Ok, Err, ◌⊎◌, inl, in
 use Rattle.std.proofs.Common.{append_assoc, append-nil, string_bytes}
 use Rattle.std.proofs.Math.Seq.{take-append_seam}
 use Rattle.std.specs.Io.{StartsWith}
-use Rattle.std.specs.Io.KnownBytes.{Appends, Keeps, Consumes}
+use Rattle.std.specs.Io.KnownBytes.{Appends, Keeps}
 use Rattle.std.proofs.KnownBytes.{Appends-trans, Consumes-whole, Keeps-trans, starts_with_rest}
 use Rattle.ipnet.specs.declared.parser.Grammar.{Grammar}
 use Rattle.ipnet.specs.Lines.{lines_of}
-use Rattle.ipnet_text.specs.Inputs.{GaveWhole}
 use Rattle.netset_lib.specs.declared.answerer.Answerer.{Answerer}
 use Rattle.netset_lib.specs.declared.answerer.Answers.{Answers}
 use Rattle.netset_lib.specs.declared.command.Work.{Work}
@@ -54,7 +53,7 @@ pub all_written : (answerer : Answerer) (held then : Option (List ℕ)) (found :
     → IsWritten answerer held then found entries → IsPartWritten answerer held then entries
 all_written answerer held then found entries h = record {
   text = h.text;
-  answers = h.answers;
+  right = h.answers;
   front = h.text;
   begins = starts_with_all h.text;
   written = h.written;
@@ -69,7 +68,7 @@ part_more : (answerer : Answerer) (held then held_after : Option (List ℕ)) (fo
 part_more answerer held then held_after found none new front entries empty begins put adds = λ before h.
     let made = adds [] empty in record {
       text = h.text ++ string_bytes new.text;
-      answers = answers_append (IsAnswerBy answerer) before entries h.text (string_bytes new.text) h.answers made.text;
+      right = answers_append (IsAnswerBy answerer) before entries h.text (string_bytes new.text) h.answers made.text;
       front = h.text ++ front;
       begins = starts_behind h.text (string_bytes new.text) front begins;
       written = Appends-trans held then held_after h.text front h.written put;
@@ -289,13 +288,15 @@ part_right query grammar lists s answerer left held held_after streams h one is 
       refusals = part.refusals;
       read = subst (λ g. IsFrontRead g (length lists) left part.entries part.refusals) h.same_grammar
           (subst (λ n. IsFrontRead s.reading.lines.grammar n left part.entries part.refusals) h.count at);
-      text = part.written.text;
-      right = replies_right query answerer k.first part.entries part.written.text k.for
-          (entries_some s.reading.lines.grammar s.reading.lines.list 1 at.texts part.entries part.refusals at.read)
-          part.written.answers;
-      front = part.written.front;
-      begins = part.written.begins;
-      written = part.written.written;
+      written = record {
+        text = part.written.text;
+        right = replies_right query answerer k.first part.entries part.written.text k.for
+            (entries_some s.reading.lines.grammar s.reading.lines.list 1 at.texts part.entries part.refusals at.read)
+            part.written.right;
+        front = part.written.front;
+        begins = part.written.begins;
+        written = part.written.written;
+      };
     }
 
 -- a stream that ended early, by its failure
@@ -380,9 +381,11 @@ streamed_part (Ask query g) lists left left_after held held_after streamed h =
         contents = is.1;
         read = is.2;
       };
-      text = h.text;
-      right = h.right;
-      front = h.text;
-      begins = starts_with_all h.text;
-      written = h.written;
+      written = record {
+        text = h.text;
+        right = h.right;
+        front = h.text;
+        begins = starts_with_all h.text;
+        written = h.written;
+      };
     }

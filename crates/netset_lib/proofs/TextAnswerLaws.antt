@@ -1,19 +1,16 @@
 -- What a table with texts makes of the entries of a list, one by one, and by the lines of the table.
 use Rattle.std.proofs.Common.{◌≡◌, false, ℕ, List, [], ◌∷◌, ◌++◌, Some, Contains}
-use Rattle.std.proofs.Common.{refl, sym, ap, ◌∙◌, ◌+◌, subst, inl, inr, append-nil, string_bytes}
+use Rattle.std.proofs.Common.{refl, sym, ◌∙◌, subst, inl, inr, append-nil, string_bytes}
 use Rattle.std.specs.Borrow.{Bor}
 use Rattle.ipnet.specs.NetworkOf.{ip_network}
 use Rattle.ipnet.specs.declared.net.IpNet.{IpNet}
 use Rattle.ipnet.specs.declared.parser.Grammar.{Grammar}
-use Rattle.ipnet.specs.Lines.{lines_of}
 use Rattle.ipnet_sets.specs.RoutesOf.{routes_of}
 use Rattle.ipnet_sets.specs.declared.routes.RouteTable.{RouteTable}
 use Rattle.netset_lib.specs.declared.answerer.Answers.{Answers}
-use Rattle.netset_lib.specs.declared.reader.LineReader.{LineReader}
 use Rattle.netset_lib.specs.EntryAnswers.{AreAnswers}
-use Rattle.netset_lib.specs.Lists.{ListEntry, IsListRead, AreRead, AreContents, after_mark}
-use Rattle.netset_lib.specs.Reading.{ReadsLines}
-use Rattle.netset_lib.specs.RefusedLines.{RefusedLines, AreRefused}
+use Rattle.netset_lib.specs.Lists.{ListEntry, IsListRead}
+use Rattle.netset_lib.specs.RefusedLines.{RefusedLines}
 use Rattle.netset_lib.specs.Routing.{InTable, HoldsEnds, IsLongestIfAny}
 use Rattle.netset_lib.specs.TextTables.{TextLine, IsLinesNetwork, IsTextRouteLine, HasNoTextRoute, IsTextTable}
 use Rattle.netset_lib.specs.TextTables.{IsTextRouteAnswer}
@@ -21,7 +18,6 @@ use Rattle.netset_lib.specs.TextSteps.{IsTextAnswerBy, IsMissingBy, AreTextAnswe
 use Rattle.netset_lib.specs.TextSteps.{IsMadeList, text_route_line}
 use Rattle.netset_lib.proofs.EntryAnswerLaws.{answers_append, answers_same, found_same, found_none, found_push}
 use Rattle.netset_lib.proofs.ListsReading.{none_of_length}
-use Rattle.netset_lib.proofs.RefusalLaws.{more_refused}
 use Rattle.netset_lib.proofs.RouteLaws.{HasSome, ends_hold, entries_some, none_same}
 
 -- ---- one entry more

@@ -9,7 +9,7 @@ use Rattle.std.specs.Borrow.{Bor}
 use Rattle.ipnet_base.specs.Network.{Network, truncation}
 use Rattle.ipnet_base.specs.Blocks.{IsMaximal, AreMaximalBlocks}
 use Rattle.ipnet_base.specs.Ranges.{AddressRange}
-use Rattle.ipnet_base.proofs.ListLaws.{contains_nil, contains_here, contains_there, contains_cases}
+use Rattle.ipnet_base.proofs.ListLaws.{contains_nil, contains_here, contains_there}
 use Rattle.ipnet_base.proofs.NetworkLaws.{truncation_of_truncated}
 use Rattle.ipnet_rules.proofs.VerdictLaws.{any_nil}
 use Rattle.ipnet.specs.NetworkOf.{ip_network}

@@ -1,5 +1,5 @@
 -- Lists of changes, one change a line, and the networks that they make of the networks of a set.
-use Rattle.std.specs.Prelude.{◌≡◌, ◌≢◌, ◌⊎◌, ℕ, List, [], ◌∷◌, codes, Contains}
+use Rattle.std.specs.Prelude.{◌≡◌, ◌≢◌, ◌⊎◌, ℕ, List, [], codes, Contains}
 use Rattle.ipnet_base.specs.Address.{Address}
 use Rattle.ipnet_base.specs.Network.{Network, InBlock}
 use Rattle.ipnet_base.specs.Blocks.{IsMaximal}

@@ -4,7 +4,6 @@ use Rattle.ipnet.specs.declared.parser.Grammar.{Grammar}
 use Rattle.ipnet.specs.declared.parser.Grammar.TheVariants.{Strict, Legacy}
 use Rattle.netset_lib.specs.declared.answer.Form.{Form}
 use Rattle.netset_lib.specs.declared.answer.Form.TheVariants.{Networks, Ranges}
-use Rattle.netset_lib.specs.declared.answer.Request.{Request}
 use Rattle.netset_lib.specs.declared.command.Command.{Command}
 use Rattle.netset_lib.specs.declared.command.Command.TheVariants.{Union, Intersection, Difference, SymmetricDifference}
 use Rattle.netset_lib.specs.declared.command.Command.TheVariants.{Complement, Count, Compare, Filter, Route}

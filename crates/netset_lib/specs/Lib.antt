@@ -7,6 +7,7 @@ pub mod EntrySteps
 pub mod CauseSteps
 pub mod Lists
 pub mod RefusedLines
+pub mod RefusedParts
 pub mod FoundEntry
 pub mod Marks
 pub mod Reading

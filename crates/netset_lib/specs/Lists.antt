@@ -1,8 +1,8 @@
 -- Lists as people keep them: the contents of their lines, the entries, and the lines that are refused.
-use Rattle.std.specs.Prelude.{◌≡◌, ◌≢◌, ◌⊎◌, ◌↔◌, ◌<◌, ◌≤◌, ℕ, ◌+◌, ◌-◌, Bool, true, ◌||◌, ◌==◌, if◌then◌else◌}
+use Rattle.std.specs.Prelude.{◌≡◌, ◌≢◌, ◌⊎◌, ◌↔◌, ◌<◌, ◌≤◌, ℕ, ◌+◌, ◌-◌, true, if◌then◌else◌}
 use Rattle.std.specs.Prelude.{nat_eq, List, [], ◌∷◌, length, take, drop, Any, Option, slice_index}
 use Rattle.std.specs.Char.{is_ascii_whitespace}
-use Rattle.std.specs.List.{before_first, prefix_len, starts_with}
+use Rattle.std.specs.List.{starts_with}
 use Rattle.ipnet_base.specs.Address.{Address}
 use Rattle.ipnet_base.specs.Ranges.{AddressRange}
 use Rattle.ipnet.specs.declared.parser.Grammar.{Grammar}

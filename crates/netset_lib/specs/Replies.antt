@@ -1,8 +1,8 @@
 -- What is asked of lists, and the results.
 use Rattle.std.specs.Prelude.{◌≡◌, ◌≤◌, ◌↔◌, Bool, IsTrue, not, ℕ, List, [], ◌∷◌, length}
 use Rattle.ipnet.specs.declared.parser.Grammar.{Grammar}
-use Rattle.netset_lib.specs.declared.answer.Failure.{Failure}
-use Rattle.netset_lib.specs.declared.answer.Failure.TheVariants as Failures
+use Rattle.netset_lib.specs.declared.failure.Failure.{Failure}
+use Rattle.netset_lib.specs.declared.failure.Failure.TheVariants as Failures
 use Rattle.netset_lib.specs.declared.command.Work.{Work}
 use Rattle.netset_lib.specs.declared.command.Work.TheVariants.{Combine, Ask}
 use Rattle.netset_lib.specs.declared.query.Query.{Query}

@@ -1,7 +1,6 @@
 -- The output of a run of the program `netset`.
 use Rattle.std.specs.Prelude.{◌⊎◌, ℕ, List, Option}
-use Rattle.std.specs.Io.{StartsWith}
-use Rattle.std.specs.Io.KnownBytes.{Appends, Keeps}
+use Rattle.std.specs.Io.KnownBytes.{Keeps}
 use Rattle.ipnet.specs.declared.parser.Grammar.{Grammar}
 use Rattle.netset_lib.specs.declared.answer.Request.{Request}
 use Rattle.netset_lib.specs.declared.command.Work.{Work}
@@ -12,20 +11,12 @@ use Rattle.ipnet_text.specs.Outputs.{IsWritten, IsFrontWritten}
 use Rattle.netset_lib.specs.Sessions.{WereCombined, WereCompared}
 
 -- The work has an answer over the lists, and all of it was written.
-pub record IsAnswered (work : Work) (names : Names) (lists : List (List ℕ)) (held held_after : Option (List ℕ))
-    : Type 0 where
-  pub text : List ℕ
-  pub right : IsWorkAnswer work names lists text
-  pub written : Appends held held_after text
+abbrev pub IsAnswered : Work → Names → List (List ℕ) → Option (List ℕ) → Option (List ℕ) → Type 0
+IsAnswered work names lists = IsWritten (IsWorkAnswer work names lists)
 
 -- The work has an answer over the lists, and a front of it was written, perhaps all of it.
-pub record IsCutShort (work : Work) (names : Names) (lists : List (List ℕ)) (held held_after : Option (List ℕ))
-    : Type 0 where
-  pub text : List ℕ
-  pub right : IsWorkAnswer work names lists text
-  pub front : List ℕ
-  pub begins : StartsWith text front
-  pub written : Appends held held_after front
+abbrev pub IsCutShort : Work → Names → List (List ℕ) → Option (List ℕ) → Option (List ℕ) → Type 0
+IsCutShort work names lists = IsFrontWritten (IsWorkAnswer work names lists)
 
 -- Whatever operation and lists the session has read, this answer to them was written.
 abbrev pub WritesAnswer : (Request → List (List ℕ) → List ℕ → Type 0) → Session → Option (List ℕ) → Option (List ℕ)

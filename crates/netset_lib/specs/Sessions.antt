@@ -2,6 +2,7 @@
 use Rattle.std.specs.Prelude.{◌≡◌, ◌≢◌, ◌↔◌, IsTrue, ℕ, Bool, true, not, List, [], ◌∷◌, ◌++◌, length, string_bytes}
 use Rattle.std.specs.Prelude.{Option, Some}
 use Rattle.ipnet_sets.specs.declared.set.IpSet.{IpSet}
+use Rattle.ipnet_sets.specs.Members.{HasNoAddress}
 use Rattle.ipnet.specs.declared.parser.Grammar.{Grammar}
 use Rattle.netset_lib.specs.declared.answer.Answer.{Answer}
 use Rattle.netset_lib.specs.declared.answer.Request.{Request}
@@ -13,14 +14,14 @@ use Rattle.netset_lib.specs.declared.query.Query.{Query}
 use Rattle.netset_lib.specs.declared.query.Query.TheVariants.{Count, Compare, Filter, Route}
 use Rattle.netset_lib.specs.declared.session.Session.{Session}
 use Rattle.netset_lib.specs.Answering.{IsAnswererFor, AreAnswersBy}
-use Rattle.netset_lib.specs.Answers.{AreListsRead, IsSetText}
+use Rattle.netset_lib.specs.Answers.{AreListsRead, IsSetText, IsNamedComplement}
 use Rattle.netset_lib.specs.Counts.{Names, IsCountText, IsComparison}
 use Rattle.netset_lib.specs.Lists.{ListEntry, Refusal, IsListRead, IsInEntries}
 use Rattle.netset_lib.specs.ListSets.{HaveMembers}
 use Rattle.netset_lib.specs.Operations.{IsInResult}
 use Rattle.netset_lib.specs.Reading.{WasMadeOf}
 use Rattle.netset_lib.specs.RefusedLines.{AreRefused}
-use Rattle.netset_lib.specs.Replies.{work_grammar}
+use Rattle.netset_lib.specs.Replies.{work_grammar, TakesCount}
 
 -- A filter or a route has its answerer after the first list, and the lines of the answer after the second.
 abbrev pub IsAskState : Query → Session → List (List ListEntry) → Type 0
@@ -76,6 +77,13 @@ pub record WereRead (work : Work) (lists : List (List ℕ)) (s : Session) : Type
   pub read : AreListsRead (work_grammar work) 0 lists entries refusals
   pub kept : AreRefused s.reading.lines.refused refusals
   pub state : IsState work s entries
+
+-- The work takes as many lists as the session has read, no line of them is refused, and a complement for the families
+-- of the list has a family. Only private contracts use this.
+pub record IsGood (s : Session) : Type 0 where
+  pub count : TakesCount s.work s.reading.lines.list
+  pub none : s.reading.lines.refused.count ≡ 0
+  pub named : IsNamedComplement s.work → (set : IpSet) → s.sets.items ≡ set ∷ [] → ¬ (HasNoAddress set)
 
 -- The session of this operation has read exactly these lists.
 abbrev pub WereCombined : Request → List (List ℕ) → Session → Type 0

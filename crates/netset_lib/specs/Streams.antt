@@ -1,12 +1,12 @@
 -- The answers of a filter or a route that are written while the second list is read.
 use Rattle.std.specs.Prelude.{◌≡◌, Bool, not, ℕ, List, [], ◌∷◌, ◌++◌, length, Option, IfSome}
-use Rattle.std.specs.Io.{StartsWith}
 use Rattle.std.specs.Io.KnownBytes.{Appends, Keeps}
 use Rattle.ipnet.specs.declared.parser.Grammar.{Grammar}
 use Rattle.ipnet.specs.Lines.{lines_of}
 use Rattle.ipnet_text.specs.Inputs.{GaveWhole}
-use Rattle.netset_lib.specs.declared.answer.Failure.{Failure}
-use Rattle.netset_lib.specs.declared.answer.Failure.TheVariants as Failures
+use Rattle.ipnet_text.specs.Outputs.{IsFrontWritten}
+use Rattle.netset_lib.specs.declared.failure.Failure.{Failure}
+use Rattle.netset_lib.specs.declared.failure.Failure.TheVariants as Failures
 use Rattle.netset_lib.specs.declared.answerer.Answerer.{Answerer}
 use Rattle.netset_lib.specs.declared.command.Work.{Work}
 use Rattle.netset_lib.specs.declared.command.Work.TheVariants.{Combine, Ask}
@@ -88,11 +88,7 @@ pub record IsStreamedInPart (query : Query) (grammar : Grammar) (lists : List (L
   pub entries : List ListEntry
   pub refusals : List Refusal
   pub read : IsFrontRead grammar (length lists) left entries refusals
-  pub text : List ℕ
-  pub right : AreReplies query first entries text
-  pub front : List ℕ
-  pub begins : StartsWith text front
-  pub written : Appends held held_after front
+  pub written : IsFrontWritten (AreReplies query first entries) held held_after
 
 -- The work is a filter or a route, and a first part of its lines was streamed.
 abbrev pub IsWorkStreamedInPart : Work → List (List ℕ) → Option (List ℕ) → Option (List ℕ) → Option (List ℕ) → Type 0
@@ -126,13 +122,9 @@ IsBroken StreamFailures.Unwritable = Unit {0}
 
 -- A first part of the answers to the entries was written.
 -- Only private contracts use this.
-pub record IsPartWritten (answerer : Answerer) (held held_after : Option (List ℕ)) (entries : List ListEntry)
-    : Type 0 where
-  pub text : List ℕ
-  pub answers : AreAnswers (IsAnswerBy answerer) entries text
-  pub front : List ℕ
-  pub begins : StartsWith text front
-  pub written : Appends held held_after front
+abbrev pub IsPartWritten : Answerer → Option (List ℕ) → Option (List ℕ) → List ListEntry → Type 0
+IsPartWritten answerer held held_after entries =
+    IsFrontWritten (AreAnswers (IsAnswerBy answerer) entries) held held_after
 
 -- A first part of the answers to the entries of the first lines of the list was written.
 -- Only private contracts use this.

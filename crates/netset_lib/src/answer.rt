@@ -1,15 +1,12 @@
 //! What is asked of lists, and the text of a set.
 ghost use Rattle.std.specs.Prelude.{◌≡◌, ◌≤◌, ◌++◌, ◌∷◌, [], IfOk, OnOk, string_bytes};
-ghost use Rattle.ipnet_base.specs.Address.{ip_address};
 ghost use Rattle.ipnet_base.specs.RangeOf.{ip_range};
-ghost use Rattle.ipnet.specs.CanonicalTexts.{address_text};
 ghost use Rattle.ipnet_sets.specs.Members.{IsMember};
 ghost use Rattle.netset_lib.specs.Answers.{range_text, AreNetworkLines, AreRangeLines, IsSetText};
 
+use crate::address_text::ip_addr_text;
 use crate::operation::Operation;
-use crate::refused::RefusedLines;
-use ipnet::text_laws::{ipv4_address_text_is_of_octets, ipv6_address_text_is_of_groups};
-use ipnet::{Grammar, IpAddr, IpAddrRange, ipv4_addr_text, ipv6_addr_text};
+use ipnet::{Grammar, IpAddrRange};
 use ipnet_sets::IpSet;
 use ipnet_text::lines_of_networks;
 use std::alloc::{AllocError, Global};
@@ -48,45 +45,15 @@ pub struct Answer {
     pub succeeded: bool,
 }
 
-/// Why there is no answer.
-#[derive(Debug, Drop)]
-pub enum Failure {
-    /// The work takes another number of lists.
-    Count,
-    /// The complement of a list without an entry was asked for the families of the list.
-    NoFamily,
-    /// Some lines are not entries.
-    Refused(RefusedLines),
-    /// Memory ran out.
-    Memory,
-}
-
-/// Appends the address's text.
-fn push_address(text: &mut String, address: IpAddr) -> Result<(), AllocError>
-    ensures { let a = ip_address address in
-        OnOk result (string_bytes text.new ≡ string_bytes text.old ++ address_text a.family a.number) }
-{
-    match address {
-        IpAddr::V4(address) => {
-            ipv4_address_text_is_of_octets(address);
-            text.push_str(ipv4_addr_text(address).as_str())
-        }
-        IpAddr::V6(address) => {
-            ipv6_address_text_is_of_groups(address);
-            text.push_str(ipv6_addr_text(address).as_str())
-        }
-    }
-}
-
 /// Appends the text of the range, which has an address, and a newline.
 fn push_range(text: &mut String, range: IpAddrRange) -> Result<(), AllocError>
     requires { let r = ip_range range in r.start ≤ r.end }
     ensures { OnOk result (string_bytes text.new ≡ string_bytes text.old ++ range_text (ip_range range) ++ 10 ∷ []) }
 {
     if let (Some(first), Some(last)) = (range.min(), range.max()) {
-        push_address(text, first)?;
+        text.push_str(ip_addr_text(first).as_str())?;
         text.push_str("-")?;
-        push_address(text, last)?;
+        text.push_str(ip_addr_text(last).as_str())?;
         text.push_str("\n")?;
     }
     Ok(())

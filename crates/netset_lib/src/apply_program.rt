@@ -4,14 +4,15 @@ ghost use Rattle.std.specs.Io.KnownBytes.{Keeps};
 ghost use Rattle.netset_lib.specs.ChangeLists.{IsChangedAnswer};
 ghost use Rattle.netset_lib.specs.Runs.{WritesAnswer, WritesFront};
 
-use crate::answer::Failure;
 use crate::apply::{ChangeFailure, changed_text};
 use crate::change_line::ChangeCause;
 use crate::content_line::RefusedText;
+use crate::failure::Failure;
 use crate::network_entry::NetworkCause;
-use crate::program::{NO_ENTRY, report_failure, report_text, set_or_report, write_answer};
-use crate::rule_program::MOST_LINES;
+use crate::program::{NO_ENTRY, report_failure, report_text, set_or_report};
+use crate::refused::MOST_LINES;
 use crate::session::Session;
+use crate::write::write_answer;
 use std::io;
 use std::io::Write;
 

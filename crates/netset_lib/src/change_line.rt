@@ -11,7 +11,7 @@ ghost use Rattle.netset_lib.specs.ChangeSteps.{change_of};
 
 use crate::changes::Change;
 use crate::network_entry::{NetworkCause, read_network_entry};
-use crate::rule_line::cut_word;
+use crate::word::cut_word;
 use ipnet::{Grammar, IpNet};
 use ipnet_sets::IpSet;
 use std::alloc::AllocError;

@@ -7,10 +7,11 @@ ghost use Rattle.netset_lib.specs.Replies.{AreSameLists, AreOtherLists};
 ghost use Rattle.netset_lib.specs.Runs.{WritesComparison, WritesComparisonFront};
 ghost use Rattle.netset_lib.specs.Sessions.{WereCompared};
 
-use crate::answer::Failure;
 use crate::changes::changes_text;
-use crate::program::{report_failure, write_or_report};
+use crate::failure::Failure;
+use crate::program::report_failure;
 use crate::session::Session;
+use crate::write::write_or_report;
 use std::io::Write;
 
 /// Writes the changes from the networks of the first list to the networks of the second to `out`, as `changes_text`

@@ -4,8 +4,8 @@ ghost use Rattle.netset_lib.specs.ContentLines as lists;
 ghost use Rattle.netset_lib.specs.ContentLines.{AreContentLines};
 ghost use Rattle.netset_lib.specs.ContentLineOf.{line_of, refused_of, AddsLine, AddsRead};
 
+use crate::mark::skip_mark;
 use crate::reader::{contents_of, first_line};
-use crate::rule_list::skip_mark;
 use ipnet::Grammar;
 use std::alloc::{AllocError, Global};
 

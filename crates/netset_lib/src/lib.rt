@@ -1,6 +1,7 @@
 //! Lists of addresses as people keep them, with networks, addresses, ranges and comments: read, and combined.
 #![tactic(auto)]
 
+mod address_text;
 pub mod answer;
 mod answerer;
 pub mod apply;
@@ -16,6 +17,7 @@ pub mod command;
 pub mod content_line;
 mod counts;
 pub mod entry;
+pub mod failure;
 pub mod filter;
 mod front;
 pub mod length;
@@ -49,8 +51,10 @@ pub mod text_program;
 mod text_route;
 mod text_table;
 mod word;
+pub mod write;
 
-pub use answer::{Answer, Failure, Form, Request, lines_of_ranges};
+pub use address_text::ip_addr_text;
+pub use answer::{Answer, Form, Request, lines_of_ranges};
 pub use apply::{ChangeFailure, changed_text};
 pub use apply_program::run_apply;
 pub use cause::{Cause, cause_of};
@@ -63,6 +67,7 @@ pub use changes_program::run_changes;
 pub use command::{Command, Flags, Work, families};
 pub use content_line::{ContentLine, RefusedText, content_lines, has_lines, keep_read};
 pub use entry::{Entry, parse_address, read_address, read_entry};
+pub use failure::Failure;
 pub use filter::Side;
 pub use length::read_length;
 pub use list_text::{ListText, read_list_text};
@@ -76,18 +81,18 @@ pub use plan_program::run_plan;
 pub use prefix_answer::{PrefixFailure, Verdicts, prefix_verdicts};
 pub use prefix_line::PrefixCause;
 pub use prefix_program::{PrefixRequest, run_prefix_list};
-pub use program::{
-    NO_ENTRY, report_failure, report_since, report_text, run, run_stream, set_or_report,
-    write_answer, write_or_report, written,
-};
+pub use program::{NO_ENTRY, report_failure, report_text, run, run_stream, set_or_report};
 pub use query::Query;
 pub use reader::{FoundEntry, first_line, read_text};
 pub use reading::{ReadFailure, read_bytes};
-pub use refused::{LineCause, Refusals, Refused, RefusedLine, RefusedLines};
+pub use refused::{
+    LineCause, MOST_LINES, Refusals, Refused, RefusedLine, RefusedLines, RefusedPart, report_since,
+};
 pub use rule_answer::{RuleFailure, RuleQuery};
 pub use rule_line::{RuleCause, rule_for};
 pub use rule_list::{RefusedRule, RuleLine, RuleList};
-pub use rule_program::{MOST_LINES, report_rule_failure, run_rules};
+pub use rule_program::{report_rule_failure, run_rules};
 pub use session::Session;
 pub use session::stream::{StreamFailure, Streamed};
 pub use text_program::{TextRequest, run_text_routes};
+pub use write::{write_answer, write_or_report, written};

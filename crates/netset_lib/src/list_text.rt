@@ -3,9 +3,9 @@ ghost use Rattle.std.specs.Prelude.{IfOk};
 ghost use Rattle.netset_lib.specs.ListTexts.{IsReadList};
 
 use crate::list::Addresses;
+use crate::mark::skip_mark;
 use crate::reader::LineReader;
 use crate::refused::RefusedLines;
-use crate::rule_list::skip_mark;
 use ipnet::Grammar;
 use ipnet_sets::{IpSet, IpSetBuilder};
 use std::alloc::{AllocError, Global};

@@ -10,9 +10,9 @@ ghost use Rattle.ipnet_text.specs.LineTexts.{text_of_lines};
 ghost use Rattle.ipnet_text.specs.Pieces.{IsInPieces};
 ghost use Rattle.netset_lib.specs.Listings.{text_of_addresses};
 
+use crate::address_text::ip_addr_text;
 use arrayvec::ArrayString;
-use ipnet::text_laws::{ipv4_address_text_is_of_octets, ipv6_address_text_is_of_groups};
-use ipnet::{IpAddr, IpAddrRange, IpSubnets, ipv4_addr_text, ipv6_addr_text};
+use ipnet::{IpAddr, IpAddrRange, IpSubnets};
 use ipnet_text::pieces::{PIECE, put_line, put_text};
 use ipnet_text::write_whole;
 use std::io;
@@ -30,16 +30,7 @@ fn put_address<W: Write>(
     ensures front { OnErr result ((front : List ℕ) × StartsWith piece.old.bytes front
         × Appends (W.contents out.old) (W.contents out.new) front) }
 {
-    match address {
-        IpAddr::V4(address) => {
-            ipv4_address_text_is_of_octets(address);
-            put_text(out, piece, ipv4_addr_text(address).as_str())
-        }
-        IpAddr::V6(address) => {
-            ipv6_address_text_is_of_groups(address);
-            put_text(out, piece, ipv6_addr_text(address).as_str())
-        }
-    }
+    put_text(out, piece, ip_addr_text(address).as_str())
 }
 
 /// Writes the networks of the walk, one a line, and flushes the writer. If a write or the flush fails, a front of the

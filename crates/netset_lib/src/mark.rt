@@ -1,6 +1,7 @@
 //! The start of an input, which may be a byte order mark.
 ghost use Rattle.std.specs.Prelude.{◌≡◌, [], IfOk};
 ghost use Rattle.ipnet_text.specs.Window.{held};
+ghost use Rattle.netset_lib.specs.Lists.{after_mark};
 ghost use Rattle.netset_lib.specs.Marks.{IsPastMark};
 
 use ipnet_text::{ReadError, Window};
@@ -10,7 +11,18 @@ use std::io::Read;
 pub const MOST_READS: u64 = u64::MAX;
 
 /// The byte order mark in UTF-8.
-pub(crate) const BYTE_ORDER_MARK: [u8; 3] = [0xEF, 0xBB, 0xBF];
+const BYTE_ORDER_MARK: [u8; 3] = [0xEF, 0xBB, 0xBF];
+
+/// Returns the bytes without a byte order mark at their start.
+pub(crate) fn skip_mark(bytes: &[u8]) -> &[u8]
+    ensures { result.now ≡ after_mark bytes.now }
+{
+    if bytes.starts_with(&BYTE_ORDER_MARK) {
+        &bytes[BYTE_ORDER_MARK.len()..]
+    } else {
+        bytes
+    }
+}
 
 /// Reads the start of an input into a window that holds nothing, and returns whether more bytes may come.
 ///

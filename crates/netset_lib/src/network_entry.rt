@@ -11,7 +11,7 @@ ghost use Rattle.netset_lib.specs.declared.network_entry.NetworkCause.TheVariant
 use crate::cause::{Cause, cause_of};
 use crate::entry::Entry;
 use crate::reader::read_text;
-use crate::rule_line::first_blank;
+use crate::word::first_blank;
 use ipnet::{Grammar, IpNet};
 use std::alloc::AllocError;
 

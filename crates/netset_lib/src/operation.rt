@@ -35,13 +35,13 @@ pub enum Families {
 pub enum Operation {
     /// The addresses of all lists.
     Union,
-    /// Those that are in every list.
+    /// The addresses that are in every list.
     Intersection,
-    /// Those of the first list that are in none of the others.
+    /// The addresses of the first list that are in none of the others.
     Difference,
     /// The addresses that are in exactly one of two lists.
     SymmetricDifference,
-    /// Those of some families that are not in the list.
+    /// The addresses of some families that are not in the list.
     Complement(Families),
 }
 
@@ -95,7 +95,7 @@ fn takes_ipv6(families: Families, set: &IpSet) -> bool
     }
 }
 
-/// The addresses from the first to the last where they are wanted, and else none.
+/// The addresses from the first to the last if they are wanted, and else none.
 fn range_if(alloc: Global, wanted: bool, first: IpAddr, last: IpAddr) -> Result<IpSet, AllocError>
     ensures { IfOk result (λ s. (x : Address) → IsAddress x
         → IsMember s x ↔ (IsTrue wanted × IsFromTo (ip_address first) (ip_address last) x)) }
@@ -138,7 +138,7 @@ fn complement_of(alloc: Global, families: Families, set: &IpSet) -> Result<IpSet
 
 /// Returns the result of the operation on the sets, or the empty set if it takes another number of sets. Fails if
 /// memory runs out.
-pub(crate) fn combined(
+pub(crate) fn combine_sets(
     alloc: Global,
     operation: Operation,
     sets: &[IpSet],

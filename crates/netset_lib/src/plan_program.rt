@@ -7,8 +7,9 @@ ghost use Rattle.netset_lib.specs.Sessions.{WereCombined};
 ghost use Rattle.netset_lib.specs.declared.answer.Request.{Request};
 
 use crate::plan::{PlanRequest, plan_text};
-use crate::program::{set_or_report, write_answer};
+use crate::program::set_or_report;
 use crate::session::Session;
+use crate::write::write_answer;
 use std::io::Write;
 
 /// Writes networks in the addresses of the session's lists to `out`, as `plan_text` makes them, and returns the exit

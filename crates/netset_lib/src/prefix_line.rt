@@ -8,7 +8,8 @@ ghost use Rattle.netset_lib.specs.PrefixSteps.{HasPair, IsRuleOf, IsBoundsCause}
 
 use crate::length::read_decimal;
 use crate::network_entry::{NetworkCause, read_network_entry};
-use crate::rule_line::{action_of, cut_word};
+use crate::rule_line::action_of;
+use crate::word::cut_word;
 use ipnet::{Grammar, IpNet};
 use ipnet_rules::{Action, PrefixRule, PrefixRuleError};
 use std::alloc::AllocError;

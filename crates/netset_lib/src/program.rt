@@ -1,7 +1,6 @@
 //! The program, over any writers.
 ghost use Rattle.std.specs.Prelude.{◌≡◌, ◌≤◌, ◌==◌, ◌⊎◌, ◌↔◌, List, ℕ, IsTrue, IfSome};
-ghost use Rattle.std.specs.Io.{StartsWith};
-ghost use Rattle.std.specs.Io.KnownBytes.{Appends, Keeps};
+ghost use Rattle.std.specs.Io.KnownBytes.{Keeps};
 ghost use Rattle.netset_lib.specs.PlanAnswers.{IsResultSet};
 ghost use Rattle.netset_lib.specs.Replies.{IsOutcome};
 ghost use Rattle.netset_lib.specs.Runs.{IsAnswered, IsCutShort};
@@ -10,13 +9,14 @@ ghost use Rattle.netset_lib.specs.Streams.{IsWorkStreamed, IsWorkStreamedInPart}
 ghost use Rattle.netset_lib.specs.declared.answer.Request.{Request};
 ghost use Rattle.netset_lib.specs.declared.command.Work.{Work};
 
-use crate::answer::{Answer, Failure};
+use crate::answer::Answer;
 use crate::cause::Cause;
-use crate::refused::{LineCause, Refusals};
+use crate::failure::Failure;
+use crate::refused::{LineCause, report_since};
 use crate::session::Session;
 use crate::session::stream::{StreamFailure, Streamed};
+use crate::write::write_or_report;
 use ipnet_sets::IpSet;
-use ipnet_text::write_whole;
 use std::alloc::Global;
 use std::io;
 use std::io::{Read, Write};
@@ -151,58 +151,6 @@ fn report_stream<X: Write>(
     }
 }
 
-/// Writes the bytes and flushes the writer, and returns whether both succeeded. If not, a front of the bytes may be
-/// written.
-///
-/// ```text
-/// "10.0.0.0/8\n" to a writer that fails after four bytes: false, and "10.0" is written
-/// ```
-pub fn written<W: Write>(out: &mut W, bytes: &[u8]) -> bool
-    ensures whole { IsTrue result → Appends (W.contents out.old) (W.contents out.new) bytes.now }
-    ensures front { (front : List ℕ) × StartsWith bytes.now front
-        × Appends (W.contents out.old) (W.contents out.new) front }
-{
-    write_whole(out, bytes).is_ok() && out.flush().is_ok()
-}
-
-/// Writes the bytes as `written` does, reports on `faults` if that fails, and returns whether it succeeded.
-///
-/// ```text
-/// "10.0.0.0/8\n" to a writer that fails after four bytes: false, "10.0" is written, and faults gets
-///     "netset: output cannot be written\n"
-/// ```
-pub fn write_or_report<W: Write, X: Write>(out: &mut W, faults: &mut X, bytes: &[u8]) -> bool
-    ensures whole { IsTrue result → Appends (W.contents out.old) (W.contents out.new) bytes.now }
-    ensures front { (front : List ℕ) × StartsWith bytes.now front
-        × Appends (W.contents out.old) (W.contents out.new) front }
-    ensures faultless { IsTrue result → Keeps (X.contents faults.old) (X.contents faults.new) }
-{
-    if written(out, bytes) {
-        return true;
-    }
-    let _ = writeln!(faults, "netset: output cannot be written");
-    false
-}
-
-/// Writes the bytes as `write_or_report` does, and returns the exit status: 0 if it succeeded, else 2.
-///
-/// ```text
-/// "10.0.0.0/8\n" to a writer that fails after four bytes: 2
-/// ```
-pub fn write_answer<W: Write, X: Write>(out: &mut W, faults: &mut X, bytes: &[u8]) -> u8
-    ensures status { (result ≡ 0) ⊎ (result ≡ 2) }
-    ensures whole { result ≡ 0 → Appends (W.contents out.old) (W.contents out.new) bytes.now }
-    ensures front { (front : List ℕ) × StartsWith bytes.now front
-        × Appends (W.contents out.old) (W.contents out.new) front }
-    ensures faultless { result ≡ 0 → Keeps (X.contents faults.old) (X.contents faults.new) }
-{
-    if write_or_report(out, faults, bytes) {
-        0
-    } else {
-        2
-    }
-}
-
 /// Returns the session's allocator and the addresses that its operation makes of its lists. If there are none, reports
 /// why on `faults`, as `run` does, and returns `None`. `names` are the names of the lists.
 ///
@@ -246,38 +194,6 @@ pub fn report_failure<X: Write>(
         Failure::Memory => writeln!(faults, "netset: out of memory"),
         Failure::Refused(lines) => report_since(faults, names, lines, (0, 0)),
     }
-}
-
-/// Reports the refused lines that are kept, and the number of the others. `before` is how many of them are reported
-/// already, first of those that are kept, and then of all. Nothing is printed if these are all.
-///
-/// ```text
-/// twelve lines of a list, before (0, 0): ten lines, and "netset: and 2 more"
-/// ```
-pub fn report_since<X: Write, C: LineCause>(
-    faults: &mut X,
-    names: &[&str],
-    lines: &Refusals<C>,
-    before: (usize, usize),
-) -> io::Result<()>
-    ensures { lines.now.count ≡ before.1 → Keeps (X.contents faults.old) (X.contents faults.new) }
-{
-    let (shown, count) = before;
-    if lines.count == count {
-        return Ok(());
-    }
-    for index in shown..lines.shown.len() {
-        let line = &lines.shown[index];
-        let name = names.get(line.list).copied().unwrap_or("list");
-        line.cause
-            .report(faults, name, line.line, line.text.as_slice())?;
-    }
-    let new = lines.count.saturating_sub(count);
-    let more = new.saturating_sub(lines.shown.len().saturating_sub(shown));
-    if more != 0 {
-        writeln!(faults, "netset: and {more} more")?;
-    }
-    Ok(())
 }
 
 /// Reports a refused text of this line, and what it is not. Bytes of the name and the text that are not printable ASCII

@@ -12,7 +12,7 @@ ghost use Rattle.netset_lib.specs.Reading.{Adds};
 use crate::cause::cause_of;
 use crate::entry::{Entry, read_entry};
 use crate::front::front_entry;
-use crate::refused::RefusedLines;
+use crate::refused::{RefusedLines, RefusedPart};
 use crate::word::leading_word;
 use ipnet::Grammar;
 use memchr::{memchr, memchr2};
@@ -241,8 +241,13 @@ impl LineReader {
             }
             None => {
                 let cause = cause_of(&mut self.room, text, self.grammar)?;
-                self.refused
-                    .push(self.alloc, self.list, number, text, cause)
+                let part = RefusedPart {
+                    list: self.list,
+                    line: number,
+                    text,
+                    cause,
+                };
+                self.refused.push(self.alloc, part)
             }
         }
     }

@@ -1,13 +1,14 @@
 //! The lines of lists that are refused.
 ghost use Rattle.std.specs.Prelude.{◌≡◌, ◌≤◌, [], ◌∷◌, ◌++◌, length, take, OnOk};
+ghost use Rattle.std.specs.Io.KnownBytes.{Keeps};
 
 use crate::cause::Cause;
 use std::alloc::{AllocError, Global};
 use std::io;
 use std::io::Write;
 
-/// The number of refused lines that are kept.
-const SHOWN: usize = 10;
+/// At most this many refused lines are reported.
+pub const MOST_LINES: usize = 10;
 
 /// Why a line is refused.
 pub trait LineCause: Drop {
@@ -38,6 +39,19 @@ pub struct Refused<C> {
     pub cause: C,
 }
 
+/// A refused line whose text is part of the list's bytes. It has the fields of `Refused`.
+#[derive(Drop)]
+pub struct RefusedPart<'a, C> {
+    /// The index of its list.
+    pub list: usize,
+    /// Its line number.
+    pub line: usize,
+    /// The refused part.
+    pub text: &'a [u8],
+    /// Why it is refused.
+    pub cause: C,
+}
+
 /// The refused lines of all lists that were read: the first ten, and the number of all.
 #[derive(Debug, Drop)]
 pub struct Refusals<C> {
@@ -56,6 +70,7 @@ pub type RefusedLines = Refusals<Option<Cause>>;
 
 impl<C: Drop> Refusals<C> {
     ghost use Rattle.netset_lib.specs.RefusedLines.{AreRefused, HasMore, shown_refusals, most_shown};
+    ghost use Rattle.netset_lib.specs.RefusedParts.{refusal_in};
 
     /// No line.
     pub fn new(alloc: Global) -> Refusals<C>
@@ -68,48 +83,65 @@ impl<C: Drop> Refusals<C> {
     }
 
     /// Adds a line, and why it is refused. Fails if memory runs out, or if there are more lines than a `usize` counts.
-    pub fn push(
-        &mut self,
-        alloc: Global,
-        list: usize,
-        line: usize,
-        text: &[u8],
-        cause: C,
-    ) -> Result<(), AllocError>
-        ensures { OnOk result (HasMore self.old self.new
-            (record { list = list; line = line; text = text.now; cause = cause } ∷ [])) }
+    pub fn push(&mut self, alloc: Global, part: RefusedPart<'_, C>) -> Result<(), AllocError>
+        ensures { OnOk result (HasMore self.old self.new (refusal_in part.entry ∷ [])) }
     {
         let Some(count) = self.count.checked_add(1) else {
             return Err(AllocError);
         };
-        self.keep(alloc, list, line, text, cause)?;
+        self.keep(alloc, part)?;
         self.count = count;
         Ok(())
     }
 
     /// Keeps the line, if it is one of the first ten.
-    fn keep(
-        &mut self,
-        alloc: Global,
-        list: usize,
-        line: usize,
-        text: &[u8],
-        cause: C,
-    ) -> Result<(), AllocError>
-        ensures shown { OnOk result (shown_refusals self.new ≡ take most_shown (shown_refusals self.old
-            ++ record { list = list; line = line; text = text.now; cause = cause } ∷ [])) }
+    fn keep(&mut self, alloc: Global, part: RefusedPart<'_, C>) -> Result<(), AllocError>
+        ensures shown { OnOk result (shown_refusals self.new
+            ≡ take most_shown (shown_refusals self.old ++ refusal_in part.entry ∷ [])) }
         ensures count { self.new.count ≡ self.old.count }
     {
-        if self.shown.len() == SHOWN {
+        if self.shown.len() == MOST_LINES {
             return Ok(());
         }
-        let text = text.to_vec(alloc)?;
+        let text = part.text.to_vec(alloc)?;
         self.shown.push(Refused {
-            list,
-            line,
+            list: part.list,
+            line: part.line,
             text,
-            cause,
+            cause: part.cause,
         })?;
         Ok(())
     }
+}
+
+/// Reports the refused lines that are kept, and the number of the others. `before` is how many of them are reported
+/// already, first of those that are kept, and then of all. Nothing is printed if these are all.
+///
+/// ```text
+/// twelve lines of a list, before (0, 0): ten lines, and "netset: and 2 more"
+/// ```
+pub fn report_since<X: Write, C: LineCause>(
+    faults: &mut X,
+    names: &[&str],
+    lines: &Refusals<C>,
+    before: (usize, usize),
+) -> io::Result<()>
+    ensures { lines.now.count ≡ before.1 → Keeps (X.contents faults.old) (X.contents faults.new) }
+{
+    let (shown, count) = before;
+    if lines.count == count {
+        return Ok(());
+    }
+    for index in shown..lines.shown.len() {
+        let line = &lines.shown[index];
+        let name = names.get(line.list).copied().unwrap_or("list");
+        line.cause
+            .report(faults, name, line.line, line.text.as_slice())?;
+    }
+    let new = lines.count.saturating_sub(count);
+    let more = new.saturating_sub(lines.shown.len().saturating_sub(shown));
+    if more != 0 {
+        writeln!(faults, "netset: and {more} more")?;
+    }
+    Ok(())
 }

@@ -9,6 +9,7 @@ ghost use Rattle.netset_lib.specs.RuleAnswers.{IsRuleAnswer, IsRuleFailure, unre
 ghost use Rattle.netset_lib.specs.RuleAnswers.{IsPermittedSet};
 ghost use Rattle.netset_lib.specs.RuleContentsOf.{contents_of, line_of_rule};
 ghost use Rattle.netset_lib.specs.RuleLines.{IsRuleList};
+ghost use Rattle.netset_lib.specs.declared.rule_answer.RuleFailure.TheVariants.{Memory};
 
 use crate::answer::{Form, set_text};
 use crate::rule_list::{RefusedRule, RuleLine, RuleList};
@@ -32,6 +33,14 @@ pub enum RuleFailure {
     Refused(Vec<RefusedRule>),
     /// Memory ran out.
     Memory,
+}
+
+impl From<AllocError> for RuleFailure {
+    ghost from_gives = { λ _ result. result ≡ Memory };
+
+    fn from(_: AllocError) -> RuleFailure {
+        RuleFailure::Memory
+    }
 }
 
 /// Returns the set of the addresses that the rules permit.
@@ -180,10 +189,7 @@ impl RuleList {
         if !refused.is_empty() {
             return Err(RuleFailure::Refused(refused));
         }
-        match permitted_set(alloc, rules, default) {
-            Ok(set) => Ok(set),
-            Err(_) => Err(RuleFailure::Memory),
-        }
+        Ok(permitted_set(alloc, rules, default)?)
     }
 
     /// Returns the answer over the list of rules.
@@ -204,9 +210,6 @@ impl RuleList {
         if !self.refused.is_empty() {
             return Err(RuleFailure::Refused(self.refused));
         }
-        match reply(self, query) {
-            Ok(text) => Ok(text),
-            Err(_) => Err(RuleFailure::Memory),
-        }
+        Ok(reply(self, query)?)
     }
 }

@@ -1,7 +1,5 @@
 //! A line of a list of rules: `permit` or `deny`, and an entry.
-ghost use Rattle.std.specs.Prelude.{◌≡◌, ◌↔◌, ◌≢◌, ◌≤◌, List, ℕ, IfOk, IfErr, IfSome, IfNone, Some, length, IsTrue};
-ghost use Rattle.std.specs.Char.{is_ascii_whitespace};
-ghost use Rattle.std.specs.List.{position_or_len};
+ghost use Rattle.std.specs.Prelude.{◌≡◌, ◌↔◌, IfOk, IfErr, Some};
 ghost use Rattle.ipnet_base.specs.Address.{Address};
 ghost use Rattle.ipnet_rules.specs.declared.rules.Action.{Action};
 ghost use Rattle.ipnet_rules.specs.Rules.{Matches};
@@ -9,12 +7,13 @@ ghost use Rattle.ipnet_sets.specs.SetRanges.{IsInRange};
 ghost use Rattle.netset_lib.specs.Causes.{IsReportedCause};
 ghost use Rattle.netset_lib.specs.Entries.{IsNoEntry};
 ghost use Rattle.netset_lib.specs.EntryOf.{entry_range};
-ghost use Rattle.netset_lib.specs.RuleLines.{word_of, leading_word, after_word, IsRuleText, IsNoRule, IsRuleCause};
+ghost use Rattle.netset_lib.specs.RuleLines.{word_of, IsRuleText, IsNoRule, IsRuleCause};
 ghost use Rattle.netset_lib.specs.RuleSteps.{IsEntryCause};
 
 use crate::cause::{Cause, cause_of};
 use crate::entry::Entry;
 use crate::reader::read_text;
+use crate::word::{cut_word, first_blank};
 use ipnet::Grammar;
 use ipnet_rules::{Action, Addresses, Rule};
 use std::alloc::AllocError;
@@ -38,28 +37,6 @@ pub enum RuleCause {
     TwoEntries,
     /// The word that follows is not an entry. Has the cause, if one can be named.
     BadEntry(Option<Cause>),
-}
-
-/// Returns the index of the first blank, or the length of the text if it has none.
-pub(crate) fn first_blank(text: &[u8]) -> usize
-    ensures index { result ≡ position_or_len is_ascii_whitespace text.now }
-    ensures within { result ≤ length text.now }
-{
-    for index in 0..text.len() {
-        if text[index].is_ascii_whitespace() {
-            return index;
-        }
-    }
-    text.len()
-}
-
-/// Cuts the text into its first word and the rest, without the blanks between.
-pub(crate) fn cut_word(text: &[u8]) -> (&[u8], &[u8])
-    ensures word { result.0.now ≡ leading_word text.now }
-    ensures rest { result.1.now ≡ after_word text.now }
-{
-    let end = first_blank(text);
-    (&text[..end], text[end..].trim_ascii_start())
 }
 
 /// Returns the action of this word, or `None` if it has none.

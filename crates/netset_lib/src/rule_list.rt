@@ -1,11 +1,10 @@
 //! Lists of rules, one rule a line.
 ghost use Rattle.std.specs.Prelude.{◌≡◌, ◌+◌, ◌∷◌, ◌++◌, ℕ, List, [], IfOk, OnOk, map};
 ghost use Rattle.ipnet_text.specs.Inputs.{GaveWhole};
-ghost use Rattle.netset_lib.specs.Lists.{after_mark};
 ghost use Rattle.netset_lib.specs.RuleContentsOf.{contents_of, line_of_rule, rule_refusal};
 ghost use Rattle.netset_lib.specs.RuleLines.{IsRuleList, no_rules};
 
-use crate::mark::BYTE_ORDER_MARK;
+use crate::mark::skip_mark;
 use crate::reader::{contents_of, first_line};
 use crate::reading::{ReadFailure, read_bytes};
 use crate::rule_line::{RuleCause, read_rule};
@@ -62,17 +61,6 @@ pub(crate) struct RuleReader {
     /// The number of lines that were read.
     pub(crate) number: usize,
     pub(crate) list: RuleList,
-}
-
-/// Returns the bytes without a byte order mark at their start.
-pub(crate) fn skip_mark(bytes: &[u8]) -> &[u8]
-    ensures { result.now ≡ after_mark bytes.now }
-{
-    if bytes.starts_with(&BYTE_ORDER_MARK) {
-        &bytes[BYTE_ORDER_MARK.len()..]
-    } else {
-        bytes
-    }
 }
 
 impl RuleReader {

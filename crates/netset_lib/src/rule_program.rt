@@ -8,15 +8,14 @@ ghost use Rattle.netset_lib.specs.RuleAnswers.{IsRuleAnswer, IsOneUnreached, Are
 ghost use Rattle.netset_lib.specs.RuleContentsOf.{contents_of};
 ghost use Rattle.netset_lib.specs.RuleLines.{IsRuleList};
 
-use crate::program::{NO_ENTRY, report_text, write_or_report};
+use crate::program::{NO_ENTRY, report_text};
+use crate::refused::MOST_LINES;
 use crate::rule_answer::{RuleFailure, RuleQuery};
 use crate::rule_line::RuleCause;
 use crate::rule_list::{RefusedRule, RuleList};
+use crate::write::write_or_report;
 use std::io;
 use std::io::Write;
-
-/// At most this many refused lines are reported.
-pub const MOST_LINES: usize = 10;
 
 /// Writes the answer over the list of rules to `out`, and returns the exit status.
 ///

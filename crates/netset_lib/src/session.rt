@@ -18,12 +18,13 @@ pub mod result;
 pub mod sets;
 pub mod stream;
 
-use crate::answer::{Answer, Failure, Request, set_text};
+use crate::answer::{Answer, Request, set_text};
 use crate::answerer::{Answerer, Answers, read_answerer, read_answers};
 use crate::command::Work;
 use crate::counts::{comparison_text, counts_text};
+use crate::failure::Failure;
 use crate::list::read_set;
-use crate::operation::{Families, Operation, combined};
+use crate::operation::{Families, Operation, combine_sets};
 use crate::query::Query;
 use crate::reading::{ReadFailure, Reading};
 use ipnet::Grammar;
@@ -100,7 +101,7 @@ fn has_no_family(work: Work, sets: &[IpSet]) -> bool
     is_named_complement(work) && is_one_empty(sets)
 }
 
-/// Puts a set behind the others. Fails if memory runs out.
+/// Appends a set. Fails if memory runs out.
 fn keep(sets: &mut Vec<IpSet>, set: IpSet) -> Result<(), AllocError>
     ensures { OnOk result (sets.new.items ≡ sets.old.items ++ set ∷ []) }
 {
@@ -113,7 +114,7 @@ fn combined_text(alloc: Global, request: Request, sets: &[IpSet]) -> Result<Stri
     ensures { IfOk result (λ text. (entries : List (List ListEntry)) → HaveMembers sets.now entries
         → IsSetText request.form (IsInResult IsInEntries request.operation entries) (string_bytes text)) }
 {
-    let set = combined(alloc, request.operation, sets)?;
+    let set = combine_sets(alloc, request.operation, sets)?;
     set_text(alloc, request.form, &set)
 }
 
@@ -163,7 +164,7 @@ fn answer_of(
 
 impl Session {
     ghost use Rattle.netset_lib.specs.Sessions.{WereRead, ReadsNext, IsState, IsAskState};
-    ghost use Rattle.netset_lib.specs.Sessions.{IsNoted, has_entry, refused_count};
+    ghost use Rattle.netset_lib.specs.Sessions.{IsNoted, IsGood, has_entry, refused_count};
 
     /// Returns a session that has read no list. Fails if memory runs out.
     pub fn new(alloc: Global, work: Work) -> Result<Session, AllocError>
@@ -258,6 +259,29 @@ impl Session {
         self.reading.lines.has_entry
     }
 
+    /// Returns the session as it is, if its work takes as many lists as were read, no line of them is refused, and its
+    /// complement has a family.
+    fn into_good(self) -> Result<Session, Failure>
+        ensures good { IfOk result (λ good. (good ≡ self) × IsGood good) }
+        ensures failure { IfErr result (λ failure. (work : Work) → (lists : List (List ℕ)) → WereRead work lists self
+            → IsWorkFailure work lists failure) }
+        ensures count { (work : Work) → (lists : List (List ℕ)) → WereRead work lists self
+            → ¬ (TakesCount work (length lists)) → result ≡ Err Failure.Count }
+    {
+        if !takes(self.work, self.reading.lines.list) {
+            return Err(Failure::Count);
+        }
+        if self.reading.lines.refused.count != 0 {
+            let lines = self.reading.lines;
+            let refused = lines.refused;
+            return Err(Failure::Refused(refused));
+        }
+        if has_no_family(self.work, self.sets.as_slice()) {
+            return Err(Failure::NoFamily);
+        }
+        Ok(self)
+    }
+
     /// Returns the answer over the lists that were read. `names` are the names of the lists, in order; `Count` prints
     /// them.
     ///
@@ -286,22 +310,8 @@ impl Session {
             sets,
             answers,
             ..
-        } = self;
-        let lines = reading.lines;
-        if !takes(work, lines.list) {
-            return Err(Failure::Count);
-        }
-        let alloc = lines.alloc;
-        let refused = lines.refused;
-        if refused.count != 0 {
-            return Err(Failure::Refused(refused));
-        }
-        if has_no_family(work, sets.as_slice()) {
-            return Err(Failure::NoFamily);
-        }
-        match answer_of(alloc, work, names, sets.as_slice(), answers) {
-            Ok(answer) => Ok(answer),
-            Err(_) => Err(Failure::Memory),
-        }
+        } = self.into_good()?;
+        let alloc = reading.lines.alloc;
+        Ok(answer_of(alloc, work, names, sets.as_slice(), answers)?)
     }
 }

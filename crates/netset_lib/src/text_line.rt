@@ -10,7 +10,7 @@ use crate::cause_bytes::has_byte;
 use crate::cause_words::has_mask_word;
 use crate::entry::Entry;
 use crate::reader::{comment_start, read_text};
-use crate::rule_line::cut_word;
+use crate::word::cut_word;
 use ipnet::Grammar;
 use std::alloc::AllocError;
 use std::str;

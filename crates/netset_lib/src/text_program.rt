@@ -4,12 +4,13 @@ ghost use Rattle.std.specs.Io.KnownBytes.{Keeps};
 ghost use Rattle.ipnet_text.specs.Outputs.{IsWritten, IsFrontWritten};
 ghost use Rattle.netset_lib.specs.TextTables.{IsTextRouteAnswer};
 
-use crate::answer::Failure;
 use crate::cause::Cause;
 use crate::content_line::RefusedText;
-use crate::program::{report_failure, report_text, write_or_report};
-use crate::rule_program::MOST_LINES;
+use crate::failure::Failure;
+use crate::program::{report_failure, report_text};
+use crate::refused::MOST_LINES;
 use crate::text_route::{TextFailure, text_route_answers};
+use crate::write::write_or_report;
 use ipnet::Grammar;
 use std::alloc::Global;
 use std::io;

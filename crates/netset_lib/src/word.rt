@@ -1,6 +1,8 @@
 //! The words of a line.
 ghost use Rattle.std.specs.Prelude.{◌≡◌, ◌≤◌, length};
+ghost use Rattle.std.specs.Char.{is_ascii_whitespace};
 ghost use Rattle.std.specs.List.{position_or_len, prefix_len};
+ghost use Rattle.netset_lib.specs.RuleLines as rules;
 ghost use Rattle.netset_lib.specs.Words as words;
 ghost use Rattle.netset_lib.specs.Words.{ends_word, leading};
 
@@ -50,4 +52,26 @@ pub(crate) fn second_word(bytes: &[u8]) -> &[u8]
 {
     let rest = &bytes[word_len(bytes)..];
     leading_word(&rest[gap_len(rest)..])
+}
+
+/// Returns the index of the first blank, or the length of the text if it has none.
+pub(crate) fn first_blank(text: &[u8]) -> usize
+    ensures index { result ≡ position_or_len is_ascii_whitespace text.now }
+    ensures within { result ≤ length text.now }
+{
+    for index in 0..text.len() {
+        if text[index].is_ascii_whitespace() {
+            return index;
+        }
+    }
+    text.len()
+}
+
+/// Cuts the text into its first word and the rest, without the blanks between.
+pub(crate) fn cut_word(text: &[u8]) -> (&[u8], &[u8])
+    ensures word { result.0.now ≡ rules.leading_word text.now }
+    ensures rest { result.1.now ≡ rules.after_word text.now }
+{
+    let end = first_blank(text);
+    (&text[..end], text[end..].trim_ascii_start())
 }

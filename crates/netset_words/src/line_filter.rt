@@ -26,7 +26,7 @@ use crate::word_reader::is_any;
 use ipnet_sets::IpSet;
 use memchr::memchr;
 use netset_lib::filter::side_set;
-use netset_lib::{Failure, Session};
+use netset_lib::{Failure, RefusedPart, Session};
 use std::alloc::{AllocError, Global};
 
 /// At most this many bytes of a line are kept: 1 MiB.
@@ -192,8 +192,13 @@ fn report_front(
         Treatment::Printed => Ok(()),
         Treatment::LeftOut => Ok(()),
         Treatment::Undecided => {
-            let cause = WordCause::Undecided;
-            undecided.push(alloc, LOG, number, &front[..SHOWN], cause)
+            let part = RefusedPart {
+                list: LOG,
+                line: number,
+                text: &front[..SHOWN],
+                cause: WordCause::Undecided,
+            };
+            undecided.push(alloc, part)
         }
     }
 }
@@ -243,10 +248,8 @@ impl LineFilter {
             → ¬ (TakesCount (Combine request) (length lists)) → result ≡ Err Failure.Count }
     {
         let set = session.into_set()?;
-        match side_set(alloc, how.side, set) {
-            Ok(set) => Ok(LineFilter::new(alloc, how, set)),
-            Err(_) => Err(Failure::Memory),
-        }
+        let side = side_set(alloc, how.side, set)?;
+        Ok(LineFilter::new(alloc, how, side))
     }
 
     /// A filter by this set that has read no line.

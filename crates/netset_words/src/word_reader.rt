@@ -5,7 +5,7 @@ ghost use Rattle.ipnet.specs.Lines.{lines_of};
 use crate::item::ExtractRequest;
 use crate::line_items::read_items;
 use crate::refused_word::{RefusedWords, WordCause};
-use netset_lib::{first_line, has_byte};
+use netset_lib::{RefusedPart, first_line, has_byte};
 use std::alloc::{AllocError, Global};
 
 /// Whether the text had an entry before, or has one now.
@@ -64,16 +64,26 @@ impl WordReader {
         };
         self.line = number;
         if has_byte(line, 0) {
-            return self
-                .refused
-                .push(self.alloc, self.list, number, line, WordCause::NulByte);
+            let part = RefusedPart {
+                list: self.list,
+                line: number,
+                text: line,
+                cause: WordCause::NulByte,
+            };
+            return self.refused.push(self.alloc, part);
         }
         let state = read_items(&mut self.room, &mut self.answer, self.request, line)?;
         self.has_entry = is_any(self.has_entry, state.has_entry);
         match state.mask {
-            Some(mask) => self
-                .refused
-                .push(self.alloc, self.list, number, mask, WordCause::Netmask),
+            Some(mask) => {
+                let part = RefusedPart {
+                    list: self.list,
+                    line: number,
+                    text: mask,
+                    cause: WordCause::Netmask,
+                };
+                self.refused.push(self.alloc, part)
+            }
             None => Ok(()),
         }
     }

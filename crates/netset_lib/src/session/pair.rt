@@ -6,9 +6,9 @@ ghost use Rattle.netset_lib.specs.Replies.{IsWorkFailure, TakesCount};
 ghost use Rattle.netset_lib.specs.declared.command.Work.TheVariants.{Ask};
 ghost use Rattle.netset_lib.specs.declared.query.Query.TheVariants.{Compare};
 
-use super::{Session, takes};
-use crate::answer::Failure;
+use super::Session;
 use crate::command::Work;
+use crate::failure::Failure;
 use crate::query::Query;
 use ipnet_sets::IpSet;
 
@@ -32,20 +32,10 @@ impl Session {
         ensures other { (work : Work) → (lists : List (List ℕ)) → WereRead work lists self
             → ((grammar : Grammar) → work ≢ Ask Compare grammar) → result ≡ Err Failure.Count }
     {
-        let Session {
-            work,
-            reading,
-            mut sets,
-            ..
-        } = self;
-        let lines = reading.lines;
-        if !matches!(work, Work::Ask(Query::Compare, _)) || !takes(work, lines.list) {
+        if !matches!(self.work, Work::Ask(Query::Compare, _)) {
             return Err(Failure::Count);
         }
-        let refused = lines.refused;
-        if refused.count != 0 {
-            return Err(Failure::Refused(refused));
-        }
+        let Session { mut sets, .. } = self.into_good()?;
         match (sets.pop(), sets.pop()) {
             (Some(second), Some(first)) => Ok((first, second)),
             _ => Err(Failure::Memory),

@@ -7,10 +7,11 @@ ghost use Rattle.netset_lib.specs.declared.query.Query.{Query};
 ghost use Rattle.netset_lib.specs.declared.answer.Request.{Request};
 ghost use Rattle.netset_lib.specs.declared.command.Work.TheVariants.{Combine, Ask};
 
-use super::{Session, has_no_family};
-use crate::answer::{Failure, Request};
+use super::Session;
+use crate::answer::Request;
 use crate::command::Work;
-use crate::operation::combined;
+use crate::failure::Failure;
+use crate::operation::combine_sets;
 use ipnet_sets::IpSet;
 use std::alloc::Global;
 
@@ -34,7 +35,7 @@ impl Session {
 
     /// Returns the addresses that the operation makes of the lists that were read.
     ///
-    /// The errors are those of `answer`. The work of a query makes no addresses: its error is `Count`.
+    /// The errors are the errors of `answer`. The work of a query makes no addresses: its error is `Count`.
     ///
     /// ```text
     /// Difference of "10.0.0.0/30\n" and "10.0.0.3\n":  the set of 10.0.0.0 to 10.0.0.2
@@ -49,30 +50,11 @@ impl Session {
         ensures query { (query : Query) → (grammar : Grammar) → (lists : List (List ℕ))
             → WereRead (Ask query grammar) lists self → result ≡ Err Failure.Count }
     {
-        let Session {
-            work,
-            reading,
-            sets,
-            ..
-        } = self;
-        let Work::Combine(request) = work else {
+        let Work::Combine(request) = self.work else {
             return Err(Failure::Count);
         };
-        let lines = reading.lines;
-        if !request.operation.takes(lines.list) {
-            return Err(Failure::Count);
-        }
-        let alloc = lines.alloc;
-        let refused = lines.refused;
-        if refused.count != 0 {
-            return Err(Failure::Refused(refused));
-        }
-        if has_no_family(work, sets.as_slice()) {
-            return Err(Failure::NoFamily);
-        }
-        match combined(alloc, request.operation, sets.as_slice()) {
-            Ok(set) => Ok(set),
-            Err(_) => Err(Failure::Memory),
-        }
+        let alloc = self.alloc();
+        let Session { sets, .. } = self.into_good()?;
+        Ok(combine_sets(alloc, request.operation, sets.as_slice())?)
     }
 }

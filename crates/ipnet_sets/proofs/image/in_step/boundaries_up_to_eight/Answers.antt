@@ -1,5 +1,5 @@
 -- Each step halves what is left, in each lane.
-use Rattle.std.proofs.Common.{◌≡◌, ◌+◌, ◌-◌, ◌/◌, length, get_or, slice_set, refl, sym, subst, ◌∙◌, arith}
+use Rattle.std.proofs.Common.{◌≡◌, ◌+◌, ◌-◌, ◌/◌, get_or, refl, sym, subst, ◌∙◌, arith}
 use Rattle.std.proofs.lemmas.List.{get_or-replicate, length-set}
 use Rattle.ipnet_sets.specs.Images.{numbers_from}
 use Rattle.ipnet_sets.proofs.ImageLaws.{length-numbers_from, at_numbers}

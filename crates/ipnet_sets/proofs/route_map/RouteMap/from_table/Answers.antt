@@ -4,7 +4,7 @@ use Rattle.std.proofs.lemmas.List.{length-map}
 use Rattle.ipnet.specs.NetworkOf.{ip_network}
 use Rattle.ipnet_sets.specs.Routes.{ip_routes}
 use Rattle.ipnet_sets.specs.RouteMapSteps.{all_of}
-use Rattle.ipnet_sets.proofs.RouteMapLaws.{table_of_routes}
+use Rattle.ipnet_sets.proofs.RouteMapChanges.{table_of_routes}
 use Rattle.ipnet_sets.proofs.route_map.RouteMap.from_table.Goals as goal
 
 pub invariant_of-result : goal.invariant_of-result

@@ -7,7 +7,7 @@ use Rattle.ipnet.specs.NetworkOf.{ip_network}
 use Rattle.ipnet_sets.specs.Routes.{ip_networks, ip_routes}
 use Rattle.ipnet_sets.specs.RouteMapSteps.{all_of, IsLastUpTo}
 use Rattle.ipnet_sets.proofs.RouteLaws.{same_networks, network_of_route}
-use Rattle.ipnet_sets.proofs.RouteMapLaws.{get_none, get_other, get_found}
+use Rattle.ipnet_sets.proofs.RouteMapChanges.{get_none, get_other, get_found}
 use Rattle.ipnet_sets.proofs.route_map.RouteMap.get.Goals as goal
 
 pub returns-in_default-clause-none : goal.returns-in_default-clause-none

@@ -13,8 +13,9 @@ use Rattle.ipnet_sets.specs.RouteSteps.{IsPlaceAfter}
 use Rattle.ipnet_sets.specs.RouteMaps.{IsWithRoute}
 use Rattle.ipnet_sets.specs.RouteMapSteps.{all_of, chunk_at, position_of}
 use Rattle.ipnet_sets.proofs.ChunkLaws.{chunk_only, read_in_chunk}
-use Rattle.ipnet_sets.proofs.RouteMapLaws.{items, has_cut, out_cut, exchanged, value_of, value_set, chunk_inside}
-use Rattle.ipnet_sets.proofs.RouteMapLaws.{Filled}
+use Rattle.ipnet_sets.proofs.RouteMapLaws.{items, chunk_inside}
+use Rattle.ipnet_sets.proofs.RouteMapChanges.{has_cut, out_cut, exchanged, value_of, value_set}
+use Rattle.ipnet_sets.proofs.RouteMapChanges.{Filled}
 use Rattle.ipnet_sets.proofs.route_map.RouteMap.get_mut.Goals as goal
 
 pub returns-then-not-is_behind : goal.returns-then-not-is_behind

@@ -6,7 +6,7 @@ use Rattle.ipnet.specs.NetworkOf.{ip_network}
 use Rattle.ipnet_sets.specs.Routes.{ip_networks, ip_routes}
 use Rattle.ipnet_sets.specs.RouteMaps.{IsWithRoute}
 use Rattle.ipnet_sets.specs.RouteMapSteps.{all_of}
-use Rattle.ipnet_sets.proofs.RouteMapLaws.{has_cut, out_cut}
+use Rattle.ipnet_sets.proofs.RouteMapChanges.{has_cut, out_cut}
 use Rattle.ipnet_sets.proofs.route_map.RouteMap.insert.Goals as goal
 
 pub returns-then-is_behind-clause-put : goal.returns-then-is_behind-clause-put

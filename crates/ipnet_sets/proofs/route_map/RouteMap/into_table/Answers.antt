@@ -4,7 +4,7 @@ use Rattle.std.proofs.lemmas.Result.{IfOk-weaker}
 use Rattle.ipnet_sets.specs.Routes.{ip_routes, IsTableOf}
 use Rattle.ipnet_sets.specs.RoutesOf.{routes_of}
 use Rattle.ipnet_sets.specs.RouteMapSteps.{all_of}
-use Rattle.ipnet_sets.proofs.RouteMapLaws.{same_table}
+use Rattle.ipnet_sets.proofs.RouteMapChanges.{same_table}
 use Rattle.ipnet_sets.proofs.route_map.RouteMap.into_table.Goals as goal
 
 pub returns : goal.returns

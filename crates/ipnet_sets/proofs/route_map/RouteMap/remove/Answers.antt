@@ -8,7 +8,7 @@ use Rattle.ipnet_sets.specs.Routes.{ip_networks, ip_routes}
 use Rattle.ipnet_sets.specs.RouteMaps.{IsWithoutRoute}
 use Rattle.ipnet_sets.specs.RouteMapSteps.{all_of}
 use Rattle.ipnet_sets.proofs.RouteLaws.{same_networks, network_of_route}
-use Rattle.ipnet_sets.proofs.RouteMapLaws.{has_cut, out_cut}
+use Rattle.ipnet_sets.proofs.RouteMapChanges.{has_cut, out_cut}
 use Rattle.ipnet_sets.proofs.route_map.RouteMap.remove.Goals as goal
 
 pub returns-then-not-is_behind-clause-none : goal.returns-then-not-is_behind-clause-none

@@ -2,7 +2,7 @@
 use Rattle.std.proofs.Common.{ap, arith}
 use Rattle.ipnet.specs.NetworkOf.{ip_network}
 use Rattle.ipnet_sets.specs.RouteMapSteps.{all_of, position_of}
-use Rattle.ipnet_sets.proofs.RouteMapLaws.{exchanged, value_of}
+use Rattle.ipnet_sets.proofs.RouteMapChanges.{exchanged, value_of}
 use Rattle.ipnet_sets.proofs.route_map.changes.exchange.Goals as goal
 
 pub returns-clause-table : goal.returns-clause-table

@@ -1,6 +1,6 @@
 -- The route is between the routes that come before it and the routes that come after it.
 use Rattle.ipnet_sets.specs.RouteMapSteps.{all_of}
-use Rattle.ipnet_sets.proofs.RouteMapLaws.{table_put, routes_put}
+use Rattle.ipnet_sets.proofs.RouteMapChanges.{table_put, routes_put}
 use Rattle.ipnet_sets.proofs.route_map.changes.put_route.Goals as goal
 
 pub returns-clause-table : goal.returns-clause-table

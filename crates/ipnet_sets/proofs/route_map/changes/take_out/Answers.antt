@@ -2,7 +2,7 @@
 use Rattle.std.proofs.Common.{ap, arith}
 use Rattle.ipnet.specs.NetworkOf.{ip_network}
 use Rattle.ipnet_sets.specs.RouteMapSteps.{all_of, position_of}
-use Rattle.ipnet_sets.proofs.RouteMapLaws.{taken_out, value_of}
+use Rattle.ipnet_sets.proofs.RouteMapChanges.{taken_out, value_of}
 use Rattle.ipnet_sets.proofs.route_map.changes.take_out.Goals as goal
 
 pub returns-clause-table : goal.returns-clause-table

@@ -3,7 +3,8 @@ use Rattle.std.proofs.Common.{◌≡◌, ◌++◌, ◌+◌, ◌<◌, length, sym
 use Rattle.std.proofs.lemmas.List.{take-append-drop, length-take-le, length-drop, get_or_default}
 use Rattle.ipnet_sets.specs.RouteMapSteps.{all_of, AreFilled}
 use Rattle.ipnet_sets.proofs.ChunkLaws.{split_chunk}
-use Rattle.ipnet_sets.proofs.RouteMapLaws.{items, filled_with}
+use Rattle.ipnet_sets.proofs.RouteMapLaws.{items}
+use Rattle.ipnet_sets.proofs.RouteMapChanges.{filled_with}
 use Rattle.ipnet_sets.proofs.route_map.chunks.split.Goals as goal
 
 pub returns-clause-filled : goal.returns-clause-filled

@@ -13,7 +13,7 @@ use Rattle.ipnet_sets.specs.RouteSteps.{IsTable, IsPlaceAfter, AreLinks}
 use Rattle.ipnet_sets.specs.RouteMaps.{IsWithRoute}
 use Rattle.ipnet_sets.specs.RoutesOf.{routes_of}
 use Rattle.ipnet_sets.proofs.RouteLaws.{read_at, same_networks, found_network}
-use Rattle.ipnet_sets.proofs.RouteMapLaws.{routes_replaced}
+use Rattle.ipnet_sets.proofs.RouteMapChanges.{routes_replaced}
 use Rattle.ipnet_sets.proofs.routes.RouteTable.get_mut.Goals as goal
 
 pub returns-then-place-eq0 : goal.returns-then-place-eq0

@@ -1,10 +1,6 @@
 -- The least and the greatest number show the network.
-use Rattle.std.proofs.Common.{map, sym, ap, ◌∙◌, subst, subst₂, IfSome}
-use Rattle.ipnet_base.specs.Address.{ip_address, address_at, width}
+use Rattle.std.proofs.Common.{map, ap, ◌∙◌}
 use Rattle.ipnet.specs.NetworkOf.{ip_network}
-use Rattle.ipnet.specs.NetworkParts.{network_at}
-use Rattle.ipnet_sets.specs.RouteMapSteps.{IsCommonSupernet}
-use Rattle.ipnet_sets.specs.Supernets.{IsSmallestAround, IsWithin}
 use Rattle.ipnet_sets.proofs.AroundLaws.{around_found, single}
 use Rattle.ipnet_sets.proofs.set.supernets.smallest_around.Goals as goal
 

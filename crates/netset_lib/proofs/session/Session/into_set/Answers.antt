@@ -1,27 +1,27 @@
-use Rattle.std.proofs.Common.{refl, sym, ◌∙◌, subst, ◌↔◌}
+use Rattle.std.proofs.Common.{sym, ap, ◌∙◌, subst, ◌↔◌}
+use Rattle.std.proofs.lemmas.Result.{err_from_is_err_and}
 use Rattle.ipnet_base.specs.Address.{Address}
 use Rattle.ipnet_sets.specs.Members.{IsMember}
 use Rattle.netset_lib.specs.declared.command.Work.TheVariants.{Combine}
-use Rattle.netset_lib.specs.Answers.{IsNamedComplement}
 use Rattle.netset_lib.specs.Operations.{IsInResult}
-use Rattle.netset_lib.proofs.SessionLaws.{operation_taken, result_right, no_family}
+use Rattle.netset_lib.specs.Sessions.{WereRead}
+use Rattle.netset_lib.proofs.SessionLaws.{result_right}
 use Rattle.netset_lib.proofs.session.Session.into_set.Goals as goal
 
-pub returns-then-has_no_family-clause-failure : goal.returns-then-has_no_family-clause-failure
-returns-then-has_no_family-clause-failure c = λ request lists h.
-    let s = c.args.self in
-    let (named, none) = c.has_no_family.ensures.yes c.if-has_no_family.true in
-    no_family (Combine request) lists s h (subst IsNamedComplement (sym c.in-Combine.is) named)
-    (operation_taken c.in-Combine.request request lists s h c.in-Combine.is (c.if-not-takes.ensures.0 refl))
-    c.if-refused-ne0.false (λ set is. none set (c.as_slice.ensures.value ∙ is))
+pub returns-in_err-sets-clause-count : goal.returns-in_err-sets-clause-count
+returns-in_err-sets-clause-count c = λ request lists h none.
+    let p = err_from_is_err_and c.from_residual.result c.from_residual.ensures.1 in
+    let count = c.in_err-sets.ensures.count (Combine request) lists h none in
+    let is = c.in_err-sets.was in
+    let result = p.1 in
+    let same = p.2 in cc
 
-pub returns-in-Ok-clause-set : goal.returns-in-Ok-clause-set
-returns-in-Ok-clause-set c = λ request lists h.
-    let s = c.args.self in
+pub returns-clause-set : goal.returns-clause-set
+returns-clause-set c = λ request lists h.
+    let s = c.in_ok-sets.field-0 in
     let q = c.in-Combine.request in
-    result_right q request lists s c.in-Ok.set h c.in-Combine.is c.if-refused-ne0.false
-    (subst (λ z. (x : Address) → IsMember c.in-Ok.set x ↔ IsInResult IsMember q.operation z x)
-    c.as_slice-2.ensures.value c.in-Ok.ensures)
-    (operation_taken q request lists s h c.in-Combine.is (c.if-not-takes.ensures.0 refl))
-    (λ named set is. c.has_no_family.ensures.no c.if-has_no_family.false
-    (subst IsNamedComplement (sym h.same_work ∙ c.in-Combine.is) named) set (c.as_slice.ensures.value ∙ is))
+    let good = c.in_ok-sets.ensures.good in
+    result_right q request lists s c.in_ok-combine_sets.field-0
+    (subst (WereRead (Combine request) lists) (sym good.0) h) good.1 (ap (λ z. z.work) good.0 ∙ c.in-Combine.is)
+    (subst (λ z. (x : Address) → IsMember c.in_ok-combine_sets.field-0 x ↔ IsInResult IsMember q.operation z x)
+    c.as_slice.ensures.value c.in_ok-combine_sets.ensures)

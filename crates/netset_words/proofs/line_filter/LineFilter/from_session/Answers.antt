@@ -7,8 +7,8 @@ use Rattle.netset_words.specs.FilterSteps.{IsLogUpTo}
 use Rattle.netset_words.proofs.LogSets.{on_same_side}
 use Rattle.netset_words.proofs.line_filter.LineFilter.from_session.Goals as goal
 
-pub returns-in-Ok-clause-filter : goal.returns-in-Ok-clause-filter
-returns-in-Ok-clause-filter c = λ request lists were.
+pub returns-clause-filter : goal.returns-clause-filter
+returns-clause-filter c = λ request lists were.
     let s = c.in_ok-set.ensures.set request lists were in
     record {
       entries = s.entries;
@@ -17,7 +17,7 @@ returns-in-Ok-clause-filter c = λ request lists were.
           subst
           (λ z. IsMember z x ↔ IsOnSide c.args.how.side (IsInResult IsInEntries request.operation s.entries) x)
           (sym c.new.ensures.set)
-          (on_same_side c.args.how.side (IsMember c.in-Ok.set) (IsMember c.in_ok-set.set)
-          (IsInResult IsInEntries request.operation s.entries) x (c.in-Ok.ensures x fits) (s.right x));
+          (on_same_side c.args.how.side (IsMember c.in_ok-side.side) (IsMember c.in_ok-set.set)
+          (IsInResult IsInEntries request.operation s.entries) x (c.in_ok-side.ensures x fits) (s.right x));
       begun = subst (λ z. IsLogUpTo c.args.how z [] 0 [] c.new.result) (sym c.new.ensures.set) c.new.ensures.begun;
     }

@@ -7,7 +7,7 @@ use Rattle.std.proofs.lemmas.List.Elements.{All-take, All-drop}
 use Rattle.ipnet_sets.specs.Routes.{ip_routes}
 use Rattle.ipnet_sets.specs.RouteMapSteps.{AreFilled, all_of, position_of}
 use Rattle.ipnet_sets.proofs.ChunkLaws.{chunk_only}
-use Rattle.ipnet_sets.proofs.RouteOrderLaws.{element_at}
+use Rattle.ipnet_sets.proofs.LastPassing.{element_at}
 use Rattle.ipnet_sets.proofs.RouteMapLaws.{items}
 use Rattle.ipnet_sets.proofs.RouteMapParts.{part_none, part_one, part_more}
 use Rattle.ipnet_sets.proofs.route_map.routes.MapRoutes.from_places.Goals as goal

@@ -1,6 +1,6 @@
 use Rattle.std.proofs.Common.{sym, ◌∙◌, arith}
 use Rattle.netset_lib.proofs.RuleLaws.{blank_at, no_blank}
-use Rattle.netset_lib.proofs.rule_line.first_blank.Goals as goal
+use Rattle.netset_lib.proofs.word.first_blank.Goals as goal
 
 pub returns-then-is_ascii_whitespace-clause-index : goal.returns-then-is_ascii_whitespace-clause-index
 returns-then-is_ascii_whitespace-clause-index c =

@@ -1,5 +1,5 @@
 use Rattle.netset_lib.proofs.RuleLaws.{cut_rest}
-use Rattle.netset_lib.proofs.rule_line.cut_word.Goals as goal
+use Rattle.netset_lib.proofs.word.cut_word.Goals as goal
 
 pub returns-clause-rest : goal.returns-clause-rest
 returns-clause-rest c =

@@ -1,6 +1,6 @@
 use Rattle.std.proofs.Common.{sym, ap, ◌∙◌, drop, if◌then◌else◌}
 use Rattle.netset_lib.proofs.CommentLaws.{behind}
-use Rattle.netset_lib.proofs.rule_list.skip_mark.Goals as goal
+use Rattle.netset_lib.proofs.mark.skip_mark.Goals as goal
 
 pub returns-then-starts_with : goal.returns-then-starts_with
 returns-then-starts_with c =
