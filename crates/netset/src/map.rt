@@ -13,12 +13,16 @@ pub const MAP: &str = "map";
 /// The name of the option for the colours.
 const THEME: &str = "theme";
 
+/// The name of the flag for free blocks.
+const FREE: &str = "free";
+
 /// The values of `--theme`.
 const THEMES: &[&str] = &["auto", "light", "dark"];
 
 /// Adds the command `map`.
 pub fn with_map<'a>(alloc: Global, command: Command<'a>) -> Result<Command<'a>, AllocError> {
     let about = "A network as a picture in SVG: what the lists cover, or what changed between two";
+    let free = "Outline the blocks that no list has, and say which is the largest";
     let compare = "Show what changed between two lists; status 1 if they differ";
     let theme = Arg::new(alloc, THEME)
         .long(THEME)
@@ -28,6 +32,7 @@ pub fn with_map<'a>(alloc: Global, command: Command<'a>) -> Result<Command<'a>, 
     let map = with_frame(alloc, command_of(alloc, MAP, about)?)?
         .arg(theme)?
         .arg(flag(alloc, COMPARE, compare))?
+        .arg(flag(alloc, FREE, free))?
         .arg(any_files(alloc))?;
     command.subcommand(map)
 }
@@ -41,7 +46,11 @@ pub fn mapped(rt: &HostRuntime, matches: &ArgMatches, streams: &mut Streams<'_>)
     // the value is one of THEMES, if there is one
     let theme = matches.get_str(THEME).and_then(read_theme);
     let theme = theme.unwrap_or(Theme::Auto);
-    let request = MapRequest { frame, theme };
+    let request = MapRequest {
+        frame,
+        theme,
+        shows_free: matches.get_flag(FREE),
+    };
     let names = matches.get_strs(FIRST).unwrap_or(&[STANDARD_INPUT]);
     let session = match read_pictured(rt, matches, names, streams) {
         Ok(session) => session,

@@ -11,15 +11,27 @@ use crate::bar::BarFailure;
 use ipnet_pictures::{Frame, frame_of};
 use ipnet_sets::IpSet;
 use std::alloc::Global;
-use svg_maps::{Theme, change_map_text, set_map_text};
+use svg_maps::{Look, Theme, change_map_text, set_map_text};
 
-/// The network that a map shows, and its colours.
+/// The network that a map shows, and how it looks.
 #[derive(Clone, Copy, Debug, PartialEq, Eq)]
 pub struct MapRequest {
     /// The network.
     pub frame: Frame,
     /// The colours.
     pub theme: Theme,
+    /// Whether free blocks are outlined.
+    pub shows_free: bool,
+}
+
+/// The look of the map.
+fn look_of(request: MapRequest) -> Look
+    ensures { result.shows_free ≡ request.shows_free }
+{
+    Look {
+        theme: request.theme,
+        shows_free: request.shows_free,
+    }
 }
 
 /// Returns the colours that the text names, or `None` if it names none.
@@ -49,13 +61,13 @@ pub fn framed_map_text(
     set: &IpSet,
     request: MapRequest,
 ) -> Result<String, BarFailure>
-    ensures map { IfOk result (λ text. IsFramedMap set.now request.frame (string_bytes text)) }
+    ensures map { IfOk result (λ text. IsFramedMap set.now request (string_bytes text)) }
     ensures none { result ≡ Err NoFrame → HasNoFrame request.frame (IsMember set.now) }
 {
     let Some(network) = frame_of(alloc, set, request.frame)? else {
         return Err(BarFailure::NoFrame);
     };
-    Ok(set_map_text(alloc, &network, set, request.theme)?)
+    Ok(set_map_text(alloc, &network, set, look_of(request))?)
 }
 
 /// Returns the map of the change from one set to the other, in the frame of all their addresses, as a document of SVG.
@@ -71,7 +83,7 @@ pub fn framed_change_map_text(
     after: &IpSet,
     request: MapRequest,
 ) -> Result<String, BarFailure>
-    ensures map { IfOk result (λ text. IsFramedChangeMap before.now after.now request.frame (string_bytes text)) }
+    ensures map { IfOk result (λ text. IsFramedChangeMap before.now after.now request (string_bytes text)) }
     ensures none { result ≡ Err NoFrame
         → ((all : IpSet) × IsUnion all before.now after.now × HasNoFrame request.frame (IsMember all)) }
 {
@@ -79,5 +91,5 @@ pub fn framed_change_map_text(
     let Some(network) = frame_of(alloc, &all, request.frame)? else {
         return Err(BarFailure::NoFrame);
     };
-    Ok(change_map_text(alloc, &network, before, after, request.theme)?)
+    Ok(change_map_text(alloc, &network, before, after, look_of(request))?)
 }

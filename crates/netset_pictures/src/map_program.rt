@@ -41,10 +41,10 @@ pub fn run_map<W: Write, X: Write>(
 ) -> u8
     ensures status { (result ≡ 0) ⊎ (result ≡ 2) }
     ensures drawn { result ≡ 0 → (r : Request) → (lists : List (List ℕ)) → WereRead (Combine r) lists session
-        → IsWritten (IsMapAnswer r lists request.frame) (W.contents out.old) (W.contents out.new) }
+        → IsWritten (IsMapAnswer r lists request) (W.contents out.old) (W.contents out.new) }
     ensures cut_short { result ≡ 2 → (r : Request) → (lists : List (List ℕ)) → WereRead (Combine r) lists session
         → Keeps (W.contents out.old) (W.contents out.new)
-        ⊎ IsFrontWritten (IsMapAnswer r lists request.frame)
+        ⊎ IsFrontWritten (IsMapAnswer r lists request)
         (W.contents out.old) (W.contents out.new) }
     ensures faultless { result ≡ 0 → Keeps (X.contents faults.old) (X.contents faults.new) }
 {
@@ -98,7 +98,7 @@ pub fn run_change_map<W: Write, X: Write>(
     ensures status { result ≤ 2 }
     ensures drawn { result ≤ 1 → (grammar : Grammar) → (lists : List (List ℕ))
         → WereRead (Ask Compare grammar) lists session
-        → IsWritten (IsChangeMapAnswer grammar lists request.frame)
+        → IsWritten (IsChangeMapAnswer grammar lists request)
         (W.contents out.old) (W.contents out.new) }
     ensures different { result ≡ 1 → (grammar : Grammar) → (lists : List (List ℕ))
         → WereRead (Ask Compare grammar) lists session → AreOtherLists grammar lists }
@@ -107,7 +107,7 @@ pub fn run_change_map<W: Write, X: Write>(
     ensures cut_short { result ≡ 2 → (grammar : Grammar) → (lists : List (List ℕ))
         → WereRead (Ask Compare grammar) lists session
         → Keeps (W.contents out.old) (W.contents out.new)
-        ⊎ IsFrontWritten (IsChangeMapAnswer grammar lists request.frame)
+        ⊎ IsFrontWritten (IsChangeMapAnswer grammar lists request)
         (W.contents out.old) (W.contents out.new) }
     ensures faultless { result ≤ 1 → Keeps (X.contents faults.old) (X.contents faults.new) }
 {

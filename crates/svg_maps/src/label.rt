@@ -19,6 +19,10 @@ pub enum Ink {
     Faint,
     /// A text on the map, with an edge in the colour of the ground.
     Halo,
+    /// The length of a free block.
+    Free,
+    /// The name of a network on the map.
+    Name,
 }
 
 /// The side of a label that is at its place.
@@ -75,6 +79,8 @@ fn ink_class(ink: Ink) -> &'static str
         Ink::Plain => "ink",
         Ink::Faint => "faint",
         Ink::Halo => "ink halo",
+        Ink::Free => "faint note",
+        Ink::Name => "ink halo note",
     }
 }
 

@@ -21,9 +21,12 @@ const COMMON: &[&str] = &[
     ".head{font-size:15px;font-weight:bold}",
     ".small text{font-size:9px}",
     ".small{opacity:.8}",
+    ".small .note{font-size:11px}",
     ".hit{fill:#fff;fill-opacity:0}",
     ".hit:hover{fill-opacity:.25}",
     ".grid{fill:none;stroke-width:1;opacity:.35}",
+    ".free{fill:none;stroke-width:1;stroke-opacity:.55;shape-rendering:crispEdges;pointer-events:none}",
+    ".name{fill:none;stroke-width:1.5;pointer-events:none}",
     ".halo{stroke-width:3;stroke-linejoin:round;paint-order:stroke}",
     ".pale{fill-opacity:.55}",
 ];
@@ -52,6 +55,8 @@ const LIGHT: &[&str] = &[
     ".l4{fill:#56b4e9}",
     ".l5{fill:#d55e00}",
     ".grid{stroke:#8a8a85}",
+    ".free{stroke:#8a8a85}",
+    ".name{stroke:#1a1a1a}",
     ".halo{stroke:#f1f1ee}",
 ];
 
@@ -79,6 +84,8 @@ const DARK: &[&str] = &[
     ".l4{fill:#9bd8ff}",
     ".l5{fill:#d55e00}",
     ".grid{stroke:#8b919b}",
+    ".free{stroke:#8b919b}",
+    ".name{stroke:#f0f0ee}",
     ".halo{stroke:#24272d}",
 ];
 
