@@ -7,7 +7,7 @@ use Rattle.svg_text.specs.Documents.{Mark, Nodes, end, words, empty, element, jo
 use Rattle.svg_text.specs.Grammar.{are_distinct, are_well_formed}
 use Rattle.svg_maps.specs.Pages.{nodes_of, label_nodes, swatch_nodes, layer_nodes, square_nodes, chart_nodes, PageView}
 use Rattle.svg_maps.specs.Pages.{cells_marks, small_marks, content_nodes, page_nodes, placed_nodes, area_marks}
-use Rattle.svg_maps.specs.Pages.{outline_text, area_nodes, outline_nodes, pixel_rectangle}
+use Rattle.svg_maps.specs.Pages.{outline_text, area_nodes, outline_nodes, pixel_rectangle, ring_nodes}
 use Rattle.svg_maps.specs.declared.outline.Outline.{Outline}
 use Rattle.ipnet_maps.specs.declared.layout.Rectangle.{Rectangle}
 
@@ -44,27 +44,31 @@ outline_formed : (scale : ℕ) (o : Outline) → are_well_formed (outline_nodes 
 outline_formed scale o = area_formed (outline_text o.class) (pixel_rectangle scale o.rectangle) o.title
 
 chart_formed : (v : PageView)
-    → are_well_formed (chart_nodes v.layers v.squares v.outlines v.labels v.sides v.scale) ≡ true
+    → are_well_formed (chart_nodes v.layers v.squares v.outlines v.rings v.labels v.sides v.scale) ≡ true
 chart_formed v =
     let small = element Elements.Group small_marks (nodes_of label_nodes v.labels) end in
-    let outlines = joined (nodes_of (outline_nodes v.scale) v.outlines) small in
+    let rings = joined (nodes_of ring_nodes v.rings) small in
+    let outlines = joined (nodes_of (outline_nodes v.scale) v.outlines) rings in
     let areas = element Elements.Group (cells_marks v.scale) (nodes_of square_nodes v.squares) outlines in
     element_formed (nodes_of layer_nodes v.layers) areas (all_formed layer_nodes (λ l. refl) v.layers)
     (element_formed (nodes_of square_nodes v.squares) outlines (all_formed square_nodes (λ s. refl) v.squares)
-    (joined_formed (nodes_of (outline_nodes v.scale) v.outlines) small
+    (joined_formed (nodes_of (outline_nodes v.scale) v.outlines) rings
     (all_formed (outline_nodes v.scale) (outline_formed v.scale) v.outlines)
-    (element_formed (nodes_of label_nodes v.labels) end (all_formed label_nodes (λ l. refl) v.labels) refl)))
+    (joined_formed (nodes_of ring_nodes v.rings) small (all_formed ring_nodes (λ p. refl) v.rings)
+    (element_formed (nodes_of label_nodes v.labels) end (all_formed label_nodes (λ l. refl) v.labels) refl))))
 
 placed_formed : (v : PageView) → are_well_formed (placed_nodes v.chart_place
-    (chart_nodes v.layers v.squares v.outlines v.labels v.sides v.scale)) ≡ true
+    (chart_nodes v.layers v.squares v.outlines v.rings v.labels v.sides v.scale)) ≡ true
 placed_formed v =
-    element_formed (chart_nodes v.layers v.squares v.outlines v.labels v.sides v.scale) end (chart_formed v) refl
+    element_formed (chart_nodes v.layers v.squares v.outlines v.rings v.labels v.sides v.scale) end
+    (chart_formed v) refl
 
 rest_formed : (v : PageView) → are_well_formed (joined (nodes_of label_nodes v.captions)
     (joined (nodes_of label_nodes v.heads) (joined (nodes_of swatch_nodes v.swatches)
-    (placed_nodes v.chart_place (chart_nodes v.layers v.squares v.outlines v.labels v.sides v.scale))))) ≡ true
+    (placed_nodes v.chart_place (chart_nodes v.layers v.squares v.outlines v.rings v.labels v.sides v.scale))))) ≡ true
 rest_formed v =
-    let placed = placed_nodes v.chart_place (chart_nodes v.layers v.squares v.outlines v.labels v.sides v.scale) in
+    let placed = placed_nodes v.chart_place
+    (chart_nodes v.layers v.squares v.outlines v.rings v.labels v.sides v.scale) in
     let swatches = joined (nodes_of swatch_nodes v.swatches) placed in
     let heads = joined (nodes_of label_nodes v.heads) swatches in
     joined_formed (nodes_of label_nodes v.captions) heads (all_formed label_nodes (λ l. refl) v.captions)

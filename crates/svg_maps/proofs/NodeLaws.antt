@@ -44,9 +44,11 @@ pub content_text : (v : PageView) → nodes_text (content_nodes v)
     ≡ nodes_text (head_nodes v.title v.summary v.style v.area end)
     ++ (flat_map (λ l. nodes_text (label_nodes l)) v.captions ++ (flat_map (λ l. nodes_text (label_nodes l)) v.heads
     ++ (flat_map (λ s. nodes_text (swatch_nodes s)) v.swatches
-    ++ nodes_text (placed_nodes v.chart_place (chart_nodes v.layers v.squares v.outlines v.labels v.sides v.scale)))))
+    ++ nodes_text (placed_nodes v.chart_place
+    (chart_nodes v.layers v.squares v.outlines v.rings v.labels v.sides v.scale)))))
 content_text v =
-    let placed = placed_nodes v.chart_place (chart_nodes v.layers v.squares v.outlines v.labels v.sides v.scale) in
+    let placed = placed_nodes v.chart_place
+    (chart_nodes v.layers v.squares v.outlines v.rings v.labels v.sides v.scale) in
     let swatches = joined (nodes_of swatch_nodes v.swatches) placed in
     let heads = joined (nodes_of label_nodes v.heads) swatches in
     let front = nodes_text (head_nodes v.title v.summary v.style v.area end) in

@@ -53,21 +53,23 @@ titled_area marks wanted title t bytes old new same some is e =
     e ∙ ap (λ z. old ++ nodes_text (titled_nodes marks z)) is
     ∙ ap₂ (λ m o. old ++ nodes_text (area_nodes m o)) same (sym some)
 
-chart_parts : (old a s n e g p m q w u k v : List ℕ)
-    → (((((((((old ++ a) ++ s) ++ n) ++ e) ++ g) ++ p) ++ m) ++ q) ++ w) ++ u ++ k ++ v
-    ≡ old ++ (a ++ (s ++ n ++ e ++ (g ++ (p ++ m ++ q ++ (w ++ (u ++ k ++ v ++ []))))))
-chart_parts old a s n e g p m q w u k v = simp (append_assoc, append-nil) refl
+chart_parts : (old a s n e g p m q w x u k v : List ℕ)
+    → ((((((((((old ++ a) ++ s) ++ n) ++ e) ++ g) ++ p) ++ m) ++ q) ++ w) ++ x) ++ u ++ k ++ v
+    ≡ old ++ (a ++ (s ++ n ++ e ++ (g ++ (p ++ m ++ q ++ (w ++ (x ++ (u ++ k ++ v ++ [])))))))
+chart_parts old a s n e g p m q w x u k v = simp (append_assoc, append-nil) refl
 
 -- the parts of a map, in order; each of the lists `f` is a list `n` in another form, and `o` is the text of the
--- outlines and of the labels
-pub chart_joined : (old a s f n e g p h m q w u i k v o t1 t2 t3 t4 t5 t6 : List ℕ) → n ≡ f → m ≡ h → k ≡ i
-    → o ≡ w ++ (u ++ k ++ v ++ []) → t1 ≡ old ++ a → t2 ≡ t1 ++ s ++ f ++ e → t3 ≡ t2 ++ g → t4 ≡ t3 ++ p ++ h ++ q
-    → t5 ≡ t4 ++ w → t6 ≡ t5 ++ u ++ i ++ v → t6 ≡ old ++ (a ++ (s ++ n ++ e ++ (g ++ (p ++ m ++ q ++ o))))
-chart_joined old a s f n e g p h m q w u i k v o t1 t2 t3 t4 t5 t6 e1 e2 e3 e4 a1 a2 a3 a4 a5 a6 =
-    a6 ∙ ap (λ z. z ++ u ++ i ++ v) (a5 ∙ ap (λ z. z ++ w) (a4 ∙ ap (λ z. z ++ p ++ h ++ q) (a3 ∙ ap (λ z. z ++ g)
-    (a2 ∙ ap (λ z. z ++ s ++ f ++ e) a1))))
-    ∙ (λ j. (((((((((old ++ a) ++ s) ++ sym e1 j) ++ e) ++ g) ++ p) ++ sym e2 j) ++ q) ++ w) ++ u ++ sym e3 j ++ v)
-    ∙ chart_parts old a s n e g p m q w u k v
+-- outlines, the rings and the labels
+pub chart_joined : (old a s f n e g p h m q w x u i k v o t1 t2 t3 t4 t5 t6 t7 : List ℕ) → n ≡ f → m ≡ h → k ≡ i
+    → o ≡ w ++ (x ++ (u ++ k ++ v ++ [])) → t1 ≡ old ++ a → t2 ≡ t1 ++ s ++ f ++ e → t3 ≡ t2 ++ g
+    → t4 ≡ t3 ++ p ++ h ++ q → t5 ≡ t4 ++ w → t6 ≡ t5 ++ x → t7 ≡ t6 ++ u ++ i ++ v
+    → t7 ≡ old ++ (a ++ (s ++ n ++ e ++ (g ++ (p ++ m ++ q ++ o))))
+chart_joined old a s f n e g p h m q w x u i k v o t1 t2 t3 t4 t5 t6 t7 e1 e2 e3 e4 a1 a2 a3 a4 a5 a6 a7 =
+    a7 ∙ ap (λ z. z ++ u ++ i ++ v) (a6 ∙ ap (λ z. z ++ x) (a5 ∙ ap (λ z. z ++ w)
+    (a4 ∙ ap (λ z. z ++ p ++ h ++ q) (a3 ∙ ap (λ z. z ++ g) (a2 ∙ ap (λ z. z ++ s ++ f ++ e) a1)))))
+    ∙ (λ j. ((((((((((old ++ a) ++ s) ++ sym e1 j) ++ e) ++ g) ++ p) ++ sym e2 j) ++ q) ++ w) ++ x) ++ u ++ sym e3 j
+    ++ v)
+    ∙ chart_parts old a s n e g p m q w x u k v
     ∙ ap (λ z. old ++ (a ++ (s ++ n ++ e ++ (g ++ (p ++ m ++ q ++ z))))) (sym e4)
 
 head_parts : (a b c d e f g h i j n : List ℕ)

@@ -121,6 +121,13 @@ area_nodes marks (Some title) = titled_nodes marks (string_bytes title)
 abbrev pub outline_nodes : ℕ → Outline → Nodes
 outline_nodes scale o = area_nodes (area_marks (outline_text o.class) (pixel_rectangle scale o.rectangle)) o.title
 
+-- A ring with this middle, in pixels. Example: `<circle class="ring" cx="24" cy="8" r="11"/>`.
+abbrev pub ring_nodes : Place → Nodes
+ring_nodes middle =
+    empty Elements.Circle
+    (text_mark Attributes.Class (codes "ring") ∷ number_mark Attributes.Cx middle.column
+    ∷ number_mark Attributes.Cy middle.row ∷ number_mark Attributes.R 11 ∷ []) end
+
 -- The lines around the squares, in pixels.
 abbrev pub grid_rectangles : ℕ → List Square → List Rectangle
 grid_rectangles scale squares = map (λ s. pixel_rectangle scale s.rectangle) squares
@@ -147,15 +154,18 @@ grid_marks scale squares =
 abbrev pub small_marks : List Mark
 small_marks = text_mark Attributes.Class (codes "small") ∷ text_mark Attributes.PointerEvents (codes "none") ∷ []
 
--- The map: its ground, a path for each class, the lines of its squares, their titles, its outlines, and its labels.
-abbrev pub chart_nodes : List Layer → List Square → List Outline → List Label → Sides → ℕ → Nodes
-chart_nodes layers squares outlines labels sides scale =
+-- The map: its ground, a path for each class, the lines of its squares, their titles, its outlines and rings,
+-- and its labels.
+abbrev pub chart_nodes : List Layer → List Square → List Outline → (rings : List Place) → List Label → Sides → ℕ
+    → Nodes
+chart_nodes layers squares outlines rings labels sides scale =
     empty Elements.Rect (ground_marks sides scale)
     (element Elements.Group (cells_marks scale) (nodes_of layer_nodes layers)
     (empty Elements.Path (grid_marks scale squares)
     (element Elements.Group (cells_marks scale) (nodes_of square_nodes squares)
     (joined (nodes_of (outline_nodes scale) outlines)
-    (element Elements.Group small_marks (nodes_of label_nodes labels) end)))))
+    (joined (nodes_of ring_nodes rings)
+    (element Elements.Group small_marks (nodes_of label_nodes labels) end))))))
 
 -- The parts of a page, as lists and numbers.
 pub record PageView : Type 0 where
@@ -170,6 +180,7 @@ pub record PageView : Type 0 where
   pub layers : List Layer
   pub squares : List Square
   pub outlines : List Outline
+  pub rings : List Place
   pub labels : List Label
   pub sides : Sides
   pub scale : ℕ
@@ -188,6 +199,7 @@ page_view p c = record {
   layers = c.layers.now;
   squares = c.squares.now;
   outlines = c.outlines.now;
+  rings = c.rings.now;
   labels = c.labels.now;
   sides = c.sides;
   scale = c.scale;
@@ -230,7 +242,7 @@ content_nodes v =
     (joined (nodes_of label_nodes v.captions)
     (joined (nodes_of label_nodes v.heads)
     (joined (nodes_of swatch_nodes v.swatches)
-    (placed_nodes v.chart_place (chart_nodes v.layers v.squares v.outlines v.labels v.sides v.scale)))))
+    (placed_nodes v.chart_place (chart_nodes v.layers v.squares v.outlines v.rings v.labels v.sides v.scale)))))
 
 -- The document of a map.
 abbrev pub page_nodes : PageView → Nodes

@@ -9,6 +9,7 @@ use crate::area::push_titled_area;
 use crate::class::class_name;
 use crate::label::{Label, number_attribute, push_labels, text_attribute};
 use crate::outline::{Outline, push_outlines};
+use crate::ring::push_rings;
 use ipnet_maps::{Layer, Place, Rectangle, Sides, path_text};
 use std::alloc::{AllocError, Global};
 use svg_text::{Attribute, AttributeName, ElementName, Value, push_empty, push_end, push_start};
@@ -33,6 +34,8 @@ pub struct Chart<'a> {
     pub squares: &'a [Square],
     /// The outlines.
     pub outlines: &'a [Outline],
+    /// The middles of the rings, in pixels.
+    pub rings: &'a [Place],
     /// The labels on the map.
     pub labels: &'a [Label],
     /// How many cells the map is wide and high.
@@ -212,12 +215,14 @@ pub(crate) fn push_chart(
     chart: Chart<'_>,
 ) -> Result<(), AllocError>
     ensures { let c = chart.entry in OnOk result (string_bytes text.new ≡ string_bytes text.old
-        ++ nodes_text (chart_nodes c.layers.now c.squares.now c.outlines.now c.labels.now c.sides c.scale)) }
+        ++ nodes_text
+        (chart_nodes c.layers.now c.squares.now c.outlines.now c.rings.now c.labels.now c.sides c.scale)) }
 {
     push_ground(text, chart.sides, chart.scale)?;
     push_cells(alloc, text, chart.layers, chart.scale)?;
     push_grid(alloc, text, chart.scale, chart.squares)?;
     push_areas(text, chart.squares, chart.scale)?;
     push_outlines(text, chart.scale, chart.outlines)?;
+    push_rings(text, chart.rings)?;
     push_small(text, chart.labels)
 }

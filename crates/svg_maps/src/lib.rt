@@ -15,6 +15,7 @@ pub mod outline;
 pub mod outline_labels;
 pub mod overlay;
 pub mod page;
+pub mod ring;
 pub mod sheet;
 pub mod shown;
 pub mod square;

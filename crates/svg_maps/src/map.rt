@@ -10,7 +10,8 @@ use crate::legend::legend_of;
 use crate::outline_labels::map_labels;
 use crate::overlay::Overlay;
 use crate::page::{Page, page_text};
-use crate::sheet::{sheet_of, sides_of};
+use crate::ring::rings_of;
+use crate::sheet::sides_of;
 use crate::square::{Counted, square_networks, squares_of, title_of};
 use ipnet::IpNet;
 use ipnet_maps::Drawing;
@@ -57,6 +58,8 @@ pub fn map_text(
     let texts = captions_of(alloc, frame, drawing, form, summary.as_str())?;
     let outlines = form.overlay.outlines.as_slice();
     let labels = map_labels(alloc, squares.as_slice(), outlines, texts.sheet)?;
+    let sides = sides_of(frame, depth);
+    let rings = rings_of(alloc, layers, sides, texts.sheet.scale)?;
     let page = Page {
         title: texts.title.as_str(),
         summary: summary.as_str(),
@@ -71,8 +74,9 @@ pub fn map_text(
         layers,
         squares: squares.as_slice(),
         outlines,
+        rings: rings.as_slice(),
         labels: labels.inside.as_slice(),
-        sides: sides_of(frame, depth),
+        sides,
         scale: texts.sheet.scale,
     };
     page_text(alloc, page, chart)

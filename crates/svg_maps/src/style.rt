@@ -27,6 +27,7 @@ const COMMON: &[&str] = &[
     ".grid{fill:none;stroke-width:1;opacity:.35}",
     ".free{fill:none;stroke-width:1;stroke-opacity:.55;shape-rendering:crispEdges;pointer-events:none}",
     ".name{fill:none;stroke-width:1.5;pointer-events:none}",
+    ".ring{fill:none;stroke-width:1.5;pointer-events:none}",
     ".halo{stroke-width:3;stroke-linejoin:round;paint-order:stroke}",
     ".pale{fill-opacity:.55}",
 ];
@@ -57,6 +58,7 @@ const LIGHT: &[&str] = &[
     ".grid{stroke:#8a8a85}",
     ".free{stroke:#8a8a85}",
     ".name{stroke:#1a1a1a}",
+    ".ring{stroke:#1a1a1a}",
     ".halo{stroke:#f1f1ee}",
 ];
 
@@ -86,6 +88,7 @@ const DARK: &[&str] = &[
     ".grid{stroke:#8b919b}",
     ".free{stroke:#8b919b}",
     ".name{stroke:#f0f0ee}",
+    ".ring{stroke:#f0f0ee}",
     ".halo{stroke:#24272d}",
 ];
 

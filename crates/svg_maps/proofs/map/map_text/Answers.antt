@@ -25,8 +25,9 @@ returns c =
       layers = c.as_slice-layers.result.now;
       squares = c.as_slice-6.result.now;
       outlines = c.as_slice-outlines.result.now;
-      labels = c.as_slice-7.result.now;
-      sides = c.sides_of.result;
+      rings = c.as_slice-7.result.now;
+      labels = c.as_slice-8.result.now;
+      sides = c.sides_of-sides.result;
       scale = sheet.scale;
     } in
     IfOk-weaker c.page_text.result (λ text. string_bytes text ≡ nodes_text (page_nodes view))
@@ -34,8 +35,8 @@ returns c =
       record {
         view = view;
         layers = c.as_slice-layers.ensures.value;
-        width = c.sides_of.ensures.width;
-        height = c.sides_of.ensures.height;
+        width = c.sides_of-sides.ensures.width;
+        height = c.sides_of-sides.ensures.height;
         squares = subst (All (IsSquareOf n d.depth (n.prefix_len + square_bits n.prefix_len d.depth) counted))
             (sym c.as_slice-6.ensures.value) c.in_ok-squares.ensures;
         summary = subst (IsTitle n counted) (sym c.as_str-3.ensures.value) c.in_ok-summary.ensures;
