@@ -5,7 +5,7 @@ use crate::output::Streams;
 use clap::{Arg, ArgMatches, Command};
 use netset_pictures::{MapRequest, read_theme, run_change_map, run_map};
 use std::alloc::{AllocError, Global};
-use svg_maps::Theme;
+use svg_maps::{Look, Theme};
 
 /// The name of the command.
 pub const MAP: &str = "map";
@@ -46,11 +46,11 @@ pub fn mapped(rt: &HostRuntime, matches: &ArgMatches, streams: &mut Streams<'_>)
     // the value is one of THEMES, if there is one
     let theme = matches.get_str(THEME).and_then(read_theme);
     let theme = theme.unwrap_or(Theme::Auto);
-    let request = MapRequest {
-        frame,
+    let look = Look {
         theme,
         shows_free: matches.get_flag(FREE),
     };
+    let request = MapRequest { frame, look };
     let names = matches.get_strs(FIRST).unwrap_or(&[STANDARD_INPUT]);
     let session = match read_pictured(rt, matches, names, streams) {
         Ok(session) => session,

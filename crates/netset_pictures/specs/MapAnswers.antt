@@ -25,7 +25,7 @@ theme_text Dark = codes "dark"
 pub record IsFramedMap (set : IpSet) (request : MapRequest) (text : List ℕ) : Type 0 where
   pub network : Network
   pub is_frame : IsFrame request.frame (IsMember set) network
-  pub shown : IsOutlinedSetMap request.shows_free set network text
+  pub shown : IsOutlinedSetMap request.look.shows_free set network text
 
 -- The text is the map of the change from one set to the other, in the frame of all addresses that they have together.
 -- Example: the map of 10.0.0.0/28 for 10.0.0.0 to 10.0.0.3 and 10.0.0.8 to 10.0.0.9.
@@ -34,7 +34,7 @@ pub record IsFramedChangeMap (before after : IpSet) (request : MapRequest) (text
   pub both : IsUnion all before after
   pub network : Network
   pub is_frame : IsFrame request.frame (IsMember all) network
-  pub shown : IsOutlinedChangeMap request.shows_free before after network text
+  pub shown : IsOutlinedChangeMap request.look.shows_free before after network text
 
 -- No line of the lists is refused, and the text is the map of the addresses of the operation's result.
 pub record IsMapAnswer (operation : Request) (lists : List (List ℕ)) (request : MapRequest) (text : List ℕ) : Type 0

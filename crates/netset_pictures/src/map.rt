@@ -18,20 +18,8 @@ use svg_maps::{Look, Theme, change_map_text, set_map_text};
 pub struct MapRequest {
     /// The network.
     pub frame: Frame,
-    /// The colours.
-    pub theme: Theme,
-    /// Whether free blocks are outlined.
-    pub shows_free: bool,
-}
-
-/// The look of the map.
-fn look_of(request: MapRequest) -> Look
-    ensures { result.shows_free ≡ request.shows_free }
-{
-    Look {
-        theme: request.theme,
-        shows_free: request.shows_free,
-    }
+    /// The colours, and whether free blocks are outlined.
+    pub look: Look,
 }
 
 /// Returns the colours that the text names, or `None` if it names none.
@@ -67,7 +55,7 @@ pub fn framed_map_text(
     let Some(network) = frame_of(alloc, set, request.frame)? else {
         return Err(BarFailure::NoFrame);
     };
-    Ok(set_map_text(alloc, &network, set, look_of(request))?)
+    Ok(set_map_text(alloc, &network, set, request.look)?)
 }
 
 /// Returns the map of the change from one set to the other, in the frame of all their addresses, as a document of SVG.
@@ -91,5 +79,5 @@ pub fn framed_change_map_text(
     let Some(network) = frame_of(alloc, &all, request.frame)? else {
         return Err(BarFailure::NoFrame);
     };
-    Ok(change_map_text(alloc, &network, before, after, look_of(request))?)
+    Ok(change_map_text(alloc, &network, before, after, request.look)?)
 }

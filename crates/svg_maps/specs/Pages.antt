@@ -45,6 +45,8 @@ ink_text Inks.Head = codes "ink head"
 ink_text Inks.Plain = codes "ink"
 ink_text Inks.Faint = codes "faint"
 ink_text Inks.Halo = codes "ink halo"
+ink_text Inks.Inverse = codes "inverse"
+ink_text Inks.Black = codes "black"
 ink_text Inks.Free = codes "faint note"
 ink_text Inks.Name = codes "ink halo note"
 

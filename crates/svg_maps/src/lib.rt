@@ -21,6 +21,8 @@ pub mod shown;
 pub mod square;
 pub mod square_labels;
 pub mod style;
+pub(crate) mod tiles;
+pub(crate) mod under;
 
 pub use chart::{Chart, Square};
 pub use label::{Anchor, Ink, Label, Swatch};

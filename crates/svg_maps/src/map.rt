@@ -13,6 +13,7 @@ use crate::page::{Page, page_text};
 use crate::ring::rings_of;
 use crate::sheet::sides_of;
 use crate::square::{Counted, square_networks, squares_of, title_of};
+use crate::under::under_of;
 use ipnet::IpNet;
 use ipnet_maps::Drawing;
 use std::alloc::{AllocError, Global};
@@ -57,8 +58,9 @@ pub fn map_text(
     let summary = title_of(alloc, counted, frame)?;
     let texts = captions_of(alloc, frame, drawing, form, summary.as_str())?;
     let outlines = form.overlay.outlines.as_slice();
-    let labels = map_labels(alloc, squares.as_slice(), outlines, texts.sheet)?;
     let sides = sides_of(frame, depth);
+    let under = under_of(alloc, layers, sides, texts.sheet.scale)?;
+    let labels = map_labels(alloc, squares.as_slice(), outlines, texts.sheet, &under)?;
     let rings = rings_of(alloc, layers, sides, texts.sheet.scale)?;
     let page = Page {
         title: texts.title.as_str(),

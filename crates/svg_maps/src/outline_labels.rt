@@ -5,6 +5,7 @@ use crate::label::{Ink, Label, label_at};
 use crate::outline::{Outline, OutlineClass};
 use crate::sheet::Sheet;
 use crate::square_labels::{SquareLabels, square_labels};
+use crate::under::{Under, ink_in};
 use ipnet_maps::{Place, Rectangle, Sides};
 use std::alloc::{AllocError, Global};
 
@@ -131,15 +132,25 @@ fn push_outline_label(
     Ok(())
 }
 
-/// Returns the labels of the squares and of the outlines, on a map of this size and place. Fails only if memory runs
-/// out.
+/// Gives each of the labels the look that can be read on the colours below it.
+fn choose_inks(labels: &mut Vec<Label>, under: &Under) {
+    for index in 0..labels.len() {
+        let area = box_of(&labels[index]);
+        labels[index].ink = ink_in(under, area);
+    }
+}
+
+/// Returns the labels of the squares and of the outlines, on a map of this size and place with these colours. Fails
+/// only if memory runs out.
 pub(crate) fn map_labels(
     alloc: Global,
     squares: &[Square],
     outlines: &[Outline],
     sheet: Sheet,
+    under: &Under,
 ) -> Result<SquareLabels, AllocError> {
     let mut labels = square_labels(alloc, squares, sheet)?;
+    choose_inks(&mut labels.inside, under);
     for outline in outlines {
         push_outline_label(alloc, &mut labels.inside, sheet.scale, outline)?;
     }

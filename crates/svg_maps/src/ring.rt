@@ -4,6 +4,7 @@ ghost use Rattle.svg_text.specs.Documents.{nodes_text};
 ghost use Rattle.svg_maps.specs.Pages.{ring_nodes};
 
 use crate::label::{number_attribute, text_attribute};
+use crate::tiles::{Tiles, index_of, range_of, tiles_of};
 use ipnet_maps::{Class, Layer, Place, Rectangle, Sides};
 use std::alloc::{AllocError, Global};
 use svg_text::{AttributeName, ElementName, push_empty};
@@ -20,45 +21,15 @@ const MOST: usize = 120;
 /// The radius of a ring, in pixels: it is around the whole tile.
 const RADIUS: u32 = 11;
 
-/// The tiles of a map.
-#[derive(Clone, Copy)]
-struct Tiles {
-    /// How many pixels a cell is wide and high.
-    scale: u32,
-    /// How many cells a tile is wide and high.
-    side: u32,
-    /// How many tiles the map is wide and high.
-    sides: Sides,
-}
-
-/// The tiles of a map with these sides.
-fn tiles_of(sides: Sides, scale: u32) -> Tiles {
-    let side = (TILE / scale.max(1)).max(1);
-    let sides = Sides {
-        width: sides.width.div_ceil(side),
-        height: sides.height.div_ceil(side),
-    };
-    Tiles { scale, side, sides }
-}
-
-/// The place of the tile in the list of tiles.
-fn index_of(tiles: Tiles, column: u32, row: u32) -> usize {
-    let index = row.saturating_mul(tiles.sides.width).saturating_add(column);
-    usize::try_from(index).unwrap_or(usize::MAX)
-}
-
 /// Adds the pixels of the rectangle to the tiles that it meets. Its sides and the sides of a tile are powers of two,
 /// and its place is a multiple of its sides, so each of these tiles has equally many of its pixels.
-fn add_painted(counts: &mut Vec<u32>, tiles: Tiles, rectangle: Rectangle) {
-    let Rectangle { place, sides } = rectangle;
-    let side = tiles.side.max(1);
-    let width = sides.width.min(side).saturating_mul(tiles.scale);
-    let height = sides.height.min(side).saturating_mul(tiles.scale);
+fn add_painted(counts: &mut Vec<u32>, tiles: Tiles, scale: u32, rectangle: Rectangle) {
+    let width = rectangle.sides.width.min(tiles.side).saturating_mul(scale);
+    let height = rectangle.sides.height.min(tiles.side).saturating_mul(scale);
     let painted = width.saturating_mul(height);
-    let end_row = place.row.saturating_add(sides.height).div_ceil(side);
-    let end_column = place.column.saturating_add(sides.width).div_ceil(side);
-    for row in place.row / side..end_row {
-        for column in place.column / side..end_column {
+    let range = range_of(tiles, rectangle);
+    for row in range.first_row..range.end_row {
+        for column in range.first_column..range.end_column {
             let index = index_of(tiles, column, row);
             if index < counts.len() {
                 counts[index] = counts[index].saturating_add(painted);
@@ -76,7 +47,12 @@ fn is_counted(class: Class) -> bool {
 }
 
 /// The number of painted pixels of each tile, row by row.
-fn painted_counts(alloc: Global, layers: &[Layer], tiles: Tiles) -> Result<Vec<u32>, AllocError> {
+fn painted_counts(
+    alloc: Global,
+    layers: &[Layer],
+    tiles: Tiles,
+    scale: u32,
+) -> Result<Vec<u32>, AllocError> {
     let mut counts = Vec::new(alloc);
     for _ in 0..index_of(tiles, 0, tiles.sides.height) {
         counts.push(0)?;
@@ -84,7 +60,7 @@ fn painted_counts(alloc: Global, layers: &[Layer], tiles: Tiles) -> Result<Vec<u
     for layer in layers {
         if is_counted(layer.class) {
             for rectangle in layer.rectangles.as_slice() {
-                add_painted(&mut counts, tiles, *rectangle);
+                add_painted(&mut counts, tiles, scale, *rectangle);
             }
         }
     }
@@ -126,8 +102,8 @@ pub(crate) fn rings_of(
     if scale.saturating_mul(scale) > FEW {
         return Ok(Vec::new(alloc));
     }
-    let tiles = tiles_of(sides, scale);
-    let counts = painted_counts(alloc, layers, tiles)?;
+    let tiles = tiles_of(sides, TILE / scale.max(1));
+    let counts = painted_counts(alloc, layers, tiles, scale)?;
     let middles = faint_tiles(alloc, counts.as_slice(), tiles)?;
     if middles.len() > MOST {
         return Ok(Vec::new(alloc));
