@@ -128,8 +128,12 @@ pub fn largest_of(networks: &[IpNet]) -> Option<IpNet>
     largest
 }
 
-/// Appends the line of the largest free block.
-fn push_largest(text: &mut String, largest: Option<IpNet>) -> Result<(), AllocError>
+/// Appends the line of the largest free block; nothing if there is none. Fails only if memory runs out.
+///
+/// ```text
+/// of 10.0.0.12/30: "largest free: 10.0.0.12/30" and a line feed
+/// ```
+pub fn push_largest(text: &mut String, largest: Option<IpNet>) -> Result<(), AllocError>
     ensures { OnOk result (string_bytes text.new
         ≡ string_bytes text.old ++ largest_line (option_map ip_network largest)) }
 {
@@ -141,8 +145,13 @@ fn push_largest(text: &mut String, largest: Option<IpNet>) -> Result<(), AllocEr
     text.push_str("\n")
 }
 
-/// Appends the line of the free blocks.
-fn push_free(text: &mut String, free: &[IpNet], network: &IpNet) -> Result<(), AllocError>
+/// Appends the line of the free blocks of the network: how many there are, and how many of each prefix length. Fails
+/// only if memory runs out.
+///
+/// ```text
+/// of 10.0.0.10/31 and 10.0.0.12/30 in 10.0.0.0/28: "free blocks: 2, 1 of /30, 1 of /31" and a line feed
+/// ```
+pub fn push_free(text: &mut String, free: &[IpNet], network: &IpNet) -> Result<(), AllocError>
     ensures { OnOk result (string_bytes text.new
         ≡ string_bytes text.old ++ free_line (ip_network network.now) (map ip_network free.now)) }
 {

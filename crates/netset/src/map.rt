@@ -6,13 +6,16 @@ use clap::{Arg, ArgMatches, Command};
 use netset_pictures::{MapRequest, read_theme, run_change_map, run_map, run_sets_map};
 use std::alloc::{AllocError, Global};
 use std::io::Write;
-use svg_maps::{MOST_LISTS, Theme};
+use svg_maps::{Look, MOST_LISTS, Theme};
 
 /// The name of the command.
 pub const MAP: &str = "map";
 
 /// The name of the option for the colours.
 const THEME: &str = "theme";
+
+/// The name of the flag for free blocks.
+const FREE: &str = "free";
 
 /// The values of `--theme`.
 const THEMES: &[&str] = &["auto", "light", "dark"];
@@ -21,6 +24,7 @@ const THEMES: &[&str] = &["auto", "light", "dark"];
 pub fn with_map<'a>(alloc: Global, command: Command<'a>) -> Result<Command<'a>, AllocError> {
     let about =
         "A network as a picture in SVG: what up to six lists cover, or what changed between two";
+    let free = "Outline the blocks that no list has, and say which is the largest";
     let compare = "Show what changed between two lists; status 1 if they differ";
     let theme = Arg::new(alloc, THEME)
         .long(THEME)
@@ -30,6 +34,7 @@ pub fn with_map<'a>(alloc: Global, command: Command<'a>) -> Result<Command<'a>, 
     let map = with_frame(alloc, command_of(alloc, MAP, about)?)?
         .arg(theme)?
         .arg(flag(alloc, COMPARE, compare))?
+        .arg(flag(alloc, FREE, free))?
         .arg(any_files(alloc))?;
     command.subcommand(map)
 }
@@ -55,7 +60,11 @@ pub fn mapped(rt: &HostRuntime, matches: &ArgMatches, streams: &mut Streams<'_>)
     // the value is one of THEMES, if there is one
     let theme = matches.get_str(THEME).and_then(read_theme);
     let theme = theme.unwrap_or(Theme::Auto);
-    let request = MapRequest { frame, theme };
+    let look = Look {
+        theme,
+        shows_free: matches.get_flag(FREE),
+    };
+    let request = MapRequest { frame, look };
     if are_too_many(rt, matches) {
         return 2;
     }

@@ -2,7 +2,6 @@
 use Rattle.std.specs.Prelude.{ℕ, List, codes}
 use Rattle.ipnet_base.specs.Network.{Network}
 use Rattle.ipnet.specs.declared.parser.Grammar.{Grammar}
-use Rattle.ipnet_pictures.specs.declared.frame.Frame.{Frame}
 use Rattle.ipnet_pictures.specs.Frames.{IsFrame}
 use Rattle.ipnet_sets.specs.declared.set.IpSet.{IpSet}
 use Rattle.ipnet_sets.specs.ManySets.{IsInSome}
@@ -13,7 +12,8 @@ use Rattle.netset_lib.specs.PlanAnswers.{IsResultSet}
 use Rattle.netset_lib.specs.SetsOf.{AreSetsOf}
 use Rattle.svg_maps.specs.declared.style.Theme.{Theme}
 use Rattle.svg_maps.specs.declared.style.Theme.TheVariants.{Auto, Light, Dark}
-use Rattle.svg_maps.specs.Maps.{IsSetMap, IsChangeMap, IsSetsMap}
+use Rattle.svg_maps.specs.Overlays.{IsOutlinedSetMap, IsOutlinedChangeMap, IsOutlinedSetsMap}
+use Rattle.netset_pictures.specs.declared.map.MapRequest.{MapRequest}
 
 -- The colours of a map, as a word of a command line.
 abbrev pub theme_text : Theme → List ℕ
@@ -21,45 +21,49 @@ theme_text Auto = codes "auto"
 theme_text Light = codes "light"
 theme_text Dark = codes "dark"
 
--- The text is the map of the set in its frame: a network, or the smallest around its addresses of one family.
+-- The text is the map of the set in its frame: a network, or the smallest around its addresses of one family. It
+-- outlines the free blocks if the request says so.
 -- Example: the map of 10.0.0.0/28 for 10.0.0.0 to 10.0.0.9, without a named network.
-pub record IsFramedMap (set : IpSet) (frame : Frame) (text : List ℕ) : Type 0 where
+pub record IsFramedMap (set : IpSet) (request : MapRequest) (text : List ℕ) : Type 0 where
   pub network : Network
-  pub is_frame : IsFrame frame (IsMember set) network
-  pub shown : IsSetMap set network text
+  pub is_frame : IsFrame request.frame (IsMember set) network
+  pub shown : IsOutlinedSetMap request.look.shows_free set network text
 
 -- The text is the map of the sets, which have these names, in the frame of all addresses that they have together.
 -- Example: the map of 10.0.0.0/28 for 10.0.0.0 to 10.0.0.3 and 10.0.0.8 to 10.0.0.9.
-pub record IsFramedSetsMap (sets : List IpSet) (names : List (List ℕ)) (frame : Frame) (text : List ℕ) : Type 0 where
-  pub network : Network
-  pub is_frame : IsFrame frame (IsInSome IsMember sets) network
-  pub shown : IsSetsMap sets names network text
+pub record IsFramedSetsMap (sets : List IpSet) (names : List (List ℕ)) (request : MapRequest) (text : List ℕ) : Type 0
+  where
+    pub network : Network
+    pub is_frame : IsFrame request.frame (IsInSome IsMember sets) network
+    pub shown : IsOutlinedSetsMap request.look.shows_free sets names network text
 
 -- The text is the map of the change from one set to the other, in the frame of all addresses that they have together.
 -- Example: the map of 10.0.0.0/28 for 10.0.0.0 to 10.0.0.3 and 10.0.0.8 to 10.0.0.9.
-pub record IsFramedChangeMap (before after : IpSet) (frame : Frame) (text : List ℕ) : Type 0 where
+pub record IsFramedChangeMap (before after : IpSet) (request : MapRequest) (text : List ℕ) : Type 0 where
   pub all : IpSet
   pub both : IsUnion all before after
   pub network : Network
-  pub is_frame : IsFrame frame (IsMember all) network
-  pub shown : IsChangeMap before after network text
+  pub is_frame : IsFrame request.frame (IsMember all) network
+  pub shown : IsOutlinedChangeMap request.look.shows_free before after network text
 
 -- No line of the lists is refused, and the text is the map of the addresses of the operation's result.
-pub record IsMapAnswer (request : Request) (lists : List (List ℕ)) (frame : Frame) (text : List ℕ) : Type 0 where
-  pub set : IpSet
-  pub result : IsResultSet request lists set
-  pub right : IsFramedMap set frame text
+pub record IsMapAnswer (operation : Request) (lists : List (List ℕ)) (request : MapRequest) (text : List ℕ) : Type 0
+  where
+    pub set : IpSet
+    pub result : IsResultSet operation lists set
+    pub right : IsFramedMap set request text
 
 -- No line of the lists is refused, and the text is the map of their addresses, each list by its name.
-pub record IsSetsMapAnswer (request : Request) (lists names : List (List ℕ)) (frame : Frame) (text : List ℕ)
+pub record IsSetsMapAnswer (operation : Request) (lists names : List (List ℕ)) (request : MapRequest) (text : List ℕ)
     : Type 0 where
   pub sets : List IpSet
-  pub of_lists : AreSetsOf request.grammar lists sets
-  pub right : IsFramedSetsMap sets names frame text
+  pub of_lists : AreSetsOf operation.grammar lists sets
+  pub right : IsFramedSetsMap sets names request text
 
 -- No line of the two lists is refused, and the text is the map of the change from the first list to the second.
-pub record IsChangeMapAnswer (grammar : Grammar) (lists : List (List ℕ)) (frame : Frame) (text : List ℕ) : Type 0 where
-  pub before : IpSet
-  pub after : IpSet
-  pub pair : ArePairSets grammar lists before after
-  pub right : IsFramedChangeMap before after frame text
+pub record IsChangeMapAnswer (grammar : Grammar) (lists : List (List ℕ)) (request : MapRequest) (text : List ℕ) : Type 0
+  where
+    pub before : IpSet
+    pub after : IpSet
+    pub pair : ArePairSets grammar lists before after
+    pub right : IsFramedChangeMap before after request text

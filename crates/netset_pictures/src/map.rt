@@ -12,15 +12,15 @@ use crate::bar::BarFailure;
 use ipnet_pictures::{Frame, frame_of};
 use ipnet_sets::IpSet;
 use std::alloc::Global;
-use svg_maps::{Theme, change_map_text, set_map_text, sets_map_text};
+use svg_maps::{Look, Theme, change_map_text, set_map_text, sets_map_text};
 
-/// The network that a map shows, and its colours.
+/// The network that a map shows, and how it looks.
 #[derive(Clone, Copy, Debug, PartialEq, Eq)]
 pub struct MapRequest {
     /// The network.
     pub frame: Frame,
-    /// The colours.
-    pub theme: Theme,
+    /// The colours, and whether free blocks are outlined.
+    pub look: Look,
 }
 
 /// Returns the colours that the text names, or `None` if it names none.
@@ -50,13 +50,13 @@ pub fn framed_map_text(
     set: &IpSet,
     request: MapRequest,
 ) -> Result<String, BarFailure>
-    ensures map { IfOk result (λ text. IsFramedMap set.now request.frame (string_bytes text)) }
+    ensures map { IfOk result (λ text. IsFramedMap set.now request (string_bytes text)) }
     ensures none { result ≡ Err NoFrame → HasNoFrame request.frame (IsMember set.now) }
 {
     let Some(network) = frame_of(alloc, set, request.frame)? else {
         return Err(BarFailure::NoFrame);
     };
-    Ok(set_map_text(alloc, &network, set, request.theme)?)
+    Ok(set_map_text(alloc, &network, set, request.look)?)
 }
 
 /// Returns the map of the sets, which have these names, in the frame of all their addresses, as a document of SVG. The
@@ -73,14 +73,14 @@ pub fn framed_sets_map_text(
     request: MapRequest,
 ) -> Result<String, BarFailure>
     ensures map { IfOk result (λ text.
-        IsFramedSetsMap sets.now (map (λ name. name.now) names.now) request.frame (string_bytes text)) }
+        IsFramedSetsMap sets.now (map (λ name. name.now) names.now) request (string_bytes text)) }
     ensures none { result ≡ Err NoFrame → HasNoFrame request.frame (IsInSome IsMember sets.now) }
 {
     let all = IpSet::union_all(alloc, sets)?;
     let Some(network) = frame_of(alloc, &all, request.frame)? else {
         return Err(BarFailure::NoFrame);
     };
-    Ok(sets_map_text(alloc, &network, sets, names, request.theme)?)
+    Ok(sets_map_text(alloc, &network, sets, names, request.look)?)
 }
 
 /// Returns the map of the change from one set to the other, in the frame of all their addresses, as a document of SVG.
@@ -96,7 +96,7 @@ pub fn framed_change_map_text(
     after: &IpSet,
     request: MapRequest,
 ) -> Result<String, BarFailure>
-    ensures map { IfOk result (λ text. IsFramedChangeMap before.now after.now request.frame (string_bytes text)) }
+    ensures map { IfOk result (λ text. IsFramedChangeMap before.now after.now request (string_bytes text)) }
     ensures none { result ≡ Err NoFrame
         → ((all : IpSet) × IsUnion all before.now after.now × HasNoFrame request.frame (IsMember all)) }
 {
@@ -104,5 +104,5 @@ pub fn framed_change_map_text(
     let Some(network) = frame_of(alloc, &all, request.frame)? else {
         return Err(BarFailure::NoFrame);
     };
-    Ok(change_map_text(alloc, &network, before, after, request.theme)?)
+    Ok(change_map_text(alloc, &network, before, after, request.look)?)
 }

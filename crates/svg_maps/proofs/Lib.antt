@@ -3,3 +3,4 @@ pub mod NodeLaws
 pub mod FormLaws
 pub mod PageLaws
 pub mod CountLaws
+pub mod FreeLaws

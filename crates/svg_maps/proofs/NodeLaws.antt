@@ -26,7 +26,8 @@ pub nodes_of_text : {X : Type 0} (f : X → Nodes) (xs : List X)
 nodes_of_text f [] = refl
 nodes_of_text f (x ∷ xs) = joined_text (f x) (nodes_of f xs) ∙ ap (λ z. nodes_text (f x) ++ z) (nodes_of_text f xs)
 
-each_then : {X : Type 0} (f : X → Nodes) (xs : List X) (next : Nodes)
+-- the nodes of all members of a list, before the next nodes
+pub each_then : {X : Type 0} (f : X → Nodes) (xs : List X) (next : Nodes)
     → nodes_text (joined (nodes_of f xs) next) ≡ flat_map (λ x. nodes_text (f x)) xs ++ nodes_text next
 each_then f xs next = joined_text (nodes_of f xs) next ∙ ap (λ z. z ++ nodes_text next) (nodes_of_text f xs)
 
@@ -43,9 +44,11 @@ pub content_text : (v : PageView) → nodes_text (content_nodes v)
     ≡ nodes_text (head_nodes v.title v.summary v.style v.area end)
     ++ (flat_map (λ l. nodes_text (label_nodes l)) v.captions ++ (flat_map (λ l. nodes_text (label_nodes l)) v.heads
     ++ (flat_map (λ s. nodes_text (swatch_nodes s)) v.swatches
-    ++ nodes_text (placed_nodes v.chart_place (chart_nodes v.layers v.squares v.labels v.sides v.scale)))))
+    ++ nodes_text (placed_nodes v.chart_place
+    (chart_nodes v.layers v.squares v.outlines v.rings v.labels v.sides v.scale)))))
 content_text v =
-    let placed = placed_nodes v.chart_place (chart_nodes v.layers v.squares v.labels v.sides v.scale) in
+    let placed = placed_nodes v.chart_place
+    (chart_nodes v.layers v.squares v.outlines v.rings v.labels v.sides v.scale) in
     let swatches = joined (nodes_of swatch_nodes v.swatches) placed in
     let heads = joined (nodes_of label_nodes v.heads) swatches in
     let front = nodes_text (head_nodes v.title v.summary v.style v.area end) in

@@ -1,11 +1,12 @@
 -- The parts of a page, one after the other.
 use Rattle.std.proofs.Common.{◌≡◌, List, ℕ, [], ◌∷◌, ◌++◌, map, sym, ap, ◌∙◌, refl, append_assoc, append-nil}
+use Rattle.std.proofs.Common.{Option, Some, None, String, Global, string_bytes, ap₂}
 use Rattle.svg_text.specs.declared.name.ElementName.{ElementName}
 use Rattle.svg_text.specs.declared.name.ElementName.TheVariants as Elements
 use Rattle.svg_text.specs.Documents.{Mark, Nodes, end, words, element, nodes_text, start_text, end_text, empty_text}
 use Rattle.svg_text.specs.Escapes.{escaped}
 use Rattle.ipnet_maps.specs.declared.layout.Sides.{Sides}
-use Rattle.svg_maps.specs.Pages.{head_nodes, page_marks}
+use Rattle.svg_maps.specs.Pages.{head_nodes, page_marks, area_nodes, titled_nodes}
 
 pub four_marks : {A : Type 0} (f : A → Mark) (a b c d : A) (k l m n : Mark) → f a ≡ k → f b ≡ l → f c ≡ m → f d ≡ n
     → map f (a ∷ b ∷ c ∷ d ∷ []) ≡ k ∷ l ∷ m ∷ n ∷ []
@@ -38,20 +39,38 @@ element_whole name marks inside t0 t1 t2 t3 e0 e1 e2 e3 =
     element_appended name marks inside t0 t1 t2 t3 e1 e2 e3
     ∙ ap (λ z. z ++ nodes_text (element name marks inside end)) e0
 
-chart_parts : (old a s n e g p m q u k v : List ℕ)
-    → ((((((((old ++ a) ++ s) ++ n) ++ e) ++ g) ++ p) ++ m) ++ q) ++ u ++ k ++ v
-    ≡ old ++ (a ++ (s ++ n ++ e ++ (g ++ (p ++ m ++ q ++ (u ++ k ++ v ++ [])))))
-chart_parts old a s n e g p m q u k v = simp (append_assoc, append-nil) refl
+-- a rectangle without a title, and one with a title
+pub plain_area : (marks wanted : List Mark) (title : Option (String Global)) (old new : List ℕ) → marks ≡ wanted
+    → title ≡ None → new ≡ old ++ empty_text Elements.Rect marks → new ≡ old ++ nodes_text (area_nodes wanted title)
+plain_area marks wanted title old new same none e =
+    e ∙ ap (λ z. old ++ z) (sym (append-nil (empty_text Elements.Rect marks)))
+    ∙ ap₂ (λ m t. old ++ nodes_text (area_nodes m t)) same (sym none)
 
--- the parts of a map, in order; each of the lists `f` is a list `n` in another form
-pub chart_joined : (old a s f n e g p h m q u i k v t1 t2 t3 t4 t5 : List ℕ) → n ≡ f → m ≡ h → k ≡ i
-    → t1 ≡ old ++ a → t2 ≡ t1 ++ s ++ f ++ e → t3 ≡ t2 ++ g → t4 ≡ t3 ++ p ++ h ++ q → t5 ≡ t4 ++ u ++ i ++ v
-    → t5 ≡ old ++ (a ++ (s ++ n ++ e ++ (g ++ (p ++ m ++ q ++ (u ++ k ++ v ++ [])))))
-chart_joined old a s f n e g p h m q u i k v t1 t2 t3 t4 t5 e1 e2 e3 a1 a2 a3 a4 a5 =
-    a5 ∙ ap (λ z. z ++ u ++ i ++ v) (a4 ∙ ap (λ z. z ++ p ++ h ++ q) (a3 ∙ ap (λ z. z ++ g)
-    (a2 ∙ ap (λ z. z ++ s ++ f ++ e) a1)))
-    ∙ (λ j. ((((((((old ++ a) ++ s) ++ sym e1 j) ++ e) ++ g) ++ p) ++ sym e2 j) ++ q) ++ u ++ sym e3 j ++ v)
-    ∙ chart_parts old a s n e g p m q u k v
+pub titled_area : (marks wanted : List Mark) (title : Option (String Global)) (t : String Global)
+    (bytes old new : List ℕ) → marks ≡ wanted → title ≡ Some t → bytes ≡ string_bytes t
+    → new ≡ old ++ nodes_text (titled_nodes marks bytes) → new ≡ old ++ nodes_text (area_nodes wanted title)
+titled_area marks wanted title t bytes old new same some is e =
+    e ∙ ap (λ z. old ++ nodes_text (titled_nodes marks z)) is
+    ∙ ap₂ (λ m o. old ++ nodes_text (area_nodes m o)) same (sym some)
+
+chart_parts : (old a s n e g p m q w x u k v : List ℕ)
+    → ((((((((((old ++ a) ++ s) ++ n) ++ e) ++ g) ++ p) ++ m) ++ q) ++ w) ++ x) ++ u ++ k ++ v
+    ≡ old ++ (a ++ (s ++ n ++ e ++ (g ++ (p ++ m ++ q ++ (w ++ (x ++ (u ++ k ++ v ++ [])))))))
+chart_parts old a s n e g p m q w x u k v = simp (append_assoc, append-nil) refl
+
+-- the parts of a map, in order; each of the lists `f` is a list `n` in another form, and `o` is the text of the
+-- outlines, the rings and the labels
+pub chart_joined : (old a s f n e g p h m q w x u i k v o t1 t2 t3 t4 t5 t6 t7 : List ℕ) → n ≡ f → m ≡ h → k ≡ i
+    → o ≡ w ++ (x ++ (u ++ k ++ v ++ [])) → t1 ≡ old ++ a → t2 ≡ t1 ++ s ++ f ++ e → t3 ≡ t2 ++ g
+    → t4 ≡ t3 ++ p ++ h ++ q → t5 ≡ t4 ++ w → t6 ≡ t5 ++ x → t7 ≡ t6 ++ u ++ i ++ v
+    → t7 ≡ old ++ (a ++ (s ++ n ++ e ++ (g ++ (p ++ m ++ q ++ o))))
+chart_joined old a s f n e g p h m q w x u i k v o t1 t2 t3 t4 t5 t6 t7 e1 e2 e3 e4 a1 a2 a3 a4 a5 a6 a7 =
+    a7 ∙ ap (λ z. z ++ u ++ i ++ v) (a6 ∙ ap (λ z. z ++ x) (a5 ∙ ap (λ z. z ++ w)
+    (a4 ∙ ap (λ z. z ++ p ++ h ++ q) (a3 ∙ ap (λ z. z ++ g) (a2 ∙ ap (λ z. z ++ s ++ f ++ e) a1)))))
+    ∙ (λ j. ((((((((((old ++ a) ++ s) ++ sym e1 j) ++ e) ++ g) ++ p) ++ sym e2 j) ++ q) ++ w) ++ x) ++ u ++ sym e3 j
+    ++ v)
+    ∙ chart_parts old a s n e g p m q w x u k v
+    ∙ ap (λ z. old ++ (a ++ (s ++ n ++ e ++ (g ++ (p ++ m ++ q ++ z))))) (sym e4)
 
 head_parts : (a b c d e f g h i j n : List ℕ)
     → a ++ (b ++ []) ++ c ++ (d ++ (e ++ []) ++ f ++ (g ++ (h ++ []) ++ i ++ (j ++ n)))

@@ -4,3 +4,5 @@ pub mod Pages
 pub mod Squares
 pub mod Maps
 pub mod Styles
+pub mod FreeOutlines
+pub mod Overlays

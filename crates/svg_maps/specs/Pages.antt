@@ -1,5 +1,7 @@
 -- Pages: the document of a map.
-use Rattle.std.specs.Prelude.{ℕ, ◌*◌, min, List, [], ◌∷◌, map, codes, decimal, string_bytes}
+use Rattle.std.specs.Prelude.{ℕ, ◌*◌, min, List, [], ◌∷◌, map, codes, decimal, Option, Some, None, String}
+use Rattle.std.specs.Prelude.{string_bytes}
+use Rattle.std.specs.Global.{Global}
 use Rattle.ipnet_maps.specs.declared.drawing.Layer.{Layer}
 use Rattle.ipnet_maps.specs.declared.layout.Place.{Place}
 use Rattle.ipnet_maps.specs.declared.layout.Sides.{Sides}
@@ -17,6 +19,9 @@ use Rattle.svg_maps.specs.declared.label.Ink.TheVariants as Inks
 use Rattle.svg_maps.specs.declared.label.Label.{Label}
 use Rattle.svg_maps.specs.declared.label.Swatch.{Swatch}
 use Rattle.svg_maps.specs.declared.chart.Square.{Square}
+use Rattle.svg_maps.specs.declared.outline.OutlineClass.{OutlineClass}
+use Rattle.svg_maps.specs.declared.outline.OutlineClass.TheVariants as OutlineClasses
+use Rattle.svg_maps.specs.declared.outline.Outline.{Outline}
 use Rattle.svg_maps.specs.declared.chart.Chart.{Chart}
 use Rattle.svg_maps.specs.declared.page.Page.{Page}
 use Rattle.svg_maps.specs.ClassTexts.{class_text}
@@ -40,6 +45,10 @@ ink_text Inks.Head = codes "ink head"
 ink_text Inks.Plain = codes "ink"
 ink_text Inks.Faint = codes "faint"
 ink_text Inks.Halo = codes "ink halo"
+ink_text Inks.Inverse = codes "inverse"
+ink_text Inks.Black = codes "black"
+ink_text Inks.Free = codes "faint note"
+ink_text Inks.Name = codes "ink halo note"
 
 -- The side of a label that is at its place.
 abbrev pub anchor_text : Anchor → List ℕ
@@ -72,18 +81,21 @@ layer_nodes l =
     (text_mark Attributes.Class (class_text l.class)
     ∷ text_mark Attributes.D (path_of corner l.rectangles.items) ∷ []) end
 
--- The attributes of the area of a square.
-abbrev pub square_marks : Rectangle → List Mark
-square_marks r =
-    text_mark Attributes.Class (codes "hit") ∷ number_mark Attributes.X r.place.column
+-- The attributes of a rectangle of this class.
+abbrev pub area_marks : List ℕ → Rectangle → List Mark
+area_marks class r =
+    text_mark Attributes.Class class ∷ number_mark Attributes.X r.place.column
     ∷ number_mark Attributes.Y r.place.row ∷ number_mark Attributes.Width r.sides.width
     ∷ number_mark Attributes.Height r.sides.height ∷ []
 
+-- A rectangle with a title.
+-- Example: `<rect class="hit" x="0" y="0" width="16" height="16"><title>10.20.0.0/24</title></rect>`.
+abbrev pub titled_nodes : List Mark → List ℕ → Nodes
+titled_nodes marks title = element Elements.Rect marks (element Elements.Title [] (words title end) end) end
+
 -- The area of a square, in cells, with its title. It is not visible, and a browser shows its title.
 abbrev pub square_nodes : Square → Nodes
-square_nodes s =
-    element Elements.Rect (square_marks s.rectangle)
-    (element Elements.Title [] (words (string_bytes s.title) end) end) end
+square_nodes s = titled_nodes (area_marks (codes "hit") s.rectangle) (string_bytes s.title)
 
 -- A number of cells in pixels, at this number of pixels a cell. No number is above 2^32 - 1.
 abbrev pub pixels : ℕ → ℕ → ℕ
@@ -95,6 +107,28 @@ pixel_rectangle scale r = record {
   place = record { column = pixels scale r.place.column; row = pixels scale r.place.row };
   sides = record { width = pixels scale r.sides.width; height = pixels scale r.sides.height };
 }
+
+-- The class of an outline in the style sheet.
+abbrev pub outline_text : OutlineClass → List ℕ
+outline_text OutlineClasses.Free = codes "free"
+outline_text OutlineClasses.Named = codes "name"
+
+-- A rectangle that may have a title.
+abbrev pub area_nodes : List Mark → Option (String Global) → Nodes
+area_nodes marks None = empty Elements.Rect marks end
+area_nodes marks (Some title) = titled_nodes marks (string_bytes title)
+
+-- An outline, in pixels, with its title if it has one.
+-- Example: `<rect class="free" x="0" y="512" width="1024" height="512"/>`.
+abbrev pub outline_nodes : ℕ → Outline → Nodes
+outline_nodes scale o = area_nodes (area_marks (outline_text o.class) (pixel_rectangle scale o.rectangle)) o.title
+
+-- A ring with this middle, in pixels. Example: `<circle class="ring" cx="24" cy="8" r="11"/>`.
+abbrev pub ring_nodes : Place → Nodes
+ring_nodes middle =
+    empty Elements.Circle
+    (text_mark Attributes.Class (codes "ring") ∷ number_mark Attributes.Cx middle.column
+    ∷ number_mark Attributes.Cy middle.row ∷ number_mark Attributes.R 11 ∷ []) end
 
 -- The lines around the squares, in pixels.
 abbrev pub grid_rectangles : ℕ → List Square → List Rectangle
@@ -122,14 +156,18 @@ grid_marks scale squares =
 abbrev pub small_marks : List Mark
 small_marks = text_mark Attributes.Class (codes "small") ∷ text_mark Attributes.PointerEvents (codes "none") ∷ []
 
--- The map: its ground, a path for each class, the lines of its squares, their titles, and its labels.
-abbrev pub chart_nodes : List Layer → List Square → List Label → Sides → ℕ → Nodes
-chart_nodes layers squares labels sides scale =
+-- The map: its ground, a path for each class, the lines of its squares, their titles, its outlines and rings,
+-- and its labels.
+abbrev pub chart_nodes : List Layer → List Square → List Outline → (rings : List Place) → List Label → Sides → ℕ
+    → Nodes
+chart_nodes layers squares outlines rings labels sides scale =
     empty Elements.Rect (ground_marks sides scale)
     (element Elements.Group (cells_marks scale) (nodes_of layer_nodes layers)
     (empty Elements.Path (grid_marks scale squares)
     (element Elements.Group (cells_marks scale) (nodes_of square_nodes squares)
-    (element Elements.Group small_marks (nodes_of label_nodes labels) end))))
+    (joined (nodes_of (outline_nodes scale) outlines)
+    (joined (nodes_of ring_nodes rings)
+    (element Elements.Group small_marks (nodes_of label_nodes labels) end))))))
 
 -- The parts of a page, as lists and numbers.
 pub record PageView : Type 0 where
@@ -143,6 +181,8 @@ pub record PageView : Type 0 where
   pub chart_place : Place
   pub layers : List Layer
   pub squares : List Square
+  pub outlines : List Outline
+  pub rings : List Place
   pub labels : List Label
   pub sides : Sides
   pub scale : ℕ
@@ -160,6 +200,8 @@ page_view p c = record {
   chart_place = p.chart_place;
   layers = c.layers.now;
   squares = c.squares.now;
+  outlines = c.outlines.now;
+  rings = c.rings.now;
   labels = c.labels.now;
   sides = c.sides;
   scale = c.scale;
@@ -202,7 +244,7 @@ content_nodes v =
     (joined (nodes_of label_nodes v.captions)
     (joined (nodes_of label_nodes v.heads)
     (joined (nodes_of swatch_nodes v.swatches)
-    (placed_nodes v.chart_place (chart_nodes v.layers v.squares v.labels v.sides v.scale)))))
+    (placed_nodes v.chart_place (chart_nodes v.layers v.squares v.outlines v.rings v.labels v.sides v.scale)))))
 
 -- The document of a map.
 abbrev pub page_nodes : PageView → Nodes

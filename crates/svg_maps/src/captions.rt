@@ -31,16 +31,18 @@ pub(crate) struct PageTexts {
 }
 
 /// The foot of the page.
-fn foot_of(alloc: Global, frame: &IpNet, depth: u8, note: &str) -> Result<String, AllocError>
+fn foot_of(alloc: Global, frame: &IpNet, depth: u8, form: MapForm<'_>) -> Result<String, AllocError>
     requires few { depth ≤ 20 }
     requires fits { (ip_network frame.now).prefix_len + depth ≤ width (ip_network frame.now).family }
 {
     let square_len = frame.prefix_len() + first_bits_of(frame.prefix_len(), depth);
     let cell_len = frame.prefix_len() + depth;
+    let note = form.note;
+    let more = form.overlay.note.as_str();
     let mut text = String::from_str(alloc, "Reads like text: left to right, then down.")?;
     write!(
         text,
-        " A square is a /{square_len}. The smallest dot is a /{cell_len}.{note}"
+        " A square is a /{square_len}. The smallest dot is a /{cell_len}.{note}{more}"
     )?;
     Ok(text)
 }
@@ -87,6 +89,26 @@ fn has_heads(frame_len: u8, depth: u8) -> bool {
     depth >= 6 && frame_len % 8 <= 2
 }
 
+/// The row below this many lines.
+fn row_after(row: u32, lines: usize) -> u32 {
+    let lines = u32::try_from(lines).unwrap_or(u32::MAX);
+    lines.saturating_mul(LINE).saturating_add(row)
+}
+
+/// Adds the lines of the legend that have no colour, one below the other from this height.
+fn push_lines(
+    captions: &mut Vec<Label>,
+    lines: &[String],
+    first_row: u32,
+) -> Result<(), AllocError> {
+    let mut row = first_row.saturating_add(10);
+    for line in lines {
+        captions.push(label_at(Ink::Plain, EDGE, row, line.clone()?))?;
+        row = row.saturating_add(LINE);
+    }
+    Ok(())
+}
+
 /// Returns the texts of the page, and its sizes. Fails only if memory runs out.
 pub(crate) fn captions_of(
     alloc: Global,
@@ -109,14 +131,13 @@ pub(crate) fn captions_of(
     let row = push_summary(alloc, &mut captions, summary)?.saturating_add(TO_LEGEND);
     let layers = drawing.layers.as_slice();
     let swatches = legend_of(alloc, layers, form.names, cell_len, row)?;
-    let rows = u32::try_from(swatches.len()).unwrap_or(u32::MAX);
-    let top = rows
-        .saturating_mul(LINE)
-        .saturating_add(row)
-        .saturating_add(8);
+    let lines = form.overlay.lines.as_slice();
+    let first_line = row_after(row, swatches.len());
+    push_lines(&mut captions, lines, first_line)?;
+    let top = row_after(first_line, lines.len()).saturating_add(8);
     let heads = has_heads(frame.prefix_len(), depth);
     let sheet = sheet_of(sides_of(frame, depth), heads, top);
-    let foot = foot_of(alloc, frame, depth, form.note)?;
+    let foot = foot_of(alloc, frame, depth, form)?;
     captions.push(label_at(Ink::Faint, EDGE, sheet.area.height.saturating_sub(10), foot))?;
     Ok(PageTexts {
         title,

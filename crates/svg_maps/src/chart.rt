@@ -5,13 +5,14 @@ ghost use Rattle.svg_text.specs.declared.name.ElementName.TheVariants as Element
 ghost use Rattle.svg_maps.specs.Pages.{layer_nodes, square_nodes, pixels, pixel_rectangle, grid_rectangles};
 ghost use Rattle.svg_maps.specs.Pages.{cells_marks, ground_marks, grid_marks, small_marks, label_nodes, chart_nodes};
 
+use crate::area::push_titled_area;
 use crate::class::class_name;
 use crate::label::{Label, number_attribute, push_labels, text_attribute};
+use crate::outline::{Outline, push_outlines};
+use crate::ring::push_rings;
 use ipnet_maps::{Layer, Place, Rectangle, Sides, path_text};
 use std::alloc::{AllocError, Global};
-use svg_text::{
-    Attribute, AttributeName, ElementName, Value, push_empty, push_end, push_leaf, push_start,
-};
+use svg_text::{Attribute, AttributeName, ElementName, Value, push_empty, push_end, push_start};
 
 /// A square of a map: a network whose area has a title.
 #[derive(Debug, Drop)]
@@ -31,6 +32,10 @@ pub struct Chart<'a> {
     pub layers: &'a [Layer],
     /// The squares.
     pub squares: &'a [Square],
+    /// The outlines.
+    pub outlines: &'a [Outline],
+    /// The middles of the rings, in pixels.
+    pub rings: &'a [Place],
     /// The labels on the map.
     pub labels: &'a [Label],
     /// How many cells the map is wide and high.
@@ -100,16 +105,7 @@ fn push_layers(alloc: Global, text: &mut String, layers: &[Layer]) -> Result<(),
 fn push_square(text: &mut String, square: &Square) -> Result<(), AllocError>
     ensures { OnOk result (string_bytes text.new ≡ string_bytes text.old ++ nodes_text (square_nodes square.now)) }
 {
-    let attributes = [
-        text_attribute(AttributeName::Class, "hit"),
-        number_attribute(AttributeName::X, square.rectangle.place.column),
-        number_attribute(AttributeName::Y, square.rectangle.place.row),
-        number_attribute(AttributeName::Width, square.rectangle.sides.width),
-        number_attribute(AttributeName::Height, square.rectangle.sides.height),
-    ];
-    push_start(text, ElementName::Rect, &attributes)?;
-    push_leaf(text, ElementName::Title, &[], square.title.as_str())?;
-    push_end(text, ElementName::Rect)
+    push_titled_area(text, "hit", square.rectangle, square.title.as_str())
 }
 
 /// Appends the areas of the squares.
@@ -219,11 +215,14 @@ pub(crate) fn push_chart(
     chart: Chart<'_>,
 ) -> Result<(), AllocError>
     ensures { let c = chart.entry in OnOk result (string_bytes text.new ≡ string_bytes text.old
-        ++ nodes_text (chart_nodes c.layers.now c.squares.now c.labels.now c.sides c.scale)) }
+        ++ nodes_text
+        (chart_nodes c.layers.now c.squares.now c.outlines.now c.rings.now c.labels.now c.sides c.scale)) }
 {
     push_ground(text, chart.sides, chart.scale)?;
     push_cells(alloc, text, chart.layers, chart.scale)?;
     push_grid(alloc, text, chart.scale, chart.squares)?;
     push_areas(text, chart.squares, chart.scale)?;
+    push_outlines(text, chart.scale, chart.outlines)?;
+    push_rings(text, chart.rings)?;
     push_small(text, chart.labels)
 }

@@ -19,6 +19,14 @@ pub enum Ink {
     Faint,
     /// A text on the map, with an edge in the colour of the ground.
     Halo,
+    /// A text on cells that are dark on a light page, and light on a dark page.
+    Inverse,
+    /// A text on cells on which black can be read.
+    Black,
+    /// The length of a free block.
+    Free,
+    /// The name of a network on the map.
+    Name,
 }
 
 /// The side of a label that is at its place.
@@ -75,6 +83,10 @@ fn ink_class(ink: Ink) -> &'static str
         Ink::Plain => "ink",
         Ink::Faint => "faint",
         Ink::Halo => "ink halo",
+        Ink::Inverse => "inverse",
+        Ink::Black => "black",
+        Ink::Free => "faint note",
+        Ink::Name => "ink halo note",
     }
 }
 

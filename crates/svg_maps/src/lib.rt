@@ -1,24 +1,34 @@
 //! Maps of networks as documents of SVG.
 #![tactic(auto)]
 
+pub mod area;
 pub mod captions;
 pub mod chart;
 pub mod class;
+pub mod free;
 pub mod label;
 pub mod laws;
 pub mod legend;
 pub mod map;
 pub mod name;
+pub mod outline;
+pub mod outline_labels;
+pub mod overlay;
 pub mod page;
+pub mod ring;
 pub mod sheet;
 pub mod shown;
 pub mod square;
 pub mod square_labels;
 pub mod style;
+pub(crate) mod tiles;
+pub(crate) mod under;
 
 pub use chart::{Chart, Square};
 pub use label::{Anchor, Ink, Label, Swatch};
 pub use map::{MapForm, map_text};
+pub use outline::{Outline, OutlineClass};
+pub use overlay::{Look, Overlay};
 pub use page::{Page, page_text};
 pub use shown::{change_map_text, set_map_text, sets_map_text};
 pub use square::Counted;

@@ -2,15 +2,18 @@
 ghost use Rattle.std.specs.Prelude.{◌+◌, ◌≤◌, IfOk, [], ◌∷◌, string_bytes};
 ghost use Rattle.ipnet_base.specs.Address.{width};
 ghost use Rattle.ipnet.specs.NetworkOf.{ip_network};
-ghost use Rattle.svg_maps.specs.Maps.{IsMapText};
+ghost use Rattle.svg_maps.specs.Overlays.{IsOutlinedMap};
 
 use crate::captions::captions_of;
 use crate::chart::Chart;
 use crate::legend::legend_of;
+use crate::outline_labels::map_labels;
+use crate::overlay::Overlay;
 use crate::page::{Page, page_text};
-use crate::sheet::{sheet_of, sides_of};
+use crate::ring::rings_of;
+use crate::sheet::sides_of;
 use crate::square::{Counted, square_networks, squares_of, title_of};
-use crate::square_labels::square_labels;
+use crate::under::under_of;
 use ipnet::IpNet;
 use ipnet_maps::Drawing;
 use std::alloc::{AllocError, Global};
@@ -26,10 +29,12 @@ pub struct MapForm<'a> {
     pub names: &'a [&'a str],
     /// A text for the end of the foot.
     pub note: &'a str,
+    /// The outlines over the cells.
+    pub overlay: &'a Overlay,
 }
 
 /// Returns the document that shows the drawing of the frame. The title of each square says how many addresses each of
-/// the counted sets has in it. Fails only if memory runs out.
+/// the counted sets has in it, and the overlay has the outlines. Fails only if memory runs out.
 ///
 /// ```text
 /// of the drawing of 10.20.0.0/20 in 10.20.0.0/16: <svg ..> .. <path class="s4" d="m0 0h256v16h-256z"/> .. </svg>
@@ -43,7 +48,8 @@ pub fn map_text(
 ) -> Result<String, AllocError>
     requires few { drawing.now.depth ≤ 20 }
     requires fits { (ip_network frame.now).prefix_len + drawing.now.depth ≤ width (ip_network frame.now).family }
-    ensures { IfOk result (λ text. IsMapText (ip_network frame.now) counted.now drawing.now (string_bytes text)) }
+    ensures { IfOk result (λ text. IsOutlinedMap (ip_network frame.now) counted.now drawing.now
+        form.entry.overlay.now.outlines.items (string_bytes text)) }
 {
     let depth = drawing.depth;
     let layers = drawing.layers.as_slice();
@@ -51,7 +57,11 @@ pub fn map_text(
     let squares = squares_of(alloc, frame, depth, networks.as_slice(), counted)?;
     let summary = title_of(alloc, counted, frame)?;
     let texts = captions_of(alloc, frame, drawing, form, summary.as_str())?;
-    let labels = square_labels(alloc, squares.as_slice(), texts.sheet)?;
+    let outlines = form.overlay.outlines.as_slice();
+    let sides = sides_of(frame, depth);
+    let under = under_of(alloc, layers, sides, texts.sheet.scale)?;
+    let labels = map_labels(alloc, squares.as_slice(), outlines, texts.sheet, &under)?;
+    let rings = rings_of(alloc, layers, sides, texts.sheet.scale)?;
     let page = Page {
         title: texts.title.as_str(),
         summary: summary.as_str(),
@@ -65,8 +75,10 @@ pub fn map_text(
     let chart = Chart {
         layers,
         squares: squares.as_slice(),
+        outlines,
+        rings: rings.as_slice(),
         labels: labels.inside.as_slice(),
-        sides: sides_of(frame, depth),
+        sides,
         scale: texts.sheet.scale,
     };
     page_text(alloc, page, chart)

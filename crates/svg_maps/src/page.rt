@@ -85,7 +85,8 @@ fn push_placed(
     chart: Chart<'_>,
 ) -> Result<(), AllocError>
     ensures { let c = chart.entry in OnOk result (string_bytes text.new ≡ string_bytes text.old
-        ++ nodes_text (placed_nodes place (chart_nodes c.layers.now c.squares.now c.labels.now c.sides c.scale))) }
+        ++ nodes_text (placed_nodes place
+        (chart_nodes c.layers.now c.squares.now c.outlines.now c.rings.now c.labels.now c.sides c.scale))) }
 {
     let attributes = [Attribute {
         name: AttributeName::Transform,

@@ -1,11 +1,13 @@
 //! Maps of a set, of a change and of several sets, as documents of SVG.
 ghost use Rattle.std.specs.Prelude.{◌≡◌, IfOk, length, map, string_bytes};
 ghost use Rattle.ipnet.specs.NetworkOf.{ip_network};
-ghost use Rattle.svg_maps.specs.Maps.{IsSetMap, IsChangeMap, IsSetsMap, list_words};
+ghost use Rattle.svg_maps.specs.Maps.{list_words};
+ghost use Rattle.svg_maps.specs.Overlays.{IsOutlinedSetMap, IsOutlinedChangeMap, IsOutlinedSetsMap};
 
 use crate::map::{MapForm, map_text};
+use crate::overlay::{Look, overlay_of};
 use crate::square::Counted;
-use crate::style::{Theme, style_of};
+use crate::style::style_of;
 use ipnet::IpNet;
 use ipnet_maps::{draw_change, draw_set, draw_sets};
 use ipnet_pictures::outside_of;
@@ -31,7 +33,8 @@ fn note_of(alloc: Global, set: &IpSet, frame: &IpNet) -> Result<String, AllocErr
 /// Returns the map of the set in the frame, as a document of SVG. Fails only if memory runs out.
 ///
 /// A cell is drawn in one of four shades, by the share of its addresses that are in the set. The title of a square says
-/// how many of its addresses are in the set, and the foot how many are outside the frame.
+/// how many of its addresses are in the set, and the foot how many are outside the frame. Free blocks are outlined if
+/// the look says so.
 ///
 /// ```text
 /// of 10.20.0.0/20 in 10.20.0.0/16: <svg ..> .. <path class="s4" d="m0 0h256v16h-256z"/> .. </svg>
@@ -40,19 +43,22 @@ pub fn set_map_text(
     alloc: Global,
     frame: &IpNet,
     set: &IpSet,
-    theme: Theme,
+    look: Look,
 ) -> Result<String, AllocError>
-    ensures { IfOk result (λ text. IsSetMap set.now (ip_network frame.now) (string_bytes text)) }
+    ensures { IfOk result (λ text.
+        IsOutlinedSetMap look.shows_free set.now (ip_network frame.now) (string_bytes text)) }
 {
     let drawing = draw_set(alloc, frame, set)?;
-    let style = style_of(alloc, theme)?;
+    let style = style_of(alloc, look.theme)?;
     let note = note_of(alloc, set, frame)?;
+    let overlay = overlay_of(alloc, frame, drawing.depth, set, look)?;
     let counted = [Counted { words: "used", set }];
     let form = MapForm {
         style: style.as_str(),
         heading: "Map of",
         names: &[],
         note: note.as_str(),
+        overlay: &overlay,
     };
     map_text(alloc, frame, &drawing, &counted, form)
 }
@@ -61,7 +67,7 @@ pub fn set_map_text(
 /// runs out.
 ///
 /// A change is never hidden, however small it is. The title of a square says how many of its addresses are only in the
-/// first set, only in the second, and in both.
+/// first set, only in the second, and in both. The blocks that neither set has are outlined if the look says so.
 ///
 /// ```text
 /// from 10.20.0.0/24 to 10.20.0.0/25 in 10.20.0.0/16: <svg ..> .. <path class="old" d="m0 8h16v8h-16z"/> .. </svg>
@@ -71,17 +77,20 @@ pub fn change_map_text(
     frame: &IpNet,
     before: &IpSet,
     after: &IpSet,
-    theme: Theme,
+    look: Look,
 ) -> Result<String, AllocError>
-    ensures { IfOk result (λ text. IsChangeMap before.now after.now (ip_network frame.now) (string_bytes text)) }
+    ensures { IfOk result (λ text.
+        IsOutlinedChangeMap look.shows_free before.now after.now (ip_network frame.now) (string_bytes text)) }
 {
     let drawing = draw_change(alloc, frame, before, after)?;
     let removed = before.difference(alloc, after)?;
     let added = after.difference(alloc, before)?;
     let kept = before.intersection(alloc, after)?;
-    let style = style_of(alloc, theme)?;
+    let style = style_of(alloc, look.theme)?;
     let changed = removed.union(alloc, &added)?;
     let note = note_of(alloc, &changed, frame)?;
+    let all = before.union(alloc, after)?;
+    let overlay = overlay_of(alloc, frame, drawing.depth, &all, look)?;
     let counted = [
         Counted {
             words: "only in the first",
@@ -101,6 +110,7 @@ pub fn change_map_text(
         heading: "Changes in",
         names: &[],
         note: note.as_str(),
+        overlay: &overlay,
     };
     map_text(alloc, frame, &drawing, &counted, form)
 }
@@ -154,7 +164,7 @@ fn counted_of<'a>(
 /// Each set has its colour, which is pale if the set does not have all addresses of a cell. A cell is black if two sets
 /// share an address of it, and grey if two have addresses of it and share none. The title of a square says how many of
 /// its addresses are in each set, and the foot how many addresses of the sets are outside the frame. The first
-/// `MOST_LISTS` sets have a colour.
+/// `MOST_LISTS` sets have a colour. The blocks that no set has are outlined if the look says so.
 ///
 /// ```text
 /// of 10.20.0.0/24 and 10.20.1.0/24, named a and b, in 10.20.0.0/16: the title of the first square is
@@ -165,15 +175,16 @@ pub fn sets_map_text(
     frame: &IpNet,
     sets: &[IpSet],
     names: &[&str],
-    theme: Theme,
+    look: Look,
 ) -> Result<String, AllocError>
-    ensures { IfOk result (λ text.
-        IsSetsMap sets.now (map (λ name. name.now) names.now) (ip_network frame.now) (string_bytes text)) }
+    ensures { IfOk result (λ text. IsOutlinedSetsMap look.shows_free sets.now (map (λ name. name.now) names.now)
+        (ip_network frame.now) (string_bytes text)) }
 {
     let drawing = draw_sets(alloc, frame, sets)?;
-    let style = style_of(alloc, theme)?;
+    let style = style_of(alloc, look.theme)?;
     let all = IpSet::union_all(alloc, sets)?;
     let note = note_of(alloc, &all, frame)?;
+    let overlay = overlay_of(alloc, frame, drawing.depth, &all, look)?;
     let words = all_words(alloc, names)?;
     let counted = counted_of(alloc, sets, words.as_slice())?;
     let form = MapForm {
@@ -181,6 +192,7 @@ pub fn sets_map_text(
         heading: "Lists in",
         names,
         note: note.as_str(),
+        overlay: &overlay,
     };
     map_text(alloc, frame, &drawing, counted.as_slice(), form)
 }

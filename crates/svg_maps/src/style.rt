@@ -24,9 +24,13 @@ const COMMON: &[&str] = &[
     ".head{font-size:15px;font-weight:bold}",
     ".small text{font-size:9px}",
     ".small{opacity:.8}",
+    ".small .note{font-size:11px}",
     ".hit{fill:#fff;fill-opacity:0}",
     ".hit:hover{fill-opacity:.25}",
     ".grid{fill:none;stroke-width:1;opacity:.35}",
+    ".free{fill:none;stroke-width:1;stroke-opacity:.55;shape-rendering:crispEdges;pointer-events:none}",
+    ".name{fill:none;stroke-width:1.5;pointer-events:none}",
+    ".ring{fill:none;stroke-width:1.5;pointer-events:none}",
     ".halo{stroke-width:3;stroke-linejoin:round;paint-order:stroke}",
     ".pale{fill-opacity:.55}",
 ];
@@ -37,6 +41,8 @@ const LIGHT: &[&str] = &[
     ".ground{fill:#f1f1ee}",
     ".ink{fill:#1a1a1a}",
     ".faint{fill:#63635e}",
+    ".inverse{fill:#ffffff}",
+    ".black{fill:#000000}",
     ".s1{fill:#a3c9e6}",
     ".s2{fill:#5fa3d3}",
     ".s3{fill:#2171b5}",
@@ -55,6 +61,9 @@ const LIGHT: &[&str] = &[
     ".l4{fill:#56b4e9}",
     ".l5{fill:#d55e00}",
     ".grid{stroke:#8a8a85}",
+    ".free{stroke:#8a8a85}",
+    ".name{stroke:#1a1a1a}",
+    ".ring{stroke:#1a1a1a}",
     ".halo{stroke:#f1f1ee}",
 ];
 
@@ -64,6 +73,8 @@ const DARK: &[&str] = &[
     ".ground{fill:#24272d}",
     ".ink{fill:#f0f0ee}",
     ".faint{fill:#aab0ba}",
+    ".inverse{fill:#000000}",
+    ".black{fill:#000000}",
     ".s1{fill:#264a68}",
     ".s2{fill:#35719f}",
     ".s3{fill:#5aa2d8}",
@@ -82,6 +93,9 @@ const DARK: &[&str] = &[
     ".l4{fill:#9bd8ff}",
     ".l5{fill:#d55e00}",
     ".grid{stroke:#8b919b}",
+    ".free{stroke:#8b919b}",
+    ".name{stroke:#f0f0ee}",
+    ".ring{stroke:#f0f0ee}",
     ".halo{stroke:#24272d}",
 ];
 

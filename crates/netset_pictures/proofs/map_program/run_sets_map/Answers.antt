@@ -13,7 +13,7 @@ returns-clause-cut_short g c = λ two r lists h.
       right = record {
         sets = c.in-Ok.sets.items;
         of_lists = c.in-Ok.ensures.sets r lists h;
-        right = subst (λ z. IsFramedSetsMap z names c.args.request.frame
+        right = subst (λ z. IsFramedSetsMap z names c.args.request
             (string_bytes c.in-Ok-framed_sets_map_text.text)) c.as_slice.ensures.value
             c.in-Ok-framed_sets_map_text.ensures.map;
       };
@@ -29,7 +29,7 @@ returns-clause-drawn g c = λ zero r lists h.
       right = record {
         sets = c.in-Ok.sets.items;
         of_lists = c.in-Ok.ensures.sets r lists h;
-        right = subst (λ z. IsFramedSetsMap z names c.args.request.frame
+        right = subst (λ z. IsFramedSetsMap z names c.args.request
             (string_bytes c.in-Ok-framed_sets_map_text.text)) c.as_slice.ensures.value
             c.in-Ok-framed_sets_map_text.ensures.map;
       };

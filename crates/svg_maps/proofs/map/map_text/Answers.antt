@@ -2,7 +2,7 @@ use Rattle.std.proofs.Common.{◌≡◌, ◌+◌, All, subst, sym, string_bytes}
 use Rattle.std.proofs.lemmas.Result.{IfOk-weaker}
 use Rattle.ipnet.specs.NetworkOf.{ip_network}
 use Rattle.svg_text.specs.Documents.{nodes_text}
-use Rattle.svg_maps.specs.Maps.{IsMapText}
+use Rattle.svg_maps.specs.Overlays.{IsOutlinedMap}
 use Rattle.svg_maps.specs.Pages.{PageView, page_nodes}
 use Rattle.svg_maps.specs.Squares.{IsSquareOf, IsTitle, square_bits}
 use Rattle.svg_maps.proofs.map.map_text.Goals as goal
@@ -24,18 +24,23 @@ returns c =
       chart_place = sheet.chart_place;
       layers = c.as_slice-layers.result.now;
       squares = c.as_slice-6.result.now;
-      labels = c.as_slice-7.result.now;
-      sides = c.sides_of.result;
+      outlines = c.as_slice-outlines.result.now;
+      rings = c.as_slice-7.result.now;
+      labels = c.as_slice-8.result.now;
+      sides = c.sides_of-sides.result;
       scale = sheet.scale;
     } in
     IfOk-weaker c.page_text.result (λ text. string_bytes text ≡ nodes_text (page_nodes view))
-    (λ text. IsMapText n counted d (string_bytes text)) (λ text e. record {
-      view = view;
-      layers = c.as_slice-layers.ensures.value;
-      width = c.sides_of.ensures.width;
-      height = c.sides_of.ensures.height;
-      squares = subst (All (IsSquareOf n d.depth (n.prefix_len + square_bits n.prefix_len d.depth) counted))
-          (sym c.as_slice-6.ensures.value) c.in_ok-squares.ensures;
-      summary = subst (IsTitle n counted) (sym c.as_str-3.ensures.value) c.in_ok-summary.ensures;
-      spelled = e;
-    }) c.page_text.ensures
+    (λ text. IsOutlinedMap n counted d c.args.form.overlay.now.outlines.items (string_bytes text)) (λ text e. (
+      record {
+        view = view;
+        layers = c.as_slice-layers.ensures.value;
+        width = c.sides_of-sides.ensures.width;
+        height = c.sides_of-sides.ensures.height;
+        squares = subst (All (IsSquareOf n d.depth (n.prefix_len + square_bits n.prefix_len d.depth) counted))
+            (sym c.as_slice-6.ensures.value) c.in_ok-squares.ensures;
+        summary = subst (IsTitle n counted) (sym c.as_str-3.ensures.value) c.in_ok-summary.ensures;
+        spelled = e;
+      },
+      c.as_slice-outlines.ensures.value,
+    )) c.page_text.ensures

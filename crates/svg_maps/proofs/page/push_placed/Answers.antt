@@ -9,6 +9,7 @@ pub returns : goal.returns
 returns c =
     let h = c.args.chart in
     on_ok_weaker c.push_end.result (element_appended Elements.Group (place_marks c.args.place)
-    (chart_nodes h.layers.now h.squares.now h.labels.now h.sides h.scale) (string_bytes c.args.text.now)
+    (chart_nodes h.layers.now h.squares.now h.outlines.now h.rings.now h.labels.now h.sides h.scale)
+    (string_bytes c.args.text.now)
     (string_bytes c.push_start.new.text) (string_bytes c.push_chart.new.text) (string_bytes c.push_end.new.text)
     c.in_ok-push_start.ensures c.in_ok-push_chart.ensures) c.push_end.ensures

@@ -1,25 +1,38 @@
-use Rattle.std.proofs.Common.{refl, string_bytes}
+use Rattle.std.proofs.Common.{refl, subst, sym, string_bytes}
 use Rattle.std.proofs.lemmas.Result.{IfOk-weaker}
 use Rattle.ipnet.specs.NetworkOf.{ip_network}
-use Rattle.svg_maps.specs.Maps.{IsMapText, IsChangeMap}
+use Rattle.ipnet_base.specs.Blocks.{IsInEither}
+use Rattle.ipnet_sets.specs.Members.{IsMember}
+use Rattle.svg_maps.specs.FreeOutlines.{AreOutlinesOf}
+use Rattle.svg_maps.specs.Overlays.{IsOutlinedMap, IsOutlinedChangeMap}
+use Rattle.svg_maps.proofs.FreeLaws.{outlines_same}
 use Rattle.svg_maps.proofs.shown.change_map_text.Goals as goal
 
 pub returns : goal.returns
 returns c =
     let n = ip_network c.args.frame.now in
     let d = c.in_ok-drawing.drawing in
-    IfOk-weaker c.map_text.result (λ text. IsMapText n _ d (string_bytes text))
-    (λ text. IsChangeMap c.args.before.now c.args.after.now n (string_bytes text)) (λ text page. record {
-      drawing = d;
-      drawn = c.in_ok-drawing.ensures;
-      removed = c.in_ok-removed.removed;
-      is_removed = c.in_ok-removed.ensures.members;
-      added = c.in_ok-added.added;
-      is_added = c.in_ok-added.ensures.members;
-      kept = c.in_ok-kept.kept;
-      is_kept = c.in_ok-kept.ensures.members;
-      counted = _;
-      sets = refl;
-      words = refl;
-      page = page;
-    }) c.map_text.ensures
+    let shows_free = c.args.look.shows_free in
+    let before = c.args.before.now in
+    let after = c.args.after.now in
+    let outlines = c.in_ok-overlay.overlay.outlines.items in
+    IfOk-weaker c.map_text.result (λ text. IsOutlinedMap n _ d outlines (string_bytes text))
+    (λ text. IsOutlinedChangeMap shows_free before after n (string_bytes text)) (λ text m. (
+      record {
+        drawing = d;
+        drawn = c.in_ok-drawing.ensures;
+        removed = c.in_ok-removed.removed;
+        is_removed = c.in_ok-removed.ensures.members;
+        added = c.in_ok-added.added;
+        is_added = c.in_ok-added.ensures.members;
+        kept = c.in_ok-kept.kept;
+        is_kept = c.in_ok-kept.ensures.members;
+        counted = _;
+        sets = refl;
+        words = refl;
+        page = m.0;
+      },
+      subst (AreOutlinesOf shows_free (IsInEither (IsMember before) (IsMember after)) n d.depth) (sym m.1)
+          (outlines_same shows_free (IsMember c.in_ok-all.all) (IsInEither (IsMember before) (IsMember after)) n d.depth
+          outlines c.in_ok-all.ensures.members c.in_ok-overlay.ensures),
+    )) c.map_text.ensures

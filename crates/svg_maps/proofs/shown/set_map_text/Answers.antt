@@ -1,19 +1,27 @@
-use Rattle.std.proofs.Common.{refl, string_bytes}
+use Rattle.std.proofs.Common.{refl, subst, sym, string_bytes}
 use Rattle.std.proofs.lemmas.Result.{IfOk-weaker}
 use Rattle.ipnet.specs.NetworkOf.{ip_network}
-use Rattle.svg_maps.specs.Maps.{IsMapText, IsSetMap}
+use Rattle.ipnet_sets.specs.Members.{IsMember}
+use Rattle.svg_maps.specs.FreeOutlines.{AreOutlinesOf}
+use Rattle.svg_maps.specs.Overlays.{IsOutlinedMap, IsOutlinedSetMap}
 use Rattle.svg_maps.proofs.shown.set_map_text.Goals as goal
 
 pub returns : goal.returns
 returns c =
     let n = ip_network c.args.frame.now in
     let d = c.in_ok-drawing.drawing in
-    IfOk-weaker c.map_text.result (λ text. IsMapText n _ d (string_bytes text))
-    (λ text. IsSetMap c.args.set.now n (string_bytes text)) (λ text page. record {
-      drawing = d;
-      drawn = c.in_ok-drawing.ensures;
-      counted = _;
-      sets = refl;
-      words = refl;
-      page = page;
-    }) c.map_text.ensures
+    let shows_free = c.args.look.shows_free in
+    let set = c.args.set.now in
+    let outlines = c.in_ok-overlay.overlay.outlines.items in
+    IfOk-weaker c.map_text.result (λ text. IsOutlinedMap n _ d outlines (string_bytes text))
+    (λ text. IsOutlinedSetMap shows_free set n (string_bytes text)) (λ text m. (
+      record {
+        drawing = d;
+        drawn = c.in_ok-drawing.ensures;
+        counted = _;
+        sets = refl;
+        words = refl;
+        page = m.0;
+      },
+      subst (AreOutlinesOf shows_free (IsMember set) n d.depth) (sym m.1) c.in_ok-overlay.ensures,
+    )) c.map_text.ensures

@@ -1,9 +1,14 @@
-use Rattle.std.proofs.Common.{◌≡◌, ◌∙◌, ◌∷◌, List, [], ℕ, refl, sym, ap, length, map, string_bytes}
+use Rattle.std.proofs.Common.{◌≡◌, ◌∙◌, ◌∷◌, List, [], ℕ, refl, sym, ap, subst, length, map, string_bytes}
 use Rattle.std.proofs.lemmas.List.{length-map}
 use Rattle.std.proofs.lemmas.Result.{IfOk-weaker}
 use Rattle.std.specs.Borrow.{Bor}
 use Rattle.ipnet.specs.NetworkOf.{ip_network}
-use Rattle.svg_maps.specs.Maps.{IsMapText, IsSetsMap, list_words}
+use Rattle.ipnet_sets.specs.ManySets.{IsInSome}
+use Rattle.ipnet_sets.specs.Members.{IsMember}
+use Rattle.svg_maps.specs.FreeOutlines.{AreOutlinesOf}
+use Rattle.svg_maps.specs.Maps.{list_words}
+use Rattle.svg_maps.specs.Overlays.{IsOutlinedMap, IsOutlinedSetsMap}
+use Rattle.svg_maps.proofs.FreeLaws.{outlines_same}
 use Rattle.svg_maps.proofs.shown.sets_map_text.Goals as goal
 
 words_of_names : (names : List (Bor (List ℕ)))
@@ -23,15 +28,22 @@ returns c =
     let as_many : length c.as_slice.result.now ≡ length given =
     ap (λ z. length z) c.as_slice.ensures.value ∙ sym (length-map words string_bytes)
     ∙ ap (λ z. length z) c.in_ok-words.ensures ∙ length-map given (λ name. list_words name.now) in
-    IfOk-weaker c.map_text.result (λ text. IsMapText n counted d (string_bytes text))
-    (λ text. IsSetsMap sets names n (string_bytes text)) (λ text page. record {
-      drawing = d;
-      drawn = c.in_ok-drawing.ensures;
-      counted = counted;
-      each = ap (λ z. map (λ k. k.set.now) z) c.as_slice-2.ensures.value ∙ c.in_ok-counted.ensures.sets;
-      words = λ same. ap (λ z. map (λ k. k.words.now) z) c.as_slice-2.ensures.value
-          ∙ c.in_ok-counted.ensures.words (as_many ∙ sym (length-map given (λ name. name.now)) ∙ same)
-          ∙ ap (λ z. map string_bytes z) c.as_slice.ensures.value ∙ c.in_ok-words.ensures
-          ∙ words_of_names given;
-      page = page;
-    }) c.map_text.ensures
+    let shows_free = c.args.look.shows_free in
+    let outlines = c.in_ok-overlay.overlay.outlines.items in
+    IfOk-weaker c.map_text.result (λ text. IsOutlinedMap n counted d outlines (string_bytes text))
+    (λ text. IsOutlinedSetsMap shows_free sets names n (string_bytes text)) (λ text m. (
+      record {
+        drawing = d;
+        drawn = c.in_ok-drawing.ensures;
+        counted = counted;
+        each = ap (λ z. map (λ k. k.set.now) z) c.as_slice-2.ensures.value ∙ c.in_ok-counted.ensures.sets;
+        words = λ same. ap (λ z. map (λ k. k.words.now) z) c.as_slice-2.ensures.value
+            ∙ c.in_ok-counted.ensures.words (as_many ∙ sym (length-map given (λ name. name.now)) ∙ same)
+            ∙ ap (λ z. map string_bytes z) c.as_slice.ensures.value ∙ c.in_ok-words.ensures
+            ∙ words_of_names given;
+        page = m.0;
+      },
+      subst (AreOutlinesOf shows_free (IsInSome IsMember sets) n d.depth) (sym m.1)
+          (outlines_same shows_free (IsMember c.in_ok-all.all) (IsInSome IsMember sets) n d.depth outlines
+          c.in_ok-all.ensures.members c.in_ok-overlay.ensures),
+    )) c.map_text.ensures

@@ -1,0 +1,117 @@
+//! The free blocks of a map: their outlines, and the lines of the legend about them.
+ghost use Rattle.std.specs.Prelude.{◌≡◌, ◌+◌, ◌≤◌, ◌++◌, All, IfOk, OnOk, map, take};
+ghost use Rattle.std.specs.List.{AllZip};
+ghost use Rattle.ipnet_base.specs.Address.{width};
+ghost use Rattle.ipnet_base.specs.Blocks.{AreMaximalBlocks};
+ghost use Rattle.ipnet_base.specs.Network.{IsSubnetOf};
+ghost use Rattle.ipnet.specs.NetworkOf.{ip_network};
+ghost use Rattle.ipnet_sets.specs.Members.{IsMember};
+ghost use Rattle.ipnet_pictures.specs.Summaries.{IsFree};
+ghost use Rattle.svg_maps.specs.FreeOutlines.{with_len, largest_first, IsFreeOutline, AreFreeOutlines};
+
+use crate::outline::{Outline, OutlineClass};
+use ipnet::IpNet;
+use ipnet_maps::rectangle_in;
+use ipnet_pictures::{free_in, largest_of};
+use ipnet_sets::IpSet;
+use std::alloc::{AllocError, Global};
+
+/// How many outlines a map has at most.
+const MOST: usize = 1_500;
+
+/// Appends the blocks of this prefix length.
+fn push_with_len(list: &mut Vec<IpNet>, blocks: &[IpNet], len: u8) -> Result<(), AllocError>
+    ensures { OnOk result (map ip_network list.new.items
+        ≡ map ip_network list.old.items ++ with_len (map ip_network blocks.now) len) }
+{
+    for block in blocks {
+        if block.prefix_len() == len {
+            list.push(*block)?;
+        }
+    }
+    Ok(())
+}
+
+/// The blocks that are at most `depth` bits longer than the frame, the largest first.
+fn largest_blocks(
+    alloc: Global,
+    blocks: &[IpNet],
+    frame: &IpNet,
+    depth: u8,
+) -> Result<Vec<IpNet>, AllocError>
+    requires { (ip_network frame.now).prefix_len + depth ≤ width (ip_network frame.now).family }
+    ensures { IfOk result (λ list. map ip_network list.items
+        ≡ largest_first (map ip_network blocks.now) (ip_network frame.now).prefix_len (depth + 1)) }
+{
+    let mut list = Vec::new(alloc);
+    let first = frame.prefix_len();
+    let end = first + depth + 1;
+    for len in first..end {
+        push_with_len(&mut list, blocks, len)?;
+    }
+    Ok(list)
+}
+
+/// The outline of the free block.
+fn free_outline(
+    alloc: Global,
+    frame: &IpNet,
+    depth: u8,
+    block: &IpNet,
+) -> Result<Outline, AllocError>
+    requires few { depth ≤ 20 }
+    requires fits { (ip_network frame.now).prefix_len + depth ≤ width (ip_network frame.now).family }
+    requires inside { IsSubnetOf (ip_network block.now) (ip_network frame.now) }
+    requires large { (ip_network block.now).prefix_len ≤ (ip_network frame.now).prefix_len + depth }
+    ensures { IfOk result (IsFreeOutline (ip_network frame.now) depth (ip_network block.now)) }
+{
+    let len = block.prefix_len();
+    let label = format!(in alloc; "/{len}")?;
+    Ok(Outline {
+        class: OutlineClass::Free,
+        rectangle: rectangle_in(frame, depth, block),
+        title: None,
+        label,
+    })
+}
+
+/// The outlines of the free blocks.
+fn free_outlines(
+    alloc: Global,
+    frame: &IpNet,
+    depth: u8,
+    blocks: &[IpNet],
+) -> Result<Vec<Outline>, AllocError>
+    requires few { depth ≤ 20 }
+    requires fits { (ip_network frame.now).prefix_len + depth ≤ width (ip_network frame.now).family }
+    requires inside { All (λ n. IsSubnetOf (ip_network n) (ip_network frame.now)) blocks.now }
+    requires large { All (λ n. (ip_network n).prefix_len ≤ (ip_network frame.now).prefix_len + depth) blocks.now }
+    ensures { IfOk result (λ list.
+        AllZip (IsFreeOutline (ip_network frame.now) depth) (map ip_network blocks.now) list.items) }
+{
+    let mut outlines = Vec::new(alloc);
+    for block in blocks {
+        let outline = free_outline(alloc, frame, depth, block)?;
+        outlines.push(outline)?;
+    }
+    Ok(outlines)
+}
+
+/// Returns the outlines of the largest of the free blocks.
+pub(crate) fn outlines_of(
+    alloc: Global,
+    frame: &IpNet,
+    depth: u8,
+    set: &IpSet,
+    free: &[IpNet],
+) -> Result<Vec<Outline>, AllocError>
+    requires few { depth ≤ 20 }
+    requires fits { (ip_network frame.now).prefix_len + depth ≤ width (ip_network frame.now).family }
+    requires blocks { AreMaximalBlocks (IsFree (IsMember set.now) (ip_network frame.now)) 0 (map ip_network free.now) }
+    ensures { IfOk result (λ list. AreFreeOutlines (IsMember set.now) (ip_network frame.now) depth list.items) }
+{
+    let list = largest_blocks(alloc, free, frame, depth)?;
+    let all = list.as_slice();
+    let (front, _) = all.split_at(MOST.min(all.len()));
+    free_outlines(alloc, frame, depth, front)
+}

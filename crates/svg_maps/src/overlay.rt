@@ -1,0 +1,135 @@
+//! Overlays: outlines over the cells of a map, and what the legend and the foot say of them.
+ghost use Rattle.std.specs.Prelude.{◌+◌, ◌≤◌, ◌≡◌, [], IfOk};
+ghost use Rattle.ipnet_base.specs.Address.{width};
+ghost use Rattle.ipnet.specs.NetworkOf.{ip_network};
+ghost use Rattle.ipnet_sets.specs.Members.{IsMember};
+ghost use Rattle.svg_maps.specs.FreeOutlines.{AreFreeOutlines, AreOutlinesOf};
+
+use crate::free::outlines_of;
+use crate::outline::Outline;
+use crate::style::Theme;
+use ipnet::IpNet;
+use ipnet_pictures::summary::{push_free, push_largest};
+use ipnet_pictures::{free_in, largest_of};
+use ipnet_sets::IpSet;
+use std::alloc::{AllocError, Global};
+
+/// The most characters of a line of the legend that is cut.
+const LONGEST: usize = 100;
+
+/// How a map looks.
+#[derive(Clone, Copy, Debug, PartialEq, Eq)]
+pub struct Look {
+    /// The colours.
+    pub theme: Theme,
+    /// Whether free blocks are outlined.
+    pub shows_free: bool,
+}
+
+/// The outlines over the cells of a map, and what the legend and the foot say of them.
+#[derive(Drop)]
+pub struct Overlay {
+    /// The outlines, those first whose labels are more important.
+    pub outlines: Vec<Outline>,
+    /// Lines of the legend.
+    pub lines: Vec<String>,
+    /// A text for the end of the foot.
+    pub note: String,
+}
+
+impl Overlay {
+    /// Returns an overlay that draws nothing.
+    ///
+    /// ```text
+    /// no outlines, no lines and an empty note
+    /// ```
+    pub fn new(alloc: Global) -> Overlay
+        ensures { result.outlines.items ≡ [] }
+    {
+        Overlay {
+            outlines: Vec::new(alloc),
+            lines: Vec::new(alloc),
+            note: String::new(alloc),
+        }
+    }
+}
+
+/// Appends the text, as lines that are cut after commas if they are too long.
+fn push_cut(alloc: Global, lines: &mut Vec<String>, text: &str) -> Result<(), AllocError> {
+    let mut line = String::new(alloc);
+    for part in text.split(',') {
+        if line.is_empty() {
+            line.push_str(part)?;
+        } else {
+            line.push_str(",")?;
+            if line.len().saturating_add(part.len()) > LONGEST {
+                lines.push(line)?;
+                line = String::from_str(alloc, part.trim_start())?;
+            } else {
+                line.push_str(part)?;
+            }
+        }
+    }
+    lines.push(line)?;
+    Ok(())
+}
+
+/// The lines of the legend about the free blocks.
+fn free_lines(alloc: Global, free: &[IpNet], frame: &IpNet) -> Result<Vec<String>, AllocError> {
+    let mut text = String::new(alloc);
+    push_free(&mut text, free, frame)?;
+    push_largest(&mut text, largest_of(free))?;
+    let mut lines = Vec::new(alloc);
+    for line in text.as_str().split('\n') {
+        if !line.is_empty() {
+            push_cut(alloc, &mut lines, line)?;
+        }
+    }
+    Ok(lines)
+}
+
+/// The note at the foot about free blocks that are not outlined; empty if there are none.
+fn free_note(alloc: Global, left_out: usize) -> Result<String, AllocError> {
+    if left_out == 0 {
+        return Ok(String::new(alloc));
+    }
+    format!(in alloc; " Free blocks without an outline: {left_out}.")
+}
+
+/// The overlay that outlines the free blocks.
+fn free_overlay(alloc: Global, frame: &IpNet, depth: u8, set: &IpSet) -> Result<Overlay, AllocError>
+    requires few { depth ≤ 20 }
+    requires fits { (ip_network frame.now).prefix_len + depth ≤ width (ip_network frame.now).family }
+    ensures { IfOk result (λ overlay.
+        AreFreeOutlines (IsMember set.now) (ip_network frame.now) depth overlay.outlines.items) }
+{
+    let free = free_in(alloc, set, frame)?;
+    let outlines = outlines_of(alloc, frame, depth, set, free.as_slice())?;
+    let lines = free_lines(alloc, free.as_slice(), frame)?;
+    let note = free_note(alloc, free.len().saturating_sub(outlines.len()))?;
+    Ok(Overlay {
+        outlines,
+        lines,
+        note,
+    })
+}
+
+/// Returns what is drawn over the map of the set in the frame: outlines of the free blocks, if the map is to show them.
+pub(crate) fn overlay_of(
+    alloc: Global,
+    frame: &IpNet,
+    depth: u8,
+    set: &IpSet,
+    look: Look,
+) -> Result<Overlay, AllocError>
+    requires few { depth ≤ 20 }
+    requires fits { (ip_network frame.now).prefix_len + depth ≤ width (ip_network frame.now).family }
+    ensures { IfOk result (λ overlay. AreOutlinesOf look.shows_free (IsMember set.now) (ip_network frame.now) depth
+        overlay.outlines.items) }
+{
+    if look.shows_free {
+        free_overlay(alloc, frame, depth, set)
+    } else {
+        Ok(Overlay::new(alloc))
+    }
+}
