@@ -8,8 +8,8 @@ ghost use Rattle.netset_lib.specs.declared.command.Work.TheVariants.{Combine, As
 ghost use Rattle.netset_lib.specs.declared.query.Query.{Query};
 
 use super::Session;
-use crate::answer::Failure;
 use crate::command::Work;
+use crate::failure::Failure;
 use ipnet_sets::IpSet;
 
 impl Session {
@@ -18,8 +18,7 @@ impl Session {
     /// Returns the addresses of each list that an operation has read, in the order of the lists. A list without entries
     /// has the empty set.
     ///
-    /// The errors are `Count`, `Refused` and `Memory` of `answer`. The work of a query makes no sets: its error is
-    /// `Count`.
+    /// The errors are the errors of `answer`. The work of a query makes no sets: its error is `Count`.
     ///
     /// ```text
     /// Union of "10.0.0.0/31\n", "# none\n" and "10.0.0.1\n":  the sets 10.0.0.0 to 10.0.0.1, no address, and 10.0.0.1
@@ -34,23 +33,10 @@ impl Session {
         ensures query { (query : Query) → (grammar : Grammar) → (lists : List (List ℕ))
             → WereRead (Ask query grammar) lists self → result ≡ Err Failure.Count }
     {
-        let Session {
-            work,
-            reading,
-            sets,
-            ..
-        } = self;
-        let Work::Combine(request) = work else {
-            return Err(Failure::Count);
-        };
-        let lines = reading.lines;
-        if !request.operation.takes(lines.list) {
+        if !matches!(self.work, Work::Combine(_)) {
             return Err(Failure::Count);
         }
-        let refused = lines.refused;
-        if refused.count != 0 {
-            return Err(Failure::Refused(refused));
-        }
+        let Session { sets, .. } = self.into_good()?;
         Ok(sets)
     }
 }
