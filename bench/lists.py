@@ -168,6 +168,42 @@ def addresses_ipv4():
         yield ipv4(numbers.bits() >> 32, 32)[:-3]
 
 
+def blocks_ipv4():
+    """Different /24, in random order."""
+    numbers = Numbers(14)
+    seen = set()
+    while True:
+        block = numbers.bits() >> 40
+        if block not in seen:
+            seen.add(block)
+            yield ipv4(block << 8, 24)
+
+
+def in_order(make, key):
+    """The list of the first million lines of another one, in order."""
+    return sorted(itertools.islice(make(), MILLION), key=key)
+
+
+def ipv4_number(line):
+    """The address of a line, as a number."""
+    return int.from_bytes(bytes(map(int, line.partition("/")[0].split("."))), "big")
+
+
+def sorted_addresses_ipv4():
+    """The first million addresses, ascending."""
+    return in_order(addresses_ipv4, ipv4_number)
+
+
+def sorted_blocks_ipv4():
+    """The first million /24, ascending."""
+    return in_order(blocks_ipv4, ipv4_number)
+
+
+def sorted_sites_ipv6():
+    """The first million /48, ascending."""
+    return in_order(sites_ipv6, lambda line: int(ipaddress.ip_network(line).network_address))
+
+
 # The requests of a log, and the programs that made them.
 REQUESTS = ("GET / HTTP/1.1", "GET /api/v1/items/%d HTTP/1.1", "GET /static/css/site.%d.css HTTP/1.1",
             "GET /images/photo-%d.jpg HTTP/2.0", "POST /search?q=%d HTTP/1.1", "GET /login?next=/account/%d HTTP/1.1")
@@ -278,9 +314,11 @@ def next_countries_ipv4():
 
 GENERATED = {make.__name__: make for make in (
     random_ipv4, random_ipv6, random_both, routing_table, consecutive_hosts, aggregated_ipv4, aggregated_ipv6,
-    routes_ipv4, descending_hosts, sites_ipv6, addresses_ipv4, access_log)}
+    routes_ipv4, descending_hosts, sites_ipv6, addresses_ipv4, access_log, blocks_ipv4, sorted_addresses_ipv4,
+    sorted_blocks_ipv4, sorted_sites_ipv6)}
 # The maximum lengths of lists.
-MOST = {"sites_ipv6": MILLION, "consecutive_hosts": 10 * MILLION, "descending_hosts": 10 * MILLION}
+MOST = {"sites_ipv6": MILLION, "sorted_addresses_ipv4": MILLION, "sorted_blocks_ipv4": MILLION,
+        "sorted_sites_ipv6": MILLION, "consecutive_hosts": 10 * MILLION, "descending_hosts": 10 * MILLION}
 REAL = {make.__name__: make for make in (
     ranges_ipv4, ranges_ipv6, ranges_both, spans_ipv4, countries_ipv4, countries_both, next_countries_ipv4)}
 

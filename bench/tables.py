@@ -4,6 +4,7 @@ import tempfile
 from typing import NamedTuple
 
 import hostile_tables
+import map_tables
 import netset_tables
 import set_tables
 from cells import MIB, head, least, mebibytes, milliseconds, ratio, row, shown
@@ -240,4 +241,5 @@ def unbroken(bench):
 
 
 PARTS = {"calls": calls, "growth": growth, "memory": memory, "sets": set_tables.sets, "program": program,
-         "lengths": lengths, "netset": netset_tables.netset, "hostile": hostile_tables.hostile}
+         "lengths": lengths, "netset": netset_tables.netset, "maps": map_tables.maps,
+         "hostile": hostile_tables.hostile}
