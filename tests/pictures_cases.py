@@ -177,3 +177,15 @@ def random_case(chance, number):
         lists[1] = lists[0][2:] + lists[1][:2]
     frame = chance.choice((frame, frame, None))
     return Case("random map {}".format(number), frame, lists, compares)
+
+
+def full_list():
+    """Parts of each /16 of the first half of all addresses, and entries with long comments in the other half."""
+    chance = random.Random(SEED)
+    for number in range(2 << 14):
+        first = "%d.%d" % (number >> 8, number & 255)
+        yield "%s.0.0-%s.%d.255" % (first, first, chance.choice((9, 99, 199)))
+    for length in (8, 9, 10, 11):
+        for number in range(1 << length - 1, 1 << length):
+            first = number << 32 - length
+            yield "%s/%d # %s" % (address_text(4, first), length, "\x01&\u00fc\\" * 40)

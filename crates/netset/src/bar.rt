@@ -178,17 +178,17 @@ fn request_of(
 }
 
 /// The names of the lists of a picture: standard input, if no list is named.
-pub fn names_of<'a>(matches: &'a ArgMatches<'a>) -> &'a [&'a str] {
+pub fn names_of<'m, 'a>(matches: &'m ArgMatches<'a>) -> &'m [&'a str] {
     matches.get_strs(FIRST).unwrap_or(&[STANDARD_INPUT])
 }
 
 /// Reads the lists, for a picture of their addresses or of what changed between two of them, and returns their names
 /// too. If that fails, it is reported, and the error is the exit status.
-pub fn read_pictured<'a>(
+pub fn read_pictured<'m, 'a>(
     rt: &HostRuntime,
-    matches: &'a ArgMatches<'a>,
+    matches: &'m ArgMatches<'a>,
     streams: &Streams<'_>,
-) -> Result<(&'a [&'a str], Session), u8> {
+) -> Result<(&'m [&'a str], Session), u8> {
     let names = names_of(matches);
     if reads_input_twice(names) {
         return Err(refused(rt, ArgumentFailure::InputTwice));
