@@ -5,7 +5,8 @@ use Rattle.ipnet_base.specs.Network.{Network}
 use Rattle.ipnet_pictures.specs.declared.frame.Frame.{Frame}
 use Rattle.ipnet_pictures.specs.declared.frame.Frame.TheVariants.{Named, Ipv6, FirstFamily}
 use Rattle.ipnet_pictures.specs.Frames.{IsFrame, HasNoFrame, all_of}
-use Rattle.ipnet_pictures.specs.Parts.{IsInPart, HasNone}
+use Rattle.ipnet_pictures.specs.Parts.{HasNone}
+use Rattle.ipnet_sets.specs.Parts.{IsInPart}
 use Rattle.ipnet_sets.specs.Supernets.{IsSmallestAround}
 
 module _ (A B : Address → Type 0) (same : (x : Address) → A x ↔ B x) where
