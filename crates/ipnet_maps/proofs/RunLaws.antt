@@ -6,7 +6,8 @@ use Rattle.std.specs.List.{AllZip}
 use Rattle.std.proofs.Math.Nat.{div-lt_iff_lt-mul, div-mul-le_self, mul-div_cancel}
 use Rattle.std.proofs.lemmas.Bool.{cases_lt}
 use Rattle.std.proofs.lemmas.List.{length_push, length-append}
-use Rattle.std.proofs.lemmas.List.Elements.{All-push, Contains-append_left, Contains-append_right, Contains-append_cases}
+use Rattle.std.proofs.lemmas.List.Elements.{All-push, Contains-append_left, Contains-append_right}
+use Rattle.std.proofs.lemmas.List.Elements.{Contains-append_cases}
 use Rattle.ipnet_base.specs.Address.{Family, IPv4, IPv6, Address, IsAddress, IsAddressBefore, family_index, width}
 use Rattle.ipnet_base.specs.Network.{Network, InBlock, IsLeastOf, IsGreatestOf, IsBefore}
 use Rattle.ipnet_base.specs.Blocks.{AreMaximalBlocks}
@@ -108,7 +109,7 @@ runs_begin InSet len networks blocks = record {
   few = omega arith;
 }
 
--- of two lists, the members of the first are before those of the second
+-- each member of the first list is before each member of the second
 pairs_across : {X : Type 0} (R : X → X → Type 0) (xs ys : List X) → AllPairs R (xs ++ ys) → (x y : X) → Contains xs x
     → Contains ys y → R x y
 pairs_across R [] ys h x y c d = absurd (contains_nil x c)

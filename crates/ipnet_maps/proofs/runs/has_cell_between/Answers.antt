@@ -10,7 +10,13 @@ returns c = λ t.
     let n = ip_network c.args.first.now in
     let k = ip_network c.args.second.now in
     let same : width n.family ≡ width k.family
-    = grind (arith, nat_tests, c.if-max_prefix_len-width.false, c.max_prefix_len-width.ensures, c.max_prefix_len.ensures)
+    = grind (
+      arith,
+      nat_tests,
+      c.if-max_prefix_len-width.false,
+      c.max_prefix_len-width.ensures,
+      c.max_prefix_len.ensures,
+    )
     in
     let bits : c.saturating_sub-bits.result ≡ width n.family - c.args.cell_len
     = omega (arith, c.saturating_sub-bits.ensures, c.max_prefix_len-width.ensures) in
