@@ -109,7 +109,7 @@ runs_begin InSet len networks blocks = record {
   few = omega arith;
 }
 
--- of two lists, the members of the first are before those of the second
+-- each member of the first list is before each member of the second
 pairs_across : {X : Type 0} (R : X → X → Type 0) (xs ys : List X) → AllPairs R (xs ++ ys) → (x y : X) → Contains xs x
     → Contains ys y → R x y
 pairs_across R [] ys h x y c d = absurd (contains_nil x c)

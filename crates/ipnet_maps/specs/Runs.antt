@@ -18,7 +18,7 @@ pub record IsCutOff (InSet : Address → Type 0) (len : ℕ) (n k : Network) : T
   pub before : (y : Address) → InBlock k y → IsAddressBefore between y
   pub none : HasNone InSet (network_at between len)
 
--- So many blocks of the set are cut off from each other by cells without an address of the set.
+-- Cells without an address of the set cut off this number of its blocks from each other.
 -- Example: with cells of length 24, 10.0.0.9/32 and 10.0.2.0/32 are two such blocks of the set of both.
 pub record HasRuns (InSet : Address → Type 0) (len count : ℕ) : Type 0 where
   pub starts : List Network

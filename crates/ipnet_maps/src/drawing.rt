@@ -207,8 +207,8 @@ fn are_divided(lists: &Lists<'_>, cell_len: u8) -> bool
     }
 }
 
-/// Returns the map that shows this many bits, or `None` if it would have more than 65,536 rectangles. Of many such maps
-/// it makes no lists of cells.
+/// Returns the map that shows this many bits, or `None` if it would have more than 65,536 rectangles. For
+/// many such maps it makes no lists of cells.
 fn drawn_if_few(
     alloc: Global,
     frame: &IpNet,

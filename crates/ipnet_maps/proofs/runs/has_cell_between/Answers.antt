@@ -16,7 +16,8 @@ returns c = λ t.
       c.if-max_prefix_len-width.false,
       c.max_prefix_len-width.ensures,
       c.max_prefix_len.ensures,
-    ) in
+    )
+    in
     let bits : c.saturating_sub-bits.result ≡ width n.family - c.args.cell_len
     = omega (arith, c.saturating_sub-bits.ensures, c.max_prefix_len-width.ensures) in
     cell_between n k (ip_address c.broadcast.result) (ip_address c.network.result) c.args.cell_len
