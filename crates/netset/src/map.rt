@@ -1,6 +1,6 @@
 //! The command `map`: its arguments, and its runs.
-use crate::arguments::{any_files, command_of, flag};
-use crate::bar::{COMPARE, frame_of, names_of, read_pictured, with_frame};
+use crate::arguments::{FIRST, STANDARD_INPUT, any_files, command_of, flag};
+use crate::bar::{COMPARE, frame_of, read_pictured, with_frame};
 use crate::output::Streams;
 use clap::{Arg, ArgMatches, Command};
 use netset_pictures::{MapRequest, read_theme, run_change_map, run_map, run_sets_map};
@@ -35,8 +35,8 @@ pub fn with_map<'a>(alloc: Global, command: Command<'a>) -> Result<Command<'a>, 
 }
 
 /// Whether the lists are too many for one map. If so, it is reported.
-fn are_too_many(rt: &HostRuntime, matches: &ArgMatches) -> bool {
-    let are_many = !matches.get_flag(COMPARE) && names_of(matches).len() > MOST_LISTS;
+fn are_too_many(rt: &HostRuntime, matches: &ArgMatches, names: &[&str]) -> bool {
+    let are_many = !matches.get_flag(COMPARE) && names.len() > MOST_LISTS;
     if are_many {
         let _ = writeln!(
             rt.stderr(),
@@ -56,11 +56,12 @@ pub fn mapped(rt: &HostRuntime, matches: &ArgMatches, streams: &mut Streams<'_>)
     let theme = matches.get_str(THEME).and_then(read_theme);
     let theme = theme.unwrap_or(Theme::Auto);
     let request = MapRequest { frame, theme };
-    if are_too_many(rt, matches) {
+    let names = matches.get_strs(FIRST).unwrap_or(&[STANDARD_INPUT]);
+    if are_too_many(rt, matches, names) {
         return 2;
     }
-    let (names, session) = match read_pictured(rt, matches, streams) {
-        Ok(read) => read,
+    let session = match read_pictured(rt, matches, names, streams) {
+        Ok(session) => session,
         Err(status) => return status,
     };
     let out = &mut streams.answer;
