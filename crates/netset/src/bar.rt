@@ -177,19 +177,14 @@ fn request_of(
     Ok(BarRequest { frame, form })
 }
 
-/// The names of the lists of a picture: standard input, if no list is named.
-pub fn names_of<'m, 'a>(matches: &'m ArgMatches<'a>) -> &'m [&'a str] {
-    matches.get_strs(FIRST).unwrap_or(&[STANDARD_INPUT])
-}
-
-/// Reads the lists, for a picture of their addresses or of what changed between two of them, and returns their names
-/// too. If that fails, it is reported, and the error is the exit status.
-pub fn read_pictured<'m, 'a>(
+/// Reads the lists of these names, for a picture of their addresses or of what changed between two of them. If that
+/// fails, it is reported, and the error is the exit status.
+pub fn read_pictured(
     rt: &HostRuntime,
-    matches: &'m ArgMatches<'a>,
+    matches: &ArgMatches,
+    names: &[&str],
     streams: &Streams<'_>,
-) -> Result<(&'m [&'a str], Session), u8> {
-    let names = names_of(matches);
+) -> Result<Session, u8> {
     if reads_input_twice(names) {
         return Err(refused(rt, ArgumentFailure::InputTwice));
     }
@@ -198,8 +193,7 @@ pub fn read_pictured<'m, 'a>(
     } else {
         netset_lib::Command::Union
     };
-    let session = session_of(rt, command.work(flags_of(matches)), names, streams)?;
-    Ok((names, session))
+    session_of(rt, command.work(flags_of(matches)), names, streams)
 }
 
 /// Reads the arguments and the lists, prints the bar, and returns the exit status.
@@ -208,8 +202,9 @@ pub fn drawn(rt: &HostRuntime, matches: &ArgMatches, streams: &mut Streams<'_>) 
         Ok(request) => request,
         Err(status) => return status,
     };
-    let (names, session) = match read_pictured(rt, matches, streams) {
-        Ok(read) => read,
+    let names = matches.get_strs(FIRST).unwrap_or(&[STANDARD_INPUT]);
+    let session = match read_pictured(rt, matches, names, streams) {
+        Ok(session) => session,
         Err(status) => return status,
     };
     let out = &mut streams.answer;

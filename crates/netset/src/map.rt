@@ -1,6 +1,6 @@
 //! The command `map`: its arguments, and its runs.
-use crate::arguments::{any_files, command_of, flag};
-use crate::bar::{COMPARE, frame_of, names_of, read_pictured, with_frame};
+use crate::arguments::{FIRST, STANDARD_INPUT, any_files, command_of, flag};
+use crate::bar::{COMPARE, frame_of, read_pictured, with_frame};
 use crate::output::Streams;
 use clap::{Arg, ArgMatches, Command};
 use netset_pictures::{MapRequest, read_theme, run_change_map, run_map, run_sets_map};
@@ -40,8 +40,8 @@ pub fn with_map<'a>(alloc: Global, command: Command<'a>) -> Result<Command<'a>, 
 }
 
 /// Whether the lists are too many for one map. If so, it is reported.
-fn are_too_many(rt: &HostRuntime, matches: &ArgMatches) -> bool {
-    let are_many = !matches.get_flag(COMPARE) && names_of(matches).len() > MOST_LISTS;
+fn are_too_many(rt: &HostRuntime, matches: &ArgMatches, names: &[&str]) -> bool {
+    let are_many = !matches.get_flag(COMPARE) && names.len() > MOST_LISTS;
     if are_many {
         let _ = writeln!(
             rt.stderr(),
@@ -65,11 +65,12 @@ pub fn mapped(rt: &HostRuntime, matches: &ArgMatches, streams: &mut Streams<'_>)
         shows_free: matches.get_flag(FREE),
     };
     let request = MapRequest { frame, look };
-    if are_too_many(rt, matches) {
+    let names = matches.get_strs(FIRST).unwrap_or(&[STANDARD_INPUT]);
+    if are_too_many(rt, matches, names) {
         return 2;
     }
-    let (names, session) = match read_pictured(rt, matches, streams) {
-        Ok(read) => read,
+    let session = match read_pictured(rt, matches, names, streams) {
+        Ok(session) => session,
         Err(status) => return status,
     };
     let out = &mut streams.answer;
