@@ -11,5 +11,5 @@ returns-clause-map c = record {
   both = c.in_ok-all.ensures.members;
   network = ip_network c.in-Some.network;
   is_frame = search rules;
-  shown = c.in_ok-change_map_text.ensures;
+  shown = search rules;
 }
