@@ -115,7 +115,7 @@ pub(crate) fn comparison_text(
     ensures { IfOk result (λ text. IsComparison (IsMember first.now) (IsMember second.now) (string_bytes text)) }
 {
     let mut text = String::new(alloc);
-    if first.is_subset(second) && second.is_subset(first) {
+    if first == second {
         return Ok(text);
     }
     let only_first = first.difference(alloc, second)?;
