@@ -3,7 +3,6 @@ use crate::arguments::{
     ArgumentFailure, FIRST, STANDARD_INPUT, any_files, command_of, flag, flags_of,
     reads_input_twice,
 };
-use crate::extract::grammar_of;
 use crate::listing::read_network;
 use crate::output::Streams;
 use crate::{refused, session_of};
@@ -157,7 +156,7 @@ pub fn form_of(
 /// Reads the network to draw. If the word is not a network, it is reported, and the error is the exit status.
 pub fn frame_of(rt: &HostRuntime, matches: &ArgMatches) -> Result<Frame, u8> {
     match matches.get_str(IN) {
-        Some(word) => match read_network(rt, word, grammar_of(matches)) {
+        Some(word) => match read_network(rt, word, flags_of(matches).grammar()) {
             Some(network) => Ok(Frame::Named(network)),
             None => Err(2),
         },

@@ -1,13 +1,12 @@
 //! The command `prefix-list`: its arguments, and its run.
 use crate::arguments::{
-    ArgumentFailure, FIRST, OTHERS, command_of, first, other, reads_input_twice,
+    ArgumentFailure, FIRST, OTHERS, command_of, first, flags_of, other, reads_input_twice,
 };
 use crate::input::{STANDARD_INPUT, report_unread};
 use crate::lists::read_filled;
 use crate::output::Streams;
 use crate::refused;
 use clap::{ArgMatches, Command};
-use ipnet::Grammar;
 use netset_lib::{PrefixRequest, run_prefix_list};
 use std::alloc::{AllocError, Global};
 
@@ -63,11 +62,7 @@ pub fn matched(rt: &HostRuntime, matches: &ArgMatches, streams: &mut Streams<'_>
     let request = PrefixRequest {
         prefixes: prefixes.as_slice(),
         networks: networks.as_slice(),
-        grammar: if matches.get_flag("legacy") {
-            Grammar::Legacy
-        } else {
-            Grammar::Strict
-        },
+        grammar: flags_of(matches).grammar(),
     };
     run_prefix_list(
         rt.alloc(),

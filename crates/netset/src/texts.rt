@@ -2,8 +2,7 @@
 ghost use Rattle.std.specs.Prelude.{codes};
 ghost use Rattle.netset.specs.Arguments.{IsFlag};
 
-use crate::arguments::{ArgumentFailure, FIRST, OTHERS, flag, reads_input_twice};
-use crate::extract::grammar_of;
+use crate::arguments::{ArgumentFailure, FIRST, OTHERS, flag, flags_of, reads_input_twice};
 use crate::input::STANDARD_INPUT;
 use crate::output::Streams;
 use crate::prefixes::bytes_of;
@@ -49,7 +48,7 @@ pub fn routed(rt: &HostRuntime, matches: &ArgMatches, streams: &mut Streams<'_>)
     let request = TextRequest {
         table: bytes.as_slice(),
         list: list.as_slice(),
-        grammar: grammar_of(matches),
+        grammar: flags_of(matches).grammar(),
     };
     run_text_routes(
         rt.alloc(),
