@@ -1,11 +1,11 @@
 //! The command `bar` and the options of bars: their arguments, and their runs.
 use crate::arguments::{
-    ArgumentFailure, FIRST, STANDARD_INPUT, any_files, command_of, flag, flags_of,
-    reads_input_twice,
+    ArgumentFailure, FIRST, any_files, command_of, flag, flags_of, reads_input_twice, refused,
 };
+use crate::input::STANDARD_INPUT;
 use crate::listing::read_network;
 use crate::output::Streams;
-use crate::{refused, session_of};
+use crate::reading::session_of;
 use clap::{Arg, ArgMatches, Command};
 use ipnet_pictures::{BarForm, Frame, Marks, RowWidth};
 use netset_lib::Session;

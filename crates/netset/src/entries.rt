@@ -1,11 +1,11 @@
 //! The commands about the entries of lists: their arguments, and their runs.
 use crate::arguments::{
     ArgumentFailure, FIRST, OTHERS, command_of, flags_of, one_file, other, reads_input_twice,
+    refused,
 };
 use crate::input::STANDARD_INPUT;
 use crate::output::Streams;
-use crate::prefixes::bytes_of;
-use crate::{refused, session_of};
+use crate::reading::{bytes_of, session_of};
 use clap::{ArgMatches, Command};
 use netset_entries::{run_overlaps, run_overlaps_of_two, run_redundant, run_supernet};
 use std::alloc::{AllocError, Global};

@@ -1,11 +1,10 @@
 //! The command `extract`: its arguments, and its run.
 use crate::arguments::{
-    ArgumentFailure, FIRST, any_files, command_of, flag, flags_of, reads_input_twice,
+    ArgumentFailure, FIRST, any_files, command_of, flag, flags_of, reads_input_twice, refused,
 };
 use crate::input::{STANDARD_INPUT, report_unread};
 use crate::lists::read_lists;
 use crate::output::Streams;
-use crate::refused;
 use clap::{Arg, ArgAction, ArgMatches, Command};
 use netset_words::{ExtractRequest, Extraction, run_extract};
 use std::alloc::{AllocError, Global};

@@ -1,8 +1,8 @@
 //! The command `filter --lines`: its flags, and its run.
-use crate::arguments::{ArgumentFailure, FIRST, OTHERS, flag, flags_of, reads_input_twice};
+use crate::arguments::{ArgumentFailure, FIRST, OTHERS, flag, flags_of, reads_input_twice, refused};
 use crate::input::{STANDARD_INPUT, open_list, report_unread};
 use crate::output::Streams;
-use crate::{refused, session_of};
+use crate::reading::session_of;
 use clap::{Arg, ArgAction, ArgMatches, Command};
 use netset_lib::report_failure;
 use netset_words::{LineFilter, LinesRequest, run_lines};

@@ -2,8 +2,8 @@
 ghost use Rattle.std.specs.Prelude.{◌≡◌, codes, Some, IfSome};
 ghost use Rattle.netset.specs.Arguments.{IsQueryOf};
 
-use crate::arguments::{FIRST, command_of, first, flags_of, operation_command};
-use crate::forms::form_of;
+use crate::arguments::{FIRST, command_of, first, flags_of};
+use crate::forms::{form_of, operation_command};
 use crate::input::{STANDARD_INPUT, report_unread};
 use crate::lists::read_rules;
 use crate::output::Streams;

@@ -2,11 +2,10 @@
 ghost use Rattle.std.specs.Prelude.{codes};
 ghost use Rattle.netset.specs.Arguments.{IsFlag};
 
-use crate::arguments::{ArgumentFailure, FIRST, OTHERS, flag, flags_of, reads_input_twice};
+use crate::arguments::{ArgumentFailure, FIRST, OTHERS, flag, flags_of, reads_input_twice, refused};
 use crate::input::STANDARD_INPUT;
 use crate::output::Streams;
-use crate::prefixes::bytes_of;
-use crate::refused;
+use crate::reading::bytes_of;
 use clap::{Arg, ArgMatches};
 use netset_lib::{TextRequest, run_text_routes};
 use std::alloc::{AllocError, Global};
