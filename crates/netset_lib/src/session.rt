@@ -101,14 +101,6 @@ fn has_no_family(work: Work, sets: &[IpSet]) -> bool
     is_named_complement(work) && is_one_empty(sets)
 }
 
-/// Appends a set. Fails if memory runs out.
-fn keep(sets: &mut Vec<IpSet>, set: IpSet) -> Result<(), AllocError>
-    ensures { OnOk result (sets.new.items ≡ sets.old.items ++ set ∷ []) }
-{
-    sets.push(set)?;
-    Ok(())
-}
-
 /// The text of the set that the operation makes of the sets.
 fn combined_text(alloc: Global, request: Request, sets: &[IpSet]) -> Result<String, AllocError>
     ensures { IfOk result (λ text. (entries : List (List ListEntry)) → HaveMembers sets.now entries
@@ -185,7 +177,8 @@ impl Session {
             (R.remaining input.old) (R.remaining input.new) self.old self.new) }
     {
         let set = read_set(&mut self.reading, input)?;
-        Ok(keep(&mut self.sets, set)?)
+        self.sets.push(set)?;
+        Ok(())
     }
 
     /// Reads the next list of a filter or a route: the first into the answerer, and the second into the answers.
