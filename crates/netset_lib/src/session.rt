@@ -3,7 +3,7 @@ ghost use Rattle.std.specs.Prelude.{◌≡◌, ◌++◌, ◌∷◌, ◌↔◌, �
 ghost use Rattle.std.specs.Prelude.{string_bytes, Err, false};
 ghost use Rattle.ipnet_text.specs.Inputs.{GaveWhole};
 ghost use Rattle.netset_lib.specs.Answers.{IsSetText};
-ghost use Rattle.netset_lib.specs.Counts.{IsCountText, IsComparison};
+ghost use Rattle.netset_lib.specs.Counts.{IsComparison};
 ghost use Rattle.netset_lib.specs.Lists.{ListEntry, IsInEntries};
 ghost use Rattle.netset_lib.specs.ListSets.{HaveMembers};
 ghost use Rattle.ipnet_sets.specs.Members.{HasNoAddress};
@@ -110,14 +110,6 @@ fn combined_text(alloc: Global, request: Request, sets: &[IpSet]) -> Result<Stri
     set_text(alloc, request.form, &set)
 }
 
-/// The counts of the sets, which have these names.
-fn count_text(alloc: Global, names: &[&str], sets: &[IpSet]) -> Result<String, AllocError>
-    ensures { IfOk result (λ text. (entries : List (List ListEntry)) → HaveMembers sets.now entries
-        → IsCountText IsInEntries names.now entries (string_bytes text)) }
-{
-    counts_text(alloc, names, sets)
-}
-
 /// What differs between the two sets.
 fn compare_text(alloc: Global, sets: &[IpSet]) -> Result<String, AllocError>
     ensures { IfOk result (λ text. (first second : List ListEntry) → HaveMembers sets.now (first ∷ second ∷ [])
@@ -142,7 +134,7 @@ fn answer_of(
     let found = answers.found;
     let (text, succeeded) = match work {
         Work::Combine(request) => (combined_text(alloc, request, sets)?, true),
-        Work::Ask(Query::Count, _) => (count_text(alloc, names, sets)?, true),
+        Work::Ask(Query::Count, _) => (counts_text(alloc, names, sets)?, true),
         Work::Ask(Query::Compare, _) => {
             let text = compare_text(alloc, sets)?;
             let same = text.is_empty();
