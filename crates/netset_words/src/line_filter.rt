@@ -22,7 +22,6 @@ use crate::log_line::{
 };
 use crate::refused_word::{RefusedWords, WordCause};
 use crate::word::is_cut;
-use crate::word_reader::is_any;
 use ipnet_sets::IpSet;
 use memchr::memchr;
 use netset_lib::filter::side_set;
@@ -139,7 +138,7 @@ impl LineAnswers {
         self.nones = count_none(self.nones, verdict)?;
         let treatment = whole_treatment(request.others, verdict);
         let printed = print_line(&mut self.text, line, treatment)?;
-        self.printed = is_any(self.printed, printed);
+        self.printed = self.printed | printed;
         Ok(())
     }
 }
@@ -291,7 +290,7 @@ impl LineFilter {
         let verdict = verdict_on(&mut self.answers.room, &self.set, self.request, whole)?;
         let treatment = front_treatment(self.request.any, self.request.others, verdict);
         let printed = print_front(&mut self.answers.text, front, more, treatment)?;
-        self.answers.printed = is_any(self.answers.printed, printed);
+        self.answers.printed = self.answers.printed | printed;
         report_front(self.alloc, &mut self.undecided, number, front, treatment)?;
         self.rest = rest_after(treatment);
         self.front.clear();
