@@ -310,22 +310,14 @@ impl LineFilter {
         }
     }
 
-    /// Reads bytes of a line that was decided by its front.
-    fn pass(&mut self, piece: &[u8]) -> Result<(), AllocError>
-        requires { self.old.rest ≢ Kept }
-        ensures { OnOk result (GoesOn self.old self.new piece.now) }
-    {
-        print_more(&mut self.answers.text, self.rest, piece)
-    }
-
     /// Reads bytes of a line that does not end with them.
     fn go_on(&mut self, piece: &[u8]) -> Result<(), AllocError>
         ensures { OnOk result (GoesOn self.old self.new piece.now) }
     {
         match self.rest {
             Rest::Kept => self.keep(piece),
-            Rest::Printed => self.pass(piece),
-            Rest::LeftOut => self.pass(piece),
+            Rest::Printed => print_more(&mut self.answers.text, self.rest, piece),
+            Rest::LeftOut => print_more(&mut self.answers.text, self.rest, piece),
         }
     }
 
@@ -454,23 +446,14 @@ impl LineFilter {
         self.end_line()
     }
 
-    /// Ends the log, if a line was decided by its front.
-    #[tactic(none)]
-    fn end_passed_log(&mut self) -> Result<(), AllocError>
-        requires { self.old.rest ≢ Kept }
-        ensures { OnOk result (EndsLog self.old self.new) }
-    {
-        self.end_line()
-    }
-
     /// Ends the log. Fails as `read` does.
     pub(crate) fn end(&mut self) -> Result<(), AllocError>
         ensures { OnOk result (EndsLog self.old self.new) }
     {
         match self.rest {
             Rest::Kept => self.end_kept_log(),
-            Rest::Printed => self.end_passed_log(),
-            Rest::LeftOut => self.end_passed_log(),
+            Rest::Printed => self.end_line(),
+            Rest::LeftOut => self.end_line(),
         }
     }
 }
