@@ -11,7 +11,8 @@ use Rattle.ipnet.specs.declared.parser.Grammar.TheVariants.{Strict}
 use Rattle.ipnet.specs.Lines.{lines_of, AreNetworksOf, IsGoodLine, IsFirstBadLine}
 use Rattle.ipnet.specs.NetworkTexts.{IsNetworkText, WritesNone}
 use Rattle.ipnet_text.specs.LineTexts.{text_of_lines}
-use Rattle.ipnet_tool.specs.Answers.{IsAnswerTo, StartsWithBadLine}
+use Rattle.ipnet_text.specs.BadLines.{StartsWithBadLine}
+use Rattle.ipnet_tool.specs.Answers.{IsAnswerTo}
 use Rattle.ipnet_c.specs.Statuses as statuses
 use Rattle.ipnet_c.specs.Buffers.{IsWritten, IsTooLong}
 use Rattle.ipnet_sets.specs.Members.{IsCombined}
