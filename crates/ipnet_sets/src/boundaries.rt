@@ -96,7 +96,8 @@ pub(crate) fn combine<T: Number>(
         first_at = boundary.first;
         second_at = boundary.second;
         let inside = takes(operation, first_at % 2 == 1, second_at % 2 == 1);
-        let changes = inside != (boundaries.len() % 2 == 1);
+        let made = boundaries.len();
+        let changes = inside != (made % 2 == 1);
         if changes {
             boundaries.push(boundary.number)?;
         }
