@@ -105,22 +105,14 @@ fn writes_above(most: u32, text: &str) -> bool
 fn are_long_ipv4(address: &str, length: &str) -> bool
     ensures { IsTrue result ↔ IsTooLong IPv4 address.now length.now }
 {
-    if is_ipv4(address) {
-        writes_above(32, length)
-    } else {
-        false
-    }
+    is_ipv4(address) && writes_above(32, length)
 }
 
 /// Whether the parts are an IPv6 address and a prefix length above 128.
 fn are_long_ipv6(address: &str, length: &str) -> bool
     ensures { IsTrue result ↔ IsTooLong IPv6 address.now length.now }
 {
-    if is_ipv6(address) {
-        writes_above(128, length)
-    } else {
-        false
-    }
+    is_ipv6(address) && writes_above(128, length)
 }
 
 /// The two addresses that the parts are, without the blanks between them.
@@ -195,22 +187,14 @@ fn is_entry_after_blanks(text: &str) -> bool
 fn are_entries(front: &str, back: &str) -> bool
     ensures { IsTrue result ↔ AreEntries front.now back.now }
 {
-    if is_entry_before_blanks(front) {
-        is_entry_after_blanks(back)
-    } else {
-        false
-    }
+    is_entry_before_blanks(front) && is_entry_after_blanks(back)
 }
 
 /// Whether the parts are two IPv4 addresses.
 fn are_ipv4(front: &str, back: &str) -> bool
     ensures { IsTrue result ↔ AreIpv4 front.now back.now }
 {
-    if is_ipv4(front) {
-        is_ipv4(back)
-    } else {
-        false
-    }
+    is_ipv4(front) && is_ipv4(back)
 }
 
 /// Whether the front is empty, and the back has an entry before its first byte `close`.

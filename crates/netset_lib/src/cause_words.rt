@@ -89,11 +89,7 @@ pub(crate) fn has_mask_word(text: &str) -> bool
     ensures { IsTrue result ↔ HasMaskWord text.now }
 {
     let text = text.as_bytes();
-    if is_ipv4_word(leading_word(text)) {
-        is_mask_word(second_word(text))
-    } else {
-        false
-    }
+    is_ipv4_word(leading_word(text)) && is_mask_word(second_word(text))
 }
 
 /// Whether the first two words are entries.
@@ -101,9 +97,5 @@ pub(crate) fn has_two_entries(text: &str) -> bool
     ensures { IsTrue result ↔ HasTwoEntries text.now }
 {
     let text = text.as_bytes();
-    if is_entry_word(leading_word(text)) {
-        is_entry_word(second_word(text))
-    } else {
-        false
-    }
+    is_entry_word(leading_word(text)) && is_entry_word(second_word(text))
 }
