@@ -5,6 +5,7 @@ pub mod area;
 pub mod captions;
 pub mod chart;
 pub mod class;
+pub(crate) mod extent;
 pub mod free;
 pub mod label;
 pub mod laws;
