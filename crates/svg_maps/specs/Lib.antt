@@ -5,4 +5,5 @@ pub mod Squares
 pub mod Maps
 pub mod Styles
 pub mod FreeOutlines
+pub mod NamedOutlines
 pub mod Overlays

@@ -12,6 +12,7 @@ pub mod laws;
 pub mod legend;
 pub mod map;
 pub mod name;
+pub mod named;
 pub mod outline;
 pub mod outline_labels;
 pub mod overlay;
