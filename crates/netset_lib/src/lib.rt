@@ -94,5 +94,5 @@ pub use rule_list::{RefusedRule, RuleLine, RuleList};
 pub use rule_program::{report_rule_failure, run_rules};
 pub use session::Session;
 pub use session::stream::{StreamFailure, Streamed};
-pub use text_program::{TextRequest, run_text_routes};
+pub use text_program::{TextRequest, run_text_routes, table_or_report};
 pub use write::{write_answer, write_or_report, written};
