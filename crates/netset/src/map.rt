@@ -1,8 +1,14 @@
 //! The command `map`: its arguments, and its runs.
-use crate::arguments::{FIRST, STANDARD_INPUT, any_files, command_of, flag};
+use crate::arguments::{
+    ArgumentFailure, FIRST, STANDARD_INPUT, any_files, command_of, flag, reads_input_twice,
+};
 use crate::bar::{COMPARE, frame_of, read_pictured, with_frame};
+use crate::extract::grammar_of;
 use crate::output::Streams;
+use crate::prefixes::bytes_of;
+use crate::refused;
 use clap::{Arg, ArgMatches, Command};
+use netset_lib::{Session, table_or_report};
 use netset_pictures::{MapRequest, read_theme, run_change_map, run_map, run_sets_map};
 use std::alloc::{AllocError, Global};
 use std::io::Write;
@@ -17,14 +23,25 @@ const THEME: &str = "theme";
 /// The name of the flag for free blocks.
 const FREE: &str = "free";
 
+/// The name of the option for names of networks.
+const NAMES: &str = "names";
+
 /// The values of `--theme`.
 const THEMES: &[&str] = &["auto", "light", "dark"];
+
+/// Adds the options for what a map shows beside its lists.
+fn with_overlay<'a>(alloc: Global, command: Command<'a>) -> Result<Command<'a>, AllocError> {
+    let free = "Outline the blocks that no list has, and say which is the largest";
+    let names = Arg::new(alloc, NAMES).long(NAMES).value_name("FILE").help(
+        "Outline the networks of FILE: each line is a network and its name; - for standard input",
+    );
+    command.arg(flag(alloc, FREE, free))?.arg(names)
+}
 
 /// Adds the command `map`.
 pub fn with_map<'a>(alloc: Global, command: Command<'a>) -> Result<Command<'a>, AllocError> {
     let about =
         "A network as a picture in SVG: what up to six lists cover, or what changed between two";
-    let free = "Outline the blocks that no list has, and say which is the largest";
     let compare = "Show what changed between two lists; status 1 if they differ";
     let theme = Arg::new(alloc, THEME)
         .long(THEME)
@@ -33,9 +50,8 @@ pub fn with_map<'a>(alloc: Global, command: Command<'a>) -> Result<Command<'a>, 
         .help("Choose the colours; by default auto: dark if the reader prefers dark pages");
     let map = with_frame(alloc, command_of(alloc, MAP, about)?)?
         .arg(theme)?
-        .arg(flag(alloc, COMPARE, compare))?
-        .arg(flag(alloc, FREE, free))?
-        .arg(any_files(alloc))?;
+        .arg(flag(alloc, COMPARE, compare))?;
+    let map = with_overlay(alloc, map)?.arg(any_files(alloc))?;
     command.subcommand(map)
 }
 
@@ -51,35 +67,88 @@ fn are_too_many(rt: &HostRuntime, matches: &ArgMatches, names: &[&str]) -> bool 
     are_many
 }
 
-/// Reads the arguments and the lists, prints the map, and returns the exit status.
-pub fn mapped(rt: &HostRuntime, matches: &ArgMatches, streams: &mut Streams<'_>) -> u8 {
-    let frame = match frame_of(rt, matches) {
-        Ok(frame) => frame,
-        Err(status) => return status,
+/// Whether the file and one of the lists are standard input.
+fn reads_input_again(file: &str, names: &[&str]) -> bool {
+    for name in names {
+        if reads_input_twice(&[file, *name]) {
+            return true;
+        }
+    }
+    false
+}
+
+/// Reads the bytes of the list of names; there are none if no such list is named. If that fails, or if a list of these
+/// names is standard input too, it is reported, and the error is the exit status.
+fn name_bytes(
+    rt: &HostRuntime,
+    matches: &ArgMatches,
+    names: &[&str],
+    streams: &Streams<'_>,
+) -> Result<Vec<u8>, u8> {
+    let Some(file) = matches.get_str(NAMES) else {
+        return Ok(Vec::new(rt.alloc()));
     };
+    if reads_input_again(file, names) {
+        return Err(refused(rt, ArgumentFailure::InputTwice));
+    }
+    bytes_of(rt, file, "names", streams)
+}
+
+/// The colours that the arguments name.
+fn theme_of(matches: &ArgMatches) -> Theme {
     // the value is one of THEMES, if there is one
     let theme = matches.get_str(THEME).and_then(read_theme);
-    let theme = theme.unwrap_or(Theme::Auto);
-    let look = Look {
-        theme,
-        shows_free: matches.get_flag(FREE),
-    };
-    let request = MapRequest { frame, look };
-    let names = matches.get_strs(FIRST).unwrap_or(&[STANDARD_INPUT]);
-    if are_too_many(rt, matches, names) {
-        return 2;
-    }
-    let session = match read_pictured(rt, matches, names, streams) {
-        Ok(session) => session,
-        Err(status) => return status,
-    };
+    theme.unwrap_or(Theme::Auto)
+}
+
+/// Prints the map of the session's lists, which have these names, and returns the exit status.
+fn draw(
+    session: Session,
+    request: MapRequest<'_>,
+    names: &[&str],
+    compares: bool,
+    streams: &mut Streams<'_>,
+) -> u8 {
     let out = &mut streams.answer;
     let faults = &mut streams.faults;
-    if matches.get_flag(COMPARE) {
+    if compares {
         run_change_map(session, request, names, out, faults)
     } else if names.len() == 1 {
         run_map(session, request, names, out, faults)
     } else {
         run_sets_map(session, request, names, out, faults)
     }
+}
+
+/// Reads the arguments and the lists, prints the map, and returns the exit status.
+pub fn mapped(rt: &HostRuntime, matches: &ArgMatches, streams: &mut Streams<'_>) -> u8 {
+    let frame = match frame_of(rt, matches) {
+        Ok(frame) => frame,
+        Err(status) => return status,
+    };
+    let names = matches.get_strs(FIRST).unwrap_or(&[STANDARD_INPUT]);
+    if are_too_many(rt, matches, names) {
+        return 2;
+    }
+    let bytes = match name_bytes(rt, matches, names, streams) {
+        Ok(bytes) => bytes,
+        Err(status) => return status,
+    };
+    let file = matches.get_str(NAMES).unwrap_or(STANDARD_INPUT);
+    let grammar = grammar_of(matches);
+    let faults = &mut streams.faults;
+    let Some(table) = table_or_report(rt.alloc(), bytes.as_slice(), grammar, file, faults) else {
+        return 2;
+    };
+    let look = Look {
+        theme: theme_of(matches),
+        shows_free: matches.get_flag(FREE),
+        names: &table,
+    };
+    let session = match read_pictured(rt, matches, names, streams) {
+        Ok(session) => session,
+        Err(status) => return status,
+    };
+    let request = MapRequest { frame, look };
+    draw(session, request, names, matches.get_flag(COMPARE), streams)
 }

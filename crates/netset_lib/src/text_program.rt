@@ -92,8 +92,8 @@ pub fn run_text_routes<W: Write, X: Write>(
 }
 
 /// Returns the table of networks with texts that the bytes are, as `run_text_routes` reads its table. If lines are
-/// refused, or memory runs out, reports it on `faults` as `run_text_routes` does, and returns `None`. `name` is the name
-/// of the table.
+/// refused, or memory runs out, reports it on `faults` as `run_text_routes` does, and returns `None`. `name` is the
+/// name of the table.
 ///
 /// ```text
 /// "10.20.0.0/18 Berlin\n10.20.96.0/20 guests # new\n": 10.20.0.0/18 with "Berlin" and 10.20.96.0/20 with "guests"
