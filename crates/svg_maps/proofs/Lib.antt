@@ -5,3 +5,4 @@ pub mod PageLaws
 pub mod CountLaws
 pub mod FreeLaws
 pub mod NamedLaws
+pub mod EntryLaws

@@ -23,6 +23,8 @@ pub over_same : (look : Look) (First Second : Address → Type 0) (frame : Netwo
     → ((x : Address) → First x ↔ Second x) → AreOutlinesOver look First frame depth outlines
     → AreOutlinesOver look Second frame depth outlines
 over_same look First Second frame depth outlines same h = record {
+  entries = h.entries;
+  are_entries = h.are_entries;
   named = h.named;
   are_named = h.are_named;
   free = h.free;

@@ -6,4 +6,5 @@ pub mod Maps
 pub mod Styles
 pub mod FreeOutlines
 pub mod NamedOutlines
+pub mod EntryOutlines
 pub mod Overlays

@@ -11,20 +11,23 @@ use Rattle.ipnet_maps.specs.declared.drawing.Drawing.{Drawing}
 use Rattle.svg_maps.specs.declared.outline.Outline.{Outline}
 use Rattle.svg_maps.specs.declared.overlay.Look.{Look}
 use Rattle.svg_maps.specs.declared.square.Counted.{Counted}
+use Rattle.svg_maps.specs.EntryOutlines.{AreEntryOutlines}
 use Rattle.svg_maps.specs.FreeOutlines.{AreOutlinesOf}
 use Rattle.svg_maps.specs.NamedOutlines.{AreNamedOutlines}
 use Rattle.svg_maps.specs.Maps.{IsMapText, IsSetMap, IsChangeMap, IsSetsMap}
 
--- The outlines over a map with this look: around the networks with names, and then around the free blocks if these are
--- to be shown.
+-- The outlines over a map with this look: the areas of entries, then around the networks with names, and then around
+-- the free blocks if these are to be shown.
 -- Example: 10.0.0.8/29, if it has a name, and then 10.0.0.12/30 and 10.0.0.10/31, for 10.0.0.0 to 10.0.0.9.
 pub record AreOutlinesOver (look : Look) (InSet : Address → Type 0) (frame : Network) (depth : ℕ)
     (outlines : List Outline) : Type 0 where
+  pub entries : List Outline
+  pub are_entries : AreEntryOutlines look.entries.titled.now frame depth entries
   pub named : List Outline
   pub are_named : AreNamedOutlines (routes_of look.names.now) frame depth named
   pub free : List Outline
   pub are_free : AreOutlinesOf look.shows_free InSet frame depth free
-  pub all : outlines ≡ named ++ free
+  pub all : outlines ≡ entries ++ (named ++ free)
 
 -- The text is a map of the drawing, and the outlines on it are these.
 abbrev pub IsOutlinedMap : Network → List Counted → Drawing → List Outline → List ℕ → Type 0

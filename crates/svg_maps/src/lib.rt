@@ -5,6 +5,7 @@ pub mod area;
 pub mod captions;
 pub mod chart;
 pub mod class;
+pub mod entry;
 pub(crate) mod extent;
 pub mod free;
 pub mod label;
@@ -27,6 +28,7 @@ pub(crate) mod tiles;
 pub(crate) mod under;
 
 pub use chart::{Chart, Square};
+pub use entry::{MapEntries, MapEntry};
 pub use label::{Anchor, Ink, Label, Swatch};
 pub use map::{MapForm, map_text};
 pub use outline::{Outline, OutlineClass};

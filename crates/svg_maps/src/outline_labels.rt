@@ -10,11 +10,15 @@ use ipnet_maps::{Place, Rectangle, Sides};
 use std::alloc::{AllocError, Global};
 use svg_text::is_shown;
 
-/// The height of a label of an outline, in pixels.
-const HEIGHT: u32 = 13;
+/// The width and the height of a character of the label of a square or of an entry, in pixels.
+const SMALL_WIDTH: u32 = 6;
 
-/// The width of a character of a label of an outline, in pixels.
-const WIDTH: u32 = 7;
+const SMALL_HEIGHT: u32 = 12;
+
+/// The width and the height of a character of the label of a free block or of a name, in pixels.
+const LARGE_WIDTH: u32 = 7;
+
+const LARGE_HEIGHT: u32 = 13;
 
 /// How many characters wide the character is at most: those from U+1100 on may be wide, and of a character that is not
 /// shown, each byte has four.
@@ -28,15 +32,29 @@ fn columns_of(c: char) -> u32 {
     }
 }
 
-/// The sides of a label of an outline, in pixels.
-fn sides_of_label(words: &str) -> Sides {
+/// The sides of a character of the label of such an outline, in pixels.
+fn character_of(class: OutlineClass) -> Sides {
+    match class {
+        OutlineClass::Free | OutlineClass::Named => Sides {
+            width: LARGE_WIDTH,
+            height: LARGE_HEIGHT,
+        },
+        OutlineClass::Entry => Sides {
+            width: SMALL_WIDTH,
+            height: SMALL_HEIGHT,
+        },
+    }
+}
+
+/// The sides of a label, in pixels, if its characters have these sides.
+fn sides_of_label(character: Sides, words: &str) -> Sides {
     let mut columns: u32 = 0;
     for c in words.chars() {
         columns = columns.saturating_add(columns_of(c));
     }
     Sides {
-        width: columns.saturating_mul(WIDTH),
-        height: HEIGHT,
+        width: columns.saturating_mul(character.width),
+        height: character.height,
     }
 }
 
@@ -50,8 +68,8 @@ fn box_of(label: &Label) -> Rectangle {
             row: row.saturating_sub(9),
         },
         sides: Sides {
-            width: characters.saturating_mul(6),
-            height: 12,
+            width: characters.saturating_mul(SMALL_WIDTH),
+            height: SMALL_HEIGHT,
         },
     }
 }
@@ -130,11 +148,13 @@ fn push_outline_label(
     placed: &mut Placed,
     scale: u32,
     outline: &Outline,
+    under: &Under,
 ) -> Result<(), AllocError> {
     if outline.label.is_empty() {
         return Ok(());
     }
-    let sides = sides_of_label(outline.label.as_str());
+    let character = character_of(outline.class);
+    let sides = sides_of_label(character, outline.label.as_str());
     let area = rectangle_in_pixels(scale, outline.rectangle);
     let Some(found) = room_in(area, sides, placed.boxes.as_slice()) else {
         return Ok(());
@@ -142,9 +162,10 @@ fn push_outline_label(
     let ink = match outline.class {
         OutlineClass::Free => Ink::Free,
         OutlineClass::Named => Ink::Name,
+        OutlineClass::Entry => ink_in(under, found),
     };
     let words = outline.label.clone()?;
-    let row = found.place.row.saturating_add(10);
+    let row = found.place.row.saturating_add(character.height.saturating_sub(3));
     placed.boxes.push(found)?;
     placed.labels.push(label_at(ink, found.place.column, row, words))?;
     Ok(())
@@ -167,8 +188,8 @@ fn boxes_of(alloc: Global, labels: &[Label]) -> Result<Vec<Rectangle>, AllocErro
     Ok(boxes)
 }
 
-/// Returns the labels of the squares and of the outlines, on a map of this size and place with these colours. Fails
-/// only if memory runs out.
+/// Returns the labels of the squares, of the outlines and then of the entries, on a map of this size and place with
+/// these colours. Fails only if memory runs out.
 pub(crate) fn map_labels(
     alloc: Global,
     squares: &[Square],
@@ -184,7 +205,14 @@ pub(crate) fn map_labels(
     };
     choose_inks(&mut placed.labels, under);
     for outline in outlines {
-        push_outline_label(&mut placed, sheet.scale, outline)?;
+        if outline.class != OutlineClass::Entry {
+            push_outline_label(&mut placed, sheet.scale, outline, under)?;
+        }
+    }
+    for outline in outlines {
+        if outline.class == OutlineClass::Entry {
+            push_outline_label(&mut placed, sheet.scale, outline, under)?;
+        }
     }
     let Placed { labels, .. } = placed;
     Ok(SquareLabels {

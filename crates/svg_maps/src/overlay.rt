@@ -4,10 +4,12 @@ ghost use Rattle.ipnet_base.specs.Address.{width};
 ghost use Rattle.ipnet.specs.NetworkOf.{ip_network};
 ghost use Rattle.ipnet_sets.specs.Members.{IsMember};
 ghost use Rattle.ipnet_sets.specs.RoutesOf.{routes_of};
+ghost use Rattle.svg_maps.specs.EntryOutlines.{AreEntryOutlines};
 ghost use Rattle.svg_maps.specs.FreeOutlines.{AreFreeOutlines, AreOutlinesOf};
 ghost use Rattle.svg_maps.specs.NamedOutlines.{AreNamedOutlines};
 ghost use Rattle.svg_maps.specs.Overlays.{AreOutlinesOver};
 
+use crate::entry::{MapEntries, entry_outlines};
 use crate::free::outlines_of;
 use crate::named::named_outlines;
 use crate::outline::Outline;
@@ -21,7 +23,7 @@ use std::alloc::{AllocError, Global};
 /// The most characters of a line of the legend that is cut.
 const LONGEST: usize = 100;
 
-/// How a map looks, and which networks on it have names.
+/// How a map looks, which networks on it have names, and which are entries of its lists.
 #[derive(Clone, Copy)]
 pub struct Look<'a> {
     /// The colours.
@@ -30,6 +32,8 @@ pub struct Look<'a> {
     pub shows_free: bool,
     /// The names of networks, which are outlined; of none if the table is empty.
     pub names: &'a RouteTable<&'a str>,
+    /// The entries of the lists.
+    pub entries: MapEntries<'a>,
 }
 
 /// The outlines over the cells of a map, and what the legend and the foot say of them.
@@ -94,12 +98,12 @@ fn free_lines(alloc: Global, free: &[IpNet], frame: &IpNet) -> Result<Vec<String
     Ok(lines)
 }
 
-/// The note at the foot about what is not outlined, in these words; empty if nothing is left out.
-fn outline_note(alloc: Global, words: &str, left_out: usize) -> Result<String, AllocError> {
+/// The note at the foot about what is left out, in these words; empty if nothing is.
+fn left_out_note(alloc: Global, words: &str, left_out: usize) -> Result<String, AllocError> {
     if left_out == 0 {
         return Ok(String::new(alloc));
     }
-    format!(in alloc; " {words} without an outline: {left_out}.")
+    format!(in alloc; " {words}: {left_out}.")
 }
 
 /// The overlay that outlines the free blocks.
@@ -113,7 +117,7 @@ fn free_overlay(alloc: Global, frame: &IpNet, depth: u8, set: &IpSet) -> Result<
     let outlines = outlines_of(alloc, frame, depth, set, free.as_slice())?;
     let lines = free_lines(alloc, free.as_slice(), frame)?;
     let left_out = free.len().saturating_sub(outlines.len());
-    let note = outline_note(alloc, "Free blocks", left_out)?;
+    let note = left_out_note(alloc, "Free blocks without an outline", left_out)?;
     Ok(Overlay {
         outlines,
         lines,
@@ -155,7 +159,29 @@ fn named_overlay(
 {
     let outlines = named_outlines(alloc, frame, depth, names)?;
     let left_out = names.len().saturating_sub(outlines.len());
-    let note = outline_note(alloc, "Named networks", left_out)?;
+    let note = left_out_note(alloc, "Named networks without an outline", left_out)?;
+    Ok(Overlay {
+        outlines,
+        lines: Vec::new(alloc),
+        note,
+    })
+}
+
+/// The overlay with the areas of the entries.
+fn entry_overlay(
+    alloc: Global,
+    frame: &IpNet,
+    depth: u8,
+    entries: MapEntries<'_>,
+) -> Result<Overlay, AllocError>
+    requires few { depth ≤ 20 }
+    requires fits { (ip_network frame.now).prefix_len + depth ≤ width (ip_network frame.now).family }
+    ensures { IfOk result (λ overlay.
+        AreEntryOutlines entries.entry.titled.now (ip_network frame.now) depth overlay.outlines.items) }
+{
+    let outlines = entry_outlines(alloc, frame, depth, entries.titled)?;
+    let left_out = entries.count.saturating_sub(outlines.len());
+    let note = left_out_note(alloc, "Entries without a title", left_out)?;
     Ok(Overlay {
         outlines,
         lines: Vec::new(alloc),
@@ -175,8 +201,8 @@ fn joined(first: Overlay, second: Overlay) -> Result<Overlay, AllocError>
     Ok(overlay)
 }
 
-/// Returns what is drawn over the map of the set in the frame: outlines of the networks with names, and then of the
-/// free blocks, if the look shows them.
+/// Returns what is drawn over the map of the set in the frame: the areas of the entries, outlines of the networks with
+/// names, and then outlines of the free blocks, if the look shows them.
 pub(crate) fn overlay_of(
     alloc: Global,
     frame: &IpNet,
@@ -189,7 +215,9 @@ pub(crate) fn overlay_of(
     ensures { IfOk result (λ overlay.
         AreOutlinesOver look.entry (IsMember set.now) (ip_network frame.now) depth overlay.outlines.items) }
 {
+    let entries = entry_overlay(alloc, frame, depth, look.entries)?;
     let named = named_overlay(alloc, frame, depth, look.names)?;
     let free = shown_free(alloc, frame, depth, set, look.shows_free)?;
-    joined(named, free)
+    let others = joined(named, free)?;
+    joined(entries, others)
 }
