@@ -14,6 +14,7 @@ mod lines;
 mod listing;
 mod lists;
 mod map;
+mod noted;
 mod output;
 mod plan;
 mod prefixes;
@@ -33,7 +34,7 @@ use crate::forms::form_of;
 use crate::input::report_unread;
 use crate::lines::{LINES, filtered};
 use crate::listing::run_if_listing;
-use crate::lists::read_lists;
+use crate::lists::{ListReader, read_lists};
 use crate::map::{MAP, mapped};
 use crate::output::{CLOSED, Streams};
 use crate::plan::{PLAN, planned};
@@ -97,8 +98,20 @@ fn session_of(
     let Ok(mut session) = Session::new(rt.alloc(), work) else {
         return Err(refused(rt, ArgumentFailure::Memory));
     };
-    match read_lists(rt, &mut session, names, streams.reports) {
-        Ok(true) => Ok(session),
+    fill(rt, &mut session, names, streams)?;
+    Ok(session)
+}
+
+/// Reads the lists of these names. If that fails, it is reported, and the error is the exit status. So it is if a file
+/// has no entry, and that is to be refused.
+fn fill<L: ListReader>(
+    rt: &HostRuntime,
+    lists: &mut L,
+    names: &[&str],
+    streams: &Streams<'_>,
+) -> Result<(), u8> {
+    match read_lists(rt, lists, names, streams.reports) {
+        Ok(true) => Ok(()),
         Ok(false) => Err(2),
         Err((name, unread)) => {
             report_unread(rt, name, &unread);

@@ -2,17 +2,20 @@
 use crate::arguments::{
     ArgumentFailure, FIRST, STANDARD_INPUT, any_files, command_of, flag, reads_input_twice,
 };
-use crate::bar::{COMPARE, frame_of, read_pictured, with_frame};
+use crate::bar::{COMPARE, frame_of, pictured_work, with_frame};
 use crate::extract::grammar_of;
+use crate::noted::NotedSession;
 use crate::output::Streams;
 use crate::prefixes::bytes_of;
-use crate::refused;
+use crate::{fill, refused};
 use clap::{Arg, ArgMatches, Command};
+use ipnet_pictures::Frame;
+use netset_entries::EntryNotes;
 use netset_lib::{Session, table_or_report};
 use netset_pictures::{MapRequest, read_theme, run_change_map, run_map, run_sets_map};
 use std::alloc::{AllocError, Global};
 use std::io::Write;
-use svg_maps::{Look, MOST_LISTS, Theme};
+use svg_maps::{Look, MOST_LISTS, MapEntries, MapEntry, Theme};
 
 /// The name of the command.
 pub const MAP: &str = "map";
@@ -101,6 +104,43 @@ fn theme_of(matches: &ArgMatches) -> Theme {
     theme.unwrap_or(Theme::Auto)
 }
 
+/// Reads the lists of these names, and notes their largest entries. If that fails, it is reported, and the error is the
+/// exit status.
+fn read_noted(
+    rt: &HostRuntime,
+    matches: &ArgMatches,
+    names: &[&str],
+    frame: Frame,
+    streams: &Streams<'_>,
+) -> Result<NotedSession, u8> {
+    let work = pictured_work(rt, matches, names)?;
+    let network = match frame {
+        Frame::Named(network) => Some(network),
+        _ => None,
+    };
+    let Ok(session) = Session::new(rt.alloc(), work) else {
+        return Err(refused(rt, ArgumentFailure::Memory));
+    };
+    let Ok(notes) = EntryNotes::new(rt.alloc(), grammar_of(matches), network) else {
+        return Err(refused(rt, ArgumentFailure::Memory));
+    };
+    let mut noted = NotedSession { session, notes };
+    fill(rt, &mut noted, names, streams)?;
+    Ok(noted)
+}
+
+/// The entries that were noted, as a map shows them. Fails only if memory runs out.
+fn entries_of(alloc: Global, notes: EntryNotes) -> Result<Vec<MapEntry>, AllocError> {
+    let mut entries = Vec::new(alloc);
+    for noted in notes.into_entries()? {
+        entries.push(MapEntry {
+            network: noted.network,
+            title: noted.title,
+        })?;
+    }
+    Ok(entries)
+}
+
 /// Prints the map of the session's lists, which have these names, and returns the exit status.
 fn draw(
     session: Session,
@@ -118,6 +158,35 @@ fn draw(
     } else {
         run_sets_map(session, request, names, out, faults)
     }
+}
+
+/// Reads the lists of these names, prints the map, and returns the exit status.
+fn draw_lists(
+    rt: &HostRuntime,
+    matches: &ArgMatches,
+    names: &[&str],
+    request: MapRequest<'_>,
+    streams: &mut Streams<'_>,
+) -> u8 {
+    let noted = match read_noted(rt, matches, names, request.frame, streams) {
+        Ok(noted) => noted,
+        Err(status) => return status,
+    };
+    let NotedSession { session, notes } = noted;
+    let count = notes.count();
+    let Ok(entries) = entries_of(rt.alloc(), notes) else {
+        return refused(rt, ArgumentFailure::Memory);
+    };
+    let titled = entries.as_slice();
+    let MapRequest { frame, look } = request;
+    let look = Look {
+        theme: look.theme,
+        shows_free: look.shows_free,
+        names: look.names,
+        entries: MapEntries { titled, count },
+    };
+    let request = MapRequest { frame, look };
+    draw(session, request, names, matches.get_flag(COMPARE), streams)
 }
 
 /// Reads the arguments and the lists, prints the map, and returns the exit status.
@@ -144,11 +213,10 @@ pub fn mapped(rt: &HostRuntime, matches: &ArgMatches, streams: &mut Streams<'_>)
         theme: theme_of(matches),
         shows_free: matches.get_flag(FREE),
         names: &table,
+        entries: MapEntries {
+            titled: &[],
+            count: 0,
+        },
     };
-    let session = match read_pictured(rt, matches, names, streams) {
-        Ok(session) => session,
-        Err(status) => return status,
-    };
-    let request = MapRequest { frame, look };
-    draw(session, request, names, matches.get_flag(COMPARE), streams)
+    draw_lists(rt, matches, names, MapRequest { frame, look }, streams)
 }

@@ -122,8 +122,12 @@ fn opens_comment(line: &[u8], index: usize) -> bool
     }
 }
 
-/// The index at which the comment of the line begins, or the length of the line if it has none.
-pub(crate) fn comment_start(line: &[u8]) -> usize
+/// Returns the index at which the comment of the line begins, or the length of the line if it has none.
+///
+/// ```text
+/// of b"10.0.0.1 # ours": 9; of b"10.0.0.1;x": 10
+/// ```
+pub fn comment_start(line: &[u8]) -> usize
     ensures { IsCommentAt line.now result }
 {
     if memchr2(b'#', b';', line).is_none() {
@@ -158,9 +162,13 @@ fn hides_entry(room: &mut String, comment: &[u8], grammar: Grammar) -> Result<bo
     }
 }
 
-/// The contents of the line: the text before its comment, or the whole line if the comment hides an entry. Fails if
-/// memory runs out.
-pub(crate) fn contents_of<'a>(
+/// Returns the contents of the line: the text before its comment, or the whole line if the comment hides an entry. Fails
+/// if memory runs out.
+///
+/// ```text
+/// of b" 10.0.0.1 # ours\r": b"10.0.0.1"; of b"10.0.0.1 ; 10.0.0.2": all of it
+/// ```
+pub fn contents_of<'a>(
     room: &mut String,
     line: &'a [u8],
     grammar: Grammar,
