@@ -10,7 +10,7 @@ use crate::prefixes::bytes_of;
 use crate::{fill, refused};
 use clap::{Arg, ArgMatches, Command};
 use ipnet_pictures::Frame;
-use netset_entries::EntryNotes;
+use netset_entries::{EntryNotes, NotedEntry};
 use netset_lib::{Session, table_or_report};
 use netset_pictures::{MapRequest, read_theme, run_change_map, run_map, run_sets_map};
 use std::alloc::{AllocError, Global};
@@ -133,10 +133,8 @@ fn read_noted(
 fn entries_of(alloc: Global, notes: EntryNotes) -> Result<Vec<MapEntry>, AllocError> {
     let mut entries = Vec::new(alloc);
     for noted in notes.into_entries()? {
-        entries.push(MapEntry {
-            network: noted.network,
-            title: noted.title,
-        })?;
+        let NotedEntry { network, title } = noted;
+        entries.push(MapEntry { network, title })?;
     }
     Ok(entries)
 }

@@ -103,7 +103,7 @@ pub struct EntryNotes {
     room: String,
     ipv4: Largest,
     ipv6: Largest,
-    /// How many entries the lists have.
+    /// How many blocks the entries of the lists have.
     count: usize,
 }
 
@@ -117,7 +117,7 @@ fn comment_of(line: &[u8]) -> &[u8] {
     &comment[..comment.len().min(MOST_BYTES)]
 }
 
-/// The title of the entry that is written so. Bytes of the comment that are no character are replaced by U+FFFD.
+/// The title of the entry that is written so. Bytes of the comment that are not UTF-8 are replaced by U+FFFD.
 fn title_of(alloc: Global, text: &str, comment: &[u8]) -> Result<String, AllocError> {
     let mut title = String::from_str(alloc, text)?;
     if !comment.is_empty() {
@@ -201,6 +201,7 @@ impl EntryNotes {
 
     /// Notes a block of an entry, if it is not outside the network.
     fn note_block(&mut self, network: IpNet, title: &str) -> Result<(), AllocError> {
+        self.count = self.count.saturating_add(1);
         if let Some(frame) = &self.frame {
             if !frame.contains(&network) {
                 return Ok(());
@@ -220,7 +221,6 @@ impl EntryNotes {
         let Some(found) = read_text(&mut self.room, text, self.grammar)? else {
             return Ok(());
         };
-        self.count = self.count.saturating_add(1);
         let title = title_of(self.alloc, found.text, comment_of(line))?;
         for network in walk_of(found.entry) {
             self.note_block(network, title.as_str())?;
@@ -283,7 +283,7 @@ impl EntryNotes {
         Ok(())
     }
 
-    /// How many entries the lists have.
+    /// How many blocks the entries of the lists have, noted or not.
     pub fn count(&self) -> usize {
         self.count
     }

@@ -29,7 +29,7 @@ pub struct MapEntry {
 pub struct MapEntries<'a> {
     /// The entries that have a title if they are large enough: the largest first.
     pub titled: &'a [MapEntry],
-    /// How many entries the lists have.
+    /// How many networks the entries of the lists have.
     pub count: usize,
 }
 

@@ -39,7 +39,7 @@ pub struct Look<'a> {
 /// The outlines over the cells of a map, and what the legend and the foot say of them.
 #[derive(Drop)]
 pub struct Overlay {
-    /// The outlines, those first whose labels are more important.
+    /// The outlines, in the order in which they are drawn.
     pub outlines: Vec<Outline>,
     /// Lines of the legend.
     pub lines: Vec<String>,
@@ -181,7 +181,7 @@ fn entry_overlay(
 {
     let outlines = entry_outlines(alloc, frame, depth, entries.titled)?;
     let left_out = entries.count.saturating_sub(outlines.len());
-    let note = left_out_note(alloc, "Entries without a title", left_out)?;
+    let note = left_out_note(alloc, "Networks of entries without a title", left_out)?;
     Ok(Overlay {
         outlines,
         lines: Vec::new(alloc),
