@@ -94,6 +94,7 @@ pub record IsTableOfLines (lines : List TextLine) (table : RouteTable (Bor (List
   pub texts : (n : Network) (text : Bor (List ℕ)) → Contains (routes_of table) (n, text) → IsTextOf lines n text.now
 
 -- No line of the bytes is refused, and the table has the networks of the lines, each with its text.
+-- Example: the bytes `10.0.0.0/8 a # x\n`, and the table of 10.0.0.0/8 with `a`.
 pub record IsTableOfTexts (grammar : Grammar) (bytes : List ℕ) (table : RouteTable (Bor (List ℕ))) : Type 0 where
   pub lines : List TextLine
   pub read : IsTextTable grammar bytes lines []

@@ -8,7 +8,7 @@ use Rattle.svg_maps.specs.declared.entry.MapEntry.{MapEntry}
 use Rattle.svg_maps.specs.declared.outline.Outline.{Outline}
 use Rattle.svg_maps.specs.declared.outline.OutlineClass.TheVariants.{Entry}
 
--- There is a title, and it is this text.
+-- There is a title, and it is this text. Example: the title `10.20.168.0/22: dhcp-246`, for this text.
 abbrev pub IsTitledBy : List ℕ → Option (String Global) → Type 0
 IsTitledBy text None = ⊥
 IsTitledBy text (Some title) = string_bytes title ≡ text
@@ -20,7 +20,7 @@ pub record IsEntryOutline (frame : Network) (depth : ℕ) (o : Outline) (e : Map
   pub area : IsRectangleIn frame depth (ip_network e.network) o.rectangle
   pub title : IsTitledBy (string_bytes e.title) o.title
 
--- Each outline is of one of the entries.
+-- Each outline is of one of the entries. Example: one outline, of the second of two entries, if the first is outside.
 abbrev pub AreEntryOutlines : List MapEntry → Network → ℕ → List Outline → Type 0
 AreEntryOutlines entries frame depth outlines = All (λ o. Any (IsEntryOutline frame depth o) entries) outlines
 

@@ -20,7 +20,7 @@ pub record IsShortened (name front : List ℕ) : Type 0 where
   pub longest : (i : ℕ) → len < i → i ≤ 100 → ¬ (IsCharBoundary name i)
   pub is : front ≡ take len name
 
--- There is a title, and it is the name, shortened.
+-- There is a title, and it is the name, shortened. Example: the title `Berlin`, for the name `Berlin`.
 abbrev pub HasTitle : List ℕ → Option (String Global) → Type 0
 HasTitle name None = ⊥
 HasTitle name (Some title) = IsShortened name (string_bytes title)
