@@ -250,8 +250,8 @@ impl EntryNotes {
         self.note_line(line.as_slice())
     }
 
-    /// Notes the entries of the next bytes of a list. The start of a line whose end does not come is kept. Fails only if
-    /// memory runs out.
+    /// Notes the entries of the next bytes of a list. The start of a line whose end does not come is kept. Fails only
+    /// if memory runs out.
     ///
     /// ```text
     /// "10.0.0.0/8 # a\n10.1", and then ".0.0/16\n": 10.0.0.0/8 with "10.0.0.0/8: a", 10.1.0.0/16 with "10.1.0.0/16"

@@ -162,8 +162,8 @@ fn hides_entry(room: &mut String, comment: &[u8], grammar: Grammar) -> Result<bo
     }
 }
 
-/// Returns the contents of the line: the text before its comment, or the whole line if the comment hides an entry. Fails
-/// if memory runs out.
+/// Returns the contents of the line: the text before its comment, or the whole line if the comment hides an entry.
+/// Fails if memory runs out.
 ///
 /// ```text
 /// of b" 10.0.0.1 # ours\r": b"10.0.0.1"; of b"10.0.0.1 ; 10.0.0.2": all of it

@@ -1,5 +1,6 @@
 //! Tests that call `netset_lib`, `netset_entries` and `netset_pictures`: the kinds of entries, the numbers of lists,
-//! plans, changes, prefix lists, bars, noted entries, outputs, readers and writers that fail, rules, and refused memory.
+//! plans, changes, prefix lists, bars, noted entries, outputs, readers and writers that fail, rules, and refused
+//! memory.
 #![tactic(auto)]
 
 #[cfg(test)]

@@ -47,8 +47,8 @@ fn is_numbered(c: char) -> bool
     is_xml_mark(c) || ('\u{a0}' <= c && is_in_xml(c) && !is_turn(c))
 }
 
-/// Whether a reader of a document sees the character itself: otherwise `push_escaped` writes its bytes, each as `\x` and
-/// two digits.
+/// Whether a reader of a document sees the character itself: otherwise `push_escaped` writes its bytes, each as `\x`
+/// and two digits.
 ///
 /// ```text
 /// a, < and ü: true; a tab and a backslash: false
