@@ -87,8 +87,7 @@ fn refused(rt: &HostRuntime, failure: ArgumentFailure) -> u8 {
     2
 }
 
-/// Reads the lists of these names. If that fails, it is reported, and the error is the exit status. So it is if a file
-/// has no entry, and that is to be refused.
+/// Returns a session that has read the lists of these names, as `fill` reads them.
 fn session_of(
     rt: &HostRuntime,
     work: Work,
