@@ -1,4 +1,4 @@
-//! Questions to sets that are given by their images. No call allocates, but for the subset test and the counts.
+//! Questions to sets that are given by their images. Only the test of a subset and the counts allocate memory.
 ghost use Rattle.std.specs.Prelude.{◌≡◌, ◌*◌, ◌⊎◌, ◌↔◌, IsTrue, IfOk, IfSome, None};
 ghost use Rattle.ipnet_base.specs.Address.{Address, ip_address};
 ghost use Rattle.ipnet_sets.specs.Images.{IsImageOf};

@@ -75,7 +75,7 @@ fn middle_of(column: u32, row: u32) -> Place {
     }
 }
 
-/// The middles of the tiles that have few painted pixels, and not none.
+/// The middles of the tiles that have at least one painted pixel, and few of them.
 fn faint_tiles(alloc: Global, counts: &[u32], tiles: Tiles) -> Result<Vec<Place>, AllocError> {
     let mut middles = Vec::new(alloc);
     for row in 0..tiles.sides.height {
@@ -90,7 +90,7 @@ fn faint_tiles(alloc: Global, counts: &[u32], tiles: Tiles) -> Result<Vec<Place>
 }
 
 /// Returns the middles of the rings on a map of these layers, in pixels: one around each tile of 16 x 16 pixels with at
-/// least one and at most 9 painted pixels. There is no ring if there are more than 120 such tiles.
+/// least one and at most 9 painted pixels. If there are more than 120 such tiles, the map has no ring.
 pub(crate) fn rings_of(
     alloc: Global,
     layers: &[Layer],
@@ -99,6 +99,7 @@ pub(crate) fn rings_of(
 ) -> Result<Vec<Place>, AllocError>
     ensures few { IfOk result (λ list. length list.items ≤ 120) }
 {
+    // a single painted cell has more pixels than a tile with a ring
     if scale.saturating_mul(scale) > FEW {
         return Ok(Vec::new(alloc));
     }
