@@ -18,8 +18,9 @@ use Rattle.ipnet.specs.declared.net.IpNet.{IpNet}
 use Rattle.ipnet.specs.declared.parser.Grammar.{Grammar}
 use Rattle.ipnet.specs.declared.parser.Grammar.TheVariants.{Strict}
 use Rattle.ipnet.proofs.LineLaws.{none_bad}
-use Rattle.ipnet_tool.specs.Answers.{IsTextAnswer, StartsWithBadLine}
-use Rattle.ipnet_tool.specs.declared.tool.ToolError.TheVariants as ToolErrors
+use Rattle.ipnet_tool.specs.Answers.{IsTextAnswer}
+use Rattle.ipnet_text.specs.BadLines.{StartsWithBadLine}
+use Rattle.ipnet_text.specs.declared.networks.ToolError.TheVariants as ToolErrors
 use Rattle.ipnet_c.specs.Buffers.{IsWritten, IsTooLong}
 use Rattle.ipnet_c.specs.Replies.{IsAggregateReply, IsSameAddressesReply, IsCoveredReply, AreBytesOf, IsBlockCoveredBy}
 use Rattle.ipnet_c.specs.BadTexts.{IsBadText, AreBadTexts}

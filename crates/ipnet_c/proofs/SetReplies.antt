@@ -7,8 +7,9 @@ use Rattle.ipnet.specs.declared.parser.Grammar.TheVariants.{Strict}
 use Rattle.ipnet_base.proofs.UniqueLaws.{AreMaximalBlocks-same_set, AreMaximalBlocks-nil}
 use Rattle.ipnet_sets.specs.declared.set.IpSet.{IpSet}
 use Rattle.ipnet_sets.specs.Members.{IsMember, HasNoAddress, IsResultOf}
+use Rattle.netset_lib.specs.Answers.{AreNetworkLines}
 use Rattle.ipnet_c.specs.Buffers.{IsWritten, IsTooLong}
-use Rattle.ipnet_c.specs.Replies.{AreBlocksOfBoth, IsSetText, IsSetReply, IsTextOfSet}
+use Rattle.ipnet_c.specs.Replies.{AreBlocksOfBoth, IsSetText, IsSetReply}
 use Rattle.ipnet_c.specs.SetReplies.{HasAddressesOfText}
 use Rattle.ipnet_sets.specs.Members.{IsCombined}
 use Rattle.ipnet_sets.specs.declared.operation.Operation.{Operation}
@@ -75,7 +76,7 @@ empty_of_empty operation text other first second h k none none_other = record {
 pub text_of_both : (operation : Operation) (text other answer : List ℕ) (first second set : IpSet)
     → HasAddressesOfText Strict text first → HasAddressesOfText Strict other second
     → IsResultOf operation set first second
-    → IsTextOfSet set answer → IsSetText operation text other answer
+    → AreNetworkLines (IsMember set) answer → IsSetText operation text other answer
 text_of_both operation text other answer first second set h k made t = record {
   networks = h.networks;
   others = k.networks;
@@ -83,7 +84,7 @@ text_of_both operation text other answer first second set h k made t = record {
   written_other = k.written;
   blocks = t.blocks;
   combined = blocks_of_both operation h.networks k.networks t.blocks set first second h.addresses k.addresses made
-      t.are_blocks;
+      t.maximal;
   spelled = t.spelled;
 }
 

@@ -5,7 +5,7 @@ use Rattle.std.specs.Prelude.{◌≡◌, ◌≢◌, ℕ, ◌↔◌, ◌⊎◌, L
 use Rattle.ipnet.specs.declared.parser.Grammar.{Grammar}
 use Rattle.ipnet.specs.declared.parser.Grammar.TheVariants.{Strict}
 use Rattle.ipnet.specs.Lines.{lines_of, IsGoodLine, IsFirstBadLine}
-use Rattle.ipnet_tool.specs.Answers.{StartsWithBadLine}
+use Rattle.ipnet_text.specs.BadLines.{StartsWithBadLine}
 use Rattle.ipnet_c.specs.Statuses as statuses
 
 -- The text has a bad line, or memory ran out before one was found. Two cases need no memory: all lines are empty; or

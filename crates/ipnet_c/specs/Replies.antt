@@ -11,11 +11,11 @@ use Rattle.ipnet.specs.declared.parser.Grammar.TheVariants.{Strict}
 use Rattle.ipnet.specs.Lines.{lines_of, AreNetworksOf, IsGoodLine, IsFirstBadLine}
 use Rattle.ipnet.specs.NetworkTexts.{IsNetworkText, WritesNone}
 use Rattle.ipnet_text.specs.LineTexts.{text_of_lines}
-use Rattle.ipnet_tool.specs.Answers.{IsAnswerTo, StartsWithBadLine}
+use Rattle.ipnet_text.specs.BadLines.{StartsWithBadLine}
+use Rattle.ipnet_tool.specs.Answers.{IsAnswerTo}
 use Rattle.ipnet_c.specs.Statuses as statuses
 use Rattle.ipnet_c.specs.Buffers.{IsWritten, IsTooLong}
-use Rattle.ipnet_sets.specs.Members.{IsMember, IsCombined}
-use Rattle.ipnet_sets.specs.declared.set.IpSet.{IpSet}
+use Rattle.ipnet_sets.specs.Members.{IsCombined}
 use Rattle.ipnet_sets.specs.declared.operation.Operation.{Operation}
 
 -- ---- lists
@@ -70,13 +70,6 @@ pub record IsSameAddressesReply (text other : List ℕ) (same_old same line_old 
       → StartsWithBadLine Strict (lines_of other) number → status ≡ statuses.bad_line_in_other
 
 -- ---- sets made of two lists
-
--- The lines are the fewest networks of the set.
--- Example: `"10.0.0.0/31\n10.0.0.2/32\n"` for the set of 10.0.0.0 to 10.0.0.2.
-pub record IsTextOfSet (set : IpSet) (answer : List ℕ) : Type 0 where
-  pub blocks : List Network
-  pub are_blocks : AreMaximalBlocks (IsMember set) 0 blocks
-  pub spelled : answer ≡ text_of_lines blocks
 
 -- The maximal blocks of the result of the operation on the addresses of the two lists.
 abbrev pub AreBlocksOfBoth : Operation → List Network → List Network → List Network → Type 0

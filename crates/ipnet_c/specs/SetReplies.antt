@@ -14,10 +14,10 @@ use Rattle.ipnet_sets.specs.Images.{HasHeader, IsImage, IsImageOf}
 use Rattle.ipnet_sets.specs.Members.{IsMember, IsMemberOf, IsSubset, HasAddressesOf, IsComplement, IsResultOf}
 use Rattle.ipnet_sets.specs.Members.{IsCountOf}
 use Rattle.ipnet_text.specs.LineTexts.{text_of_lines}
-use Rattle.netset_lib.specs.Answers.{AreRangeLines}
+use Rattle.netset_lib.specs.Answers.{AreNetworkLines, AreRangeLines}
 use Rattle.ipnet_c.specs.Statuses as statuses
 use Rattle.ipnet_c.specs.Buffers.{IsWritten, IsTooLong}
-use Rattle.ipnet_c.specs.Replies.{IsYesExactlyAt, AreBytesOf, IsTextOfSet}
+use Rattle.ipnet_c.specs.Replies.{IsYesExactlyAt, AreBytesOf}
 use Rattle.ipnet_sets.specs.declared.operation.Operation.{Operation}
 
 -- ---- images into the buffer
@@ -82,7 +82,7 @@ pub record IsComplementOfImage (set : List ℕ) (s : IpSet) : Type 0 where
 pub record IsTextOfImage (set answer : List ℕ) : Type 0 where
   pub first : IpSet
   pub first_image : IsImageOf set first
-  pub text : IsTextOfSet first answer
+  pub text : AreNetworkLines (IsMember first) answer
 
 -- The lines are the fewest ranges of the set of which the bytes are the image.
 -- Example: `"10.0.0.0-10.0.0.2\n"` of the image of 10.0.0.0/31 and 10.0.0.2/32.

@@ -5,7 +5,8 @@ ghost use Rattle.ipnet_c.specs.Replies.{IsAggregateReply};
 use crate::buffers::write_answer;
 use crate::statuses::{BAD_LINE, NOT_UTF8, OUT_OF_MEMORY};
 use ipnet::Grammar;
-use ipnet_tool::{ToolError, aggregate_text_as};
+use ipnet_text::ToolError;
+use ipnet_tool::aggregate_text_as;
 use std::alloc::Global;
 use std::str;
 

@@ -12,8 +12,7 @@ ghost use Rattle.ipnet_c.specs.SetReplies.{HasAddressesOfText};
 use crate::statuses::{BAD_LINE, BAD_LINE_IN_OTHER, NOT_UTF8, OTHER_NOT_UTF8, OUT_OF_MEMORY};
 use ipnet::{Grammar, IpNet};
 use ipnet_sets::{IpSet, IpSetBuilder};
-use ipnet_text::NetworkSink;
-use ipnet_tool::{ToolError, push_lines};
+use ipnet_text::{NetworkSink, ToolError, push_lines};
 use std::alloc::{AllocError, Global};
 use std::str;
 

@@ -7,11 +7,10 @@ ghost use Rattle.ipnet_sets.specs.declared.operation.Operation.TheVariants as Of
 
 use crate::buffers::write_answer;
 use crate::lists::set_of_text;
-use crate::sets::text_of_set;
 use crate::statuses::{NOT_A_SET, OTHER_NOT_A_SET, OUT_OF_MEMORY};
 use ipnet::Grammar;
 use ipnet_sets::{IpSetRef, Operation};
-use netset_lib::lines_of_ranges;
+use netset_lib::{lines_of_ranges, network_lines};
 use std::alloc::{AllocError, Global};
 
 /// Writes the image of the addresses of a text in this grammar into the buffer, and its length into `count`.
@@ -240,7 +239,7 @@ fn image_text(alloc: Global, set: IpSetRef<'_>) -> Result<String, AllocError>
     ensures { IfOk result (λ text. IsTextOfImage set.entry.image.bytes.now (string_bytes text)) }
 {
     let first = set.to_set(alloc)?;
-    text_of_set(alloc, &first)
+    network_lines(alloc, &first)
 }
 
 /// Writes the fewest networks of the set, given by its image, as text into the buffer, and its length into `count`.

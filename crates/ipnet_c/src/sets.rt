@@ -2,23 +2,16 @@
 ghost use Rattle.std.specs.Prelude.{IfOk, string_bytes};
 ghost use Rattle.ipnet_sets.specs.declared.operation.Operation.TheVariants.{Union, Intersection, Difference};
 ghost use Rattle.ipnet_sets.specs.declared.set.IpSet.{IpSet as SetValue};
-ghost use Rattle.ipnet_sets.specs.Members.{IsResultOf};
-ghost use Rattle.ipnet_c.specs.Replies.{IsSetReply, IsTextOfSet};
+ghost use Rattle.ipnet_sets.specs.Members.{IsMember, IsResultOf};
+ghost use Rattle.netset_lib.specs.Answers.{AreNetworkLines};
+ghost use Rattle.ipnet_c.specs.Replies.{IsSetReply};
 
 use crate::buffers::write_answer;
 use crate::lists::sets_of_texts;
 use crate::statuses::OUT_OF_MEMORY;
 use ipnet_sets::{IpSet, Operation};
-use ipnet_text::lines_of_networks;
+use netset_lib::network_lines;
 use std::alloc::{AllocError, Global};
-
-/// Returns the fewest networks of the set as text, one per line.
-pub(crate) fn text_of_set(alloc: Global, set: &IpSet) -> Result<String, AllocError>
-    ensures { IfOk result (λ text. IsTextOfSet set.now (string_bytes text)) }
-{
-    let networks = set.networks(alloc)?;
-    lines_of_networks(alloc, networks.as_slice())
-}
 
 /// Returns the text of the result of the operation on the two sets.
 fn combined_text(
@@ -28,10 +21,10 @@ fn combined_text(
     other: &IpSet,
 ) -> Result<String, AllocError>
     ensures { IfOk result (λ text. (s : SetValue) × IsResultOf operation s set.now other.now
-        × IsTextOfSet s (string_bytes text)) }
+        × AreNetworkLines (IsMember s) (string_bytes text)) }
 {
     let combined = set.combine(alloc, operation, other)?;
-    text_of_set(alloc, &combined)
+    network_lines(alloc, &combined)
 }
 
 /// Writes the networks of the result of the operation on the two texts into the buffer, as text.

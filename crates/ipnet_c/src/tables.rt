@@ -14,7 +14,7 @@ use crate::set_questions::{are_addresses, read_address};
 use crate::statuses::{BAD_LINE, NOT_A_TABLE, NOT_UTF8, OK, OUT_OF_MEMORY, WRONG_LENGTH};
 use ipnet::IpNet;
 use ipnet_sets::{RouteTable, RouteTableImage, RouteTableRef};
-use ipnet_tool::ToolError;
+use ipnet_text::ToolError;
 use std::alloc::{AllocError, Global};
 use std::str;
 

@@ -2,9 +2,10 @@
 use Rattle.std.proofs.Common.{◌≡◌, ℕ, zero, suc, ◌+◌, ◌-◌, ◌%◌, ◌<◌, ◌≤◌, Bool, true, false, not, eqb}
 use Rattle.std.proofs.Common.{List, [], ◌∷◌, ◌++◌, length, take, get_or, map, All, AllPairs}
 use Rattle.std.proofs.Common.{refl, sym, ap, ◌∙◌, subst₂, arith, inl, inr, le-leb, eq-eqb}
-use Rattle.std.proofs.lemmas.Bool.{cases_lt, cases_Bool, eqb-true, eqb-false, lt-leb, ne_eqb}
+use Rattle.std.proofs.lemmas.Bool.{cases_lt, cases_Bool, eqb-true, eqb-false, lt-leb, ne_eqb, false≢true}
 use Rattle.std.proofs.lemmas.List.{length-map, get_or-map, length_push, get_or_push, get_or_append_left}
 use Rattle.ipnet_sets.specs.Boundaries.{is_inside}
+use mathlib.Core.Bool.{beq}
 
 abbrev pub AreAscending : List ℕ → Type 0
 AreAscending boundaries = AllPairs (λ t u. t < u) boundaries
@@ -42,6 +43,19 @@ odd_more n = elim (cases_Bool (is_odd n)) [
 pub not_twice : (b : Bool) → not (not b) ≡ b
 not_twice true = refl
 not_twice false = refl
+
+-- of two values that differ, one is the opposite of the other
+pub opposite : (a b : Bool) → not (beq a b) ≡ true → not b ≡ a
+opposite true true e = absurd (false≢true e)
+opposite true false e = refl
+opposite false true e = refl
+opposite false false e = absurd (false≢true e)
+
+pub alike : (a b : Bool) → not (beq a b) ≡ false → b ≡ a
+alike true true e = refl
+alike true false e = absurd (false≢true (sym e))
+alike false true e = absurd (false≢true (sym e))
+alike false false e = refl
 
 -- one boundary more at the end
 pub inside_push_at : (ts : List ℕ) (t x : ℕ) → t ≤ x → is_inside (ts ++ t ∷ []) x ≡ not (is_inside ts x)

@@ -1,7 +1,7 @@
 //! Sets of the numbers of one family. Each is stored by its boundaries: the ascending list of the numbers at which it
 //! begins or ends. A number is inside if an odd number of the boundaries are at most it. An end at the family's last
 //! number is left out.
-ghost use Rattle.std.specs.Prelude.{◌≡◌, ℕ, ◌+◌, ◌^◌, ◌%◌, ◌<◌, ◌≤◌, ◌⊎◌, ◌↔◌, IsTrue, true, false, not, List, [], ◌∷◌};
+ghost use Rattle.std.specs.Prelude.{◌≡◌, ℕ, ◌+◌, ◌^◌, ◌%◌, ◌<◌, ◌≤◌, ◌⊎◌, ◌↔◌, IsTrue, true, false, List, [], ◌∷◌};
 ghost use Rattle.std.specs.Prelude.{◌++◌, length, map, take, drop, All, IfOk, OnOk, IsNone, IfSome};
 ghost use Rattle.ipnet_base.specs.Address.{greatest_number};
 ghost use Rattle.ipnet_sets.specs.Boundaries.{is_inside, combined, AreBoundaries, IsBoundary, IsSplitAt};
@@ -24,14 +24,6 @@ fn takes(operation: Operation, first: bool, second: bool) -> bool
         Operation::Difference => first && !second,
         Operation::SymmetricDifference => first != second,
     }
-}
-
-/// Whether one is true and the other false.
-fn differ(first: bool, second: bool) -> bool
-    ensures differ { result ≡ true → first ≡ not second }
-    ensures same { result ≡ false → first ≡ second }
-{
-    first != second
 }
 
 /// The next number at which one of two sets begins or ends, and the places after it in both lists.
@@ -104,7 +96,9 @@ pub(crate) fn combine<T: Number>(
         first_at = boundary.first;
         second_at = boundary.second;
         let inside = takes(operation, first_at % 2 == 1, second_at % 2 == 1);
-        if differ(inside, boundaries.len() % 2 == 1) {
+        let made = boundaries.len();
+        let changes = inside != (made % 2 == 1);
+        if changes {
             boundaries.push(boundary.number)?;
         }
     }

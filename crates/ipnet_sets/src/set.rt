@@ -17,6 +17,7 @@ use std::alloc::{AllocError, Global};
 use std::fmt;
 
 pub mod builder;
+mod combine;
 pub mod laws;
 mod many;
 mod supernets;

@@ -1,5 +1,7 @@
 -- Lemmas of this crate.
 pub mod LineCuts
+pub mod EarlyLines
+pub mod FrontLines
 pub mod ClosedLines
 pub mod WindowLaws
 pub mod LineTextLaws

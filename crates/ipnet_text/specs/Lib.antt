@@ -1,4 +1,5 @@
 -- The definitions that the contracts of this crate use.
+pub mod BadLines
 pub mod Fronts
 pub mod Inputs
 pub mod LineTexts

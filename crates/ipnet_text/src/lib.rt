@@ -2,8 +2,10 @@
 #![tactic(auto)]
 
 pub mod front;
+mod front_reader;
 pub mod lines;
 pub mod net_lists;
+pub mod networks;
 pub mod output;
 pub mod pieces;
 pub mod window;
@@ -11,5 +13,6 @@ pub mod window;
 pub use front::{FrontLine, ipv4_addr_at, network_line, octet_before};
 pub use lines::{first_line, lines_len, lines_of_networks, push_line};
 pub use net_lists::{NetLists, NetworkSink};
+pub use networks::{ToolError, push_lines};
 pub use output::write_whole;
 pub use window::{ReadError, Window};

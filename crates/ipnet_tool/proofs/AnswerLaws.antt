@@ -6,10 +6,11 @@ use Rattle.ipnet.proofs.CoverLaws.{HaveSameCover-sym}
 use Rattle.ipnet.proofs.AggregateLaws.{aggregate_of_same_cover}
 use Rattle.ipnet.specs.declared.parser.Grammar.{Grammar}
 use Rattle.ipnet.specs.Lines.{lines_of, AreNetworksOf, IsFirstBadLine}
-use Rattle.ipnet_tool.specs.Answers.{IsAnswerTo, IsTextAnswer, StartsWithBadLine}
+use Rattle.ipnet_tool.specs.Answers.{IsAnswerTo, IsTextAnswer}
+use Rattle.ipnet_text.specs.BadLines.{StartsWithBadLine}
 use Rattle.ipnet_text.specs.LineTexts.{text_of_lines}
-use Rattle.ipnet_tool.specs.declared.tool.ToolError.{ToolError}
-use Rattle.ipnet_tool.specs.declared.tool.ToolError.TheVariants as ToolErrors
+use Rattle.ipnet_text.specs.declared.networks.ToolError.{ToolError}
+use Rattle.ipnet_text.specs.declared.networks.ToolError.TheVariants as ToolErrors
 
 -- the text of the aggregate of networks that cover what the lines' networks cover is the answer
 pub answer_from : (grammar : Grammar) (text answer : List ℕ) (networks families blocks : List Network)

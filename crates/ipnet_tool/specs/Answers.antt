@@ -6,9 +6,10 @@ use Rattle.ipnet.specs.Network.{Network}
 use Rattle.ipnet.specs.Blocks.{IsAggregateOf}
 use Rattle.ipnet.specs.declared.parser.Grammar.{Grammar}
 use Rattle.ipnet.specs.Lines.{lines_of, AreNetworksOf, IsFirstBadLine}
+use Rattle.ipnet_text.specs.BadLines.{StartsWithBadLine}
 use Rattle.ipnet_text.specs.LineTexts.{text_of_lines}
-use Rattle.ipnet_tool.specs.declared.tool.ToolError.{ToolError}
-use Rattle.ipnet_tool.specs.declared.tool.ToolError.TheVariants as ToolErrors
+use Rattle.ipnet_text.specs.declared.networks.ToolError.{ToolError}
+use Rattle.ipnet_text.specs.declared.networks.ToolError.TheVariants as ToolErrors
 
 -- The lines of the text are networks or empty, and the answer is the text of their aggregate.
 -- Example: `"fd00::/32\n10.0.0.0/24\n"` has the answer `"10.0.0.0/24\nfd00::/32\n"`.
@@ -18,12 +19,6 @@ pub record IsAnswerTo (grammar : Grammar) (text answer : List ℕ) : Type 0 wher
   pub blocks : List Network
   pub aggregate : IsAggregateOf blocks networks
   pub spelled : answer ≡ text_of_lines blocks
-
--- The first line that is not empty is bad, and has this number, counted from 1. No memory is needed to find it.
--- Example: line 2 for an empty line and `x`; none for `10.0.0.0/24` and `x`.
-pub record StartsWithBadLine (grammar : Grammar) (lines : List (List ℕ)) (number : ℕ) : Type 0 where
-  pub first : IsFirstBadLine grammar lines number
-  pub empty : All (λ line. line ≡ []) first.before
 
 -- The result of the text tool: the answer, the first bad line, or out of memory. Memory cannot run out if all lines are
 -- empty, or if the first line that is not empty is bad.

@@ -12,10 +12,9 @@ ghost use Rattle.ipnet_tool.specs.Reading.{AreReadFrom, IsBadLineFrom, IsTextLef
 ghost use Rattle.ipnet_tool.specs.declared.failure.Failure.TheVariants.{Arguments, Unreadable, NotUtf8, Line};
 
 use crate::failure::Failure;
-use crate::tool::{ToolError, push_lines};
 use ipnet::Grammar;
 use ipnet_text::window::SIZE;
-use ipnet_text::{NetLists, Window, lines_len};
+use ipnet_text::{NetLists, ToolError, Window, lines_len, push_lines};
 use std::alloc::Global;
 use std::io::Read;
 use std::str;

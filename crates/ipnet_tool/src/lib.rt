@@ -4,11 +4,11 @@
 
 mod answer;
 pub mod failure;
-mod front_reader;
 mod input;
 pub mod program;
 pub mod tool;
 
 pub use failure::Failure;
+pub use ipnet_text::ToolError;
 pub use program::run;
-pub use tool::{ToolError, aggregate_text, aggregate_text_as, aggregate_text_legacy, push_lines};
+pub use tool::{aggregate_text, aggregate_text_as, aggregate_text_legacy};

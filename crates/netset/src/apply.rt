@@ -1,11 +1,12 @@
 //! The command `apply`: its arguments, and its run.
 use crate::arguments::{
     ArgumentFailure, FIRST, OTHERS, command_of, first, flag, flags_of, other, reads_input_twice,
+    refused,
 };
 use crate::input::{STANDARD_INPUT, report_unread};
 use crate::lists::read_whole;
 use crate::output::Streams;
-use crate::{refused, session_of};
+use crate::reading::session_of;
 use clap::{ArgMatches, Command};
 use netset_lib::run_apply;
 use std::alloc::{AllocError, Global};

@@ -1,12 +1,11 @@
 //! The command `bar` and the options of bars: their arguments, and their runs.
 use crate::arguments::{
-    ArgumentFailure, FIRST, STANDARD_INPUT, any_files, command_of, flag, flags_of,
-    reads_input_twice,
+    ArgumentFailure, FIRST, any_files, command_of, flag, flags_of, reads_input_twice, refused,
 };
-use crate::extract::grammar_of;
+use crate::input::STANDARD_INPUT;
 use crate::listing::read_network;
 use crate::output::Streams;
-use crate::{refused, session_of};
+use crate::reading::session_of;
 use clap::{Arg, ArgMatches, Command};
 use ipnet_pictures::{BarForm, Frame, Marks, RowWidth};
 use netset_lib::Session;
@@ -157,7 +156,7 @@ pub fn form_of(
 /// Reads the network to draw. If the word is not a network, it is reported, and the error is the exit status.
 pub fn frame_of(rt: &HostRuntime, matches: &ArgMatches) -> Result<Frame, u8> {
     match matches.get_str(IN) {
-        Some(word) => match read_network(rt, word, grammar_of(matches)) {
+        Some(word) => match read_network(rt, word, flags_of(matches).grammar()) {
             Some(network) => Ok(Frame::Named(network)),
             None => Err(2),
         },

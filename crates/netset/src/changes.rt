@@ -1,9 +1,9 @@
 //! The command `changes`: its arguments, and its run.
 use crate::arguments::{
-    ArgumentFailure, FIRST, OTHERS, command_of, first, flags_of, other, reads_input_twice,
+    ArgumentFailure, FIRST, OTHERS, command_of, first, flags_of, other, reads_input_twice, refused,
 };
 use crate::output::Streams;
-use crate::{refused, session_of};
+use crate::reading::session_of;
 use clap::{ArgMatches, Command};
 use netset_lib::run_changes;
 use std::alloc::{AllocError, Global};

@@ -1,12 +1,11 @@
 //! The commands about the entries of lists: their arguments, and their runs.
 use crate::arguments::{
     ArgumentFailure, FIRST, OTHERS, command_of, flags_of, one_file, other, reads_input_twice,
+    refused,
 };
-use crate::extract::grammar_of;
 use crate::input::STANDARD_INPUT;
 use crate::output::Streams;
-use crate::prefixes::bytes_of;
-use crate::{refused, session_of};
+use crate::reading::{bytes_of, session_of};
 use clap::{ArgMatches, Command};
 use netset_entries::{run_overlaps, run_overlaps_of_two, run_redundant, run_supernet};
 use std::alloc::{AllocError, Global};
@@ -66,7 +65,7 @@ fn redundant(rt: &HostRuntime, matches: &ArgMatches, streams: &mut Streams<'_>) 
         Ok(bytes) => run_redundant(
             rt.alloc(),
             (name, bytes.as_slice()),
-            grammar_of(matches),
+            flags_of(matches).grammar(),
             &mut streams.answer,
             &mut streams.faults,
         ),
@@ -95,7 +94,7 @@ fn overlaps_of_two(
     run_overlaps_of_two(
         rt.alloc(),
         ((name, bytes.as_slice()), (other, others.as_slice())),
-        grammar_of(matches),
+        flags_of(matches).grammar(),
         &mut streams.answer,
         &mut streams.faults,
     )
@@ -111,7 +110,7 @@ fn overlaps(rt: &HostRuntime, matches: &ArgMatches, streams: &mut Streams<'_>) -
         Ok(bytes) => run_overlaps(
             rt.alloc(),
             (name, bytes.as_slice()),
-            grammar_of(matches),
+            flags_of(matches).grammar(),
             &mut streams.answer,
             &mut streams.faults,
         ),

@@ -1,11 +1,11 @@
 //! The command `extract`: its arguments, and its run.
-use crate::arguments::{ArgumentFailure, FIRST, any_files, command_of, flag, reads_input_twice};
+use crate::arguments::{
+    ArgumentFailure, FIRST, any_files, command_of, flag, flags_of, reads_input_twice, refused,
+};
 use crate::input::{STANDARD_INPUT, report_unread};
 use crate::lists::read_lists;
 use crate::output::Streams;
-use crate::refused;
 use clap::{Arg, ArgAction, ArgMatches, Command};
-use ipnet::Grammar;
 use netset_words::{ExtractRequest, Extraction, run_extract};
 use std::alloc::{AllocError, Global};
 
@@ -42,7 +42,7 @@ pub fn extracted(rt: &HostRuntime, matches: &ArgMatches, streams: &mut Streams<'
         return refused(rt, ArgumentFailure::InputTwice);
     }
     let request = ExtractRequest {
-        grammar: grammar_of(matches),
+        grammar: flags_of(matches).grammar(),
         first: matches.get_flag(FIRST_ENTRY),
         ranges: matches.get_flag(RANGES),
     };
@@ -56,14 +56,5 @@ pub fn extracted(rt: &HostRuntime, matches: &ArgMatches, streams: &mut Streams<'
             report_unread(rt, name, &unread);
             2
         }
-    }
-}
-
-/// The grammar of the entries.
-pub fn grammar_of(matches: &ArgMatches) -> Grammar {
-    if matches.get_flag("legacy") {
-        Grammar::Legacy
-    } else {
-        Grammar::Strict
     }
 }

@@ -1,5 +1,5 @@
 //! The options for the form of an answer that is a set.
-use crate::arguments::flag;
+use crate::arguments::{command_of, flag};
 use clap::{Arg, ArgMatches, Command};
 use netset_forms::{AnswerForm, FormRequest, SetNames, is_ipset_name, is_nft_name};
 use netset_lib::read_length;
@@ -60,7 +60,7 @@ fn option<'a>(alloc: Global, name: &'a str, value: &'a str, help: &'a str) -> Ar
 }
 
 /// Adds the options for the form of an answer that is a set.
-pub fn with_forms<'a>(alloc: Global, command: Command<'a>) -> Result<Command<'a>, AllocError> {
+fn with_forms<'a>(alloc: Global, command: Command<'a>) -> Result<Command<'a>, AllocError> {
     let ranges = "Print the fewest ranges, such as 10.0.0.0-10.0.0.5, instead of networks";
     let format = "How the answer is written; ranges is --ranges";
     let prefix = "Print TEXT before each line, for plain and ranges";
@@ -84,6 +84,15 @@ fn with_sets<'a>(alloc: Global, command: Command<'a>) -> Result<Command<'a>, All
         .arg(option(alloc, MIN_LENGTH, "LEN", min_length))?
         .arg(option(alloc, IPV4_SET, "SET", ipv4_set))?
         .arg(option(alloc, IPV6_SET, "SET", ipv6_set))
+}
+
+/// The command of an operation; its lists are still missing.
+pub fn operation_command<'a>(
+    alloc: Global,
+    name: &'a str,
+    about: &'a str,
+) -> Result<Command<'a>, AllocError> {
+    with_forms(alloc, command_of(alloc, name, about)?)
 }
 
 /// Refuses options that the form does not have.

@@ -1,11 +1,10 @@
 //! The command `filter --lines`: its flags, and its run.
-use crate::arguments::{ArgumentFailure, FIRST, OTHERS, flag, flags_of, reads_input_twice};
-use crate::extract::grammar_of;
+use crate::arguments::{ArgumentFailure, FIRST, OTHERS, flag, flags_of, reads_input_twice, refused};
 use crate::input::{STANDARD_INPUT, open_list, report_unread};
 use crate::output::Streams;
-use crate::{refused, session_of};
+use crate::reading::session_of;
 use clap::{Arg, ArgAction, ArgMatches, Command};
-use netset_lib::{Side, report_failure};
+use netset_lib::report_failure;
 use netset_words::{LineFilter, LinesRequest, run_lines};
 use std::alloc::{AllocError, Global};
 
@@ -48,12 +47,8 @@ pub fn filtered(rt: &HostRuntime, matches: &ArgMatches, streams: &mut Streams<'_
     }
     let flags = flags_of(matches);
     let how = LinesRequest {
-        grammar: grammar_of(matches),
-        side: if flags.outside {
-            Side::Outside
-        } else {
-            Side::Inside
-        },
+        grammar: flags.grammar(),
+        side: flags.side(),
         any: matches.get_flag(ANY),
         others: matches.get_flag(OTHER_LINES),
     };

@@ -1,6 +1,5 @@
 //! The commands `split` and `hosts`: their arguments, and their runs.
-use crate::arguments::{FIRST, OTHERS, first, flag, output_option};
-use crate::extract::grammar_of;
+use crate::arguments::{FIRST, OTHERS, first, flag, flags_of, output_option};
 use crate::output::Streams;
 use clap::{Arg, ArgMatches, Command};
 use ipnet::{Grammar, IpNet};
@@ -68,7 +67,7 @@ pub fn read_network(rt: &HostRuntime, word: &str, grammar: Grammar) -> Option<Ip
 /// Reads the network that is listed. If the word is not one, it is reported, and the result is `None`.
 fn network_of(rt: &HostRuntime, matches: &ArgMatches) -> Option<IpNet> {
     let word = matches.get_str(FIRST).unwrap_or("");
-    read_network(rt, word, grammar_of(matches))
+    read_network(rt, word, flags_of(matches).grammar())
 }
 
 /// Reads the arguments of `split`, and prints the subnets.

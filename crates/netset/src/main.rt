@@ -5,6 +5,7 @@ mod apply;
 mod arguments;
 mod bar;
 mod changes;
+mod commands;
 mod entries;
 mod extract;
 mod forms;
@@ -17,6 +18,7 @@ mod map;
 mod output;
 mod plan;
 mod prefixes;
+mod reading;
 mod replacement;
 mod rules;
 mod stream;
@@ -24,26 +26,26 @@ mod texts;
 mod version;
 
 use crate::apply::{APPLY, applied};
-use crate::arguments::{ArgumentFailure, Call, call_of, matches_of, output_of, reports_of, words};
+use crate::arguments::{Call, call_of, output_of, refused, reports_of, words};
 use crate::bar::{BAR, drawn};
 use crate::changes::{CHANGES, changed};
+use crate::commands::matches_of;
 use crate::entries::run_if_entries;
 use crate::extract::{EXTRACT, extracted};
 use crate::forms::form_of;
-use crate::input::report_unread;
 use crate::lines::{LINES, filtered};
 use crate::listing::run_if_listing;
-use crate::lists::read_lists;
 use crate::map::{MAP, mapped};
 use crate::output::{CLOSED, Streams};
 use crate::plan::{PLAN, planned};
 use crate::prefixes::{PREFIX_LIST, matched};
+use crate::reading::session_of;
 use crate::rules::run_if_rules;
 use crate::stream::stream_list;
 use crate::texts::{ROUTE, has_text_flag, routed};
 use clap::ArgMatches;
 use netset_forms::run_form;
-use netset_lib::{Session, Work, run};
+use netset_lib::{Work, run};
 use std::cell::Cell;
 use std::io::{ErrorKind, Write};
 use std::process::ExitCode;
@@ -76,33 +78,6 @@ fn shown(rt: &HostRuntime, error: &clap::Error) -> u8 {
         Err(_) => {
             let _ = writeln!(rt.stderr(), "netset: output cannot be written");
             2
-        }
-    }
-}
-
-/// Prints why the arguments cannot be used, and returns the status, even if it cannot be printed.
-fn refused(rt: &HostRuntime, failure: ArgumentFailure) -> u8 {
-    let _ = writeln!(rt.stderr(), "netset: {failure}");
-    2
-}
-
-/// Reads the lists of these names. If that fails, it is reported, and the error is the exit status. So it is if a file
-/// has no entry, and that is to be refused.
-fn session_of(
-    rt: &HostRuntime,
-    work: Work,
-    names: &[&str],
-    streams: &Streams<'_>,
-) -> Result<Session, u8> {
-    let Ok(mut session) = Session::new(rt.alloc(), work) else {
-        return Err(refused(rt, ArgumentFailure::Memory));
-    };
-    match read_lists(rt, &mut session, names, streams.reports) {
-        Ok(true) => Ok(session),
-        Ok(false) => Err(2),
-        Err((name, unread)) => {
-            report_unread(rt, name, &unread);
-            Err(2)
         }
     }
 }

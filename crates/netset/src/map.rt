@@ -1,6 +1,7 @@
 //! The command `map`: its arguments, and its runs.
-use crate::arguments::{FIRST, STANDARD_INPUT, any_files, command_of, flag};
+use crate::arguments::{FIRST, any_files, command_of, flag};
 use crate::bar::{COMPARE, frame_of, read_pictured, with_frame};
+use crate::input::STANDARD_INPUT;
 use crate::output::Streams;
 use clap::{Arg, ArgMatches, Command};
 use netset_pictures::{MapRequest, read_theme, run_change_map, run_map, run_sets_map};

@@ -1,8 +1,8 @@
 //! The command `plan`: its arguments, and its run.
-use crate::arguments::{ArgumentFailure, FIRST, command_of, first, flag, flags_of};
+use crate::arguments::{ArgumentFailure, FIRST, command_of, first, flag, flags_of, refused};
 use crate::bar::{BAR, form_of, with_plan_bar};
 use crate::output::Streams;
-use crate::{refused, session_of};
+use crate::reading::session_of;
 use clap::{Arg, ArgAction, ArgMatches, Command};
 use ipnet_pictures::BarForm;
 use netset_lib::{PlanRequest, families, read_length, run_plan};

@@ -1,13 +1,11 @@
 //! The command `prefix-list`: its arguments, and its run.
 use crate::arguments::{
-    ArgumentFailure, FIRST, OTHERS, command_of, first, other, reads_input_twice,
+    ArgumentFailure, FIRST, OTHERS, command_of, first, flags_of, other, reads_input_twice, refused,
 };
-use crate::input::{STANDARD_INPUT, report_unread};
-use crate::lists::read_filled;
+use crate::input::STANDARD_INPUT;
 use crate::output::Streams;
-use crate::refused;
+use crate::reading::bytes_of;
 use clap::{ArgMatches, Command};
-use ipnet::Grammar;
 use netset_lib::{PrefixRequest, run_prefix_list};
 use std::alloc::{AllocError, Global};
 
@@ -23,24 +21,6 @@ pub fn prefix_command<'a>(alloc: Global) -> Result<Command<'a>, AllocError> {
     command_of(alloc, PREFIX_LIST, about)?
         .arg(prefixes)?
         .arg(other(alloc, networks).required(false))
-}
-
-/// Reads the bytes of the list of this name. If that fails, it is reported, and the error is the exit status. So it is
-/// if a file has no line, and that is to be refused.
-pub fn bytes_of(
-    rt: &HostRuntime,
-    name: &str,
-    what: &str,
-    streams: &Streams<'_>,
-) -> Result<Vec<u8>, u8> {
-    match read_filled(rt, name, what, streams.reports) {
-        Ok(Some(bytes)) => Ok(bytes),
-        Ok(None) => Err(2),
-        Err(unread) => {
-            report_unread(rt, name, &unread);
-            Err(2)
-        }
-    }
 }
 
 /// Reads the arguments and both lists, prints the verdicts, and returns the exit status.
@@ -63,11 +43,7 @@ pub fn matched(rt: &HostRuntime, matches: &ArgMatches, streams: &mut Streams<'_>
     let request = PrefixRequest {
         prefixes: prefixes.as_slice(),
         networks: networks.as_slice(),
-        grammar: if matches.get_flag("legacy") {
-            Grammar::Legacy
-        } else {
-            Grammar::Strict
-        },
+        grammar: flags_of(matches).grammar(),
     };
     run_prefix_list(
         rt.alloc(),

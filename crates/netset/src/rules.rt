@@ -2,13 +2,12 @@
 ghost use Rattle.std.specs.Prelude.{◌≡◌, codes, Some, IfSome};
 ghost use Rattle.netset.specs.Arguments.{IsQueryOf};
 
-use crate::arguments::{FIRST, command_of, first, operation_command};
-use crate::forms::form_of;
+use crate::arguments::{FIRST, command_of, first, flags_of};
+use crate::forms::{form_of, operation_command};
 use crate::input::{STANDARD_INPUT, report_unread};
 use crate::lists::read_rules;
 use crate::output::Streams;
 use clap::{Arg, ArgMatches, Command};
-use ipnet::Grammar;
 use ipnet_rules::Action;
 use netset_forms::{PermittedRequest, run_permitted};
 use netset_lib::{Form, RuleQuery, run_rules};
@@ -92,11 +91,7 @@ pub fn run_if_rules(
         Err(status) => return Some(status),
     };
     let file = matches.get_str(FIRST).unwrap_or(STANDARD_INPUT);
-    let grammar = if matches.get_flag("legacy") {
-        Grammar::Legacy
-    } else {
-        Grammar::Strict
-    };
+    let grammar = flags_of(matches).grammar();
     let list = match read_rules(rt, file, grammar, streams.reports) {
         Ok(Some(list)) => list,
         Ok(None) => return Some(2),

@@ -2,12 +2,10 @@
 ghost use Rattle.std.specs.Prelude.{codes};
 ghost use Rattle.netset.specs.Arguments.{IsFlag};
 
-use crate::arguments::{ArgumentFailure, FIRST, OTHERS, flag, reads_input_twice};
-use crate::extract::grammar_of;
+use crate::arguments::{ArgumentFailure, FIRST, OTHERS, flag, flags_of, reads_input_twice, refused};
 use crate::input::STANDARD_INPUT;
 use crate::output::Streams;
-use crate::prefixes::bytes_of;
-use crate::refused;
+use crate::reading::bytes_of;
 use clap::{Arg, ArgMatches};
 use netset_lib::{TextRequest, run_text_routes};
 use std::alloc::{AllocError, Global};
@@ -49,7 +47,7 @@ pub fn routed(rt: &HostRuntime, matches: &ArgMatches, streams: &mut Streams<'_>)
     let request = TextRequest {
         table: bytes.as_slice(),
         list: list.as_slice(),
-        grammar: grammar_of(matches),
+        grammar: flags_of(matches).grammar(),
     };
     run_text_routes(
         rt.alloc(),

@@ -1,11 +1,13 @@
 -- The parts of an answer: their sets, and their texts.
-use Rattle.std.proofs.Common.{◌≡◌, ℕ, ◌≤◌, ◌<◌, ◌^◌, ◌↔◌, List, [], ◌++◌, Option, Some, None, refl, sym, ap, ◌∙◌, subst}
-use Rattle.std.proofs.Common.{arith, append-nil, max}
+use Rattle.std.proofs.Common.{◌≡◌, ℕ, ◌/◌, ◌≤◌, ◌<◌, ◌^◌, ◌↔◌, List, [], ◌++◌, Option, Some, None, refl, sym, ap, ◌∙◌}
+use Rattle.std.proofs.Common.{subst, arith, append-nil, max}
 use Rattle.std.specs.Borrow.{Bor}
-use Rattle.ipnet_base.specs.Address.{Family, IPv4, IPv6, Address, IsAddress, address_at, width, greatest_number}
+use Rattle.ipnet_base.specs.Address.{Family, IPv4, IPv6, Address, IsAddress, width}
+use Rattle.ipnet_base.specs.Network.{Network, InBlock}
+use Rattle.ipnet_base.proofs.BlockLaws.{in_block_at}
 use Rattle.ipnet_base.proofs.UniqueLaws.{AreMaximalBlocks-same_set}
 use Rattle.ipnet.specs.CanonicalTexts.{canonical_text}
-use Rattle.ipnet_sets.specs.Members.{IsFromTo, IsMember}
+use Rattle.ipnet_sets.specs.Parts.{IsInPart}
 use Rattle.netset_forms.specs.declared.form.SetNames.{SetNames}
 use Rattle.netset_forms.specs.declared.parts.Part.{Part}
 use Rattle.netset_forms.specs.declared.parts.Parts.{Parts}
@@ -15,29 +17,25 @@ use Rattle.netset_forms.specs.Layouts.{Layout}
 
 -- ---- the addresses of a family
 
-whole_family : (f : Family) (start end : ℕ) (x : Address) → start ≡ 0 → end ≡ greatest_number f → IsAddress x
-    → x.family ≡ f → IsFromTo (address_at f start) (address_at f end) x
-whole_family IPv4 start end x s e fits is =
-    let low : x.number < 2 ^ 32 = subst (λ f. x.number < 2 ^ width f) is fits in record {
-      family_of_start = is;
-      family_of_end = is;
-      from_start = omega (arith, s);
-      to_end = omega (arith, e, low);
-    }
-whole_family IPv6 start end x s e fits is =
-    let low : x.number < 2 ^ 128 = subst (λ f. x.number < 2 ^ width f) is fits in record {
-      family_of_start = is;
-      family_of_end = is;
-      from_start = omega (arith, s);
-      to_end = omega (arith, e, low);
-    }
+-- the network of all addresses of a family
+abbrev pub whole : Family → Network
+whole f = record { family = f; number = 0; prefix_len = 0 }
 
-pub of_family : (InSet : Address → Type 0) (f : Family) (start end : ℕ) → start ≡ 0 → end ≡ greatest_number f
-    → ((x : Address) → InSet x → IsAddress x) → (x : Address)
-    → (InSet x × IsFromTo (address_at f start) (address_at f end) x) ↔ IsOfFamily InSet f x
-of_family InSet f start end s e valid x = (
-  λ h. (h.0, h.1.family_of_start),
-  λ h. (h.0, whole_family f start end x s e (valid x h.0) h.1),
+in_whole : (f : Family) (x : Address) → IsAddress x → x.family ≡ f → InBlock (whole f) x
+in_whole IPv4 x fits is =
+    let low : x.number < 2 ^ 32 = subst (λ f. x.number < 2 ^ width f) is fits in
+    let none : x.number / 2 ^ 32 ≡ 0 / 2 ^ 32 = omega (arith, low) in
+    in_block_at (whole IPv4) x 32 refl is none
+in_whole IPv6 x fits is =
+    let low : x.number < 2 ^ 128 = subst (λ f. x.number < 2 ^ width f) is fits in
+    let none : x.number / 2 ^ 128 ≡ 0 / 2 ^ 128 = omega (arith, low) in
+    in_block_at (whole IPv6) x 128 refl is none
+
+pub of_family : (InSet : Address → Type 0) (f : Family) (n : Network) → n ≡ whole f
+    → ((x : Address) → InSet x → IsAddress x) → (x : Address) → IsInPart InSet n x ↔ IsOfFamily InSet f x
+of_family InSet f n e valid x = (
+  λ p. (p.in_set, p.in_block.same_family ∙ ap (λ k. k.family) e),
+  λ h. record { in_block = subst (λ k. InBlock k x) (sym e) (in_whole f x (valid x h.0) h.1); in_set = h.0 },
 )
 
 -- ---- one part

@@ -1,7 +1,7 @@
 //! The parts of an answer: one, or one for each family.
 ghost use Rattle.std.specs.Prelude.{◌≡◌, ◌↔◌, IfOk, IfErr, OnOk, ℕ, None, max};
-ghost use Rattle.ipnet_base.specs.Address.{IPv4, IPv6, Address, ip_address};
-ghost use Rattle.ipnet_sets.specs.Members.{IsMember, IsFromTo};
+ghost use Rattle.ipnet_base.specs.Address.{IPv4, IPv6, Address};
+ghost use Rattle.ipnet_sets.specs.Members.{IsMember};
 ghost use Rattle.netset_forms.specs.Forms.{ipset_kind, FitsFamilies, IsOfFamily, IsFormText, IsFormFailure, IsTooLong};
 ghost use Rattle.netset_forms.specs.Forms.{AreFamilyTexts, HasOne};
 ghost use Rattle.netset_forms.specs.declared.form.FormFailure.TheVariants as Failures;
@@ -13,7 +13,7 @@ ghost use Rattle.netset_forms.specs.Layouts.{nft_layout, ipset_layout};
 use crate::form::{AnswerForm, FormFailure, FormRequest, SetNames};
 use crate::frame;
 use crate::frame::Frame;
-use ipnet::{IpAddr, Ipv4Addr, Ipv6Addr};
+use ipnet::{IpNet, Ipv6Net};
 use ipnet_sets::IpSet;
 use std::alloc::{AllocError, Global};
 
@@ -60,31 +60,18 @@ fn one_part(frame: Frame, item: Item, min_length: u8, set: IpSet) -> Parts
     }
 }
 
-/// The addresses of the set from the first to the last.
-fn between(alloc: Global, set: &IpSet, first: IpAddr, last: IpAddr) -> Result<IpSet, AllocError>
-    ensures { IfOk result (λ s. (x : Address)
-        → IsMember s x ↔ (IsMember set.now x × IsFromTo (ip_address first) (ip_address last) x)) }
-{
-    let all = IpSet::from_range(alloc, first, last)?;
-    set.intersection(alloc, &all)
-}
-
 /// The IPv4 addresses of the set.
 fn ipv4_of(alloc: Global, set: &IpSet) -> Result<IpSet, AllocError>
     ensures { IfOk result (λ s. (x : Address) → IsMember s x ↔ IsOfFamily (IsMember set.now) IPv4 x) }
 {
-    let first = Ipv4Addr::from_bits(0);
-    let last = Ipv4Addr::from_bits(u32::MAX);
-    between(alloc, set, IpAddr::V4(first), IpAddr::V4(last))
+    set.within(alloc, &IpNet::default())
 }
 
 /// The IPv6 addresses of the set.
 fn ipv6_of(alloc: Global, set: &IpSet) -> Result<IpSet, AllocError>
     ensures { IfOk result (λ s. (x : Address) → IsMember s x ↔ IsOfFamily (IsMember set.now) IPv6 x) }
 {
-    let first = Ipv6Addr::from_bits(0);
-    let last = Ipv6Addr::from_bits(u128::MAX);
-    between(alloc, set, IpAddr::V6(first), IpAddr::V6(last))
+    set.within(alloc, &IpNet::V6(Ipv6Net::default()))
 }
 
 /// The part of the networks of a set, in the frame.

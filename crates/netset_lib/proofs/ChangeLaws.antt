@@ -2,7 +2,6 @@
 use Rattle.std.proofs.Common.{◌≡◌, ℕ, ◌⊎◌, ◌↔◌, List, [], ◌∷◌, ◌++◌, Contains, Option, Some, None, map}
 use Rattle.std.proofs.Common.{refl, sym, ap, ◌∙◌, subst, arith, inl, inr}
 use Rattle.std.proofs.lemmas.List.{append_assoc, append-nil}
-use Rattle.ipnet_base.specs.Address.{Address}
 use Rattle.ipnet_base.specs.Network.{Network, IsBefore}
 use Rattle.ipnet_base.specs.Blocks.{IsAscending}
 use Rattle.ipnet_base.specs.Stack.{IsBeforeOrEqual}
@@ -13,7 +12,7 @@ use Rattle.ipnet_base.proofs.UniqueLaws.{AreMaximalBlocks-same_set}
 use Rattle.ipnet.specs.NetworkOf.{ip_network}
 use Rattle.ipnet.specs.declared.parser.Grammar.{Grammar}
 use Rattle.ipnet_sets.specs.declared.set.IpSet.{IpSet}
-use Rattle.ipnet_sets.specs.Members.{IsMember}
+use Rattle.ipnet_sets.specs.Members.{IsMember, HaveSameAddresses}
 use Rattle.netset_lib.specs.Changes.{ListChange, Added, Removed, changed_network, change_line, text_of_changes}
 use Rattle.netset_lib.specs.Changes.{AreChanges, AreChangeLines, IsChangesAnswer}
 use Rattle.netset_lib.specs.ChangeSteps.{change_of, IsBeforeFirst, IsFirstStep, AreWrittenUpTo}
@@ -271,27 +270,26 @@ changes_of_lists grammar lists one other text pair h = record {
 
 module _ (grammar : Grammar) (lists : List (List ℕ)) (one other : IpSet) (pair : ArePairSets grammar lists one other)
   where
-    pub same_of_sets : ((x : Address) → IsMember one x → IsMember other x)
-        → ((x : Address) → IsMember other x → IsMember one x) → AreSameLists grammar lists
-    same_of_sets to from = record {
+    pub same_of_sets : HaveSameAddresses one other → AreSameLists grammar lists
+    same_of_sets same = record {
       first = pair.first;
       second = pair.second;
       read = pair.read;
       same = λ x. (
-        λ a. (pair.of_second x).0 (to x ((pair.of_first x).1 a)),
-        λ b. (pair.of_first x).0 (from x ((pair.of_second x).1 b)),
+        λ a. (pair.of_second x).0 ((same x).0 ((pair.of_first x).1 a)),
+        λ b. (pair.of_first x).0 ((same x).1 ((pair.of_second x).1 b)),
       );
     }
 
-    pub other_of_sets : (((x : Address) → IsMember one x → IsMember other x)
-        → ((x : Address) → IsMember other x → IsMember one x) → ⊥) → AreOtherLists grammar lists
+    pub other_of_sets : (HaveSameAddresses one other → ⊥) → AreOtherLists grammar lists
     other_of_sets clash = record {
       first = pair.first;
       second = pair.second;
       read = pair.read;
-      differ = λ same. clash
-          (λ x a. (pair.of_second x).1 ((same x).0 ((pair.of_first x).0 a)))
-          (λ x b. (pair.of_first x).1 ((same x).1 ((pair.of_second x).0 b)));
+      differ = λ same. clash (λ x. (
+        λ a. (pair.of_second x).1 ((same x).0 ((pair.of_first x).0 a)),
+        λ b. (pair.of_first x).1 ((same x).1 ((pair.of_second x).0 b)),
+      ));
     }
 
 -- ---- what changes make

@@ -59,8 +59,13 @@ fn push_range(text: &mut String, range: IpAddrRange) -> Result<(), AllocError>
     Ok(())
 }
 
-/// The fewest networks of the set, one a line.
-fn network_lines(alloc: Global, set: &IpSet) -> Result<String, AllocError>
+/// Returns the text of the fewest networks of the set, one a line. IPv4 comes before IPv6, and the networks ascend.
+/// Fails only if memory runs out.
+///
+/// ```text
+/// of 10.0.0.0-10.0.0.5 and fd00::1: "10.0.0.0/30\n10.0.0.4/31\nfd00::1/128\n"
+/// ```
+pub fn network_lines(alloc: Global, set: &IpSet) -> Result<String, AllocError>
     ensures { IfOk result (λ text. AreNetworkLines (IsMember set.now) (string_bytes text)) }
 {
     let networks = set.networks(alloc)?;

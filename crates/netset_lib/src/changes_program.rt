@@ -64,9 +64,5 @@ pub fn run_changes<W: Write, X: Write>(
     if !write_or_report(out, faults, text.as_bytes()) {
         return 2;
     }
-    if before.is_subset(&after) && after.is_subset(&before) {
-        0
-    } else {
-        1
-    }
+    if before == after { 0 } else { 1 }
 }

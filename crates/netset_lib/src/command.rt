@@ -1,6 +1,6 @@
 //! The commands of the program netset: their names, and what each asks of lists.
 ghost use Rattle.std.specs.Prelude.{◌≡◌, ◌↔◌, Some};
-ghost use Rattle.netset_lib.specs.Commands.{families_of, grammar_of, combine};
+ghost use Rattle.netset_lib.specs.Commands.{families_of, combine};
 
 use crate::answer::{Form, Request};
 use crate::filter::Side;
@@ -71,14 +71,37 @@ pub fn families(ipv4: bool, ipv6: bool) -> Families
     }
 }
 
-/// The grammar of entries.
-fn grammar(flags: Flags) -> Grammar
-    ensures { result ≡ grammar_of flags.legacy }
-{
-    if flags.legacy {
-        Grammar::Legacy
-    } else {
-        Grammar::Strict
+impl Flags {
+    ghost use Rattle.netset_lib.specs.Commands.{grammar_of, side_of};
+
+    /// Returns the grammar of entries.
+    ///
+    /// ```text
+    /// --legacy: Legacy; without it: Strict
+    /// ```
+    pub fn grammar(self) -> Grammar
+        ensures { result ≡ grammar_of self.legacy }
+    {
+        if self.legacy {
+            Grammar::Legacy
+        } else {
+            Grammar::Strict
+        }
+    }
+
+    /// Returns the side of a filter.
+    ///
+    /// ```text
+    /// --outside: Outside; without it: Inside
+    /// ```
+    pub fn side(self) -> Side
+        ensures { result ≡ side_of self.outside }
+    {
+        if self.outside {
+            Side::Outside
+        } else {
+            Side::Inside
+        }
     }
 }
 
@@ -93,7 +116,7 @@ fn combined(operation: Operation, flags: Flags) -> Work
     };
     Work::Combine(Request {
         operation,
-        grammar: grammar(flags),
+        grammar: flags.grammar(),
         form,
     })
 }
@@ -132,11 +155,6 @@ impl Command {
     pub fn work(self, flags: Flags) -> Work
         ensures { result ≡ work_of self flags }
     {
-        let side = if flags.outside {
-            Side::Outside
-        } else {
-            Side::Inside
-        };
         match self {
             Command::Union => combined(Operation::Union, flags),
             Command::Intersection => combined(Operation::Intersection, flags),
@@ -146,10 +164,10 @@ impl Command {
                 let families = families(flags.ipv4, flags.ipv6);
                 combined(Operation::Complement(families), flags)
             }
-            Command::Count => Work::Ask(Query::Count, grammar(flags)),
-            Command::Compare => Work::Ask(Query::Compare, grammar(flags)),
-            Command::Filter => Work::Ask(Query::Filter(side), grammar(flags)),
-            Command::Route => Work::Ask(Query::Route, grammar(flags)),
+            Command::Count => Work::Ask(Query::Count, flags.grammar()),
+            Command::Compare => Work::Ask(Query::Compare, flags.grammar()),
+            Command::Filter => Work::Ask(Query::Filter(flags.side()), flags.grammar()),
+            Command::Route => Work::Ask(Query::Route, flags.grammar()),
         }
     }
 }

@@ -4,6 +4,8 @@ ghost use Rattle.ipnet_base.specs.Address.{IPv6};
 ghost use Rattle.ipnet_sets.specs.Members.{IsCountOf, IsMember, IsMemberOf};
 ghost use Rattle.netset_lib.specs.Counts.{IsCountsLine, IsCountLine, AreCountLines, IsTotalText, IsCountText};
 ghost use Rattle.netset_lib.specs.Counts.{IsComparison, name_at};
+ghost use Rattle.netset_lib.specs.Lists.{ListEntry, IsInEntries};
+ghost use Rattle.netset_lib.specs.ListSets.{HaveMembers};
 
 use ipnet_sets::IpSet;
 use std::alloc::{AllocError, Global};
@@ -92,13 +94,14 @@ fn push_total(alloc: Global, text: &mut String, sets: &[IpSet]) -> Result<(), Al
     }
 }
 
-/// The counts of the sets, which have these names, and the total.
+/// The counts of the sets, which have these names, and the total. The sets have the addresses of lists.
 pub(crate) fn counts_text(
     alloc: Global,
     names: &[&str],
     sets: &[IpSet],
 ) -> Result<String, AllocError>
-    ensures { IfOk result (λ text. IsCountText IsMember names.now sets.now (string_bytes text)) }
+    ensures { IfOk result (λ text. (entries : List (List ListEntry)) → HaveMembers sets.now entries
+        → IsCountText IsInEntries names.now entries (string_bytes text)) }
 {
     let mut text = String::new(alloc);
     push_count_lines(&mut text, names, sets)?;
@@ -115,7 +118,7 @@ pub(crate) fn comparison_text(
     ensures { IfOk result (λ text. IsComparison (IsMember first.now) (IsMember second.now) (string_bytes text)) }
 {
     let mut text = String::new(alloc);
-    if first.is_subset(second) && second.is_subset(first) {
+    if first == second {
         return Ok(text);
     }
     let only_first = first.difference(alloc, second)?;

@@ -54,7 +54,7 @@ mod word;
 pub mod write;
 
 pub use address_text::ip_addr_text;
-pub use answer::{Answer, Form, Request, lines_of_ranges};
+pub use answer::{Answer, Form, Request, lines_of_ranges, network_lines};
 pub use apply::{ChangeFailure, changed_text};
 pub use apply_program::run_apply;
 pub use cause::{Cause, cause_of};

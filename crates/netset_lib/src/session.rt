@@ -3,7 +3,7 @@ ghost use Rattle.std.specs.Prelude.{◌≡◌, ◌++◌, ◌∷◌, ◌↔◌, �
 ghost use Rattle.std.specs.Prelude.{string_bytes, Err, false};
 ghost use Rattle.ipnet_text.specs.Inputs.{GaveWhole};
 ghost use Rattle.netset_lib.specs.Answers.{IsSetText};
-ghost use Rattle.netset_lib.specs.Counts.{IsCountText, IsComparison};
+ghost use Rattle.netset_lib.specs.Counts.{IsComparison};
 ghost use Rattle.netset_lib.specs.Lists.{ListEntry, IsInEntries};
 ghost use Rattle.netset_lib.specs.ListSets.{HaveMembers};
 ghost use Rattle.ipnet_sets.specs.Members.{HasNoAddress};
@@ -101,14 +101,6 @@ fn has_no_family(work: Work, sets: &[IpSet]) -> bool
     is_named_complement(work) && is_one_empty(sets)
 }
 
-/// Appends a set. Fails if memory runs out.
-fn keep(sets: &mut Vec<IpSet>, set: IpSet) -> Result<(), AllocError>
-    ensures { OnOk result (sets.new.items ≡ sets.old.items ++ set ∷ []) }
-{
-    sets.push(set)?;
-    Ok(())
-}
-
 /// The text of the set that the operation makes of the sets.
 fn combined_text(alloc: Global, request: Request, sets: &[IpSet]) -> Result<String, AllocError>
     ensures { IfOk result (λ text. (entries : List (List ListEntry)) → HaveMembers sets.now entries
@@ -116,14 +108,6 @@ fn combined_text(alloc: Global, request: Request, sets: &[IpSet]) -> Result<Stri
 {
     let set = combine_sets(alloc, request.operation, sets)?;
     set_text(alloc, request.form, &set)
-}
-
-/// The counts of the sets, which have these names.
-fn count_text(alloc: Global, names: &[&str], sets: &[IpSet]) -> Result<String, AllocError>
-    ensures { IfOk result (λ text. (entries : List (List ListEntry)) → HaveMembers sets.now entries
-        → IsCountText IsInEntries names.now entries (string_bytes text)) }
-{
-    counts_text(alloc, names, sets)
 }
 
 /// What differs between the two sets.
@@ -150,7 +134,7 @@ fn answer_of(
     let found = answers.found;
     let (text, succeeded) = match work {
         Work::Combine(request) => (combined_text(alloc, request, sets)?, true),
-        Work::Ask(Query::Count, _) => (count_text(alloc, names, sets)?, true),
+        Work::Ask(Query::Count, _) => (counts_text(alloc, names, sets)?, true),
         Work::Ask(Query::Compare, _) => {
             let text = compare_text(alloc, sets)?;
             let same = text.is_empty();
@@ -185,7 +169,8 @@ impl Session {
             (R.remaining input.old) (R.remaining input.new) self.old self.new) }
     {
         let set = read_set(&mut self.reading, input)?;
-        Ok(keep(&mut self.sets, set)?)
+        self.sets.push(set)?;
+        Ok(())
     }
 
     /// Reads the next list of a filter or a route: the first into the answerer, and the second into the answers.

@@ -1,16 +1,13 @@
 //! The command `bar` of the program, over any writers.
-ghost use Rattle.std.specs.Prelude.{◌≡◌, ◌≤◌, ◌⊎◌, ◌↔◌, IsTrue, List, ℕ};
+ghost use Rattle.std.specs.Prelude.{◌≡◌, ◌≤◌, ◌⊎◌, List, ℕ};
 ghost use Rattle.std.specs.Io.KnownBytes.{Keeps};
-ghost use Rattle.ipnet_base.specs.Address.{Address};
 ghost use Rattle.ipnet.specs.declared.parser.Grammar.{Grammar};
-ghost use Rattle.ipnet_sets.specs.Members.{IsMember};
 ghost use Rattle.netset_lib.specs.Replies.{AreSameLists, AreOtherLists};
 ghost use Rattle.netset_lib.specs.Runs.{WritesAnswer, WritesFront, WritesComparison, WritesComparisonFront};
 ghost use Rattle.netset_lib.specs.Sessions.{WereCompared};
 ghost use Rattle.netset_pictures.specs.BarAnswers.{IsBarAnswer, IsComparisonAnswer};
 
 use crate::bar::{BarRequest, framed_bar_text, framed_comparison_text};
-use ipnet_sets::IpSet;
 use netset_lib::{Session, report_failure, set_or_report, write_answer, write_or_report};
 use std::io::Write;
 
@@ -57,14 +54,6 @@ pub fn run_bar<W: Write, X: Write>(
         }
     };
     write_answer(out, faults, text.as_bytes())
-}
-
-/// Whether the sets have the same addresses.
-pub(crate) fn are_same(one: &IpSet, other: &IpSet) -> bool
-    ensures { IsTrue result ↔ (((x : Address) → IsMember one.now x → IsMember other.now x)
-        × ((x : Address) → IsMember other.now x → IsMember one.now x)) }
-{
-    one.is_subset(other) && other.is_subset(one)
 }
 
 /// Writes the bar that compares the first list with the second to `out`, as `framed_comparison_text` makes it, and
@@ -125,5 +114,5 @@ pub fn run_comparison_bar<W: Write, X: Write>(
     if !write_or_report(out, faults, text.as_bytes()) {
         return 2;
     }
-    if are_same(&before, &after) { 0 } else { 1 }
+    if before == after { 0 } else { 1 }
 }

@@ -7,7 +7,6 @@ ghost use Rattle.netset_lib.specs.Runs.{WritesAnswer, WritesFront, WritesCompari
 ghost use Rattle.netset_lib.specs.Sessions.{WereCompared};
 ghost use Rattle.netset_pictures.specs.MapAnswers.{IsMapAnswer, IsSetsMapAnswer, IsChangeMapAnswer};
 
-use crate::bar_program::are_same;
 use crate::map::{MapRequest, framed_change_map_text, framed_map_text, framed_sets_map_text};
 use netset_lib::{Session, report_failure, set_or_report, write_answer, write_or_report};
 use std::io::Write;
@@ -161,5 +160,5 @@ pub fn run_change_map<W: Write, X: Write>(
     if !write_or_report(out, faults, text.as_bytes()) {
         return 2;
     }
-    if are_same(&before, &after) { 0 } else { 1 }
+    if before == after { 0 } else { 1 }
 }

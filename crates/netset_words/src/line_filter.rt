@@ -22,7 +22,6 @@ use crate::log_line::{
 };
 use crate::refused_word::{RefusedWords, WordCause};
 use crate::word::is_cut;
-use crate::word_reader::is_any;
 use ipnet_sets::IpSet;
 use memchr::memchr;
 use netset_lib::filter::side_set;
@@ -139,7 +138,7 @@ impl LineAnswers {
         self.nones = count_none(self.nones, verdict)?;
         let treatment = whole_treatment(request.others, verdict);
         let printed = print_line(&mut self.text, line, treatment)?;
-        self.printed = is_any(self.printed, printed);
+        self.printed = self.printed | printed;
         Ok(())
     }
 }
@@ -291,7 +290,7 @@ impl LineFilter {
         let verdict = verdict_on(&mut self.answers.room, &self.set, self.request, whole)?;
         let treatment = front_treatment(self.request.any, self.request.others, verdict);
         let printed = print_front(&mut self.answers.text, front, more, treatment)?;
-        self.answers.printed = is_any(self.answers.printed, printed);
+        self.answers.printed = self.answers.printed | printed;
         report_front(self.alloc, &mut self.undecided, number, front, treatment)?;
         self.rest = rest_after(treatment);
         self.front.clear();
@@ -311,22 +310,14 @@ impl LineFilter {
         }
     }
 
-    /// Reads bytes of a line that was decided by its front.
-    fn pass(&mut self, piece: &[u8]) -> Result<(), AllocError>
-        requires { self.old.rest ≢ Kept }
-        ensures { OnOk result (GoesOn self.old self.new piece.now) }
-    {
-        print_more(&mut self.answers.text, self.rest, piece)
-    }
-
     /// Reads bytes of a line that does not end with them.
     fn go_on(&mut self, piece: &[u8]) -> Result<(), AllocError>
         ensures { OnOk result (GoesOn self.old self.new piece.now) }
     {
         match self.rest {
             Rest::Kept => self.keep(piece),
-            Rest::Printed => self.pass(piece),
-            Rest::LeftOut => self.pass(piece),
+            Rest::Printed => print_more(&mut self.answers.text, self.rest, piece),
+            Rest::LeftOut => print_more(&mut self.answers.text, self.rest, piece),
         }
     }
 
@@ -455,23 +446,14 @@ impl LineFilter {
         self.end_line()
     }
 
-    /// Ends the log, if a line was decided by its front.
-    #[tactic(none)]
-    fn end_passed_log(&mut self) -> Result<(), AllocError>
-        requires { self.old.rest ≢ Kept }
-        ensures { OnOk result (EndsLog self.old self.new) }
-    {
-        self.end_line()
-    }
-
     /// Ends the log. Fails as `read` does.
     pub(crate) fn end(&mut self) -> Result<(), AllocError>
         ensures { OnOk result (EndsLog self.old self.new) }
     {
         match self.rest {
             Rest::Kept => self.end_kept_log(),
-            Rest::Printed => self.end_passed_log(),
-            Rest::LeftOut => self.end_passed_log(),
+            Rest::Printed => self.end_line(),
+            Rest::LeftOut => self.end_line(),
         }
     }
 }

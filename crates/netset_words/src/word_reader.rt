@@ -1,5 +1,5 @@
 //! The lines of texts: their entries are added to an answer, and refused lines are kept.
-ghost use Rattle.std.specs.Prelude.{◌≡◌, ◌||◌, ◌∷◌, [], OnOk};
+ghost use Rattle.std.specs.Prelude.{◌≡◌, ◌∷◌, [], OnOk};
 ghost use Rattle.ipnet.specs.Lines.{lines_of};
 
 use crate::item::ExtractRequest;
@@ -7,13 +7,6 @@ use crate::line_items::read_items;
 use crate::refused_word::{RefusedWords, WordCause};
 use netset_lib::{RefusedPart, first_line, has_byte};
 use std::alloc::{AllocError, Global};
-
-/// Whether the text had an entry before, or has one now.
-pub(crate) fn is_any(before: bool, now: bool) -> bool
-    ensures { result ≡ (before || now) }
-{
-    before || now
-}
 
 /// Reads the lines of texts.
 #[derive(Drop)]
@@ -73,7 +66,7 @@ impl WordReader {
             return self.refused.push(self.alloc, part);
         }
         let state = read_items(&mut self.room, &mut self.answer, self.request, line)?;
-        self.has_entry = is_any(self.has_entry, state.has_entry);
+        self.has_entry = self.has_entry | state.has_entry;
         match state.mask {
             Some(mask) => {
                 let part = RefusedPart {

@@ -3,9 +3,9 @@ ghost use Rattle.std.specs.Prelude.{◌+◌, ◌≤◌};
 ghost use Rattle.ipnet_base.specs.Address.{width};
 ghost use Rattle.ipnet.specs.NetworkOf.{ip_network};
 
+use crate::form::MapForm;
 use crate::label::{Ink, Label, Swatch, label_at};
 use crate::legend::{EDGE, LINE, legend_of};
-use crate::map::MapForm;
 use crate::sheet::{Sheet, sheet_of, sides_of};
 use crate::square::first_bits_of;
 use ipnet::IpNet;

@@ -2,7 +2,7 @@
 ghost use Rattle.std.specs.Prelude.{◌≡◌, ◌++◌, IfOk, OnOk, flat_map, string_bytes};
 ghost use Rattle.svg_text.specs.Documents.{nodes_text, empty_text, start_text, end_text};
 ghost use Rattle.svg_text.specs.declared.name.ElementName.TheVariants as Elements;
-ghost use Rattle.svg_maps.specs.Pages.{layer_nodes, square_nodes, pixels, pixel_rectangle, grid_rectangles};
+ghost use Rattle.svg_maps.specs.Pages.{layer_nodes, square_nodes, grid_rectangles};
 ghost use Rattle.svg_maps.specs.Pages.{cells_marks, ground_marks, grid_marks, small_marks, label_nodes, chart_nodes};
 
 use crate::area::push_titled_area;
@@ -10,6 +10,7 @@ use crate::class::class_name;
 use crate::label::{Label, number_attribute, push_labels, text_attribute};
 use crate::outline::{Outline, push_outlines};
 use crate::ring::push_rings;
+use crate::sheet::{pixels_of, rectangle_in_pixels};
 use ipnet_maps::{Layer, Place, Rectangle, Sides, path_text};
 use std::alloc::{AllocError, Global};
 use svg_text::{Attribute, AttributeName, ElementName, Value, push_empty, push_end, push_start};
@@ -42,28 +43,6 @@ pub struct Chart<'a> {
     pub sides: Sides,
     /// How many pixels a cell is wide and high.
     pub scale: u32,
-}
-
-/// The number of cells in pixels.
-fn pixels_of(scale: u32, cells: u32) -> u32
-    ensures { result ≡ pixels scale cells }
-{
-    cells.saturating_mul(scale)
-}
-
-/// The rectangle in pixels.
-pub(crate) fn rectangle_in_pixels(scale: u32, rectangle: Rectangle) -> Rectangle
-    ensures { result ≡ pixel_rectangle scale rectangle }
-{
-    let place = Place {
-        column: pixels_of(scale, rectangle.place.column),
-        row: pixels_of(scale, rectangle.place.row),
-    };
-    let sides = Sides {
-        width: pixels_of(scale, rectangle.sides.width),
-        height: pixels_of(scale, rectangle.sides.height),
-    };
-    Rectangle { place, sides }
 }
 
 /// The lines around the squares, in pixels.

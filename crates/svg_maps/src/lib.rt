@@ -5,6 +5,7 @@ pub mod area;
 pub mod captions;
 pub mod chart;
 pub mod class;
+pub mod form;
 pub mod free;
 pub mod label;
 pub mod laws;
@@ -25,8 +26,9 @@ pub(crate) mod tiles;
 pub(crate) mod under;
 
 pub use chart::{Chart, Square};
+pub use form::MapForm;
 pub use label::{Anchor, Ink, Label, Swatch};
-pub use map::{MapForm, map_text};
+pub use map::map_text;
 pub use outline::{Outline, OutlineClass};
 pub use overlay::{Look, Overlay};
 pub use page::{Page, page_text};

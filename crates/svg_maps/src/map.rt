@@ -6,9 +6,8 @@ ghost use Rattle.svg_maps.specs.Overlays.{IsOutlinedMap};
 
 use crate::captions::captions_of;
 use crate::chart::Chart;
-use crate::legend::legend_of;
+use crate::form::MapForm;
 use crate::outline_labels::map_labels;
-use crate::overlay::Overlay;
 use crate::page::{Page, page_text};
 use crate::ring::rings_of;
 use crate::sheet::sides_of;
@@ -17,21 +16,6 @@ use crate::under::under_of;
 use ipnet::IpNet;
 use ipnet_maps::Drawing;
 use std::alloc::{AllocError, Global};
-
-/// How a map looks, and what its sets are called.
-#[derive(Clone, Copy)]
-pub struct MapForm<'a> {
-    /// The style sheet.
-    pub style: &'a str,
-    /// The first words of the title, before the text of the network.
-    pub heading: &'a str,
-    /// The names of the sets, for the legend of a map of several sets.
-    pub names: &'a [&'a str],
-    /// A text for the end of the foot.
-    pub note: &'a str,
-    /// The outlines over the cells.
-    pub overlay: &'a Overlay,
-}
 
 /// Returns the document that shows the drawing of the frame. The title of each square says how many addresses each of
 /// the counted sets has in it, and the overlay has the outlines. Fails only if memory runs out.

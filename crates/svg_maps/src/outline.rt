@@ -4,7 +4,7 @@ ghost use Rattle.svg_text.specs.Documents.{nodes_text};
 ghost use Rattle.svg_maps.specs.Pages.{outline_text, outline_nodes, pixel_rectangle};
 
 use crate::area::{push_area, push_titled_area};
-use crate::chart::rectangle_in_pixels;
+use crate::sheet::rectangle_in_pixels;
 use ipnet_maps::Rectangle;
 use std::alloc::AllocError;
 

@@ -1,9 +1,9 @@
 //! The labels of outlines: in each outline with room for its label, at a place at which it meets no other label.
 
-use crate::chart::{Square, rectangle_in_pixels};
+use crate::chart::Square;
 use crate::label::{Ink, Label, label_at};
 use crate::outline::{Outline, OutlineClass};
-use crate::sheet::Sheet;
+use crate::sheet::{Sheet, rectangle_in_pixels};
 use crate::square_labels::{SquareLabels, square_labels};
 use crate::under::{Under, ink_in};
 use ipnet_maps::{Place, Rectangle, Sides};

@@ -4,9 +4,10 @@ ghost use Rattle.ipnet_base.specs.Address.{width};
 ghost use Rattle.ipnet.specs.NetworkOf.{ip_network};
 ghost use Rattle.ipnet_maps.specs.Cuts.{columns_in, rows_in};
 ghost use Rattle.ipnet_maps.specs.Squares.{square_cuts};
+ghost use Rattle.svg_maps.specs.Pages.{pixels, pixel_rectangle};
 
 use ipnet::IpNet;
-use ipnet_maps::{Layout, Place, Sides};
+use ipnet_maps::{Layout, Place, Rectangle, Sides};
 
 /// The width of a map, in pixels, if its cells are smaller than `CELL`.
 const WIDTH: u32 = 1024;
@@ -33,6 +34,28 @@ pub(crate) fn scale_of(sides: Sides) -> u32
     ensures most { result ≤ 64 }
 {
     (WIDTH / sides.width.max(1)).clamp(1, CELL)
+}
+
+/// The number of cells in pixels.
+pub(crate) fn pixels_of(scale: u32, cells: u32) -> u32
+    ensures { result ≡ pixels scale cells }
+{
+    cells.saturating_mul(scale)
+}
+
+/// The rectangle in pixels.
+pub(crate) fn rectangle_in_pixels(scale: u32, rectangle: Rectangle) -> Rectangle
+    ensures { result ≡ pixel_rectangle scale rectangle }
+{
+    let place = Place {
+        column: pixels_of(scale, rectangle.place.column),
+        row: pixels_of(scale, rectangle.place.row),
+    };
+    let sides = Sides {
+        width: pixels_of(scale, rectangle.sides.width),
+        height: pixels_of(scale, rectangle.sides.height),
+    };
+    Rectangle { place, sides }
 }
 
 /// The sizes of a page.

@@ -4,7 +4,8 @@ ghost use Rattle.ipnet.specs.NetworkOf.{ip_network};
 ghost use Rattle.svg_maps.specs.Maps.{list_words};
 ghost use Rattle.svg_maps.specs.Overlays.{IsOutlinedSetMap, IsOutlinedChangeMap, IsOutlinedSetsMap};
 
-use crate::map::{MapForm, map_text};
+use crate::form::MapForm;
+use crate::map::map_text;
 use crate::overlay::{Look, overlay_of};
 use crate::square::Counted;
 use crate::style::style_of;

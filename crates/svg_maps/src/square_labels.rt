@@ -1,8 +1,8 @@
 //! The labels of squares: in each square, and at the heads of rows and columns.
 
-use crate::chart::{Square, rectangle_in_pixels};
+use crate::chart::Square;
 use crate::label::{Anchor, Ink, Label, label_at};
-use crate::sheet::Sheet;
+use crate::sheet::{Sheet, rectangle_in_pixels};
 use ipnet_maps::{Place, Rectangle};
 use std::alloc::{AllocError, Global};
 

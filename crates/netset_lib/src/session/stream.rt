@@ -1,5 +1,5 @@
 //! The answers of a filter or a route, written while the second list is read.
-ghost use Rattle.std.specs.Prelude.{◌≡◌, ◌||◌, ◌↔◌, List, ℕ, [], length, IfOk, IfErr, OnOk, Err, IsTrue};
+ghost use Rattle.std.specs.Prelude.{◌≡◌, ◌↔◌, List, ℕ, [], length, IfOk, IfErr, OnOk, Err, IsTrue};
 ghost use Rattle.std.specs.Prelude.{false, string_bytes};
 ghost use Rattle.std.specs.Io.{StartsWith};
 ghost use Rattle.std.specs.Io.KnownBytes.{Appends, Keeps};
@@ -93,13 +93,6 @@ fn put<W: Write>(answers: &mut Answers, out: &mut W) -> Result<(), StreamFailure
     Ok(())
 }
 
-/// Whether an entry was found before or is found now.
-fn is_any(before: bool, now: bool) -> bool
-    ensures { result ≡ (before || now) }
-{
-    before || now
-}
-
 /// Whether the query can be streamed.
 fn has_stream(query: Query) -> bool
     ensures { IsTrue result ↔ HasStream query }
@@ -143,7 +136,7 @@ fn stream_entries<R: Read, W: Write, X: Write>(
         let refused = &reading.lines.refused;
         let before = (refused.shown.len(), refused.count);
         reading.take_lines(more, answerer, &mut answers)?;
-        found = is_any(found, answers.found);
+        found = found | answers.found;
         put(&mut answers, out)?;
         let _ = report_since(faults, names, &reading.lines.refused, before);
         if !more {

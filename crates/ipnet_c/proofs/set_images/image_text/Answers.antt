@@ -1,13 +1,14 @@
 -- The text has the networks of the set of the image.
 use Rattle.std.proofs.Common.{string_bytes}
 use Rattle.std.proofs.lemmas.Result.{IfOk-weaker}
-use Rattle.ipnet_c.specs.Replies.{IsTextOfSet}
+use Rattle.ipnet_sets.specs.Members.{IsMember}
+use Rattle.netset_lib.specs.Answers.{AreNetworkLines}
 use Rattle.ipnet_c.specs.SetReplies.{IsTextOfImage}
 use Rattle.ipnet_c.proofs.set_images.image_text.Goals as goal
 
 pub returns : goal.returns
 returns c =
-    IfOk-weaker c.text_of_set.result (λ text. IsTextOfSet c.in_ok-first.first (string_bytes text))
+    IfOk-weaker c.network_lines.result (λ text. AreNetworkLines (IsMember c.in_ok-first.first) (string_bytes text))
     (λ text. IsTextOfImage c.args.set.image.bytes.now (string_bytes text))
     (λ text h. record { first = c.in_ok-first.first; first_image = c.in_ok-first.ensures; text = h })
-    c.text_of_set.ensures
+    c.network_lines.ensures

@@ -3,7 +3,9 @@
 use Rattle.std.proofs.Common.{[], sym, ◌∙◌, subst}
 use Rattle.std.proofs.lemmas.Bool.{false≢true}
 use Rattle.ipnet.specs.declared.parser.Grammar.TheVariants.{Strict}
-use Rattle.ipnet_c.specs.Replies.{IsSetReply, IsTextOfSet}
+use Rattle.ipnet_sets.specs.Members.{IsMember}
+use Rattle.netset_lib.specs.Answers.{AreNetworkLines}
+use Rattle.ipnet_c.specs.Replies.{IsSetReply}
 use Rattle.ipnet_c.proofs.BadTexts.{later_no_memory}
 use Rattle.ipnet_c.proofs.ListReplies.{good_at_once}
 use Rattle.ipnet_c.proofs.SetReplies.{combined, not_read, empty_of_empty, text_of_both}
@@ -55,5 +57,5 @@ returns c =
     combined c.args.operation text other c.as_bytes.result.now c.args.buffer.now made.new.buffer c.args.count.now
     made.new.count made.result utf8 utf8_other
     (text_of_both c.args.operation text other c.as_bytes.result.now c.in-Ok.sets.0 c.in-Ok.sets.1 set h k is
-    (subst (IsTextOfSet set) (sym c.as_bytes.ensures.value) spelled))
+    (subst (AreNetworkLines (IsMember set)) (sym c.as_bytes.ensures.value) spelled))
     made.ensures.known made.ensures.ok made.ensures.too_short

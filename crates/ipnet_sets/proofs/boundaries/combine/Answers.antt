@@ -5,7 +5,7 @@ use Rattle.std.proofs.Common.{subst, arith}
 use Rattle.std.proofs.lemmas.List.{map_push, length-map}
 use Rattle.std.proofs.lemmas.List.Elements.{All-push}
 use Rattle.ipnet_base.specs.Address.{greatest_number}
-use Rattle.ipnet_sets.proofs.InsideLaws.{is_odd}
+use Rattle.ipnet_sets.proofs.InsideLaws.{is_odd, opposite, alike}
 use Rattle.ipnet_sets.proofs.BoundaryLaws.{IsCombining, combining_start, combining_push, combining_same, boundary_fits}
 use Rattle.ipnet_sets.proofs.boundaries.combine.Goals as goal
 
@@ -26,7 +26,8 @@ loop-first_at-preserved-in-Continue-1 g c =
     let second = map number c.args.second.now in
     let boundaries = map number c.loop-first_at.boundaries.items in
     let boundary = c.next_boundary-boundary.result in
-    let size : c.len.result ≡ length boundaries = omega (arith, length-map c.loop-first_at.boundaries.items number) in
+    let size : c.len-made.result ≡ length boundaries
+    = omega (arith, length-map c.loop-first_at.boundaries.items number) in
     let pushed : map number c.push.new.self.items ≡ boundaries ++ number boundary.number ∷ []
     = ap (map number) c.in_ok-push.ensures.items ∙ map_push number c.loop-first_at.boundaries.items boundary.number in
     record {
@@ -34,8 +35,8 @@ loop-first_at-preserved-in-Continue-1 g c =
           (combining_push c.args.operation first c.loop-first_at.first_at second c.loop-first_at.second_at boundaries
           (number boundary.number) boundary.first boundary.second c.requires.first.ascending c.requires.second.ascending
           c.next_boundary-boundary.ensures c.loop-first_at.invariant.combining
-          (ap (λ n. not (is_odd n)) (sym size) ∙ sym (c.differ.ensures.differ c.if-differ.true)
-          ∙ c.takes-inside.ensures));
+          (ap (λ n. not (is_odd n)) (sym size)
+          ∙ opposite c.takes-inside.result (is_odd c.len-made.result) c.if-changes.true ∙ c.takes-inside.ensures));
       fits = subst (All (λ t. t ≤ greatest_number g.T.Number.family)) (sym pushed)
           (All-push (λ t. t ≤ greatest_number g.T.Number.family) boundaries (number boundary.number)
           c.loop-first_at.invariant.fits
@@ -51,13 +52,15 @@ loop-first_at-preserved g c =
     let second = map number c.args.second.now in
     let boundaries = map number c.loop-first_at.boundaries.items in
     let boundary = c.next_boundary-boundary.result in
-    let size : c.len.result ≡ length boundaries = omega (arith, length-map c.loop-first_at.boundaries.items number) in
+    let size : c.len-made.result ≡ length boundaries
+    = omega (arith, length-map c.loop-first_at.boundaries.items number) in
     record {
       combining =
           combining_same c.args.operation first c.loop-first_at.first_at second c.loop-first_at.second_at boundaries
           (number boundary.number) boundary.first boundary.second c.requires.first.ascending c.requires.second.ascending
           c.next_boundary-boundary.ensures c.loop-first_at.invariant.combining
-          (ap is_odd (sym size) ∙ sym (c.differ.ensures.same c.if-differ.false) ∙ c.takes-inside.ensures);
+          (ap is_odd (sym size) ∙ alike c.takes-inside.result (is_odd c.len-made.result) c.if-changes.false
+          ∙ c.takes-inside.ensures);
       fits = c.loop-first_at.invariant.fits;
     }
 

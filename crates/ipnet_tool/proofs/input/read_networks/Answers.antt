@@ -3,7 +3,7 @@
 use Rattle.std.proofs.Common.{◌≡◌, ◌≢◌, ℕ, ◌+◌, ◌<◌, ◌≤◌, length, get_or, take, take_all, Err, sym}
 use Rattle.std.proofs.Common.{ap, ◌∙◌, subst, arith, IsUtf8, length-take}
 use Rattle.ipnet.specs.Lines.{lines_of, IsFirstBadLine}
-use Rattle.ipnet_tool.specs.declared.tool.ToolError.TheVariants as ToolErrors
+use Rattle.ipnet_text.specs.declared.networks.ToolError.TheVariants as ToolErrors
 use Rattle.ipnet_tool.specs.declared.failure.Failure.TheVariants as Failures
 use Rattle.ipnet_text.specs.NetLists.{networks_of}
 use Rattle.ipnet_tool.specs.Reading.{IsBadLineFrom}

@@ -6,7 +6,7 @@ use Rattle.std.proofs.lemmas.Result.{err_from_is_err_and}
 use Rattle.ipnet.specs.Lines.{lines_of, IsFirstBadLine}
 use Rattle.ipnet_text.specs.LineTexts.{text_of_lines}
 use Rattle.ipnet_tool.specs.Answers.{IsTextAnswer}
-use Rattle.ipnet_tool.specs.declared.tool.ToolError.TheVariants as ToolErrors
+use Rattle.ipnet_text.specs.declared.networks.ToolError.TheVariants as ToolErrors
 use Rattle.ipnet_text.specs.NetLists.{networks_of}
 use Rattle.ipnet.specs.Blocks.{HaveSameCover}
 use Rattle.ipnet_tool.proofs.AnswerLaws.{answer_from, answered, not_answered}

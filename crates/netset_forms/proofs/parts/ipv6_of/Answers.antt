@@ -1,22 +1,19 @@
-use Rattle.std.proofs.Common.{lit<, ◌↔◌, ◌∙◌}
+use Rattle.std.proofs.Common.{◌↔◌}
 use Rattle.std.proofs.lemmas.Result.{IfOk-weaker}
-use Rattle.ipnet_base.specs.Address.{Address, IPv6, ip_address}
-use Rattle.ipnet_base.proofs.AddressLaws.{ipv6_bits_from_number}
-use Rattle.ipnet_sets.specs.Members.{IsMember, IsFromTo}
+use Rattle.ipnet_base.specs.Address.{Address, IPv6}
+use Rattle.ipnet.specs.NetworkOf.{ipv6_network}
+use Rattle.ipnet_sets.specs.Members.{IsMember}
 use Rattle.netset_forms.specs.Forms.{IsOfFamily}
 use Rattle.netset_forms.proofs.PartLaws.{of_family}
 use Rattle.netset_forms.proofs.parts.ipv6_of.Goals as goal
 
 pub returns : goal.returns
 returns c =
-    let from = ipv6_bits_from_number c.from_bits-first.result 0 (lit< tt) c.from_bits-first.ensures in
-    let to =
-    ipv6_bits_from_number c.from_bits-last.result 340282366920938463463374607431768211455 (lit< tt)
-    c.from_bits-last.ensures in
-    IfOk-weaker c.between.result _
+    IfOk-weaker c.within.result _
     (λ s. (x : Address) → IsMember s x ↔ IsOfFamily (IsMember c.args.set.now) IPv6 x)
     (λ s h x.
-    let family = of_family (IsMember c.args.set.now) IPv6 _ _ from to (λ y m. m.fits) x in (
+    let family = of_family (IsMember c.args.set.now) IPv6 (ipv6_network c.default.result) c.default.ensures
+    (λ y m. m.fits) x in (
       λ m. family.0 ((h x).0 m),
       λ k. (h x).1 (family.1 k),
-    )) c.between.ensures
+    )) c.within.ensures.members

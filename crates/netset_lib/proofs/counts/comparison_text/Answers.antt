@@ -1,27 +1,23 @@
--- The two lines, where one of the two tests of subsets failed.
-use Rattle.std.proofs.Common.{codes, string_bytes}
-use Rattle.ipnet_base.specs.Address.{Address}
+-- Equal sets have no text; the two lines are of sets that are not equal.
+use Rattle.std.proofs.Common.{sym, ◌∙◌, codes, string_bytes}
+use Rattle.std.proofs.lemmas.Bool.{false≢true}
 use Rattle.ipnet_sets.specs.Members.{IsMember}
+use Rattle.ipnet_sets.proofs.SetEqualLaws.{equal_by_addresses}
 use Rattle.netset_lib.proofs.CountTexts.{lines_alone, lines_some, four_joined}
 use Rattle.netset_lib.proofs.counts.comparison_text.Goals as goal
-use Rattle.netset_lib.proofs.counts.comparison_text.Goals.{else-is_subset-via-then-is_subset+else-is_subset-2}
-use Rattle.netset_lib.proofs.counts.comparison_text.Goals.{else-is_subset-via-else-is_subset}
+
+pub returns-then-eq : goal.returns-then-eq
+returns-then-eq c =
+    let same = (equal_by_addresses c.args.first.now c.args.second.now).0 (sym c.eq.ensures ∙ c.if-eq.true) in record {
+      same = λ _. c.new-text.ensures.bytes;
+      only = λ _. same;
+      differ = λ no. absurd (no same);
+    }
 
 pub returns : goal.returns
 returns c =
     let first = c.args.first.now in
     let second = c.args.second.now in
-    let clash : ((x : Address) → IsMember first x → IsMember second x)
-    → ((x : Address) → IsMember second x → IsMember first x) → ⊥ = elim c.else-is_subset.branch [
-      | else-is_subset-via-then-is_subset+else-is_subset-2 w ↦ λ s t.
-          let k = w.is_subset-then-is_subset.ensures.1 t in
-          let no = w.if-is_subset-2.false in
-          absurd cc
-      | else-is_subset-via-else-is_subset w ↦ λ s t.
-          let k = c.is_subset.ensures.1 s in
-          let no = w.if-is_subset.false in
-          absurd cc
-    ] in
     let one = c.in_ok-push_counts.ensures in
     let two = c.in_ok-push_counts-2.ensures in
     let lines = lines_alone first second c.in_ok-only_first.only_first c.in_ok-only_second.only_second one.0 two.0
@@ -33,7 +29,8 @@ returns c =
     c.in_ok-push_str.ensures.bytes
     one.2 c.in_ok-push_str-2.ensures.bytes two.2) in
     record {
-      same = λ h. absurd (clash (λ x. (h x).0) (λ x. (h x).1));
+      same = λ h. absurd
+          (false≢true (sym c.if-eq.false ∙ c.eq.ensures ∙ (equal_by_addresses first second).1 h));
       only = λ none. absurd (lines_some (IsMember first) (IsMember second) (string_bytes c.push_counts-2.new.text) lines
           none);
       differ = λ _. lines;

@@ -1,6 +1,8 @@
-use Rattle.std.proofs.Common.{refl, subst, inr, string_bytes}
+use Rattle.std.proofs.Common.{refl, sym, ◌∙◌, subst, inr, string_bytes}
+use Rattle.std.proofs.lemmas.Bool.{false≢true}
 use Rattle.std.specs.Io.{StartsWith}
 use Rattle.std.specs.Io.KnownBytes.{Appends}
+use Rattle.ipnet_sets.proofs.SetEqualLaws.{equal_by_addresses}
 use Rattle.netset_lib.proofs.ChangeLaws.{same_of_sets, other_of_sets}
 use Rattle.netset_pictures.proofs.map_program.run_change_map.Goals as goal
 
@@ -20,8 +22,8 @@ returns-then-not-write_or_report-clause-cut_short g c = λ two grammar lists h.
       written = written;
     }
 
-pub returns-then-are_same-clause-drawn : goal.returns-then-are_same-clause-drawn
-returns-then-are_same-clause-drawn g c = λ low grammar lists h. record {
+pub returns-then-eq-clause-drawn : goal.returns-then-eq-clause-drawn
+returns-then-eq-clause-drawn g c = λ low grammar lists h. record {
   text = string_bytes c.in-Ok-framed_change_map_text.text;
   right = record {
     before = c.in-Ok.pair.0;
@@ -33,10 +35,10 @@ returns-then-are_same-clause-drawn g c = λ low grammar lists h. record {
       c.as_bytes.ensures.value (c.if-not-write_or_report.ensures.whole refl);
 }
 
-pub returns-then-are_same-clause-same : goal.returns-then-are_same-clause-same
-returns-then-are_same-clause-same g c = λ zero grammar lists h.
+pub returns-then-eq-clause-same : goal.returns-then-eq-clause-same
+returns-then-eq-clause-same g c = λ zero grammar lists h.
     same_of_sets grammar lists c.in-Ok.pair.0 c.in-Ok.pair.1 (c.in-Ok.ensures.pair grammar lists h)
-    (c.are_same.ensures.0 c.if-are_same.true).0 (c.are_same.ensures.0 c.if-are_same.true).1
+    ((equal_by_addresses c.in-Ok.pair.0 c.in-Ok.pair.1).0 (sym c.eq.ensures ∙ c.if-eq.true))
 
 pub returns-clause-drawn : goal.returns-clause-drawn
 returns-clause-drawn g c = λ low grammar lists h. record {
@@ -54,7 +56,8 @@ returns-clause-drawn g c = λ low grammar lists h. record {
 pub returns-clause-different : goal.returns-clause-different
 returns-clause-different g c = λ one grammar lists h.
     other_of_sets grammar lists c.in-Ok.pair.0 c.in-Ok.pair.1 (c.in-Ok.ensures.pair grammar lists h)
-    (λ to from. let same = c.are_same.ensures.1 (to, from) in let no = c.if-are_same.false in absurd cc)
+    (λ same. false≢true
+    (sym c.if-eq.false ∙ c.eq.ensures ∙ (equal_by_addresses c.in-Ok.pair.0 c.in-Ok.pair.1).1 same))
 
 pub returns-clause-faultless : goal.returns-clause-faultless
 returns-clause-faultless g c = λ low. c.if-not-write_or_report.ensures.faultless refl

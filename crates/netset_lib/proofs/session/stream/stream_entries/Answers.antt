@@ -1,4 +1,4 @@
-use Rattle.std.proofs.Common.{refl, sym, ap, ◌∙◌, subst, false, string_bytes}
+use Rattle.std.proofs.Common.{◌||◌, refl, sym, ap, ◌∙◌, subst, false, string_bytes}
 use Rattle.std.proofs.KnownBytes.{Keeps-refl}
 use Rattle.netset_lib.specs.Answering.{AreAnswersBy}
 use Rattle.netset_lib.specs.Reading.{TakesLines, at_first_line}
@@ -19,7 +19,8 @@ loop-preserved g c =
     let inv = c.loop.invariant in
     let before = IsWritten a held held false in
     let then = IsWritten a held (g.W.Write.contents c.loop.out) c.loop.found in
-    let now = IsWritten a held (g.W.Write.contents c.put.new.out) c.is_any-found.result in
+    let found_now = c.loop.found || c.take_lines.new.made.found in
+    let now = IsWritten a held (g.W.Write.contents c.put.new.out) found_now in
     let answers = c.take_lines.new.made in
     let on = c.in_ok-more-2.ensures in
     record {
@@ -32,11 +33,11 @@ loop-preserved g c =
           (subst (λ m. IsListUpTo m (left c.args.input.now) (left c.loop.input) start c.loop.reading before then)
           c.if-not-more.false inv.list)
           (taken_written a _ c.loop.reading c.take_lines.new.self held (g.W.Write.contents c.loop.out)
-          (g.W.Write.contents c.put.new.out) c.loop.found c.is_any-found.result c.loop.answers answers
+          (g.W.Write.contents c.put.new.out) c.loop.found found_now c.loop.answers answers
           (none_made a c.loop.answers inv.text inv.found)
           (subst (λ m. TakesLines m c.loop.reading c.take_lines.new.self (AreAnswersBy a c.loop.answers)
           (AreAnswersBy a answers)) c.if-not-more.false c.in_ok-take_lines.ensures)
-          c.in_ok-put.ensures.written c.is_any-found.ensures))
+          c.in_ok-put.ensures.written refl))
           on.is on.same_lines on.read on.end;
       quiet = λ same. still_quiet c.loop.more c.loop.more (left c.args.input.now) (left c.loop.input) start
           c.loop.reading c.take_lines.new.self before then (AreAnswersBy a c.loop.answers) (AreAnswersBy a answers)
@@ -66,7 +67,8 @@ returns-then-not-more-clause-whole g c =
     let inv = c.loop.invariant in
     let before = IsWritten a held held false in
     let then = IsWritten a held (g.W.Write.contents c.loop.out) c.loop.found in
-    let now = IsWritten a held (g.W.Write.contents c.put.new.out) c.is_any-found.result in
+    let found_now = c.loop.found || c.take_lines.new.made.found in
+    let now = IsWritten a held (g.W.Write.contents c.put.new.out) found_now in
     let answers = c.take_lines.new.made in
     made_of (left c.args.input.now) (left c.loop.input) c.args.stream.reading c.end_list.new.self before now
     (up_to_whole (left c.args.input.now) (left c.loop.input) start c.args.stream.reading c.loop.reading
@@ -74,11 +76,11 @@ returns-then-not-more-clause-whole g c =
     (subst (λ m. IsListUpTo m (left c.args.input.now) (left c.loop.input) start c.loop.reading before then)
     c.if-not-more.true inv.list)
     (taken_written a _ c.loop.reading c.take_lines.new.self held (g.W.Write.contents c.loop.out)
-    (g.W.Write.contents c.put.new.out) c.loop.found c.is_any-found.result c.loop.answers answers
+    (g.W.Write.contents c.put.new.out) c.loop.found found_now c.loop.answers answers
     (none_made a c.loop.answers inv.text inv.found)
     (subst (λ m. TakesLines m c.loop.reading c.take_lines.new.self (AreAnswersBy a c.loop.answers)
     (AreAnswersBy a answers)) c.if-not-more.true c.in_ok-take_lines.ensures)
-    c.in_ok-put.ensures.written c.is_any-found.ensures)
+    c.in_ok-put.ensures.written refl)
     c.in_ok-end_list.ensures.next c.end_list.ensures.same_grammar c.end_list.ensures.same_refused refl
     c.end_list.ensures.same_entry)
     (written_none a held)

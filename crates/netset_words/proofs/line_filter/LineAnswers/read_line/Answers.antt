@@ -1,3 +1,4 @@
+use Rattle.std.proofs.Common.{refl}
 use Rattle.ipnet_sets.specs.Members.{IsMember}
 use Rattle.netset_words.proofs.LogFilterLaws.{line_read}
 use Rattle.netset_words.proofs.line_filter.LineAnswers.read_line.Goals as goal
@@ -7,4 +8,4 @@ returns c =
     line_read c.args.request (IsMember c.args.set.now) c.args.self.now _ c.args.line.now c.in_ok-verdict.verdict
     c.whole_treatment-treatment.result c.in_ok-printed.printed c.requires c.in_ok-verdict.ensures
     c.whole_treatment-treatment.ensures c.in_ok-printed.ensures.text c.in_ok-printed.ensures.printed
-    c.is_any-self.ensures c.in_ok-self.ensures
+    refl c.in_ok-self.ensures

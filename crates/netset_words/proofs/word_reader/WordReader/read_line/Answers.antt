@@ -31,7 +31,7 @@ returns-in-Some-mask c =
     (λ added. word_line old _ c.args.line.now items c.in_ok-state.state
     (record { same_request = refl; same_list = refl; next = next })
     (λ nul. let clash : true ≡ false = sym nul ∙ sym c.has_byte.ensures ∙ c.if-has_byte.false in absurd cc) are up_to
-    c.is_any-self.ensures
+    refl
     (subst (λ rs. HasMore old.refused c.push-in-Some-mask.new.self rs)
     (sym (ap (mask_refusals old.list (old.line + 1)) first))
     (subst (λ n. HasMore old.refused c.push-in-Some-mask.new.self
@@ -47,6 +47,6 @@ returns-in-None c =
     word_line old _ c.args.line.now items c.in_ok-state.state
     (record { same_request = refl; same_list = refl; next = c.in-Some.ensures.1 })
     (λ nul. let clash : true ≡ false = sym nul ∙ sym c.has_byte.ensures ∙ c.if-has_byte.false in absurd cc) are up_to
-    c.is_any-self.ensures
+    refl
     (subst (HasMore old.refused old.refused) (sym (ap (mask_refusals old.list (old.line + 1)) none))
     (HasMore-nil old.refused old.refused.few))

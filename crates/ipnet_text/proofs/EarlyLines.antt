@@ -7,7 +7,7 @@ use Rattle.ipnet.specs.Network.{Network}
 use Rattle.ipnet.specs.declared.parser.Grammar.{Grammar}
 use Rattle.ipnet.specs.Lines.{lines_of, AreNetworksOf, IsBadLine}
 use Rattle.ipnet.specs.NetworkTexts.{IsNetworkText}
-use Rattle.ipnet_tool.specs.Answers.{StartsWithBadLine}
+use Rattle.ipnet_text.specs.BadLines.{StartsWithBadLine}
 use Rattle.ipnet_text.proofs.LineCuts.{empty_text}
 
 -- the networks of the lines before `rest` were taken

@@ -2,9 +2,9 @@ use Rattle.std.proofs.Common.{◌≡◌, ℕ, ◌+◌, ◌≤◌, [], length, Al
 use denote.Text.{Utf8}
 use denote.Shadow.{shadow}
 use Rattle.ipnet.specs.Lines.{lines_of, IsFirstBadLine}
-use Rattle.ipnet_tool.specs.Answers.{StartsWithBadLine}
-use Rattle.ipnet_tool.proofs.EarlyLines.{IsTakenTo}
-use Rattle.ipnet_tool.proofs.tool.push_lines.Given as goal
+use Rattle.ipnet_text.specs.BadLines.{StartsWithBadLine}
+use Rattle.ipnet_text.proofs.EarlyLines.{IsTakenTo}
+use Rattle.ipnet_text.proofs.networks.push_lines.Given as goal
 
 -- The networks taken so far, then the networks of the rest, are the networks of the text.
 abbrev pub invariant-lines : goal.invariant-lines

@@ -5,7 +5,7 @@ ghost use Rattle.ipnet.specs.NetworkOf.{ip_network};
 ghost use Rattle.ipnet.specs.NetworkTexts.{IsNetworkText};
 ghost use Rattle.ipnet.specs.declared.parser.Grammar.TheVariants.{Strict};
 
-use ipnet_text::{FrontLine, network_line};
+use crate::front::{FrontLine, network_line};
 
 /// The most lines that are left out at once.
 const LONGEST_PAUSE: u8 = 63;

@@ -5,12 +5,12 @@ use Rattle.std.proofs.Common.{inl, inr, ap, sym, ◌∙◌, take, drop}
 use Rattle.ipnet.specs.Lines.{lines_of, IsFirstBadLine}
 use Rattle.ipnet.specs.NetworkOf.{ip_network}
 use Rattle.ipnet.proofs.LineLaws.{empty_line, network_line, bad_line, good_line, no_lines}
-use Rattle.ipnet_tool.specs.Answers.{StartsWithBadLine}
-use Rattle.ipnet_tool.proofs.EarlyLines.{none_taken, one_taken_more, none_taken_more}
-use Rattle.ipnet_tool.proofs.EarlyLines.{after_empty, bad_here, not_good, none_bad, not_all_empty, rest_empty}
-use Rattle.ipnet_tool.proofs.FrontLines.{front_line, cut_after}
+use Rattle.ipnet_text.specs.BadLines.{StartsWithBadLine}
+use Rattle.ipnet_text.proofs.EarlyLines.{none_taken, one_taken_more, none_taken_more}
+use Rattle.ipnet_text.proofs.EarlyLines.{after_empty, bad_here, not_good, none_bad, not_all_empty, rest_empty}
+use Rattle.ipnet_text.proofs.FrontLines.{front_line, cut_after}
 use Rattle.ipnet_text.proofs.LineCuts.{some_bytes, no_bytes, empty_text}
-use Rattle.ipnet_tool.proofs.tool.push_lines.Goals as goal
+use Rattle.ipnet_text.proofs.networks.push_lines.Goals as goal
 
 pub lines-init : goal.lines-init
 lines-init g c = record {

@@ -1,0 +1,46 @@
+//! The lists of a command, which are read with a report if that fails.
+
+use crate::arguments::{ArgumentFailure, refused};
+use crate::input::report_unread;
+use crate::lists::{read_filled, read_lists};
+use crate::output::Streams;
+use netset_lib::{Session, Work};
+
+/// Reads the lists of these names. If that fails, it is reported, and the error is the exit status. So it is if a file
+/// has no entry, and that is to be refused.
+pub fn session_of(
+    rt: &HostRuntime,
+    work: Work,
+    names: &[&str],
+    streams: &Streams<'_>,
+) -> Result<Session, u8> {
+    let Ok(mut session) = Session::new(rt.alloc(), work) else {
+        return Err(refused(rt, ArgumentFailure::Memory));
+    };
+    match read_lists(rt, &mut session, names, streams.reports) {
+        Ok(true) => Ok(session),
+        Ok(false) => Err(2),
+        Err((name, unread)) => {
+            report_unread(rt, name, &unread);
+            Err(2)
+        }
+    }
+}
+
+/// Reads the bytes of the list of this name. If that fails, it is reported, and the error is the exit status. So it is
+/// if a file has no line, and that is to be refused.
+pub fn bytes_of(
+    rt: &HostRuntime,
+    name: &str,
+    what: &str,
+    streams: &Streams<'_>,
+) -> Result<Vec<u8>, u8> {
+    match read_filled(rt, name, what, streams.reports) {
+        Ok(Some(bytes)) => Ok(bytes),
+        Ok(None) => Err(2),
+        Err(unread) => {
+            report_unread(rt, name, &unread);
+            Err(2)
+        }
+    }
+}
