@@ -4,7 +4,7 @@ ghost use Rattle.std.specs.IoError.{raw_os_error};
 ghost use Rattle.netset.specs.Files.{IsOutOfMemory};
 ghost use Rattle.netset_lib.specs.declared.reading.ReadFailure.TheVariants.{Memory};
 
-use netset_lib::{ReadFailure, is_entry_text};
+use netset_lib::{ReadFailure, is_entry};
 use std::fs::File;
 use std::io;
 use std::io::{ErrorKind, Read, Stdin, Write};
@@ -103,7 +103,7 @@ pub fn report_unread(rt: &HostRuntime, name: &str, unread: &Unread) {
     let failure = unread.failure;
     let _ = match unread.code {
         _ if failure == ReadFailure::Memory => writeln!(rt.stderr(), "netset: {shown}: {failure}"),
-        Some(_) if is_entry_text(rt.alloc(), name).unwrap_or(false) => writeln!(
+        Some(_) if is_entry(name) => writeln!(
             rt.stderr(),
             "netset: {shown} is an entry: write it to a file, or pipe it into -"
         ),

@@ -28,27 +28,22 @@ pub(crate) struct EntryList<'a> {
     pub(crate) refused: Vec<RefusedText<Option<Cause>>>,
 }
 
-/// Returns the entry of the line, or why it is not one. Fails if memory runs out.
-fn read_line<'a>(
-    room: &mut String,
-    line: ContentLine<'a>,
-    grammar: Grammar,
-) -> Result<Result<EntryLine<'a>, Option<Cause>>, AllocError>
-    ensures entry { IfOk result (λ read. IfOk read (λ entry.
-        IsEntryOfLine grammar (line_of line.entry) (numbered entry))) }
-    ensures cause { IfOk result (λ read. IfErr read (IsRefusedFor grammar line.entry.text.now)) }
+/// Returns the entry of the line, or why it is not one.
+fn read_line<'a>(line: ContentLine<'a>, grammar: Grammar) -> Result<EntryLine<'a>, Option<Cause>>
+    ensures entry { IfOk result (λ entry. IsEntryOfLine grammar (line_of line.entry) (numbered entry)) }
+    ensures cause { IfErr result (IsRefusedFor grammar line.entry.text.now) }
 {
     let (number, text) = (line.number, line.text);
-    match read_text(room, text, grammar)? {
+    match read_text(text, grammar) {
         Some(found) => {
             let entry = found.entry;
-            Ok(Ok(EntryLine {
+            Ok(EntryLine {
                 number,
                 text,
                 entry,
-            }))
+            })
         }
-        None => Ok(Err(cause_of(room, text, grammar)?)),
+        None => Err(cause_of(text, grammar)),
     }
 }
 
@@ -61,11 +56,10 @@ pub(crate) fn entry_list<'a>(
     ensures { IfOk result (IsReadOf grammar bytes.now) }
 {
     let lines = content_lines(alloc, bytes, grammar)?;
-    let mut room = String::new(alloc);
     let mut entries = Vec::new(alloc);
     let mut refused = Vec::new(alloc);
     for line in lines.as_slice() {
-        let read = read_line(&mut room, *line, grammar)?;
+        let read = read_line(*line, grammar);
         keep_read(alloc, &mut entries, &mut refused, *line, read)?;
     }
     Ok(EntryList { entries, refused })

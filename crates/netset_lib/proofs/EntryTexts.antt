@@ -2,7 +2,7 @@
 use Rattle.std.proofs.Common.{◌≡◌, ◌≢◌, ℕ, ◌≤◌, ◌↔◌, List, [], ◌∷◌, ◌++◌, All, refl, sym, ap}
 use Rattle.std.proofs.Common.{◌∙◌, arith}
 use Rattle.std.proofs.Common.{inl, inr, append_assoc, subst, lit<, lit≤, codes, Option, Some, None, IsNone}
-use Rattle.std.proofs.Common.{Result, Ok, Err, IfOk, IfSome}
+use Rattle.std.proofs.Common.{Result, Ok, Err, IfSome}
 use Rattle.std.specs.Result.{result_ok}
 use Rattle.std.proofs.lemmas.List.Elements.{All-nil, All-append, All-cons, All-weaker}
 use Rattle.ipnet_base.specs.Address.{Address}
@@ -40,11 +40,6 @@ reads_result network_of Writes text (Ok n) o e h =
     subst (ReadsAs network_of Writes text) (sym e) (reads_some network_of Writes text n ((h.ok n).0 refl))
 reads_result network_of Writes text (Err x) o e h =
     subst (ReadsAs network_of Writes text) (sym e) (reads_none network_of Writes text (h.error.0 refl))
-
--- what holds of the value of an `Ok`
-pub ok_map : {A E : Type 0} (P Q : A → Type 0) (r : Result A E) → ((x : A) → P x → Q x) → IfOk r P → IfOk r Q
-ok_map P Q (Ok x) f h = f x h
-ok_map P Q (Err e) f h = tt
 
 -- ---- an address, and "/32" after it
 

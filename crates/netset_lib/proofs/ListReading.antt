@@ -2,7 +2,6 @@
 use Rattle.std.proofs.Common.{◌≡◌, ◌≢◌, ◌⊎◌, ℕ, ◌+◌, ◌<◌, Bool, true, List, [], ◌∷◌, ◌++◌}
 use Rattle.std.proofs.Common.{length}
 use Rattle.std.proofs.Common.{refl, sym, ap, ◌∙◌, arith, inl, inr, subst, append_assoc, append-nil, Option}
-use Rattle.std.proofs.Common.{Some, IfSome}
 use Rattle.ipnet_base.specs.Ranges.{AddressRange}
 use Rattle.ipnet.specs.declared.parser.Grammar.{Grammar}
 use Rattle.ipnet.specs.Lines.{lines_of}
@@ -230,7 +229,3 @@ up_to_more old mid new bytes rest first after IsMade IsMadeThen IsMadeNow h cut 
   is = h.is ∙ ap (λ ls. h.done ++ ls) cut ∙ sym (append_assoc h.done (first ∷ []) (lines_of after));
   lines = reads_more old mid new h.done (first ∷ []) IsMade IsMadeThen IsMadeNow h.lines one;
 }
-
--- what was found of an option
-pub if_some : {A : Type 0} (o : Option A) (P : A → Type 0) (a : A) → IfSome o P → o ≡ Some a → P a
-if_some o P a h e = subst (λ z. IfSome z P) e h

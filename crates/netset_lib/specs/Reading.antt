@@ -69,7 +69,6 @@ at_first_line r = record {
   line = 0;
   refused = r.refused;
   has_entry = false;
-  room = r.room;
 }
 
 -- A list was begun: no line of it was read, and its first bytes are pending, past a byte order mark.

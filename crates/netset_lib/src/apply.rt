@@ -52,11 +52,10 @@ fn read_changes(
     ensures { IfOk result (AreChangesRead grammar (IsAnswerNetwork (IsMember set.now)) bytes.now) }
 {
     let lines = content_lines(alloc, bytes, grammar)?;
-    let mut room = String::new(alloc);
     let mut changes = Vec::new(alloc);
     let mut refused = Vec::new(alloc);
     for line in lines.as_slice() {
-        let read = read_change(&mut room, set, line.text, grammar)?;
+        let read = read_change(set, line.text, grammar);
         keep_read(alloc, &mut changes, &mut refused, *line, read)?;
     }
     Ok(ChangeList { changes, refused })

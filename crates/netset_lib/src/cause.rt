@@ -1,5 +1,5 @@
 //! Why a text is not an entry, if a cause can be named.
-ghost use Rattle.std.specs.Prelude.{◌≡◌, ◌↔◌, IsTrue, IfOk, IfSome, Some, None};
+ghost use Rattle.std.specs.Prelude.{◌≡◌, ◌↔◌, IsTrue, IfSome, Some, None};
 ghost use Rattle.std.specs.Str.{IsUtf8};
 ghost use Rattle.netset_lib.specs.Entries.{IsNoEntry};
 ghost use Rattle.netset_lib.specs.Causes.{Explains, IsReportedCause, IsFirstOf, causes};
@@ -9,7 +9,6 @@ use crate::cause_parts::{Parts, is_cut_so, is_entry};
 use crate::cause_words::{has_mask_word, has_two_entries};
 use crate::entry::read_entry;
 use ipnet::Grammar;
-use std::alloc::AllocError;
 use std::str;
 use thiserror::Error;
 
@@ -125,60 +124,56 @@ fn all_causes() -> &'static [Cause]
 }
 
 /// Whether the sentence of the cause is true of the text.
-fn explains(room: &mut String, text: &str, cause: Cause) -> Result<bool, AllocError>
+fn explains(text: &str, cause: Cause) -> bool
     requires { IsUtf8 text.now }
-    ensures { IfOk result (λ is. IsTrue is ↔ Explains text.now cause) }
+    ensures { IsTrue result ↔ Explains text.now cause }
 {
     match cause {
-        Cause::NulByte => Ok(has_byte(text.as_bytes(), 0)),
-        Cause::NotUtf8 => Ok(false),
-        Cause::LegacyAlone => is_entry(room, text),
-        Cause::LengthAbove32 => is_cut_so(room, text, '/', Parts::LongIpv4),
-        Cause::LengthAbove128 => is_cut_so(room, text, '/', Parts::LongIpv6),
-        Cause::EndsBeforeStart => is_cut_so(room, text, '-', Parts::Backwards),
-        Cause::TwoFamilies => is_cut_so(room, text, '-', Parts::Apart),
-        Cause::RangeOfNetworks => is_cut_so(room, text, '-', Parts::Entries),
-        Cause::WildcardMask => is_cut_so(room, text, '/', Parts::TwoIpv4),
-        Cause::MaskAfterBlank => has_mask_word(room, text),
-        Cause::TwoEntries => has_two_entries(room, text),
-        Cause::CommaFollows => is_cut_so(room, text, ',', Parts::EntryFirst),
-        Cause::SemicolonFollows => is_cut_so(room, text, ';', Parts::EntryFirst),
-        Cause::InBrackets => is_cut_so(room, text, '[', Parts::Bracketed),
-        Cause::InQuotes => is_cut_so(room, text, '"', Parts::Quoted),
-        Cause::Excluded => is_cut_so(room, text, '!', Parts::Excluded),
-        Cause::HasZone => is_cut_so(room, text, '%', Parts::Ipv6First),
-        Cause::HasPort => is_cut_so(room, text, ':', Parts::Ipv4First),
-        Cause::NotFourNumbers => is_no_ipv4(room, text),
-        Cause::HasStar => Ok(has_star(text)),
-        Cause::HostName => Ok(is_host_name(text.as_bytes())),
+        Cause::NulByte => has_byte(text.as_bytes(), 0),
+        Cause::NotUtf8 => false,
+        Cause::LegacyAlone => is_entry(text),
+        Cause::LengthAbove32 => is_cut_so(text, '/', Parts::LongIpv4),
+        Cause::LengthAbove128 => is_cut_so(text, '/', Parts::LongIpv6),
+        Cause::EndsBeforeStart => is_cut_so(text, '-', Parts::Backwards),
+        Cause::TwoFamilies => is_cut_so(text, '-', Parts::Apart),
+        Cause::RangeOfNetworks => is_cut_so(text, '-', Parts::Entries),
+        Cause::WildcardMask => is_cut_so(text, '/', Parts::TwoIpv4),
+        Cause::MaskAfterBlank => has_mask_word(text),
+        Cause::TwoEntries => has_two_entries(text),
+        Cause::CommaFollows => is_cut_so(text, ',', Parts::EntryFirst),
+        Cause::SemicolonFollows => is_cut_so(text, ';', Parts::EntryFirst),
+        Cause::InBrackets => is_cut_so(text, '[', Parts::Bracketed),
+        Cause::InQuotes => is_cut_so(text, '"', Parts::Quoted),
+        Cause::Excluded => is_cut_so(text, '!', Parts::Excluded),
+        Cause::HasZone => is_cut_so(text, '%', Parts::Ipv6First),
+        Cause::HasPort => is_cut_so(text, ':', Parts::Ipv4First),
+        Cause::NotFourNumbers => is_no_ipv4(text),
+        Cause::HasStar => has_star(text),
+        Cause::HostName => is_host_name(text.as_bytes()),
     }
 }
 
 /// The first of the causes whose sentence is true of the text.
-fn first_cause(room: &mut String, text: &str, causes: &[Cause]) -> Result<Option<Cause>, AllocError>
+fn first_cause(text: &str, causes: &[Cause]) -> Option<Cause>
     requires { IsUtf8 text.now }
-    ensures { IfOk result (IsFirstOf causes.now text.now) }
+    ensures { IsFirstOf causes.now text.now result }
 {
     for index in 0..causes.len() {
-        if explains(room, text, causes[index])? {
-            return Ok(Some(causes[index]));
+        if explains(text, causes[index]) {
+            return Some(causes[index]);
         }
     }
-    Ok(None)
+    None
 }
 
 /// The cause of a text.
-fn cause_in_text(
-    room: &mut String,
-    text: &str,
-    grammar: Grammar,
-) -> Result<Option<Cause>, AllocError>
+fn cause_in_text(text: &str, grammar: Grammar) -> Option<Cause>
     requires { IsUtf8 text.now }
-    ensures { IfOk result (IsReportedCause grammar text.now) }
+    ensures { IsReportedCause grammar text.now result }
 {
-    match read_entry(room, text, grammar)? {
-        Some(_) => Ok(None),
-        None => first_cause(room, text, all_causes()),
+    match read_entry(text, grammar) {
+        Some(_) => None,
+        None => first_cause(text, all_causes()),
     }
 }
 
@@ -194,10 +189,8 @@ fn cause_in_bytes(text: &[u8]) -> Cause
     }
 }
 
-/// Why the whole text is not an entry in this grammar, or `None` if it is one or no cause can be named.
-///
-/// Addresses are read into `room`. Its content does not matter, and one `String` can serve many calls. The error means
-/// that memory ran out.
+/// Why the whole text is not an entry in this grammar, or `None` if it is one or no cause can be named. Allocates
+/// nothing.
 ///
 /// ```text
 /// 10.0.0.0/33                  Some(LengthAbove32)
@@ -206,18 +199,13 @@ fn cause_in_bytes(text: &[u8]) -> Cause
 /// 010.0.0.1, strict grammar    Some(LegacyAlone)
 /// 010.0.0.1, legacy grammar    None
 /// ```
-pub fn cause_of(
-    room: &mut String,
-    text: &[u8],
-    grammar: Grammar,
-) -> Result<Option<Cause>, AllocError>
-    ensures reported { IfOk result (IsReportedCause grammar text.now) }
-    ensures no_entry { IfOk result (λ reported. IfSome reported (λ _. IsNoEntry grammar text.now)) }
-    ensures none { IfOk result (λ reported. reported ≡ None → IsNoEntry grammar text.now
-        → (cause : Cause) → ¬ (Explains text.now cause)) }
+pub fn cause_of(text: &[u8], grammar: Grammar) -> Option<Cause>
+    ensures reported { IsReportedCause grammar text.now result }
+    ensures no_entry { IfSome result (λ _. IsNoEntry grammar text.now) }
+    ensures none { result ≡ None → IsNoEntry grammar text.now → (cause : Cause) → ¬ (Explains text.now cause) }
 {
     match str::from_utf8(text) {
-        Ok(text) => cause_in_text(room, text, grammar),
-        Err(_) => Ok(Some(cause_in_bytes(text))),
+        Ok(text) => cause_in_text(text, grammar),
+        Err(_) => Some(cause_in_bytes(text)),
     }
 }

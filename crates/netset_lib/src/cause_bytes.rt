@@ -1,11 +1,10 @@
 //! Causes in the bytes of a text.
-ghost use Rattle.std.specs.Prelude.{◌≡◌, ◌≢◌, ◌↔◌, ◌==◌, [], IsTrue, IfOk};
+ghost use Rattle.std.specs.Prelude.{◌≡◌, ◌≢◌, ◌↔◌, ◌==◌, [], IsTrue};
 ghost use Rattle.std.specs.Char.{is_ascii_alphabetic};
 ghost use Rattle.std.specs.List.{before_first, list_all, list_any};
 ghost use Rattle.netset_lib.specs.Causes.{Has, IsHostName, IsNoIpv4, is_dotted, is_name};
 
 use crate::cause_parts::is_ipv4;
-use std::alloc::AllocError;
 
 /// Whether one of the bytes is this one.
 ///
@@ -78,16 +77,12 @@ fn before_slash(text: &str) -> &str
 }
 
 /// Whether the text up to its first "/" has only digits and dots, and is not an IPv4 address.
-pub(crate) fn is_no_ipv4(room: &mut String, text: &str) -> Result<bool, AllocError>
-    ensures { IfOk result (λ is. IsTrue is ↔ IsNoIpv4 text.now) }
+pub(crate) fn is_no_ipv4(text: &str) -> bool
+    ensures { IsTrue result ↔ IsNoIpv4 text.now }
 {
     let front = before_slash(text);
     if front.is_empty() || !are_dotted(front.as_bytes()) {
-        return Ok(false);
+        return false;
     }
-    if is_ipv4(room, front)? {
-        Ok(false)
-    } else {
-        Ok(true)
-    }
+    !is_ipv4(front)
 }

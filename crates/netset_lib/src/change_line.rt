@@ -14,7 +14,6 @@ use crate::network_entry::{NetworkCause, read_network_entry};
 use crate::word::cut_word;
 use ipnet::{Grammar, IpNet};
 use ipnet_sets::IpSet;
-use std::alloc::AllocError;
 
 /// Why a list of networks cannot be changed by a line.
 ///
@@ -88,24 +87,18 @@ fn fit(set: &IpSet, sign: Sign, network: IpNet) -> Result<Change, ChangeCause>
     }
 }
 
-/// Returns the change of the set's networks that the text is, or why it is not one. Fails if memory runs out.
-pub(crate) fn read_change(
-    room: &mut String,
-    set: &IpSet,
-    text: &[u8],
-    grammar: Grammar,
-) -> Result<Result<Change, ChangeCause>, AllocError>
-    ensures change { IfOk result (λ read. IfOk read (λ change.
-        IsFittingChange grammar (IsAnswerNetwork (IsMember set.now)) text.now (change_of change))) }
-    ensures cause { IfOk result (λ read. IfErr read
-        (IsChangeCause grammar (IsAnswerNetwork (IsMember set.now)) text.now)) }
+/// Returns the change of the set's networks that the text is, or why it is not one.
+pub(crate) fn read_change(set: &IpSet, text: &[u8], grammar: Grammar) -> Result<Change, ChangeCause>
+    ensures change { IfOk result (λ change.
+        IsFittingChange grammar (IsAnswerNetwork (IsMember set.now)) text.now (change_of change)) }
+    ensures cause { IfErr result (IsChangeCause grammar (IsAnswerNetwork (IsMember set.now)) text.now) }
 {
     let (word, rest) = cut_word(text);
     let Some(sign) = sign_of(word) else {
-        return Ok(Err(ChangeCause::UnknownSign));
+        return Err(ChangeCause::UnknownSign);
     };
-    match read_network_entry(room, rest, grammar)? {
-        Ok(network) => Ok(fit(set, sign, network)),
-        Err(cause) => Ok(Err(ChangeCause::NoNetwork(cause))),
+    match read_network_entry(rest, grammar) {
+        Ok(network) => fit(set, sign, network),
+        Err(cause) => Err(ChangeCause::NoNetwork(cause)),
     }
 }

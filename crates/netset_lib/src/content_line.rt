@@ -76,15 +76,13 @@ pub fn content_lines<'a>(
 ) -> Result<Vec<ContentLine<'a>>, AllocError>
     ensures { IfOk result (λ lines. AreContentLines grammar bytes.now (map line_of lines.items)) }
 {
-    let mut room = String::new(alloc);
     let mut lines = Vec::new(alloc);
     let mut number: usize = 0;
     let mut rest = skip_mark(bytes);
     'lines: while !rest.is_empty() {
         let (line, after) = first_line(rest);
         number = next_number(number)?;
-        let text = contents_of(&mut room, line, grammar)?;
-        push_some(&mut lines, number, text)?;
+        push_some(&mut lines, number, contents_of(line, grammar))?;
         rest = after;
     }
     Ok(lines)

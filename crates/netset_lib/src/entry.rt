@@ -1,5 +1,5 @@
 //! The entries of a list: networks, addresses, and ranges from a first to a last address.
-ghost use Rattle.std.specs.Prelude.{IfOk, IfSome, IsNone, ◌↔◌, ◌≡◌};
+ghost use Rattle.std.specs.Prelude.{IfSome, IsNone, ◌↔◌, ◌≡◌};
 ghost use Rattle.ipnet_base.specs.Address.{ip_address};
 ghost use Rattle.ipnet_base.specs.Network.{Network};
 ghost use Rattle.ipnet_base.specs.Ranges.{AddressRange};
@@ -12,7 +12,6 @@ ghost use Rattle.netset_lib.specs.EntrySteps.{HasEnds};
 
 use arrayvec::ArrayString;
 use ipnet::{Grammar, IpAddr, IpNet, Ipv4Addr, Ipv4Net, Ipv6Addr};
-use std::alloc::AllocError;
 
 /// An entry of a list.
 ///
@@ -92,31 +91,6 @@ pub fn parse_address(text: &str, grammar: Grammar) -> Option<IpAddr>
     }
 }
 
-/// The address that the whole text is in this grammar, or `None` if it is none.
-///
-/// With "/32" after it, the text of an address of either family is that of a network; this is written into `room`,
-/// whatever it held before. Fails if memory runs out.
-///
-/// ```text
-/// 10.0.0.1:     10.0.0.1
-/// 10.0.0.1/32:  None
-/// ```
-pub fn read_address(
-    room: &mut String,
-    text: &str,
-    grammar: Grammar,
-) -> Result<Option<IpAddr>, AllocError>
-    ensures { IfOk result (ReadsAs ip_address (IsAddressText grammar) text.now) }
-{
-    room.clear();
-    room.push_str(text)?;
-    room.push_str("/32")?;
-    match read_network(room.as_str(), grammar) {
-        Some(network) => Ok(Some(network.addr())),
-        None => Ok(None),
-    }
-}
-
 /// The network of the IPv4 address with this netmask, if it is one, and if a netmask of zeros follows the address of
 /// zeros.
 fn masked_network(address: IpAddr, mask: IpAddr) -> Option<IpNet>
@@ -142,21 +116,16 @@ fn masked_network(address: IpAddr, mask: IpAddr) -> Option<IpNet>
 }
 
 /// The network that the texts of an address and of a netmask write.
-fn read_masked(
-    room: &mut String,
-    address: &str,
-    mask: &str,
-    grammar: Grammar,
-) -> Result<Option<IpNet>, AllocError>
-    ensures { IfOk result (ReadsAs ip_network (WriteMasked grammar address.now) mask.now) }
+fn read_masked(address: &str, mask: &str, grammar: Grammar) -> Option<IpNet>
+    ensures { ReadsAs ip_network (WriteMasked grammar address.now) mask.now result }
 {
-    let Some(address) = read_address(room, address, grammar)? else {
-        return Ok(None);
+    let Some(address) = parse_address(address, grammar) else {
+        return None;
     };
-    let Some(mask) = read_address(room, mask, grammar)? else {
-        return Ok(None);
+    let Some(mask) = parse_address(mask, grammar) else {
+        return None;
     };
-    Ok(masked_network(address, mask))
+    masked_network(address, mask)
 }
 
 /// The entry of the addresses from the first to the last, if these are of one family, and the last does not come
@@ -179,43 +148,37 @@ fn range_entry(first: IpAddr, last: IpAddr) -> Option<Entry>
 }
 
 /// The entry from the first address to the last, each written by its text.
-fn read_range(
-    room: &mut String,
-    first: &str,
-    last: &str,
-    grammar: Grammar,
-) -> Result<Option<Entry>, AllocError>
-    ensures reads { IfOk result (ReadsAs entry_range (WriteRange grammar first.now) last.now) }
-    ensures kind { IfOk result (λ found.
-        IfSome found (HasEnds (IsAddressText grammar first.now) (IsAddressText grammar last.now))) }
+fn read_range(first: &str, last: &str, grammar: Grammar) -> Option<Entry>
+    ensures reads { ReadsAs entry_range (WriteRange grammar first.now) last.now result }
+    ensures kind { IfSome result (HasEnds (IsAddressText grammar first.now) (IsAddressText grammar last.now)) }
 {
-    let Some(first) = read_address(room, first, grammar)? else {
-        return Ok(None);
+    let Some(first) = parse_address(first, grammar) else {
+        return None;
     };
-    let Some(last) = read_address(room, last, grammar)? else {
-        return Ok(None);
+    let Some(last) = parse_address(last, grammar) else {
+        return None;
     };
-    Ok(range_entry(first, last))
+    range_entry(first, last)
 }
 
 /// The entry that the text of a network or an address is.
-fn read_plain(room: &mut String, text: &str, grammar: Grammar) -> Result<Option<Entry>, AllocError>
-    ensures reads { IfOk result (ReadsAs entry_range (IsPlainEntry grammar) text.now) }
-    ensures kind { IfOk result (λ found. IfSome found (IsWrittenAs grammar text.now)) }
+fn read_plain(text: &str, grammar: Grammar) -> Option<Entry>
+    ensures reads { ReadsAs entry_range (IsPlainEntry grammar) text.now result }
+    ensures kind { IfSome result (IsWrittenAs grammar text.now) }
 {
     match text.split_once('/') {
         Some((address, mask)) => {
             if let Some(network) = read_network(text, grammar) {
-                return Ok(Some(Entry::Network(network)));
+                return Some(Entry::Network(network));
             }
-            match read_masked(room, address, mask, grammar)? {
-                Some(network) => Ok(Some(Entry::Network(network))),
-                None => Ok(None),
+            match read_masked(address, mask, grammar) {
+                Some(network) => Some(Entry::Network(network)),
+                None => None,
             }
         }
-        None => match read_address(room, text, grammar)? {
-            Some(address) => Ok(Some(Entry::Address(address))),
-            None => Ok(None),
+        None => match parse_address(text, grammar) {
+            Some(address) => Some(Entry::Address(address)),
+            None => None,
         },
     }
 }
@@ -227,8 +190,7 @@ fn read_plain(room: &mut String, text: &str, grammar: Grammar) -> Result<Option<
 /// a last address of one family joined by "-". Its last address does not come before its first, and blanks around the
 /// "-" do not matter. The variant of the value says which of these the text is; a range of one address is a range.
 ///
-/// The legacy grammar accepts leading zeros in decimal numbers, and a "::" that replaces no group. Addresses are read
-/// into `room`. Its content does not matter, and one `String` can serve many calls. Fails if memory runs out.
+/// The legacy grammar accepts leading zeros in decimal numbers, and a "::" that replaces no group. Allocates nothing.
 ///
 /// ```text
 /// 10.0.0.9/8                  Network(10.0.0.9/8)
@@ -240,21 +202,12 @@ fn read_plain(room: &mut String, text: &str, grammar: Grammar) -> Result<Option<
 /// 10.0.0.1-::1                None
 /// 10.0.0.5/0.0.0.0            None
 /// ```
-pub fn read_entry(
-    room: &mut String,
-    text: &str,
-    grammar: Grammar,
-) -> Result<Option<Entry>, AllocError>
-    ensures reads { IfOk result (ReadsAs entry_range (IsEntryText grammar) text.now) }
-    ensures kind { IfOk result (λ found. IfSome found (IsWrittenAs grammar text.now)) }
+pub fn read_entry(text: &str, grammar: Grammar) -> Option<Entry>
+    ensures reads { ReadsAs entry_range (IsEntryText grammar) text.now result }
+    ensures kind { IfSome result (IsWrittenAs grammar text.now) }
 {
     match text.split_once('-') {
-        Some((first, last)) => read_range(
-            room,
-            first.trim_ascii_end(),
-            last.trim_ascii_start(),
-            grammar,
-        ),
-        None => read_plain(room, text, grammar),
+        Some((first, last)) => read_range(first.trim_ascii_end(), last.trim_ascii_start(), grammar),
+        None => read_plain(text, grammar),
     }
 }

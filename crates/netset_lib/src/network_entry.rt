@@ -13,7 +13,6 @@ use crate::entry::Entry;
 use crate::reader::read_text;
 use crate::word::first_blank;
 use ipnet::{Grammar, IpNet};
-use std::alloc::AllocError;
 
 /// Why a text is not a network or an address.
 ///
@@ -50,35 +49,27 @@ fn network_of(entry: Entry) -> Result<IpNet, NetworkCause>
 }
 
 /// Returns why a text that is not an entry is not one.
-fn cause_without_entry(
-    room: &mut String,
-    text: &[u8],
-    grammar: Grammar,
-) -> Result<NetworkCause, AllocError>
+fn cause_without_entry(text: &[u8], grammar: Grammar) -> NetworkCause
     requires { IsNoEntry grammar text.now }
-    ensures { IfOk result (IsNetworkCause grammar text.now) }
+    ensures { IsNetworkCause grammar text.now result }
 {
     if text.is_empty() {
-        return Ok(NetworkCause::Missing);
+        return NetworkCause::Missing;
     }
     if first_blank(text) < text.len() {
-        return Ok(NetworkCause::TwoWords);
+        return NetworkCause::TwoWords;
     }
-    Ok(NetworkCause::NoEntry(cause_of(room, text, grammar)?))
+    NetworkCause::NoEntry(cause_of(text, grammar))
 }
 
-/// Returns the network that the text is, without host bits, or why it is not one. Fails if memory runs out.
-pub(crate) fn read_network_entry(
-    room: &mut String,
-    text: &[u8],
-    grammar: Grammar,
-) -> Result<Result<IpNet, NetworkCause>, AllocError>
-    ensures network { IfOk result (λ read. IfOk read (λ n. IsNetworkWord grammar text.now (ip_network n))) }
-    ensures none { IfOk result (λ read. IfErr read (λ _. IsNoNetworkWord grammar text.now)) }
-    ensures cause { IfOk result (λ read. IfErr read (IsNetworkCause grammar text.now)) }
+/// Returns the network that the text is, without host bits, or why it is not one.
+pub(crate) fn read_network_entry(text: &[u8], grammar: Grammar) -> Result<IpNet, NetworkCause>
+    ensures network { IfOk result (λ n. IsNetworkWord grammar text.now (ip_network n)) }
+    ensures none { IfErr result (λ _. IsNoNetworkWord grammar text.now) }
+    ensures cause { IfErr result (IsNetworkCause grammar text.now) }
 {
-    match read_text(room, text, grammar)? {
-        Some(found) => Ok(network_of(found.entry)),
-        None => Ok(Err(cause_without_entry(room, text, grammar)?)),
+    match read_text(text, grammar) {
+        Some(found) => network_of(found.entry),
+        None => Err(cause_without_entry(text, grammar)),
     }
 }

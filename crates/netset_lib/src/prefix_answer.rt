@@ -54,11 +54,10 @@ fn read_prefixes(alloc: Global, bytes: &[u8], grammar: Grammar) -> Result<Prefix
     ensures { IfOk result (ArePrefixesRead grammar bytes.now) }
 {
     let lines = content_lines(alloc, bytes, grammar)?;
-    let mut room = String::new(alloc);
     let mut rules = Vec::new(alloc);
     let mut refused = Vec::new(alloc);
     for line in lines.as_slice() {
-        let read = read_prefix_rule(&mut room, line.text, grammar)?;
+        let read = read_prefix_rule(line.text, grammar);
         keep_read(alloc, &mut rules, &mut refused, *line, read)?;
     }
     Ok(PrefixLines { rules, refused })
@@ -78,18 +77,14 @@ struct NetworkLines<'a> {
     refused: Vec<RefusedText<NetworkCause>>,
 }
 
-/// Returns the network that the text is, with the text, or why it is not one. Fails if memory runs out.
-fn read_list_network<'a>(
-    room: &mut String,
-    text: &'a [u8],
-    grammar: Grammar,
-) -> Result<Result<ListNetwork<'a>, NetworkCause>, AllocError>
-    ensures network { IfOk result (λ read. IfOk read (λ n. IsListNetwork grammar text.now (network_in n))) }
-    ensures cause { IfOk result (λ read. IfErr read (IsNoListNetwork grammar text.now)) }
+/// Returns the network that the text is, with the text, or why it is not one.
+fn read_list_network<'a>(text: &'a [u8], grammar: Grammar) -> Result<ListNetwork<'a>, NetworkCause>
+    ensures network { IfOk result (λ n. IsListNetwork grammar text.now (network_in n)) }
+    ensures cause { IfErr result (IsNoListNetwork grammar text.now) }
 {
-    match read_network_entry(room, text, grammar)? {
-        Ok(network) => Ok(Ok(ListNetwork { text, network })),
-        Err(cause) => Ok(Err(cause)),
+    match read_network_entry(text, grammar) {
+        Ok(network) => Ok(ListNetwork { text, network }),
+        Err(cause) => Err(cause),
     }
 }
 
@@ -102,11 +97,10 @@ fn read_networks<'a>(
     ensures { IfOk result (AreNetworksRead grammar bytes.now) }
 {
     let lines = content_lines(alloc, bytes, grammar)?;
-    let mut room = String::new(alloc);
     let mut networks = Vec::new(alloc);
     let mut refused = Vec::new(alloc);
     for line in lines.as_slice() {
-        let read = read_list_network(&mut room, line.text, grammar)?;
+        let read = read_list_network(line.text, grammar);
         keep_read(alloc, &mut networks, &mut refused, *line, read)?;
     }
     Ok(NetworkLines { networks, refused })

@@ -12,7 +12,6 @@ use crate::rule_line::action_of;
 use crate::word::cut_word;
 use ipnet::{Grammar, IpNet};
 use ipnet_rules::{Action, PrefixRule, PrefixRuleError};
-use std::alloc::AllocError;
 use std::str;
 
 /// Why a line is not a rule of a prefix list.
@@ -113,22 +112,18 @@ fn bounded_rule(action: Action, network: IpNet, text: &[u8]) -> Result<PrefixRul
     }
 }
 
-/// Returns the rule that the text is, or why it is not one. Fails if memory runs out.
-pub(crate) fn read_prefix_rule(
-    room: &mut String,
-    text: &[u8],
-    grammar: Grammar,
-) -> Result<Result<PrefixRule, PrefixCause>, AllocError>
-    ensures rule { IfOk result (λ read. IfOk read (IsPrefixText grammar text.now)) }
-    ensures cause { IfOk result (λ read. IfErr read (IsPrefixCause grammar text.now)) }
+/// Returns the rule that the text is, or why it is not one.
+pub(crate) fn read_prefix_rule(text: &[u8], grammar: Grammar) -> Result<PrefixRule, PrefixCause>
+    ensures rule { IfOk result (IsPrefixText grammar text.now) }
+    ensures cause { IfErr result (IsPrefixCause grammar text.now) }
 {
     let (word, after) = cut_word(text);
     let Some(action) = action_of(word) else {
-        return Ok(Err(PrefixCause::UnknownWord));
+        return Err(PrefixCause::UnknownWord);
     };
     let (entry, bounds) = cut_word(after);
-    match read_network_entry(room, entry, grammar)? {
-        Ok(network) => Ok(bounded_rule(action, network, bounds)),
-        Err(cause) => Ok(Err(PrefixCause::NoNetwork(cause))),
+    match read_network_entry(entry, grammar) {
+        Ok(network) => bounded_rule(action, network, bounds),
+        Err(cause) => Err(PrefixCause::NoNetwork(cause)),
     }
 }

@@ -57,28 +57,24 @@ pub struct FoundEntry<'a> {
 }
 
 /// Returns the entry that the bytes are, or `None` if they are not one, as `read_entry` does. Bytes that are not UTF-8
-/// are not an entry. Fails if memory runs out.
+/// are not an entry.
 ///
 /// ```text
 /// b"10.0.0.9/8":  the text "10.0.0.9/8", and Network(10.0.0.9/8)
 /// b"\xff":        None
 /// ```
-pub fn read_text<'a>(
-    room: &mut String,
-    text: &'a [u8],
-    grammar: Grammar,
-) -> Result<Option<FoundEntry<'a>>, AllocError>
-    ensures reads { IfOk result (ReadsAs found_range (IsEntryText grammar) text.now) }
-    ensures spelled { IfOk result (λ found. IfSome found (λ f. f.text.now ≡ text.now)) }
-    ensures kind { IfOk result (λ found. IfSome found (λ f. IsWrittenAs grammar text.now f.entry)) }
+pub fn read_text<'a>(text: &'a [u8], grammar: Grammar) -> Option<FoundEntry<'a>>
+    ensures reads { ReadsAs found_range (IsEntryText grammar) text.now result }
+    ensures spelled { IfSome result (λ found. found.text.now ≡ text.now) }
+    ensures kind { IfSome result (λ found. IsWrittenAs grammar text.now found.entry) }
 {
     let text = match str::from_utf8(text) {
         Ok(text) => text,
-        Err(_) => return Ok(None),
+        Err(_) => return None,
     };
-    match read_entry(room, text, grammar)? {
-        Some(entry) => Ok(Some(FoundEntry { text, entry })),
-        None => Ok(None),
+    match read_entry(text, grammar) {
+        Some(entry) => Some(FoundEntry { text, entry }),
+        None => None,
     }
 }
 
@@ -146,36 +142,31 @@ fn first_word_of(comment: &[u8]) -> &[u8]
 }
 
 /// Whether the comment begins with ";", and its first word is an entry.
-fn hides_entry(room: &mut String, comment: &[u8], grammar: Grammar) -> Result<bool, AllocError>
-    ensures { IfOk result (λ hides. IsTrue hides ↔ HidesEntry grammar comment.now) }
+fn hides_entry(comment: &[u8], grammar: Grammar) -> bool
+    ensures { IsTrue result ↔ HidesEntry grammar comment.now }
 {
     if comment.is_empty() || comment[0] != b';' {
-        return Ok(false);
+        return false;
     }
-    match read_text(room, first_word_of(comment), grammar)? {
-        Some(_) => Ok(true),
-        None => Ok(false),
+    match read_text(first_word_of(comment), grammar) {
+        Some(_) => true,
+        None => false,
     }
 }
 
-/// The contents of the line: the text before its comment, or the whole line if the comment hides an entry. Fails if
-/// memory runs out.
-pub(crate) fn contents_of<'a>(
-    room: &mut String,
-    line: &'a [u8],
-    grammar: Grammar,
-) -> Result<&'a [u8], AllocError>
-    ensures { IfOk result (λ text. IsContents grammar line.now text.now) }
+/// The contents of the line: the text before its comment, or the whole line if the comment hides an entry.
+pub(crate) fn contents_of(line: &[u8], grammar: Grammar) -> &[u8]
+    ensures { IsContents grammar line.now result.now }
 {
     let start = comment_start(line);
     let text = line[..start].trim_ascii();
     if text.is_empty() {
-        return Ok(text);
+        return text;
     }
-    if hides_entry(room, &line[start..], grammar)? {
-        return Ok(line.trim_ascii());
+    if hides_entry(&line[start..], grammar) {
+        return line.trim_ascii();
     }
-    Ok(text)
+    text
 }
 
 /// Reads the lines of lists. It hands over their entries, and keeps their refused lines.
@@ -190,7 +181,6 @@ pub(crate) struct LineReader {
     pub(crate) refused: RefusedLines,
     /// Whether an entry of the list was read.
     pub(crate) has_entry: bool,
-    room: String,
 }
 
 impl LineReader {
@@ -211,7 +201,6 @@ impl LineReader {
             line: 0,
             refused: RefusedLines::new(alloc),
             has_entry: false,
-            room: String::new(alloc),
         }
     }
 
@@ -230,17 +219,17 @@ impl LineReader {
             return Err(AllocError);
         };
         self.line = number;
-        let text = contents_of(&mut self.room, line, self.grammar)?;
+        let text = contents_of(line, self.grammar);
         if text.is_empty() {
             return Ok(());
         }
-        match read_text(&mut self.room, text, self.grammar)? {
+        match read_text(text, self.grammar) {
             Some(found) => {
                 self.has_entry = true;
                 collector.push(made, found.text, found.entry)
             }
             None => {
-                let cause = cause_of(&mut self.room, text, self.grammar)?;
+                let cause = cause_of(text, self.grammar);
                 let part = RefusedPart {
                     list: self.list,
                     line: number,

@@ -16,7 +16,6 @@ use crate::reader::read_text;
 use crate::word::{cut_word, first_blank};
 use ipnet::Grammar;
 use ipnet_rules::{Action, Addresses, Rule};
-use std::alloc::AllocError;
 
 /// Why a line is not a rule.
 ///
@@ -69,35 +68,31 @@ pub fn rule_for(action: Action, entry: Entry) -> Rule
 }
 
 /// Returns why the text after the word is not an entry.
-fn entry_cause(room: &mut String, text: &[u8], grammar: Grammar) -> Result<RuleCause, AllocError>
+fn entry_cause(text: &[u8], grammar: Grammar) -> RuleCause
     requires { IsNoEntry grammar text.now }
-    ensures { IfOk result (IsEntryCause grammar text.now) }
+    ensures { IsEntryCause grammar text.now result }
 {
     if text.is_empty() {
-        return Ok(RuleCause::NoEntry);
+        return RuleCause::NoEntry;
     }
     if first_blank(text) < text.len() {
-        return Ok(RuleCause::TwoEntries);
+        return RuleCause::TwoEntries;
     }
-    Ok(RuleCause::BadEntry(cause_of(room, text, grammar)?))
+    RuleCause::BadEntry(cause_of(text, grammar))
 }
 
-/// Returns the rule that the text is, or why it is not one. Fails if memory runs out.
-pub(crate) fn read_rule(
-    room: &mut String,
-    text: &[u8],
-    grammar: Grammar,
-) -> Result<Result<Rule, RuleCause>, AllocError>
-    ensures rule { IfOk result (λ read. IfOk read (IsRuleText grammar text.now)) }
-    ensures none { IfOk result (λ read. IfErr read (λ _. IsNoRule grammar text.now)) }
-    ensures cause { IfOk result (λ read. IfErr read (IsRuleCause grammar text.now)) }
+/// Returns the rule that the text is, or why it is not one.
+pub(crate) fn read_rule(text: &[u8], grammar: Grammar) -> Result<Rule, RuleCause>
+    ensures rule { IfOk result (IsRuleText grammar text.now) }
+    ensures none { IfErr result (λ _. IsNoRule grammar text.now) }
+    ensures cause { IfErr result (IsRuleCause grammar text.now) }
 {
     let (word, rest) = cut_word(text);
     let Some(action) = action_of(word) else {
-        return Ok(Err(RuleCause::UnknownWord));
+        return Err(RuleCause::UnknownWord);
     };
-    match read_text(room, rest, grammar)? {
-        Some(found) => Ok(Ok(rule_for(action, found.entry))),
-        None => Ok(Err(entry_cause(room, rest, grammar)?)),
+    match read_text(rest, grammar) {
+        Some(found) => Ok(rule_for(action, found.entry)),
+        None => Err(entry_cause(rest, grammar)),
     }
 }

@@ -57,7 +57,6 @@ pub struct RuleList {
 #[derive(Drop)]
 pub(crate) struct RuleReader {
     pub(crate) grammar: Grammar,
-    room: String,
     /// The number of lines that were read.
     pub(crate) number: usize,
     pub(crate) list: RuleList,
@@ -81,7 +80,6 @@ impl RuleReader {
         };
         RuleReader {
             grammar,
-            room: String::new(alloc),
             number: 0,
             list,
         }
@@ -97,7 +95,7 @@ impl RuleReader {
         if text.is_empty() {
             return Ok(());
         }
-        match read_rule(&mut self.room, text, self.grammar)? {
+        match read_rule(text, self.grammar) {
             Ok(rule) => self.list.push_rule(number, text, rule),
             Err(cause) => self.list.push_refused(number, text, cause),
         }
@@ -111,7 +109,7 @@ impl RuleReader {
             return Err(AllocError);
         };
         self.number = number;
-        let text = contents_of(&mut self.room, line, self.grammar)?;
+        let text = contents_of(line, self.grammar);
         self.add_text(number, text)
     }
 

@@ -86,10 +86,9 @@ pub(crate) fn read_text_routes<'a>(
         routes: Vec::new(alloc),
         refused: Vec::new(alloc),
     };
-    let mut room = String::new(alloc);
     let lines = content_lines(alloc, bytes, grammar)?;
     for line in lines.as_slice() {
-        let read = read_table_line(&mut room, line.text, grammar)?;
+        let read = read_table_line(line.text, grammar);
         add_line(alloc, &mut made, *line, read)?;
     }
     Ok(made)

@@ -8,8 +8,7 @@ use std::test::Fail;
 
 /// Parses an entry; `none` if the text is not one.
 fn entry_text(alloc: Global, text: &str, grammar: Grammar) -> Result<String, Fail> {
-    let mut room = String::from_str(alloc, "what the room had before")?;
-    match read_entry(&mut room, text, grammar)? {
+    match read_entry(text, grammar) {
         Some(entry) => Ok(format!(in alloc; "{entry:?}")?),
         None => Ok(String::from_str(alloc, "none")?),
     }
@@ -138,11 +137,10 @@ fn no_cause(rt: HostRuntime) -> Result<(), Fail> {
         ("a leading zero in an IPv6 address", "::010.0.0.1", false),
         ("\"::\" for no group", "1:2:3:4:5:6:7::8", false),
     ];
-    let mut room = String::from_str(rt.alloc(), "what the room had before")?;
     for (label, text, is_strict) in rows {
-        let legacy = cause_of(&mut room, text.as_bytes(), Grammar::Legacy)?;
+        let legacy = cause_of(text.as_bytes(), Grammar::Legacy);
         assert!(&rt; legacy.is_none(), "causes: {label}, legacy");
-        let strict = cause_of(&mut room, text.as_bytes(), Grammar::Strict)?;
+        let strict = cause_of(text.as_bytes(), Grammar::Strict);
         assert!(&rt; strict.is_none() == is_strict, "causes: {label}");
     }
     Ok(())

@@ -1,6 +1,6 @@
 -- The entries of a log, as they are read.
 use Rattle.std.proofs.Common.{◌≡◌, ℕ, ◌<◌, ◌&&◌, Bool, true, false, not, List, [], ◌∷◌, All, refl, sym, subst, arith}
-use Rattle.std.proofs.Common.{inl, inr, Option, Some, None, Result, Ok, Err, IfOk, IfNone, OnOk, IsErr}
+use Rattle.std.proofs.Common.{inl, inr, Option, Some, None, Result, Ok, Err, IfNone, OnOk, IsErr}
 use Rattle.std.proofs.Common.{◌+◌, ◌≤◌, ◌++◌, if◌then◌else◌, length, length-append, ap}
 use Rattle.std.specs.Result.{is_ok}
 use Rattle.std.specs.Char.{is_ascii_digit}
@@ -17,11 +17,9 @@ use Rattle.netset_lib.proofs.ListLines.{entry_utf8}
 use Rattle.netset_words.specs.LogEntries.{IsLogEntry}
 
 -- what nothing shows
-pub ok_none : {V E : Type 0} (A B : Type 0) (r : Result (Option V) E) → (A → B) → IfOk r (λ o. IfNone o A)
-    → IfOk r (λ o. IfNone o B)
-ok_none A B (Ok (Some v)) f h = tt
-ok_none A B (Ok None) f h = f h
-ok_none A B (Err e) f h = tt
+pub none_weaker : {V : Type 0} (A B : Type 0) (o : Option V) → (A → B) → IfNone o A → IfNone o B
+none_weaker A B (Some v) f h = tt
+none_weaker A B None f h = f h
 
 pub if_none : {V : Type 0} (A : Type 0) (o : Option V) → IfNone o A → ((v : V) → o ≡ Some v → ⊥) → A
 if_none A (Some v) h not = absurd (not v refl)

@@ -1,5 +1,5 @@
 //! The items of a line: entries, netmasks, and other words.
-ghost use Rattle.std.specs.Prelude.{◌≡◌, ◌<◌, ◌↔◌, ◌++◌, [], length, IsTrue, IfOk, IfSome, IfNone, MatchOption};
+ghost use Rattle.std.specs.Prelude.{◌≡◌, ◌<◌, ◌↔◌, ◌++◌, [], length, IsTrue, IfSome, IfNone, MatchOption};
 ghost use Rattle.ipnet_base.specs.Address.{ip_address};
 ghost use Rattle.netset_words.specs.Items.{BeginsRange, IsKind, IsMask, IsNextItem, IsRangeItem};
 ghost use Rattle.netset_words.specs.Words.{words_of};
@@ -7,8 +7,7 @@ ghost use Rattle.netset_words.specs.WordSteps.{item_of, word_of};
 
 use crate::word::{NextWord, next_word};
 use ipnet::{Grammar, IpAddr};
-use netset_lib::{is_netmask, read_address, read_entry, read_text};
-use std::alloc::AllocError;
+use netset_lib::{is_netmask, parse_address, read_entry, read_text};
 use std::str;
 
 /// The entries to extract from texts.
@@ -52,89 +51,83 @@ fn is_mask(address: IpAddr) -> bool
 }
 
 /// Returns the kind of the text.
-fn text_kind(room: &mut String, text: &str, grammar: Grammar) -> Result<Kind, AllocError>
-    ensures { IfOk result (IsKind grammar text.now) }
+fn text_kind(text: &str, grammar: Grammar) -> Kind
+    ensures { IsKind grammar text.now result }
 {
-    if let Some(address) = read_address(room, text, grammar)? {
+    if let Some(address) = parse_address(text, grammar) {
         return if is_mask(address) {
-            Ok(Kind::Mask)
+            Kind::Mask
         } else {
-            Ok(Kind::Entry)
+            Kind::Entry
         };
     }
-    match read_entry(room, text, grammar)? {
-        Some(_) => Ok(Kind::Entry),
-        None => Ok(Kind::Other),
+    match read_entry(text, grammar) {
+        Some(_) => Kind::Entry,
+        None => Kind::Other,
     }
 }
 
 /// Returns the kind of the word.
-fn word_kind(room: &mut String, word: &[u8], grammar: Grammar) -> Result<Kind, AllocError>
-    ensures { IfOk result (IsKind grammar word.now) }
+fn word_kind(word: &[u8], grammar: Grammar) -> Kind
+    ensures { IsKind grammar word.now result }
 {
     match str::from_utf8(word) {
-        Ok(text) => text_kind(room, text, grammar),
-        Err(_) => Ok(Kind::Other),
+        Ok(text) => text_kind(text, grammar),
+        Err(_) => Kind::Other,
     }
 }
 
 /// The range with blanks that the word begins at the front of the bytes.
 fn range_at<'a>(
-    room: &mut String,
     bytes: &'a [u8],
     first: NextWord<'a>,
     request: ExtractRequest,
-) -> Result<Option<LineItem<'a>>, AllocError>
+) -> Option<LineItem<'a>>
     requires { bytes.now ≡ first.before.now ++ (first.text.now ++ first.after.now) }
-    ensures item { IfOk result (λ found. MatchOption found
+    ensures item { MatchOption result
         (¬ (BeginsRange request (word_of first.entry) (words_of first.entry.after.now)))
         (λ item. IsRangeItem request (word_of first.entry) (words_of first.entry.after.now) (item_of item)
-        (words_of item.after.now))) }
-    ensures shorter { IfOk result (λ found. IfSome found
-        (λ item. length item.after.now < length first.entry.after.now)) }
+        (words_of item.after.now)) }
+    ensures shorter { IfSome result (λ item. length item.after.now < length first.entry.after.now) }
 {
     if !request.ranges {
-        return Ok(None);
+        return None;
     }
     let Some(dash) = next_word(first.after) else {
-        return Ok(None);
+        return None;
     };
     if dash.text != b"-".as_slice() {
-        return Ok(None);
+        return None;
     }
     let Some(last) = next_word(dash.after) else {
-        return Ok(None);
+        return None;
     };
     let text = &bytes[first.before.len()..bytes.len() - last.after.len()];
-    match read_text(room, text, request.grammar)? {
-        Some(_) => Ok(Some(LineItem {
+    match read_text(text, request.grammar) {
+        Some(_) => Some(LineItem {
             kind: Kind::Entry,
             text,
             after: last.after,
-        })),
-        None => Ok(None),
+        }),
+        None => None,
     }
 }
 
-/// Returns the first item of the bytes, or `None` if they have no word. Fails if memory runs out.
-pub(crate) fn next_item<'a>(
-    room: &mut String,
-    bytes: &'a [u8],
-    request: ExtractRequest,
-) -> Result<Option<LineItem<'a>>, AllocError>
-    ensures item { IfOk result (λ found. MatchOption found (words_of bytes.now ≡ [])
-        (λ item. IsNextItem request (words_of bytes.now) (item_of item) (words_of item.after.now))) }
-    ensures shorter { IfOk result (λ found. IfSome found (λ item. length item.after.now < length bytes.now)) }
+/// Returns the first item of the bytes, or `None` if they have no word.
+pub(crate) fn next_item<'a>(bytes: &'a [u8], request: ExtractRequest) -> Option<LineItem<'a>>
+    ensures item { MatchOption result (words_of bytes.now ≡ [])
+        (λ item. IsNextItem request (words_of bytes.now) (item_of item) (words_of item.after.now)) }
+    ensures shorter { IfSome result (λ item. length item.after.now < length bytes.now) }
 {
     let Some(first) = next_word(bytes) else {
-        return Ok(None);
+        return None;
     };
-    if let Some(item) = range_at(room, bytes, first, request)? {
-        return Ok(Some(item));
+    if let Some(item) = range_at(bytes, first, request) {
+        return Some(item);
     }
-    Ok(Some(LineItem {
-        kind: word_kind(room, first.text, request.grammar)?,
+    Some(LineItem {
+        kind: word_kind(first.text, request.grammar),
         text: first.text,
         after: first.after,
-    }))
+    })
 }

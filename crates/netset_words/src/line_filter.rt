@@ -112,7 +112,6 @@ fn print_front(
 /// The lines to print.
 #[derive(Drop)]
 pub(crate) struct LineAnswers {
-    room: String,
     /// The printed lines, each with a newline, and the front of a line that is still being printed.
     pub(crate) text: Vec<u8>,
     /// Whether a line is printed.
@@ -134,7 +133,7 @@ impl LineAnswers {
             → ((r : LogResult) × IsShortLine request (IsMember set.now) number line.now r × (r.undecided ≡ [])
             × AddsResult self.old self.new r)) }
     {
-        let verdict = verdict_on(&mut self.room, set, request, line)?;
+        let verdict = verdict_on(set, request, line);
         self.nones = count_none(self.nones, verdict)?;
         let treatment = whole_treatment(request.others, verdict);
         let printed = print_line(&mut self.text, line, treatment)?;
@@ -261,7 +260,6 @@ impl LineFilter {
             request,
             set,
             answers: LineAnswers {
-                room: String::new(alloc),
                 text: Vec::new(alloc),
                 printed: false,
                 nones: 0,
@@ -287,7 +285,7 @@ impl LineFilter {
         self.front.extend_from_slice(last)?;
         let front = self.front.as_slice();
         let whole = &front[..whole_len(front)];
-        let verdict = verdict_on(&mut self.answers.room, &self.set, self.request, whole)?;
+        let verdict = verdict_on(&self.set, self.request, whole);
         let treatment = front_treatment(self.request.any, self.request.others, verdict);
         let printed = print_front(&mut self.answers.text, front, more, treatment)?;
         self.answers.printed = self.answers.printed | printed;

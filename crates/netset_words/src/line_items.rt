@@ -84,7 +84,6 @@ fn read_item<'a>(
 /// Reads the items of a line without a NUL byte. The wanted entries are appended to the answer, each with a newline.
 /// Fails if memory runs out.
 pub(crate) fn read_items<'a>(
-    room: &mut String,
     answer: &mut Vec<u8>,
     request: ExtractRequest,
     line: &'a [u8],
@@ -97,7 +96,7 @@ pub(crate) fn read_items<'a>(
         mask: None,
     };
     let mut rest = line;
-    'items: while let Some(item) = next_item(room, rest, request)? {
+    'items: while let Some(item) = next_item(rest, request) {
         state = read_item(answer, request, state, item)?;
         rest = item.after;
     }

@@ -1,5 +1,5 @@
 //! Lines of a log, chosen by their entries.
-ghost use Rattle.std.specs.Prelude.{◌≡◌, ◌<◌, ◌↔◌, All, length, IsTrue, IfOk, IfSome, MatchOption};
+ghost use Rattle.std.specs.Prelude.{◌≡◌, ◌<◌, ◌↔◌, All, length, IsTrue, IfSome, MatchOption};
 ghost use Rattle.ipnet_base.specs.Address.{ip_address};
 ghost use Rattle.ipnet_sets.specs.Members.{IsMember};
 ghost use Rattle.ipnet.specs.declared.parser.Grammar.{Grammar};
@@ -17,7 +17,6 @@ use ipnet_sets::IpSet;
 use ipnet_text::ipv4_addr_at;
 use netset_lib::filter::{address_fits, covers_entry};
 use netset_lib::{Entry, Side};
-use std::alloc::AllocError;
 
 /// Which lines of a log are printed.
 #[derive(Clone, Copy, Debug, PartialEq, Eq)]
@@ -111,30 +110,26 @@ fn leading_address(bytes: &[u8]) -> Option<LineEntry<'_>>
     })
 }
 
-/// Returns the first entry of the bytes, or `None` if they have none. Fails if memory runs out.
-pub(crate) fn next_log_entry<'a>(
-    room: &mut String,
-    bytes: &'a [u8],
-    grammar: Grammar,
-) -> Result<Option<LineEntry<'a>>, AllocError>
-    ensures entry { IfOk result (λ found. MatchOption found (All (IsNoEntryWord grammar) (words_of bytes.now))
-        (λ e. IsNextLogEntry grammar bytes.now (entry_range e.entry) e.after.now)) }
-    ensures shorter { IfOk result (λ found. IfSome found (λ e. length e.after.now < length bytes.now)) }
+/// Returns the first entry of the bytes, or `None` if they have none.
+pub(crate) fn next_log_entry<'a>(bytes: &'a [u8], grammar: Grammar) -> Option<LineEntry<'a>>
+    ensures entry { MatchOption result (All (IsNoEntryWord grammar) (words_of bytes.now))
+        (λ e. IsNextLogEntry grammar bytes.now (entry_range e.entry) e.after.now) }
+    ensures shorter { IfSome result (λ e. length e.after.now < length bytes.now) }
 {
     if let Some(found) = leading_address(bytes) {
-        return Ok(Some(found));
+        return Some(found);
     }
     let mut rest = bytes;
     'words: while let Some(word) = next_word(rest) {
-        if let Some(entry) = read_log_entry(room, word.text, grammar)? {
-            return Ok(Some(LineEntry {
+        if let Some(entry) = read_log_entry(word.text, grammar) {
+            return Some(LineEntry {
                 entry,
                 after: word.after,
-            }));
+            });
         }
         rest = word.after;
     }
-    Ok(None)
+    None
 }
 
 /// Whether the address is in the set.
@@ -157,26 +152,21 @@ fn lies_in(set: &IpSet, entry: Entry) -> bool
     }
 }
 
-/// Returns the verdict on a whole text. Fails if memory runs out.
-pub(crate) fn verdict_on(
-    room: &mut String,
-    set: &IpSet,
-    request: LinesRequest,
-    text: &[u8],
-) -> Result<Verdict, AllocError>
-    ensures { IfOk result (IsVerdict request (IsMember set.now) (words_of text.now)) }
+/// Returns the verdict on a whole text.
+pub(crate) fn verdict_on(set: &IpSet, request: LinesRequest, text: &[u8]) -> Verdict
+    ensures { IsVerdict request (IsMember set.now) (words_of text.now) result }
 {
     let mut rest = text;
     let mut verdict = Verdict::NoEntry;
-    'entries: while let Some(found) = next_log_entry(room, rest, request.grammar)? {
+    'entries: while let Some(found) = next_log_entry(rest, request.grammar) {
         if lies_in(set, found.entry) {
-            return Ok(Verdict::Chosen);
+            return Verdict::Chosen;
         }
         if !request.any {
-            return Ok(Verdict::Other);
+            return Verdict::Other;
         }
         verdict = Verdict::Other;
         rest = found.after;
     }
-    Ok(verdict)
+    verdict
 }

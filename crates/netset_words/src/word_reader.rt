@@ -22,7 +22,6 @@ pub(crate) struct WordReader {
     pub(crate) refused: RefusedWords,
     /// Whether the text has an entry.
     pub(crate) has_entry: bool,
-    room: String,
 }
 
 impl WordReader {
@@ -44,7 +43,6 @@ impl WordReader {
             answer: Vec::new(alloc),
             refused: RefusedWords::new(alloc),
             has_entry: false,
-            room: String::new(alloc),
         }
     }
 
@@ -65,7 +63,7 @@ impl WordReader {
             };
             return self.refused.push(self.alloc, part);
         }
-        let state = read_items(&mut self.room, &mut self.answer, self.request, line)?;
+        let state = read_items(&mut self.answer, self.request, line)?;
         self.has_entry = self.has_entry | state.has_entry;
         match state.mask {
             Some(mask) => {

@@ -12,9 +12,10 @@ loop-line-init c = (ap (map numbered) c.new-entries.ensures.items, ap (map refus
 pub loop-line-preserved : goal.loop-line-preserved
 loop-line-preserved c =
     line_next c.args.grammar line_of c.as_slice-line-items.result.now c.loop-line.line-index _
-    c.in_ok-read.read c.loop-line.entries.items c.keep_read.new.items.items (map refused_of c.loop-line.refused.items)
-    (map refused_of c.keep_read.new.refused.items) c.loop-line-test.true c.loop-line.invariant
-    c.in_ok-read.ensures.entry c.in_ok-read.ensures.cause c.in_ok-keep_read.ensures
+    c.read_line-read.result c.loop-line.entries.items c.keep_read.new.items.items
+    (map refused_of c.loop-line.refused.items) (map refused_of c.keep_read.new.refused.items) c.loop-line-test.true
+    c.loop-line.invariant
+    c.read_line-read.ensures.entry c.read_line-read.ensures.cause c.in_ok-keep_read.ensures
 
 pub returns : goal.returns
 returns c =

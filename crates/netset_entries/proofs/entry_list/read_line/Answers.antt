@@ -1,8 +1,5 @@
-use Rattle.std.proofs.Common.{IsNone, refl, subst, sym}
+use Rattle.std.proofs.Common.{refl}
 use Rattle.netset_entries.proofs.entry_list.read_line.Goals as goal
 
-pub returns-in_ok-cause_of-in-None-clause-cause : goal.returns-in_ok-cause_of-in-None-clause-cause
-returns-in_ok-cause_of-in-None-clause-cause c = (
-  c.in_ok-found.ensures.reads.none.0 (subst IsNone (sym c.in-None.is) refl),
-  c.in_ok-cause_of-in-None.ensures.reported,
-)
+pub returns-in-None-clause-cause : goal.returns-in-None-clause-cause
+returns-in-None-clause-cause c = (c.in-None.ensures.reads.none.0 refl, c.cause_of.ensures.reported)

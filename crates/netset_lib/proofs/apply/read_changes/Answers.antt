@@ -16,9 +16,10 @@ loop-line-preserved c =
     let Has = IsAnswerNetwork (IsMember c.args.set.now) in
     read_next (λ text change. IsFittingChange c.args.grammar Has text (change_of change))
     (IsChangeCause c.args.grammar Has) line_of c.as_slice-line-items.result.now c.loop-line.line-index _
-    c.in_ok-read.read c.loop-line.changes.items c.keep_read.new.items.items (map refused_of c.loop-line.refused.items)
-    (map refused_of c.keep_read.new.refused.items) c.loop-line-test.true c.loop-line.invariant
-    c.in_ok-read.ensures.change c.in_ok-read.ensures.cause c.in_ok-keep_read.ensures
+    c.read_change-read.result c.loop-line.changes.items c.keep_read.new.items.items
+    (map refused_of c.loop-line.refused.items) (map refused_of c.keep_read.new.refused.items) c.loop-line-test.true
+    c.loop-line.invariant
+    c.read_change-read.ensures.change c.read_change-read.ensures.cause c.in_ok-keep_read.ensures
 
 pub returns : goal.returns
 returns c =

@@ -1,8 +1,5 @@
-use Rattle.std.proofs.Common.{◌≡◌, IfSome, None, inr, rules, subst}
-use Rattle.netset_lib.specs.declared.cause.Cause.{Cause}
-use Rattle.netset_lib.specs.Causes.{IsReportedCause, Explains}
-use Rattle.netset_lib.specs.Entries.{IsNoEntry}
-use Rattle.netset_lib.proofs.EntryTexts.{ok_map}
+use Rattle.std.proofs.Common.{◌≡◌, inr, rules, subst}
+use Rattle.netset_lib.specs.Causes.{IsReportedCause}
 use Rattle.netset_lib.proofs.CauseOrder.{reported_none}
 use Rattle.netset_lib.proofs.CauseTexts.{reported_no_entry}
 use Rattle.netset_lib.proofs.ListLines.{entry_utf8}
@@ -12,20 +9,15 @@ pub returns-in-Ok-clause-no_entry : goal.returns-in-Ok-clause-no_entry
 returns-in-Ok-clause-no_entry c =
     let grammar = c.args.grammar in
     let same : c.in-Ok.text.now ≡ c.args.text.now = search rules in
-    ok_map (IsReportedCause grammar c.in-Ok.text.now) (λ found. IfSome found (λ _. IsNoEntry grammar c.args.text.now))
-    c.cause_in_text.result
-    (λ found h. reported_no_entry grammar c.args.text.now found (subst (λ t. IsReportedCause grammar t found) same h))
-    c.cause_in_text.ensures
+    reported_no_entry grammar c.args.text.now c.cause_in_text.result
+    (subst (λ t. IsReportedCause grammar t c.cause_in_text.result) same c.cause_in_text.ensures)
 
 pub returns-in-Ok-clause-none : goal.returns-in-Ok-clause-none
 returns-in-Ok-clause-none c =
     let grammar = c.args.grammar in
     let same : c.in-Ok.text.now ≡ c.args.text.now = search rules in
-    ok_map (IsReportedCause grammar c.in-Ok.text.now)
-    (λ found. found ≡ None → IsNoEntry grammar c.args.text.now → (cause : Cause) → ¬ (Explains c.args.text.now cause))
-    c.cause_in_text.result
-    (λ found h. reported_none grammar c.args.text.now found (subst (λ t. IsReportedCause grammar t found) same h))
-    c.cause_in_text.ensures
+    reported_none grammar c.args.text.now c.cause_in_text.result
+    (subst (λ t. IsReportedCause grammar t c.cause_in_text.result) same c.cause_in_text.ensures)
 
 -- bytes that are not UTF-8 are no entry
 pub returns-in-Err-clause-reported : goal.returns-in-Err-clause-reported

@@ -11,8 +11,8 @@ loop-index-preserved c = λ reported h.
     (sym (drop_more c.args.causes.now c.loop-index.index _ c.loop-index-test.true))
     (inr (
       λ e.
-          let is = c.in_ok-explains.ensures.1 e in
-          let not = c.if-branch.false in
+          let is = c.explains.ensures.1 e in
+          let not = c.if-explains.false in
           absurd cc,
       h,
     )))

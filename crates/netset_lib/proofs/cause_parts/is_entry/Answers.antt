@@ -6,5 +6,5 @@ use Rattle.netset_lib.proofs.cause_parts.is_entry.Goals as goal
 
 pub returns-in-None : goal.returns-in-None
 returns-in-None c =
-    none_is entry_range (IsEntryText Legacy) c.args.text.now c.in_ok-read_entry.field-0 c.in_ok-read_entry.ensures.reads
+    none_is entry_range (IsEntryText Legacy) c.args.text.now c.read_entry.result c.read_entry.ensures.reads
     c.in-None.is

@@ -1,8 +1,6 @@
-use Rattle.std.proofs.Common.{subst, IfOk, IfErr}
 use Rattle.ipnet.specs.NetworkOf.{ip_network}
 use Rattle.ipnet_sets.specs.Members.{IsMember}
 use Rattle.netset_lib.specs.ChangeLists.{IsAnswerNetwork}
-use Rattle.netset_lib.specs.NetworkEntries.{IsNetworkWord, IsNoNetworkWord, IsNetworkCause}
 use Rattle.netset_lib.proofs.ChangeLineLaws.{signed_text, change_of_line, cause_of_line, no_network_line}
 use Rattle.netset_lib.proofs.change_line.read_change.Goals as goal
 
@@ -13,8 +11,7 @@ returns-in-Ok-clause-change c =
     c.fit.result c.fit.ensures.change c.fit.ensures.fits
     (signed_text c.args.grammar c.args.text.now c.cut_word.result.0.now c.cut_word.result.1.now c.in-Some.sign n
     c.cut_word.ensures.word c.cut_word.ensures.rest (c.in-Some.ensures.some n)
-    (subst (λ r. IfOk r (λ n. IsNetworkWord c.args.grammar c.cut_word.result.1.now (ip_network n))) c.in-Ok.is
-    c.in_ok-network.ensures.network))
+    c.in-Ok.ensures.network)
 
 pub returns-in-Ok-clause-cause : goal.returns-in-Ok-clause-cause
 returns-in-Ok-clause-cause c =
@@ -23,15 +20,11 @@ returns-in-Ok-clause-cause c =
     c.fit.result c.fit.ensures.cause
     (signed_text c.args.grammar c.args.text.now c.cut_word.result.0.now c.cut_word.result.1.now c.in-Some.sign n
     c.cut_word.ensures.word c.cut_word.ensures.rest (c.in-Some.ensures.some n)
-    (subst (λ r. IfOk r (λ n. IsNetworkWord c.args.grammar c.cut_word.result.1.now (ip_network n))) c.in-Ok.is
-    c.in_ok-network.ensures.network))
+    c.in-Ok.ensures.network)
 
 pub returns-in-Err-clause-cause : goal.returns-in-Err-clause-cause
 returns-in-Err-clause-cause c =
     no_network_line c.args.grammar (IsAnswerNetwork (IsMember c.args.set.now)) c.args.text.now
     c.cut_word.result.0.now c.cut_word.result.1.now c.in-Some.sign c.in-Err.cause c.cut_word.ensures.word
     c.cut_word.ensures.rest c.in-Some.ensures.some
-    (subst (λ r. IfErr r (λ _. IsNoNetworkWord c.args.grammar c.cut_word.result.1.now)) c.in-Err.is
-    c.in_ok-network.ensures.none)
-    (subst (λ r. IfErr r (IsNetworkCause c.args.grammar c.cut_word.result.1.now)) c.in-Err.is
-    c.in_ok-network.ensures.cause)
+    c.in-Err.ensures.none c.in-Err.ensures.cause

@@ -1,11 +1,10 @@
-use Rattle.std.proofs.Common.{◌≡◌, ◌++◌, ◌∷◌, sym, subst, ap₂, ◌∙◌, lit<, All, ◌≢◌, IfOk, IfSome}
+use Rattle.std.proofs.Common.{◌≡◌, ◌++◌, ◌∷◌, sym, subst, ap₂, ◌∙◌, lit<, All, ◌≢◌, IfSome}
 use Rattle.std.proofs.lemmas.Str.Ascii.{trim_ascii_end_is, trim_ascii_start_is}
-use Rattle.netset_lib.specs.Entries.{IsAddressText, IsEntryText, IsPlainEntry, WriteRange, ReadsAs}
-use Rattle.netset_lib.specs.Entries.{after_blanks, before_blanks}
-use Rattle.netset_lib.specs.EntryOf.{entry_range, IsWrittenAs}
+use Rattle.netset_lib.specs.Entries.{IsAddressText, WriteRange, ReadsAs, after_blanks}
+use Rattle.netset_lib.specs.EntryOf.{entry_range}
 use Rattle.netset_lib.specs.EntrySteps.{HasEnds}
 use Rattle.netset_lib.proofs.AddressBytes.{cut_at, front_lacks, all_lack}
-use Rattle.netset_lib.proofs.EntryTexts.{ok_map, reads_cut, reads_uncut, written_range}
+use Rattle.netset_lib.proofs.EntryTexts.{reads_cut, reads_uncut, written_range}
 use Rattle.netset_lib.proofs.entry.read_entry.Goals as goal
 
 pub returns-in-Some-clause-reads : goal.returns-in-Some-clause-reads
@@ -20,12 +19,10 @@ returns-in-Some-clause-reads c =
     let lacks : All (λ b. b ≢ 45) first = subst (All (λ b. b ≢ 45)) (sym cut.0) (front_lacks 45 text cut.2) in
     let before = trim_ascii_end_is first c.trim_ascii_end.result.now c.trim_ascii_end.ensures.value in
     let after = trim_ascii_start_is last c.trim_ascii_start.result.now c.trim_ascii_start.ensures.value in
-    ok_map (ReadsAs entry_range (WriteRange grammar (before_blanks first)) (after_blanks last))
-    (ReadsAs entry_range (IsEntryText grammar) text) c.read_range.result
-    (reads_cut entry_range grammar text first last spelled lacks)
-    (subst (λ z. IfOk c.read_range.result (ReadsAs entry_range (WriteRange grammar z) (after_blanks last))) before
-    (subst (λ z. IfOk c.read_range.result
-    (ReadsAs entry_range (WriteRange grammar c.trim_ascii_end.result.now) z)) after c.read_range.ensures.reads))
+    reads_cut entry_range grammar text first last spelled lacks c.read_range.result
+    (subst (λ z. ReadsAs entry_range (WriteRange grammar z) (after_blanks last) c.read_range.result) before
+    (subst (λ z. ReadsAs entry_range (WriteRange grammar c.trim_ascii_end.result.now) z c.read_range.result) after
+    c.read_range.ensures.reads))
 
 pub returns-in-Some-clause-kind : goal.returns-in-Some-clause-kind
 returns-in-Some-clause-kind c =
@@ -38,13 +35,11 @@ returns-in-Some-clause-kind c =
     cut_at 45 text cut.2 ∙ ap₂ (λ a b. a ++ 45 ∷ b) (sym cut.0) (sym cut.1) in
     let before = trim_ascii_end_is first c.trim_ascii_end.result.now c.trim_ascii_end.ensures.value in
     let after = trim_ascii_start_is last c.trim_ascii_start.result.now c.trim_ascii_start.ensures.value in
-    ok_map (λ o. IfSome o (HasEnds (IsAddressText grammar (before_blanks first))
-    (IsAddressText grammar (after_blanks last))))
-    (λ o. IfSome o (IsWrittenAs grammar text)) c.read_range.result (written_range grammar text first last spelled)
-    (subst (λ z. IfOk c.read_range.result (λ o. IfSome o (HasEnds (IsAddressText grammar z)
-    (IsAddressText grammar (after_blanks last))))) before
-    (subst (λ z. IfOk c.read_range.result (λ o. IfSome o
-    (HasEnds (IsAddressText grammar c.trim_ascii_end.result.now) (IsAddressText grammar z)))) after
+    written_range grammar text first last spelled c.read_range.result
+    (subst (λ z. IfSome c.read_range.result (HasEnds (IsAddressText grammar z)
+    (IsAddressText grammar (after_blanks last)))) before
+    (subst (λ z. IfSome c.read_range.result
+    (HasEnds (IsAddressText grammar c.trim_ascii_end.result.now) (IsAddressText grammar z))) after
     c.read_range.ensures.kind))
 
 pub returns-in-None-clause-reads : goal.returns-in-None-clause-reads
@@ -52,5 +47,4 @@ returns-in-None-clause-reads c =
     let grammar = c.args.grammar in
     let text = c.args.text.now in
     let lacks = all_lack 45 text (c.in-None.ensures.byte (lit< tt) (λ w o h. h)) in
-    ok_map (ReadsAs entry_range (IsPlainEntry grammar) text) (ReadsAs entry_range (IsEntryText grammar) text)
-    c.read_plain.result (reads_uncut entry_range grammar text lacks) c.read_plain.ensures.reads
+    reads_uncut entry_range grammar text lacks c.read_plain.result c.read_plain.ensures.reads

@@ -13,10 +13,10 @@ loop-line-init c = (c.new-networks.ensures.items, ap (map refused_of) c.new-refu
 pub loop-line-preserved : goal.loop-line-preserved
 loop-line-preserved c =
     read_next (λ text n. IsListNetwork c.args.grammar text (network_in n)) (IsNoListNetwork c.args.grammar) line_of
-    c.as_slice-line-items.result.now c.loop-line.line-index _ c.in_ok-read.read c.loop-line.networks.items
+    c.as_slice-line-items.result.now c.loop-line.line-index _ c.read_list_network-read.result c.loop-line.networks.items
     c.keep_read.new.items.items (map refused_of c.loop-line.refused.items)
     (map refused_of c.keep_read.new.refused.items) c.loop-line-test.true c.loop-line.invariant
-    c.in_ok-read.ensures.network c.in_ok-read.ensures.cause c.in_ok-keep_read.ensures
+    c.read_list_network-read.ensures.network c.read_list_network-read.ensures.cause c.in_ok-keep_read.ensures
 
 pub returns : goal.returns
 returns c =

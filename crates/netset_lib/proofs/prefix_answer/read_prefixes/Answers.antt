@@ -12,9 +12,10 @@ loop-line-init c = (c.new-rules.ensures.items, ap (map refused_of) c.new-refused
 pub loop-line-preserved : goal.loop-line-preserved
 loop-line-preserved c =
     read_next (IsPrefixText c.args.grammar) (IsPrefixCause c.args.grammar) line_of c.as_slice-line-items.result.now
-    c.loop-line.line-index _ c.in_ok-read.read c.loop-line.rules.items c.keep_read.new.items.items
+    c.loop-line.line-index _ c.read_prefix_rule-read.result c.loop-line.rules.items c.keep_read.new.items.items
     (map refused_of c.loop-line.refused.items) (map refused_of c.keep_read.new.refused.items) c.loop-line-test.true
-    c.loop-line.invariant c.in_ok-read.ensures.rule c.in_ok-read.ensures.cause c.in_ok-keep_read.ensures
+    c.loop-line.invariant c.read_prefix_rule-read.ensures.rule c.read_prefix_rule-read.ensures.cause
+    c.in_ok-keep_read.ensures
 
 pub returns : goal.returns
 returns c =

@@ -1,4 +1,4 @@
-use Rattle.std.proofs.Common.{◌≡◌, IfErr, sym, ap, ◌∙◌, subst}
+use Rattle.std.proofs.Common.{◌≡◌, sym, ap, ◌∙◌, subst}
 use Rattle.netset_lib.specs.NetworkEntries.{IsNoNetworkWord, IsNetworkCause}
 use Rattle.netset_lib.specs.PrefixLines.{network_word}
 use Rattle.netset_lib.specs.RuleLines.{leading_word}
@@ -10,10 +10,6 @@ returns-in-Err-clause-cause c =
     let entry : c.cut_word-2.result.0.now ≡ network_word c.args.text.now =
     c.cut_word-2.ensures.word ∙ ap leading_word c.cut_word.ensures.rest in (
       (c.in-Some.action, sym c.cut_word.ensures.word ∙ (c.action_of.ensures c.in-Some.action).0 c.in-Some.is),
-      subst (IsNoNetworkWord grammar) entry
-          (subst (λ r. IfErr r (λ _. IsNoNetworkWord grammar c.cut_word-2.result.0.now)) c.in-Err.is
-          c.in_ok-network.ensures.none),
-      subst (λ z. IsNetworkCause grammar z c.in-Err.cause) entry
-          (subst (λ r. IfErr r (IsNetworkCause grammar c.cut_word-2.result.0.now)) c.in-Err.is
-          c.in_ok-network.ensures.cause),
+      subst (IsNoNetworkWord grammar) entry c.in-Err.ensures.none,
+      subst (λ z. IsNetworkCause grammar z c.in-Err.cause) entry c.in-Err.ensures.cause,
     )

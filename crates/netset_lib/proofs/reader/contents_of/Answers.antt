@@ -16,8 +16,8 @@ returns-then-is_empty c =
       );
     }
 
-pub returns-then-branch : goal.returns-then-branch
-returns-then-branch c =
+pub returns-then-hides_entry : goal.returns-then-hides_entry
+returns-then-hides_entry c =
     let text = c.trim_ascii-text.result.now in record {
       start = c.comment_start-start.result;
       comment = c.comment_start-start.ensures;
@@ -30,7 +30,7 @@ returns-then-branch c =
             let wrong : 0 < 0 = subst (λ t. 0 < length t) empty some in
             absurd (omega (arith, wrong))),
         subst (HidesEntry c.args.grammar) (behind c.args.line.now c.comment_start-start.result)
-            (c.in_ok-hides_entry.ensures.0 c.if-branch.true),
+            (c.hides_entry.ensures.0 c.if-hides_entry.true),
       );
     }
 
@@ -42,9 +42,9 @@ returns c = record {
     trimmed (take c.comment_start-start.result c.args.line.now) c.trim_ascii-text.result.now
         c.trim_ascii-text.ensures.value,
     inr (λ h.
-        let is = c.in_ok-hides_entry.ensures.1
+        let is = c.hides_entry.ensures.1
         (subst (HidesEntry c.args.grammar) (sym (behind c.args.line.now c.comment_start-start.result)) h) in
-        let not = c.if-branch.false in
+        let not = c.if-hides_entry.false in
         absurd cc),
   );
 }

@@ -1,8 +1,7 @@
-use Rattle.std.proofs.Common.{◌≡◌, sym, subst, rules, ◌∙◌}
+use Rattle.std.proofs.Common.{◌≡◌, refl, sym, subst, rules}
 use Rattle.netset_lib.specs.Entries.{IsEntryText}
-use Rattle.netset_lib.specs.EntryOf.{entry_range}
 use Rattle.netset_lib.specs.FoundEntry.{found_range}
-use Rattle.netset_lib.proofs.EntryTexts.{reads_none, none_of}
+use Rattle.netset_lib.proofs.EntryTexts.{reads_none}
 use Rattle.netset_lib.proofs.ListLines.{entry_utf8}
 use Rattle.netset_lib.proofs.reader.read_text.Goals as goal
 
@@ -15,8 +14,5 @@ pub returns-in-None-clause-reads : goal.returns-in-None-clause-reads
 returns-in-None-clause-reads c =
     let grammar = c.args.grammar in
     let same : c.in-Ok.text.now ≡ c.args.text.now = search rules in
-    let none = none_of entry_range (IsEntryText grammar) c.in-Ok.text.now c.in_ok-entry.field-0
-    c.in_ok-entry.ensures.reads
-    (λ v e. let clash = sym e ∙ c.in-None.is in absurd cc) in
     reads_none found_range (IsEntryText grammar) c.args.text.now
-    (λ range h. none range (subst (λ z. IsEntryText grammar z range) (sym same) h))
+    (λ range h. c.in-None.ensures.reads.none.0 refl range (subst (λ z. IsEntryText grammar z range) (sym same) h))

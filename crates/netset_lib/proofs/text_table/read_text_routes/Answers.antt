@@ -10,9 +10,9 @@ loop-line-init c = read_none c.args.grammar _ c.new.ensures.items c.new-2.ensure
 
 pub loop-line-preserved : goal.loop-line-preserved
 loop-line-preserved c =
-    read_more c.args.grammar c.as_slice-line-items.result.now c.loop-line.line-index _ c.in_ok-read.read
-    c.loop-line.made c.add_line.new.made c.loop-line-test.true c.loop-line.invariant c.in_ok-read.ensures.line
-    c.in_ok-read.ensures.cause c.in_ok-add_line.ensures
+    read_more c.args.grammar c.as_slice-line-items.result.now c.loop-line.line-index _ c.read_table_line-read.result
+    c.loop-line.made c.add_line.new.made c.loop-line-test.true c.loop-line.invariant c.read_table_line-read.ensures.line
+    c.read_table_line-read.ensures.cause c.in_ok-add_line.ensures
 
 pub returns : goal.returns
 returns c =

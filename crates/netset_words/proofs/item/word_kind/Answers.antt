@@ -1,4 +1,4 @@
-use Rattle.std.proofs.Common.{◌≡◌, subst, rules, IfOk}
+use Rattle.std.proofs.Common.{◌≡◌, subst, rules}
 use Rattle.netset_lib.proofs.ListLines.{entry_utf8}
 use Rattle.netset_words.specs.Items.{IsKind}
 use Rattle.netset_words.proofs.item.word_kind.Goals as goal
@@ -6,7 +6,7 @@ use Rattle.netset_words.proofs.item.word_kind.Goals as goal
 pub returns-in-Ok : goal.returns-in-Ok
 returns-in-Ok c =
     let same : c.in-Ok.text.now ≡ c.args.word.now = search rules in
-    subst (λ z. IfOk c.text_kind.result (IsKind c.args.grammar z)) same c.text_kind.ensures
+    subst (λ z. IsKind c.args.grammar z c.text_kind.result) same c.text_kind.ensures
 
 pub returns-in-Err : goal.returns-in-Err
 returns-in-Err c = λ range h. c.in-Err.ensures.cases.0 (entry_utf8 c.args.grammar c.args.word.now range h)

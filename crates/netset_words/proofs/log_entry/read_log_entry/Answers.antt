@@ -1,4 +1,4 @@
-use Rattle.std.proofs.Common.{◌≡◌, subst, rules, IfOk, IfNone, sym, ◌∙◌}
+use Rattle.std.proofs.Common.{◌≡◌, subst, rules, IfNone, sym, ◌∙◌}
 use Rattle.ipnet_base.specs.Ranges.{AddressRange}
 use Rattle.netset_words.specs.LogEntries.{IsLogEntry}
 use Rattle.netset_words.proofs.LogEntryLaws.{log_entry_utf8}
@@ -12,8 +12,8 @@ returns-then-not-has_separator-clause-none c = λ range.
 pub returns-in-Ok-clause-none : goal.returns-in-Ok-clause-none
 returns-in-Ok-clause-none c =
     let same : c.in-Ok.text.now ≡ c.args.word.now = search rules in
-    subst (λ z. IfOk c.read_log_text.result (λ found. IfNone found ((range : AddressRange)
-    → ¬ (IsLogEntry c.args.grammar z range)))) same c.read_log_text.ensures.none
+    subst (λ z. IfNone c.read_log_text.result ((range : AddressRange) → ¬ (IsLogEntry c.args.grammar z range))) same
+    c.read_log_text.ensures.none
 
 pub returns-in-Err-clause-none : goal.returns-in-Err-clause-none
 returns-in-Err-clause-none c = λ range h.

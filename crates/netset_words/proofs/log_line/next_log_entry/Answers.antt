@@ -10,8 +10,8 @@ use Rattle.netset_words.proofs.log_line.next_log_entry.Goals as goal
 pub words-init : goal.words-init
 words-init c = record { passed = none_passed c.args.grammar c.args.bytes.now; shorter = omega arith }
 
-pub returns-in-Some-2-clause-shorter : goal.returns-in-Some-2-clause-shorter
-returns-in-Some-2-clause-shorter c =
+pub returns-in-Some-read_log_entry-clause-shorter : goal.returns-in-Some-read_log_entry-clause-shorter
+returns-in-Some-read_log_entry-clause-shorter c =
     omega (arith, c.words.invariant.shorter, c.in-Some-next_word.ensures.shorter)
 
 pub words-preserved : goal.words-preserved
@@ -20,8 +20,8 @@ words-preserved c =
     record {
       passed = one_passed c.args.grammar c.args.bytes.now c.words.rest.now w.after.now (word_of w)
           c.words.invariant.passed c.in-Some-next_word.ensures.words
-          (if_none ((range : AddressRange) → ¬ (IsLogEntry c.args.grammar w.text.now range)) c.in_ok-entry.field-0
-          c.in_ok-entry.ensures.none c.in_default-2.not-Some);
+          (if_none ((range : AddressRange) → ¬ (IsLogEntry c.args.grammar w.text.now range)) c.read_log_entry.result
+          c.read_log_entry.ensures.none c.in_default-read_log_entry.not-Some);
       shorter = omega (arith, c.words.invariant.shorter, c.in-Some-next_word.ensures.shorter);
     }
 

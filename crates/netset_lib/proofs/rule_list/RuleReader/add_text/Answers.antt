@@ -1,8 +1,7 @@
-use Rattle.std.proofs.Common.{length, sym, ◌∙◌, subst, IfOk, IfErr}
+use Rattle.std.proofs.Common.{length, sym, ◌∙◌}
 use Rattle.std.proofs.lemmas.Bool.{eqb-false}
 use Rattle.ipnet_text.proofs.ListsLaws.{OnOk_then}
 use Rattle.netset_lib.specs.RuleContentsOf.{contents_of}
-use Rattle.netset_lib.specs.RuleLines.{IsRuleText, IsNoRule, IsRuleCause}
 use Rattle.netset_lib.proofs.RuleLaws.{adds_rule, adds_refusal}
 use Rattle.netset_lib.proofs.rule_list.RuleReader.add_text.Goals as goal
 
@@ -13,7 +12,7 @@ returns-in-Ok-clause-adds c =
     OnOk_then c.push_rule.result c.push_rule.ensures
     (adds_rule grammar c.args.number text (contents_of c.args.self.now.list) (contents_of c.push_rule.new.self)
     c.in-Ok.rule (eqb-false (length text) 0 (sym c.is_empty.ensures ∙ c.if-is_empty.false))
-    (subst (λ r. IfOk r (IsRuleText grammar text)) c.in-Ok.is c.in_ok-rule.ensures.rule))
+    c.in-Ok.ensures.rule)
 
 pub returns-in-Err-clause-adds : goal.returns-in-Err-clause-adds
 returns-in-Err-clause-adds c =
@@ -22,5 +21,4 @@ returns-in-Err-clause-adds c =
     OnOk_then c.push_refused.result c.push_refused.ensures
     (adds_refusal grammar c.args.number text (contents_of c.args.self.now.list) (contents_of c.push_refused.new.self)
     c.in-Err.cause (eqb-false (length text) 0 (sym c.is_empty.ensures ∙ c.if-is_empty.false))
-    (subst (λ r. IfErr r (λ _. IsNoRule grammar text)) c.in-Err.is c.in_ok-rule.ensures.none)
-    (subst (λ r. IfErr r (IsRuleCause grammar text)) c.in-Err.is c.in_ok-rule.ensures.cause))
+    c.in-Err.ensures.none c.in-Err.ensures.cause)

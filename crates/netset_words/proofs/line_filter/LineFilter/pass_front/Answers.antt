@@ -31,22 +31,6 @@ invariant_of-self-in-Break-branch-2 c = record {
   );
 }
 
-pub returns-in_err-verdict : goal.returns-in_err-verdict
-returns-in_err-verdict c =
-    no_ok _ c.from_residual-in_err-verdict.result c.from_residual-in_err-verdict.ensures.0
-
-pub invariant_of-self-in-Break-branch-3 : goal.invariant_of-self-in-Break-branch-3
-invariant_of-self-in-Break-branch-3 c = record {
-  short = omega (
-    arith,
-    c.in_ok-extend_from_slice.ensures.len,
-    c.split_at.ensures.front_len,
-    c.room_after.ensures,
-    c.as_slice.ensures.len,
-    c.args.self.now.short,
-  );
-}
-
 pub returns-in_err-printed : goal.returns-in_err-printed
 returns-in_err-printed c =
     no_ok _ c.from_residual-in_err-printed.result c.from_residual-in_err-printed.ensures.0
@@ -63,8 +47,8 @@ report_front-requires c =
       c.args.self.now.short,
     )
 
-pub invariant_of-self-in-Break-branch-4 : goal.invariant_of-self-in-Break-branch-4
-invariant_of-self-in-Break-branch-4 c = record {
+pub invariant_of-self-in-Break-branch-3 : goal.invariant_of-self-in-Break-branch-3
+invariant_of-self-in-Break-branch-3 c = record {
   short = omega (
     arith,
     c.in_ok-extend_from_slice.ensures.len,
@@ -87,11 +71,11 @@ returns c = λ how set written least lines cur h.
     let old = c.args.self.now in
     let size : length c.as_slice.result.now ≡ length old.front.items = ap length c.as_slice.ensures.value in
     front_read how set written least lines cur c.args.piece.now old _ h c.split_at.result.0.now c.split_at.result.1.now
-    c.as_slice-front.result.now c.room_after.result c.whole_len.result c.in-Some.number c.in_ok-verdict.verdict
+    c.as_slice-front.result.now c.room_after.result c.whole_len.result c.in-Some.number c.verdict_on-verdict.result
     c.front_treatment-treatment.result c.in_ok-printed.printed (record { request = refl; set = refl; line = refl })
     c.split_at.ensures.front c.split_at.ensures.back
     (subst (λ m. c.room_after.result + m ≡ 1048576) size c.room_after.ensures) c.requires.long
     (c.as_slice-front.ensures.value ∙ c.in_ok-extend_from_slice.ensures.items) c.whole_len.ensures
-    c.in_ok-verdict.ensures c.front_treatment-treatment.ensures c.in_ok-printed.ensures.text
+    c.verdict_on-verdict.ensures c.front_treatment-treatment.ensures c.in_ok-printed.ensures.text
     c.in_ok-printed.ensures.printed refl refl c.in-Some.ensures.1 c.in_ok-report_front.ensures
     c.requires.kept c.rest_after-self.ensures c.clear.ensures.items
