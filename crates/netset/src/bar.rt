@@ -8,7 +8,7 @@ use crate::output::Streams;
 use crate::reading::session_of;
 use clap::{Arg, ArgMatches, Command};
 use ipnet_pictures::{BarForm, Frame, Marks, RowWidth};
-use netset_lib::Session;
+use netset_lib::{Session, Work};
 use netset_pictures::{
     BarRequest, LocaleValues, MarkChoice, chosen_marks, read_row_width, run_bar, run_comparison_bar,
 };
@@ -176,14 +176,9 @@ fn request_of(
     Ok(BarRequest { frame, form })
 }
 
-/// Reads the lists of these names, for a picture of their addresses or of what changed between two of them. If that
-/// fails, it is reported, and the error is the exit status.
-pub fn read_pictured(
-    rt: &HostRuntime,
-    matches: &ArgMatches,
-    names: &[&str],
-    streams: &Streams<'_>,
-) -> Result<Session, u8> {
+/// What a picture of the lists asks for: all their addresses, or what changed between two of them. If standard input is
+/// named twice, it is reported, and the error is the exit status.
+pub fn pictured_work(rt: &HostRuntime, matches: &ArgMatches, names: &[&str]) -> Result<Work, u8> {
     if reads_input_twice(names) {
         return Err(refused(rt, ArgumentFailure::InputTwice));
     }
@@ -192,7 +187,18 @@ pub fn read_pictured(
     } else {
         netset_lib::Command::Union
     };
-    session_of(rt, command.work(flags_of(matches)), names, streams)
+    Ok(command.work(flags_of(matches)))
+}
+
+/// Reads the lists of these names for a bar. If that fails, it is reported, and the error is the exit status.
+fn read_pictured(
+    rt: &HostRuntime,
+    matches: &ArgMatches,
+    names: &[&str],
+    streams: &Streams<'_>,
+) -> Result<Session, u8> {
+    let work = pictured_work(rt, matches, names)?;
+    session_of(rt, work, names, streams)
 }
 
 /// Reads the arguments and the lists, prints the bar, and returns the exit status.

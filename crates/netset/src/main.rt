@@ -15,6 +15,7 @@ mod lines;
 mod listing;
 mod lists;
 mod map;
+mod noted;
 mod output;
 mod plan;
 mod prefixes;

@@ -1,13 +1,20 @@
 //! The command `map`: its arguments, and its runs.
-use crate::arguments::{FIRST, any_files, command_of, flag};
-use crate::bar::{COMPARE, frame_of, read_pictured, with_frame};
+use crate::arguments::{
+    ArgumentFailure, FIRST, any_files, command_of, flag, flags_of, reads_input_twice, refused,
+};
+use crate::bar::{COMPARE, frame_of, pictured_work, with_frame};
 use crate::input::STANDARD_INPUT;
+use crate::noted::NotedSession;
 use crate::output::Streams;
+use crate::reading::{bytes_of, fill};
 use clap::{Arg, ArgMatches, Command};
+use ipnet_pictures::Frame;
+use netset_entries::{EntryNotes, NotedEntry};
+use netset_lib::{Session, table_or_report};
 use netset_pictures::{MapRequest, read_theme, run_change_map, run_map, run_sets_map};
 use std::alloc::{AllocError, Global};
 use std::io::Write;
-use svg_maps::{Look, MOST_LISTS, Theme};
+use svg_maps::{Look, MOST_LISTS, MapEntries, MapEntry, Theme};
 
 /// The name of the command.
 pub const MAP: &str = "map";
@@ -18,14 +25,25 @@ const THEME: &str = "theme";
 /// The name of the flag for free blocks.
 const FREE: &str = "free";
 
+/// The name of the option for names of networks.
+const NAMES: &str = "names";
+
 /// The values of `--theme`.
 const THEMES: &[&str] = &["auto", "light", "dark"];
+
+/// Adds the options for what a map shows beside its lists.
+fn with_overlay<'a>(alloc: Global, command: Command<'a>) -> Result<Command<'a>, AllocError> {
+    let free = "Outline the blocks that no list has, and say which is the largest";
+    let names = Arg::new(alloc, NAMES).long(NAMES).value_name("FILE").help(
+        "Outline the networks of FILE: each line is a network and its name; - for standard input",
+    );
+    command.arg(flag(alloc, FREE, free))?.arg(names)
+}
 
 /// Adds the command `map`.
 pub fn with_map<'a>(alloc: Global, command: Command<'a>) -> Result<Command<'a>, AllocError> {
     let about =
         "A network as a picture in SVG: what up to six lists cover, or what changed between two";
-    let free = "Outline the blocks that no list has, and say which is the largest";
     let compare = "Show what changed between two lists; status 1 if they differ";
     let theme = Arg::new(alloc, THEME)
         .long(THEME)
@@ -34,9 +52,8 @@ pub fn with_map<'a>(alloc: Global, command: Command<'a>) -> Result<Command<'a>, 
         .help("Choose the colours; by default auto: dark if the reader prefers dark pages");
     let map = with_frame(alloc, command_of(alloc, MAP, about)?)?
         .arg(theme)?
-        .arg(flag(alloc, COMPARE, compare))?
-        .arg(flag(alloc, FREE, free))?
-        .arg(any_files(alloc))?;
+        .arg(flag(alloc, COMPARE, compare))?;
+    let map = with_overlay(alloc, map)?.arg(any_files(alloc))?;
     command.subcommand(map)
 }
 
@@ -52,35 +69,151 @@ fn are_too_many(rt: &HostRuntime, matches: &ArgMatches, names: &[&str]) -> bool 
     are_many
 }
 
-/// Reads the arguments and the lists, prints the map, and returns the exit status.
-pub fn mapped(rt: &HostRuntime, matches: &ArgMatches, streams: &mut Streams<'_>) -> u8 {
-    let frame = match frame_of(rt, matches) {
-        Ok(frame) => frame,
-        Err(status) => return status,
+/// Whether the file and one of the lists are standard input.
+fn reads_input_again(file: &str, names: &[&str]) -> bool {
+    for name in names {
+        if reads_input_twice(&[file, *name]) {
+            return true;
+        }
+    }
+    false
+}
+
+/// Reads the bytes of the list of names; there are none if no such list is named. If that fails, or if a list of these
+/// names is standard input too, it is reported, and the error is the exit status.
+fn name_bytes(
+    rt: &HostRuntime,
+    matches: &ArgMatches,
+    names: &[&str],
+    streams: &Streams<'_>,
+) -> Result<Vec<u8>, u8> {
+    let Some(file) = matches.get_str(NAMES) else {
+        return Ok(Vec::new(rt.alloc()));
     };
+    if reads_input_again(file, names) {
+        return Err(refused(rt, ArgumentFailure::InputTwice));
+    }
+    bytes_of(rt, file, "names", streams)
+}
+
+/// The colours that the arguments name.
+fn theme_of(matches: &ArgMatches) -> Theme {
     // the value is one of THEMES, if there is one
     let theme = matches.get_str(THEME).and_then(read_theme);
-    let theme = theme.unwrap_or(Theme::Auto);
-    let look = Look {
-        theme,
-        shows_free: matches.get_flag(FREE),
+    theme.unwrap_or(Theme::Auto)
+}
+
+/// Reads the lists of these names, and notes their largest entries. If that fails, it is reported, and the error is the
+/// exit status.
+fn read_noted(
+    rt: &HostRuntime,
+    matches: &ArgMatches,
+    names: &[&str],
+    frame: Frame,
+    streams: &Streams<'_>,
+) -> Result<NotedSession, u8> {
+    let work = pictured_work(rt, matches, names)?;
+    let network = match frame {
+        Frame::Named(network) => Some(network),
+        _ => None,
     };
-    let request = MapRequest { frame, look };
-    let names = matches.get_strs(FIRST).unwrap_or(&[STANDARD_INPUT]);
-    if are_too_many(rt, matches, names) {
-        return 2;
+    let Ok(session) = Session::new(rt.alloc(), work) else {
+        return Err(refused(rt, ArgumentFailure::Memory));
+    };
+    let Ok(notes) = EntryNotes::new(rt.alloc(), flags_of(matches).grammar(), network) else {
+        return Err(refused(rt, ArgumentFailure::Memory));
+    };
+    let mut noted = NotedSession { session, notes };
+    fill(rt, &mut noted, names, streams)?;
+    Ok(noted)
+}
+
+/// The entries that were noted, as a map shows them. Fails only if memory runs out.
+fn entries_of(alloc: Global, notes: EntryNotes) -> Result<Vec<MapEntry>, AllocError> {
+    let mut entries = Vec::new(alloc);
+    for noted in notes.into_entries()? {
+        let NotedEntry { network, title } = noted;
+        entries.push(MapEntry { network, title })?;
     }
-    let session = match read_pictured(rt, matches, names, streams) {
-        Ok(session) => session,
-        Err(status) => return status,
-    };
+    Ok(entries)
+}
+
+/// Prints the map of the session's lists, which have these names, and returns the exit status.
+fn draw(
+    session: Session,
+    request: MapRequest<'_>,
+    names: &[&str],
+    compares: bool,
+    streams: &mut Streams<'_>,
+) -> u8 {
     let out = &mut streams.answer;
     let faults = &mut streams.faults;
-    if matches.get_flag(COMPARE) {
+    if compares {
         run_change_map(session, request, names, out, faults)
     } else if names.len() == 1 {
         run_map(session, request, names, out, faults)
     } else {
         run_sets_map(session, request, names, out, faults)
     }
+}
+
+/// Reads the lists of these names, prints the map, and returns the exit status.
+fn draw_lists(
+    rt: &HostRuntime,
+    matches: &ArgMatches,
+    names: &[&str],
+    request: MapRequest<'_>,
+    streams: &mut Streams<'_>,
+) -> u8 {
+    let noted = match read_noted(rt, matches, names, request.frame, streams) {
+        Ok(noted) => noted,
+        Err(status) => return status,
+    };
+    let NotedSession { session, notes } = noted;
+    let count = notes.count();
+    let Ok(entries) = entries_of(rt.alloc(), notes) else {
+        return refused(rt, ArgumentFailure::Memory);
+    };
+    let titled = entries.as_slice();
+    let MapRequest { frame, look } = request;
+    let look = Look {
+        theme: look.theme,
+        shows_free: look.shows_free,
+        names: look.names,
+        entries: MapEntries { titled, count },
+    };
+    let request = MapRequest { frame, look };
+    draw(session, request, names, matches.get_flag(COMPARE), streams)
+}
+
+/// Reads the arguments and the lists, prints the map, and returns the exit status.
+pub fn mapped(rt: &HostRuntime, matches: &ArgMatches, streams: &mut Streams<'_>) -> u8 {
+    let frame = match frame_of(rt, matches) {
+        Ok(frame) => frame,
+        Err(status) => return status,
+    };
+    let names = matches.get_strs(FIRST).unwrap_or(&[STANDARD_INPUT]);
+    if are_too_many(rt, matches, names) {
+        return 2;
+    }
+    let bytes = match name_bytes(rt, matches, names, streams) {
+        Ok(bytes) => bytes,
+        Err(status) => return status,
+    };
+    let file = matches.get_str(NAMES).unwrap_or(STANDARD_INPUT);
+    let grammar = flags_of(matches).grammar();
+    let faults = &mut streams.faults;
+    let Some(table) = table_or_report(rt.alloc(), bytes.as_slice(), grammar, file, faults) else {
+        return 2;
+    };
+    let look = Look {
+        theme: theme_of(matches),
+        shows_free: matches.get_flag(FREE),
+        names: &table,
+        entries: MapEntries {
+            titled: &[],
+            count: 0,
+        },
+    };
+    draw_lists(rt, matches, names, MapRequest { frame, look }, streams)
 }

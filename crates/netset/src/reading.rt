@@ -2,12 +2,11 @@
 
 use crate::arguments::{ArgumentFailure, refused};
 use crate::input::report_unread;
-use crate::lists::{read_filled, read_lists};
+use crate::lists::{ListReader, read_filled, read_lists};
 use crate::output::Streams;
 use netset_lib::{Session, Work};
 
-/// Reads the lists of these names. If that fails, it is reported, and the error is the exit status. So it is if a file
-/// has no entry, and that is to be refused.
+/// Returns a session that has read the lists of these names, as `fill` reads them.
 pub fn session_of(
     rt: &HostRuntime,
     work: Work,
@@ -17,8 +16,20 @@ pub fn session_of(
     let Ok(mut session) = Session::new(rt.alloc(), work) else {
         return Err(refused(rt, ArgumentFailure::Memory));
     };
-    match read_lists(rt, &mut session, names, streams.reports) {
-        Ok(true) => Ok(session),
+    fill(rt, &mut session, names, streams)?;
+    Ok(session)
+}
+
+/// Reads the lists of these names. If that fails, it is reported, and the error is the exit status. So it is if a file
+/// has no entry, and that is to be refused.
+pub fn fill<L: ListReader>(
+    rt: &HostRuntime,
+    lists: &mut L,
+    names: &[&str],
+    streams: &Streams<'_>,
+) -> Result<(), u8> {
+    match read_lists(rt, lists, names, streams.reports) {
+        Ok(true) => Ok(()),
         Ok(false) => Err(2),
         Err((name, unread)) => {
             report_unread(rt, name, &unread);

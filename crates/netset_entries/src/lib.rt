@@ -4,6 +4,7 @@
 
 mod entry_list;
 mod lines;
+pub mod noted;
 mod overlaps;
 pub mod overlaps_program;
 mod redundancy;
@@ -14,6 +15,7 @@ mod span;
 pub mod supernet;
 pub mod supernet_program;
 
+pub use noted::{EntryNotes, NotedEntry};
 pub use overlaps_program::{run_overlaps, run_overlaps_of_two};
 pub use redundant_program::run_redundant;
 pub use supernet::supernet_text;

@@ -13,8 +13,8 @@ use Rattle.netset_lib.specs.Lists.{ListEntry, IsListRead}
 use Rattle.netset_lib.specs.RefusedLines.{RefusedLines}
 use Rattle.netset_lib.specs.Routing.{InTable, HoldsEnds, IsLongestIfAny}
 use Rattle.netset_lib.specs.TextTables.{TextLine, IsLinesNetwork, IsTextRouteLine, HasNoTextRoute, IsTextTable}
-use Rattle.netset_lib.specs.TextTables.{IsTextRouteAnswer}
-use Rattle.netset_lib.specs.TextSteps.{IsTextAnswerBy, IsMissingBy, AreTextAnswersBy, AddsTextAnswer, IsTableOfLines}
+use Rattle.netset_lib.specs.TextTables.{IsTextRouteAnswer, IsTableOfLines}
+use Rattle.netset_lib.specs.TextSteps.{IsTextAnswerBy, IsMissingBy, AreTextAnswersBy, AddsTextAnswer}
 use Rattle.netset_lib.specs.TextSteps.{IsMadeList, text_route_line}
 use Rattle.netset_lib.proofs.EntryAnswerLaws.{answers_append, answers_same, found_same, found_none, found_push}
 use Rattle.netset_lib.proofs.ListsReading.{none_of_length}

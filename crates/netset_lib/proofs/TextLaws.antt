@@ -28,8 +28,8 @@ use Rattle.netset_lib.specs.ContentLineOf.{line_of, refused_of}
 use Rattle.netset_lib.specs.ContentLines as content
 use Rattle.netset_lib.specs.ContentLines.{AreContentLines, AreItems}
 use Rattle.netset_lib.specs.EntryOf.{entry_range}
-use Rattle.netset_lib.specs.TextTables.{TextLine, IsTextOf, IsTextLine, IsNoTextLine}
-use Rattle.netset_lib.specs.TextSteps.{IsLastOf, AddsBlocks, AreRoutesOf, IsTableOfLines, AddsTableLine, AreTextsRead}
+use Rattle.netset_lib.specs.TextTables.{TextLine, IsTextOf, IsTextLine, IsNoTextLine, IsTableOfLines}
+use Rattle.netset_lib.specs.TextSteps.{IsLastOf, AddsBlocks, AreRoutesOf, AddsTableLine, AreTextsRead}
 use Rattle.netset_lib.specs.TextSteps.{line_in, texts_in}
 use Rattle.netset_lib.proofs.ContentLaws.{read_next, read_all, items_map}
 use Rattle.netset_lib.proofs.TableLaws.{network_of_route, some_route, latest_of}

@@ -78,11 +78,6 @@ AreTextsRead grammar bytes made = (lines : List TextLine)
     × IsTextTable grammar bytes lines (map refused_of made.refused.items)
     × AreRoutesOf lines (without_host_bits (texts_in made.routes.items))
 
--- The table has the networks of these lines, and their texts.
-pub record IsTableOfLines (lines : List TextLine) (table : RouteTable (Bor (List ℕ))) : Type 0 where
-  pub networks : (n : Network) → InTable table n ↔ IsLinesNetwork lines n
-  pub texts : (n : Network) (text : Bor (List ℕ)) → Contains (routes_of table) (n, text) → IsTextOf lines n text.now
-
 -- The line of an entry with this network and this text after it.
 abbrev pub text_route_line : List ℕ → IpNet → List ℕ → List ℕ
 text_route_line written network text =

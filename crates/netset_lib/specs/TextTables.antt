@@ -1,12 +1,17 @@
 -- Tables of networks with texts: lines with an entry and a text, such as a next hop, and the answers that they have.
-use Rattle.std.specs.Prelude.{◌≡◌, ◌≢◌, ◌⊎◌, ℕ, Bool, List, [], ◌∷◌, ◌++◌, codes, length, slice_index, Any, Option}
+use Rattle.std.specs.Prelude.{◌≡◌, ◌≢◌, ◌⊎◌, ◌↔◌, ℕ, Bool, List, [], ◌∷◌, ◌++◌, codes, length, slice_index, Any}
+use Rattle.std.specs.Prelude.{Contains, Option}
+use Rattle.std.specs.Borrow.{Bor}
 use Rattle.std.specs.Str.{IsUtf8}
 use Rattle.ipnet_base.specs.Network.{Network}
 use Rattle.ipnet_base.specs.Blocks.{IsMaximal}
 use Rattle.ipnet_base.specs.Ranges.{AddressRange}
 use Rattle.ipnet.specs.CanonicalTexts.{canonical_text}
 use Rattle.ipnet.specs.declared.parser.Grammar.{Grammar}
+use Rattle.ipnet_sets.specs.Routes.{networks_of}
+use Rattle.ipnet_sets.specs.RoutesOf.{routes_of}
 use Rattle.ipnet_sets.specs.SetRanges.{IsInRange}
+use Rattle.ipnet_sets.specs.declared.routes.RouteTable.{RouteTable}
 use Rattle.netset_lib.specs.declared.cause.Cause.{Cause}
 use Rattle.netset_lib.specs.Causes.{Has, HasMaskWord, IsReportedCause}
 use Rattle.netset_lib.specs.ContentLines.{ContentLine, RefusedContent, AreContentLines, AreItems}
@@ -81,6 +86,19 @@ abbrev pub IsTextOf : List TextLine → Network → List ℕ → Type 0
 IsTextOf [] n text = ⊥
 IsTextOf (l ∷ lines) n text = IsTextOf lines n text
     ⊎ (IsMaximal (IsInRange l.range) 0 n × (¬ (IsLinesNetwork lines n)) × (text ≡ l.text))
+
+-- The table has the networks of these lines, each with its text.
+-- Example: of the lines `10.0.0.0/8 a` and `10.0.0.0-10.0.0.3 b`, it has 10.0.0.0/8 with `a` and 10.0.0.0/30 with `b`.
+pub record IsTableOfLines (lines : List TextLine) (table : RouteTable (Bor (List ℕ))) : Type 0 where
+  pub networks : (n : Network) → Contains (networks_of (routes_of table)) n ↔ IsLinesNetwork lines n
+  pub texts : (n : Network) (text : Bor (List ℕ)) → Contains (routes_of table) (n, text) → IsTextOf lines n text.now
+
+-- No line of the bytes is refused, and the table has the networks of the lines, each with its text.
+-- Example: the bytes `10.0.0.0/8 a # x\n`, and the table of 10.0.0.0/8 with `a`.
+pub record IsTableOfTexts (grammar : Grammar) (bytes : List ℕ) (table : RouteTable (Bor (List ℕ))) : Type 0 where
+  pub lines : List TextLine
+  pub read : IsTextTable grammar bytes lines []
+  pub right : IsTableOfLines lines table
 
 -- A text after a space, or nothing if the text is empty.
 abbrev pub text_part : List ℕ → List ℕ

@@ -72,7 +72,7 @@ pub use filter::Side;
 pub use length::read_length;
 pub use list_text::{ListText, read_list_text};
 pub use listing_program::{run_hosts, run_split};
-pub use mark::{MOST_READS, begin_input};
+pub use mark::{MOST_READS, begin_input, skip_mark};
 pub use network_entry::NetworkCause;
 pub use operation::{Families, Operation};
 pub use output::{Output, finish, is_unfinished_name, unfinished_name};
@@ -83,7 +83,7 @@ pub use prefix_line::PrefixCause;
 pub use prefix_program::{PrefixRequest, run_prefix_list};
 pub use program::{NO_ENTRY, report_failure, report_text, run, run_stream, set_or_report};
 pub use query::Query;
-pub use reader::{FoundEntry, first_line, read_text};
+pub use reader::{FoundEntry, comment_start, contents_of, first_line, read_text};
 pub use reading::{ReadFailure, read_bytes};
 pub use refused::{
     LineCause, MOST_LINES, Refusals, Refused, RefusedLine, RefusedLines, RefusedPart, report_since,
@@ -94,5 +94,6 @@ pub use rule_list::{RefusedRule, RuleLine, RuleList};
 pub use rule_program::{report_rule_failure, run_rules};
 pub use session::Session;
 pub use session::stream::{StreamFailure, Streamed};
-pub use text_program::{TextRequest, run_text_routes};
+pub use text_program::{TextRequest, run_text_routes, table_or_report};
+pub use text_table::walk_of;
 pub use write::{write_answer, write_or_report, written};

@@ -14,7 +14,11 @@ pub const MOST_READS: u64 = u64::MAX;
 const BYTE_ORDER_MARK: [u8; 3] = [0xEF, 0xBB, 0xBF];
 
 /// Returns the bytes without a byte order mark at their start.
-pub(crate) fn skip_mark(bytes: &[u8]) -> &[u8]
+///
+/// ```text
+/// of "\u{feff}10.0.0.1": "10.0.0.1"
+/// ```
+pub fn skip_mark(bytes: &[u8]) -> &[u8]
     ensures { result.now ≡ after_mark bytes.now }
 {
     if bytes.starts_with(&BYTE_ORDER_MARK) {

@@ -118,8 +118,12 @@ fn opens_comment(line: &[u8], index: usize) -> bool
     }
 }
 
-/// The index at which the comment of the line begins, or the length of the line if it has none.
-pub(crate) fn comment_start(line: &[u8]) -> usize
+/// Returns the index at which the comment of the line begins, or the length of the line if it has none.
+///
+/// ```text
+/// of b"10.0.0.1 # ours": 9; of b"10.0.0.1;x": 10
+/// ```
+pub fn comment_start(line: &[u8]) -> usize
     ensures { IsCommentAt line.now result }
 {
     if memchr2(b'#', b';', line).is_none() {
@@ -154,8 +158,12 @@ fn hides_entry(comment: &[u8], grammar: Grammar) -> bool
     }
 }
 
-/// The contents of the line: the text before its comment, or the whole line if the comment hides an entry.
-pub(crate) fn contents_of(line: &[u8], grammar: Grammar) -> &[u8]
+/// Returns the contents of the line: the text before its comment, or the whole line if the comment hides an entry.
+///
+/// ```text
+/// of b" 10.0.0.1 # ours\r": b"10.0.0.1"; of b"10.0.0.1 ; 10.0.0.2": all of it
+/// ```
+pub fn contents_of(line: &[u8], grammar: Grammar) -> &[u8]
     ensures { IsContents grammar line.now result.now }
 {
     let start = comment_start(line);

@@ -1,17 +1,18 @@
 //! The command `route --with-text` of the program, over any writers.
-ghost use Rattle.std.specs.Prelude.{◌≡◌, ◌≤◌, ◌⊎◌, true, false};
+ghost use Rattle.std.specs.Prelude.{◌≡◌, ◌≤◌, ◌⊎◌, true, false, IfSome};
 ghost use Rattle.std.specs.Io.KnownBytes.{Keeps};
 ghost use Rattle.ipnet_text.specs.Outputs.{IsWritten, IsFrontWritten};
-ghost use Rattle.netset_lib.specs.TextTables.{IsTextRouteAnswer};
+ghost use Rattle.netset_lib.specs.TextTables.{IsTextRouteAnswer, IsTableOfTexts};
 
 use crate::cause::Cause;
 use crate::content_line::RefusedText;
 use crate::failure::Failure;
 use crate::program::{report_failure, report_text};
 use crate::refused::MOST_LINES;
-use crate::text_route::{TextFailure, text_route_answers};
+use crate::text_route::{TextFailure, table_of_texts, text_route_answers};
 use crate::write::write_or_report;
 use ipnet::Grammar;
+use ipnet_sets::RouteTable;
 use std::alloc::Global;
 use std::io;
 use std::io::Write;
@@ -88,6 +89,34 @@ pub fn run_text_routes<W: Write, X: Write>(
         return 2;
     }
     if answers.found { 1 } else { 0 }
+}
+
+/// Returns the table of networks with texts that the bytes are, as `run_text_routes` reads its table. If lines are
+/// refused, or memory runs out, reports it on `faults` as `run_text_routes` does, and returns `None`. `name` is the
+/// name of the table.
+///
+/// ```text
+/// "10.20.0.0/18 Berlin\n10.20.96.0/20 guests # new\n": 10.20.0.0/18 with "Berlin" and 10.20.96.0/20 with "guests"
+/// "10.0.0.0/33 x\n", named a: None, and faults gets
+///     "a:1: not an entry, with or without text: 10.0.0.0/33 x (the prefix length is above 32)\n"
+/// ```
+pub fn table_or_report<'a, X: Write>(
+    alloc: Global,
+    bytes: &'a [u8],
+    grammar: Grammar,
+    name: &str,
+    faults: &mut X,
+) -> Option<RouteTable<&'a str>>
+    ensures table { IfSome result (IsTableOfTexts grammar bytes.now) }
+    ensures faultless { IfSome result (λ _. Keeps (X.contents faults.old) (X.contents faults.new)) }
+{
+    match table_of_texts(alloc, bytes, grammar) {
+        Ok(table) => Some(table),
+        Err(failure) => {
+            let _ = report(faults, (name, name), failure);
+            None
+        }
+    }
 }
 
 /// Reports the failure.

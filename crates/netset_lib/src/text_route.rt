@@ -1,9 +1,9 @@
 //! For each entry of a list the longest network of a table that contains the whole of it, and the text of that network.
-ghost use Rattle.std.specs.Prelude.{◌≡◌, ◌++◌, IfErr, IfOk, OnOk, string_bytes};
+ghost use Rattle.std.specs.Prelude.{◌≡◌, ◌++◌, ℕ, List, IfErr, IfOk, OnOk, string_bytes};
 ghost use Rattle.netset_lib.specs.FoundEntry.{entry_of};
 ghost use Rattle.netset_lib.specs.TextReplies.{IsTextFailure};
 ghost use Rattle.netset_lib.specs.TextSteps.{AddsTextAnswer, AreTextAnswersBy, IsMadeList, text_route_line};
-ghost use Rattle.netset_lib.specs.TextTables.{IsTextRouteAnswer};
+ghost use Rattle.netset_lib.specs.TextTables.{IsTextRouteAnswer, IsTableOfTexts};
 ghost use Rattle.netset_lib.specs.declared.text_route.TextFailure.TheVariants.{Memory};
 
 use crate::answerer::{Answers, push_missing};
@@ -113,6 +113,23 @@ fn answer_list(
     Ok(AnsweredList { answers, refused })
 }
 
+/// Returns the table of the networks of the lines, each with its text.
+pub(crate) fn table_of_texts<'a>(
+    alloc: Global,
+    bytes: &'a [u8],
+    grammar: Grammar,
+) -> Result<RouteTable<&'a str>, TextFailure>
+    ensures table { IfOk result (IsTableOfTexts grammar bytes.now) }
+    ensures failure { (list : List ℕ) → IfErr result (IsTextFailure grammar bytes.now list) }
+{
+    let TextRoutes { routes, refused } = read_text_routes(alloc, bytes, grammar)?;
+    if !refused.is_empty() {
+        return Err(TextFailure::Table(refused));
+    }
+    let table = RouteTable::from_routes(alloc, routes)?;
+    Ok(table)
+}
+
 /// Returns the answers to the entries of the list, by the table.
 pub(crate) fn text_route_answers(
     alloc: Global,
@@ -124,12 +141,9 @@ pub(crate) fn text_route_answers(
         IsTextRouteAnswer grammar table.now list.now a.found (string_bytes a.text)) }
     ensures failure { IfErr result (IsTextFailure grammar table.now list.now) }
 {
-    let TextRoutes { routes, refused } = read_text_routes(alloc, table, grammar)?;
-    if !refused.is_empty() {
-        return Err(TextFailure::Table(refused));
-    }
-    let table = TextTable {
-        table: RouteTable::from_routes(alloc, routes)?,
+    let table = match table_of_texts(alloc, table, grammar) {
+        Ok(table) => TextTable { table },
+        Err(failure) => return Err(failure),
     };
     let AnsweredList { answers, refused } = answer_list(alloc, &table, list, grammar)?;
     if refused.count != 0 {

@@ -21,8 +21,12 @@ pub(crate) struct TextRoutes<'a> {
     pub(crate) refused: Vec<RefusedText<Option<Cause>>>,
 }
 
-/// The walk over the fewest networks with the addresses of the entry.
-fn walk_of(entry: Entry) -> IpSubnets
+/// Returns a walk over the fewest networks with the addresses of the entry.
+///
+/// ```text
+/// of 10.0.0.0-10.0.0.5: 10.0.0.0/30, 10.0.0.4/31
+/// ```
+pub fn walk_of(entry: Entry) -> IpSubnets
     ensures { AreMaximalBlocks (IsInRange (entry_range entry)) 0 (ip_subnets_left result) }
 {
     match entry.ends() {

@@ -22,12 +22,12 @@ theme_text Light = codes "light"
 theme_text Dark = codes "dark"
 
 -- The text is the map of the set in its frame: a network, or the smallest around its addresses of one family. It
--- outlines the free blocks if the request says so.
+-- has the outlines that the look asks for.
 -- Example: the map of 10.0.0.0/28 for 10.0.0.0 to 10.0.0.9, without a named network.
 pub record IsFramedMap (set : IpSet) (request : MapRequest) (text : List ℕ) : Type 0 where
   pub network : Network
   pub is_frame : IsFrame request.frame (IsMember set) network
-  pub shown : IsOutlinedSetMap request.look.shows_free set network text
+  pub shown : IsOutlinedSetMap request.look set network text
 
 -- The text is the map of the sets, which have these names, in the frame of all addresses that they have together.
 -- Example: the map of 10.0.0.0/28 for 10.0.0.0 to 10.0.0.3 and 10.0.0.8 to 10.0.0.9.
@@ -35,7 +35,7 @@ pub record IsFramedSetsMap (sets : List IpSet) (names : List (List ℕ)) (reques
   where
     pub network : Network
     pub is_frame : IsFrame request.frame (IsInSome IsMember sets) network
-    pub shown : IsOutlinedSetsMap request.look.shows_free sets names network text
+    pub shown : IsOutlinedSetsMap request.look sets names network text
 
 -- The text is the map of the change from one set to the other, in the frame of all addresses that they have together.
 -- Example: the map of 10.0.0.0/28 for 10.0.0.0 to 10.0.0.3 and 10.0.0.8 to 10.0.0.9.
@@ -44,7 +44,7 @@ pub record IsFramedChangeMap (before after : IpSet) (request : MapRequest) (text
   pub both : IsUnion all before after
   pub network : Network
   pub is_frame : IsFrame request.frame (IsMember all) network
-  pub shown : IsOutlinedChangeMap request.look.shows_free before after network text
+  pub shown : IsOutlinedChangeMap request.look before after network text
 
 -- No line of the lists is refused, and the text is the map of the addresses of the operation's result.
 pub record IsMapAnswer (operation : Request) (lists : List (List ℕ)) (request : MapRequest) (text : List ℕ) : Type 0

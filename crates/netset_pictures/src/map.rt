@@ -15,12 +15,12 @@ use std::alloc::Global;
 use svg_maps::{Look, Theme, change_map_text, set_map_text, sets_map_text};
 
 /// The network that a map shows, and how it looks.
-#[derive(Clone, Copy, Debug, PartialEq, Eq)]
-pub struct MapRequest {
+#[derive(Clone, Copy)]
+pub struct MapRequest<'a> {
     /// The network.
     pub frame: Frame,
-    /// The colours, and whether free blocks are outlined.
-    pub look: Look,
+    /// The colours, whether free blocks are outlined, and the names of networks.
+    pub look: Look<'a>,
 }
 
 /// Returns the colours that the text names, or `None` if it names none.
@@ -48,10 +48,10 @@ pub fn read_theme(text: &str) -> Option<Theme>
 pub fn framed_map_text(
     alloc: Global,
     set: &IpSet,
-    request: MapRequest,
+    request: MapRequest<'_>,
 ) -> Result<String, BarFailure>
-    ensures map { IfOk result (λ text. IsFramedMap set.now request (string_bytes text)) }
-    ensures none { result ≡ Err NoFrame → HasNoFrame request.frame (IsMember set.now) }
+    ensures map { IfOk result (λ text. IsFramedMap set.now request.entry (string_bytes text)) }
+    ensures none { result ≡ Err NoFrame → HasNoFrame request.entry.frame (IsMember set.now) }
 {
     let Some(network) = frame_of(alloc, set, request.frame)? else {
         return Err(BarFailure::NoFrame);
@@ -70,11 +70,11 @@ pub fn framed_sets_map_text(
     alloc: Global,
     sets: &[IpSet],
     names: &[&str],
-    request: MapRequest,
+    request: MapRequest<'_>,
 ) -> Result<String, BarFailure>
     ensures map { IfOk result (λ text.
-        IsFramedSetsMap sets.now (map (λ name. name.now) names.now) request (string_bytes text)) }
-    ensures none { result ≡ Err NoFrame → HasNoFrame request.frame (IsInSome IsMember sets.now) }
+        IsFramedSetsMap sets.now (map (λ name. name.now) names.now) request.entry (string_bytes text)) }
+    ensures none { result ≡ Err NoFrame → HasNoFrame request.entry.frame (IsInSome IsMember sets.now) }
 {
     let all = IpSet::union_all(alloc, sets)?;
     let Some(network) = frame_of(alloc, &all, request.frame)? else {
@@ -94,11 +94,11 @@ pub fn framed_change_map_text(
     alloc: Global,
     before: &IpSet,
     after: &IpSet,
-    request: MapRequest,
+    request: MapRequest<'_>,
 ) -> Result<String, BarFailure>
-    ensures map { IfOk result (λ text. IsFramedChangeMap before.now after.now request (string_bytes text)) }
+    ensures map { IfOk result (λ text. IsFramedChangeMap before.now after.now request.entry (string_bytes text)) }
     ensures none { result ≡ Err NoFrame
-        → ((all : IpSet) × IsUnion all before.now after.now × HasNoFrame request.frame (IsMember all)) }
+        → ((all : IpSet) × IsUnion all before.now after.now × HasNoFrame request.entry.frame (IsMember all)) }
 {
     let all = before.union(alloc, after)?;
     let Some(network) = frame_of(alloc, &all, request.frame)? else {

@@ -30,16 +30,16 @@ use std::io::Write;
 /// ```
 pub fn run_map<W: Write, X: Write>(
     session: Session,
-    request: MapRequest,
+    request: MapRequest<'_>,
     names: &[&str],
     out: &mut W,
     faults: &mut X,
 ) -> u8
     ensures status { (result ≡ 0) ⊎ (result ≡ 2) }
     ensures drawn { result ≡ 0 → WritesAnswer (λ r lists.
-        IsMapAnswer r lists request) session (W.contents out.old) (W.contents out.new) }
+        IsMapAnswer r lists request.entry) session (W.contents out.old) (W.contents out.new) }
     ensures cut_short { result ≡ 2 → WritesFront (λ r lists.
-        IsMapAnswer r lists request) session (W.contents out.old) (W.contents out.new) }
+        IsMapAnswer r lists request.entry) session (W.contents out.old) (W.contents out.new) }
     ensures faultless { result ≡ 0 → Keeps (X.contents faults.old) (X.contents faults.new) }
 {
     let Some((alloc, set)) = set_or_report(session, names, faults) else {
@@ -74,17 +74,17 @@ pub fn run_map<W: Write, X: Write>(
 /// ```
 pub fn run_sets_map<W: Write, X: Write>(
     session: Session,
-    request: MapRequest,
+    request: MapRequest<'_>,
     names: &[&str],
     out: &mut W,
     faults: &mut X,
 ) -> u8
     ensures status { (result ≡ 0) ⊎ (result ≡ 2) }
     ensures drawn { result ≡ 0 → WritesAnswer (λ r lists.
-        IsSetsMapAnswer r lists (map (λ name. name.now) names.now) request) session
+        IsSetsMapAnswer r lists (map (λ name. name.now) names.now) request.entry) session
         (W.contents out.old) (W.contents out.new) }
     ensures cut_short { result ≡ 2 → WritesFront (λ r lists.
-        IsSetsMapAnswer r lists (map (λ name. name.now) names.now) request) session
+        IsSetsMapAnswer r lists (map (λ name. name.now) names.now) request.entry) session
         (W.contents out.old) (W.contents out.new) }
     ensures faultless { result ≡ 0 → Keeps (X.contents faults.old) (X.contents faults.new) }
 {
@@ -126,20 +126,20 @@ pub fn run_sets_map<W: Write, X: Write>(
 /// ```
 pub fn run_change_map<W: Write, X: Write>(
     session: Session,
-    request: MapRequest,
+    request: MapRequest<'_>,
     names: &[&str],
     out: &mut W,
     faults: &mut X,
 ) -> u8
     ensures status { result ≤ 2 }
     ensures drawn { result ≤ 1 → WritesComparison (λ grammar lists.
-        IsChangeMapAnswer grammar lists request) session (W.contents out.old) (W.contents out.new) }
+        IsChangeMapAnswer grammar lists request.entry) session (W.contents out.old) (W.contents out.new) }
     ensures different { result ≡ 1 → (grammar : Grammar) → (lists : List (List ℕ))
         → WereCompared grammar lists session → AreOtherLists grammar lists }
     ensures same { result ≡ 0 → (grammar : Grammar) → (lists : List (List ℕ))
         → WereCompared grammar lists session → AreSameLists grammar lists }
     ensures cut_short { result ≡ 2 → WritesComparisonFront (λ grammar lists.
-        IsChangeMapAnswer grammar lists request) session (W.contents out.old) (W.contents out.new) }
+        IsChangeMapAnswer grammar lists request.entry) session (W.contents out.old) (W.contents out.new) }
     ensures faultless { result ≤ 1 → Keeps (X.contents faults.old) (X.contents faults.new) }
 {
     let alloc = session.alloc();

@@ -1,5 +1,6 @@
-//! Tests that call `netset_lib` and `netset_pictures`: the kinds of entries, the numbers of lists, plans, changes,
-//! prefix lists, bars, outputs, readers and writers that fail, rules, and refused memory.
+//! Tests that call `netset_lib`, `netset_entries` and `netset_pictures`: the kinds of entries, the numbers of lists,
+//! plans, changes, prefix lists, bars, noted entries, outputs, readers and writers that fail, rules, and refused
+//! memory.
 #![tactic(auto)]
 
 #[cfg(test)]
@@ -12,6 +13,8 @@ mod changes;
 mod entries;
 #[cfg(test)]
 mod memory;
+#[cfg(test)]
+mod noted;
 #[cfg(test)]
 mod outputs;
 #[cfg(test)]

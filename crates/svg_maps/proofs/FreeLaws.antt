@@ -97,6 +97,12 @@ largest_first_has xs len (suc n) x h =
       | inr there ↦ let found = largest_first_has xs (len + 1) n x there in (found.0, omega (arith, found.1))
     ]
 
+-- what holds of all networks holds of the chosen ones
+pub all_chosen : (P : Network → Type 0) (xs : List Network) (len n : ℕ) → ((x : Network) → Contains xs x → P x)
+    → All P (largest_first xs len n)
+all_chosen P xs len n each =
+    all_from_members P (largest_first xs len n) (λ x m. each x (largest_first_has xs len n x m).0)
+
 -- a free block that is chosen is in the frame, and not smaller than a cell
 pub all_inside : (InSet : Address → Type 0) (frame : Network) (depth : ℕ) (blocks : List Network)
     → AreMaximalBlocks (IsFree InSet frame) 0 blocks

@@ -4,3 +4,5 @@ pub mod FormLaws
 pub mod PageLaws
 pub mod CountLaws
 pub mod FreeLaws
+pub mod NamedLaws
+pub mod EntryLaws

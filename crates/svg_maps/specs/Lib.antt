@@ -5,4 +5,6 @@ pub mod Squares
 pub mod Maps
 pub mod Styles
 pub mod FreeOutlines
+pub mod NamedOutlines
+pub mod EntryOutlines
 pub mod Overlays

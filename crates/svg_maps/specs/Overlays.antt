@@ -1,36 +1,54 @@
 -- Maps with outlines: what is drawn over the cells.
-use Rattle.std.specs.Prelude.{◌≡◌, Bool, ℕ, List}
+use Rattle.std.specs.Prelude.{◌≡◌, ℕ, List, ◌++◌}
+use Rattle.ipnet_base.specs.Address.{Address}
 use Rattle.ipnet_base.specs.Blocks.{IsInEither}
 use Rattle.ipnet_base.specs.Network.{Network}
 use Rattle.ipnet_sets.specs.declared.set.IpSet.{IpSet}
 use Rattle.ipnet_sets.specs.ManySets.{IsInSome}
 use Rattle.ipnet_sets.specs.Members.{IsMember}
+use Rattle.ipnet_sets.specs.RoutesOf.{routes_of}
 use Rattle.ipnet_maps.specs.declared.drawing.Drawing.{Drawing}
 use Rattle.svg_maps.specs.declared.outline.Outline.{Outline}
+use Rattle.svg_maps.specs.declared.overlay.Look.{Look}
 use Rattle.svg_maps.specs.declared.square.Counted.{Counted}
+use Rattle.svg_maps.specs.EntryOutlines.{AreEntryOutlines}
 use Rattle.svg_maps.specs.FreeOutlines.{AreOutlinesOf}
+use Rattle.svg_maps.specs.NamedOutlines.{AreNamedOutlines}
 use Rattle.svg_maps.specs.Maps.{IsMapText, IsSetMap, IsChangeMap, IsSetsMap}
+
+-- The outlines over a map with this look: the areas of entries, then around the networks with names, and then around
+-- the free blocks if these are to be shown.
+-- Example: 10.0.0.8/29, if it has a name, and then 10.0.0.12/30 and 10.0.0.10/31, for 10.0.0.0 to 10.0.0.9.
+pub record AreOutlinesOver (look : Look) (InSet : Address → Type 0) (frame : Network) (depth : ℕ)
+    (outlines : List Outline) : Type 0 where
+  pub entries : List Outline
+  pub are_entries : AreEntryOutlines look.entries.titled.now frame depth entries
+  pub named : List Outline
+  pub are_named : AreNamedOutlines (routes_of look.names.now) frame depth named
+  pub free : List Outline
+  pub are_free : AreOutlinesOf look.shows_free InSet frame depth free
+  pub all : outlines ≡ entries ++ (named ++ free)
 
 -- The text is a map of the drawing, and the outlines on it are these.
 abbrev pub IsOutlinedMap : Network → List Counted → Drawing → List Outline → List ℕ → Type 0
 IsOutlinedMap frame counted d outlines text =
     (page : IsMapText frame counted d text) × (page.view.outlines ≡ outlines)
 
--- The text is a map of the set. It outlines the free blocks if they are to be shown, and otherwise nothing.
+-- The text is a map of the set with this look. It outlines the networks with names, and the free blocks if they are to
+-- be shown.
 -- Example: the map of 10.0.0.0 to 10.0.0.9 in 10.0.0.0/28 has the outlines of 10.0.0.12/30 and 10.0.0.10/31.
-abbrev pub IsOutlinedSetMap : Bool → IpSet → Network → List ℕ → Type 0
-IsOutlinedSetMap shows_free set frame text = (m : IsSetMap set frame text)
-    × AreOutlinesOf shows_free (IsMember set) frame m.drawing.depth m.page.view.outlines
+abbrev pub IsOutlinedSetMap : Look → IpSet → Network → List ℕ → Type 0
+IsOutlinedSetMap look set frame text = (m : IsSetMap set frame text)
+    × AreOutlinesOver look (IsMember set) frame m.drawing.depth m.page.view.outlines
 
--- The text is a map of the change. It outlines the blocks that neither set has if they are to be shown, and otherwise
--- nothing.
-abbrev pub IsOutlinedChangeMap : Bool → (before after : IpSet) → Network → List ℕ → Type 0
-IsOutlinedChangeMap shows_free before after frame text = (m : IsChangeMap before after frame text)
-    × AreOutlinesOf shows_free (IsInEither (IsMember before) (IsMember after)) frame m.drawing.depth
+-- The text is a map of the change with this look. A block is free if neither set has an address of it.
+abbrev pub IsOutlinedChangeMap : Look → (before after : IpSet) → Network → List ℕ → Type 0
+IsOutlinedChangeMap look before after frame text = (m : IsChangeMap before after frame text)
+    × AreOutlinesOver look (IsInEither (IsMember before) (IsMember after)) frame m.drawing.depth
     m.page.view.outlines
 
--- The text is a map of the sets, which have these names. It outlines the blocks that no set has if they are to be
--- shown, and otherwise nothing.
-abbrev pub IsOutlinedSetsMap : Bool → List IpSet → (names : List (List ℕ)) → Network → List ℕ → Type 0
-IsOutlinedSetsMap shows_free sets names frame text = (m : IsSetsMap sets names frame text)
-    × AreOutlinesOf shows_free (IsInSome IsMember sets) frame m.drawing.depth m.page.view.outlines
+-- The text is a map of the sets, which have these names, with this look. A block is free if no set has an address of
+-- it.
+abbrev pub IsOutlinedSetsMap : Look → List IpSet → (names : List (List ℕ)) → Network → List ℕ → Type 0
+IsOutlinedSetsMap look sets names frame text = (m : IsSetsMap sets names frame text)
+    × AreOutlinesOver look (IsInSome IsMember sets) frame m.drawing.depth m.page.view.outlines

@@ -112,6 +112,7 @@ pixel_rectangle scale r = record {
 abbrev pub outline_text : OutlineClass → List ℕ
 outline_text OutlineClasses.Free = codes "free"
 outline_text OutlineClasses.Named = codes "name"
+outline_text OutlineClasses.Entry = codes "hit"
 
 -- A rectangle that may have a title.
 abbrev pub area_nodes : List Mark → Option (String Global) → Nodes

@@ -16,8 +16,8 @@ use ipnet_pictures::{free_in, largest_of};
 use ipnet_sets::IpSet;
 use std::alloc::{AllocError, Global};
 
-/// How many outlines a map has at most.
-const MOST: usize = 1_500;
+/// How many outlines of one class a map has at most.
+pub(crate) const MOST: usize = 1_500;
 
 /// Appends the blocks of this prefix length.
 fn push_with_len(list: &mut Vec<IpNet>, blocks: &[IpNet], len: u8) -> Result<(), AllocError>
@@ -33,7 +33,7 @@ fn push_with_len(list: &mut Vec<IpNet>, blocks: &[IpNet], len: u8) -> Result<(),
 }
 
 /// The blocks that are at most `depth` bits longer than the frame, the largest first.
-fn largest_blocks(
+pub(crate) fn largest_blocks(
     alloc: Global,
     blocks: &[IpNet],
     frame: &IpNet,

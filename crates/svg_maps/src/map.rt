@@ -11,7 +11,8 @@ use crate::outline_labels::map_labels;
 use crate::page::{Page, page_text};
 use crate::ring::rings_of;
 use crate::sheet::sides_of;
-use crate::square::{Counted, square_networks, squares_of, title_of};
+use crate::square::{Counted, octet_squares, square_networks, squares_of, title_of};
+use crate::square_labels::choose_labelled;
 use crate::under::under_of;
 use ipnet::IpNet;
 use ipnet_maps::Drawing;
@@ -44,7 +45,9 @@ pub fn map_text(
     let outlines = form.overlay.outlines.as_slice();
     let sides = sides_of(frame, depth);
     let under = under_of(alloc, layers, sides, texts.sheet.scale)?;
-    let labels = map_labels(alloc, squares.as_slice(), outlines, texts.sheet, &under)?;
+    let octets = octet_squares(alloc, frame, depth)?;
+    let labelled = choose_labelled(squares.as_slice(), octets.as_slice(), texts.sheet.scale);
+    let labels = map_labels(alloc, labelled, outlines, texts.sheet, &under)?;
     let rings = rings_of(alloc, layers, sides, texts.sheet.scale)?;
     let page = Page {
         title: texts.title.as_str(),

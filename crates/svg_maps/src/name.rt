@@ -1,4 +1,4 @@
-//! The names of squares: the parts of their texts that differ.
+//! The names of squares and the labels of entries: the parts of their texts that differ.
 
 use ipnet::{IpAddr, IpNet};
 use std::alloc::{AllocError, Global};
@@ -60,5 +60,46 @@ pub(crate) fn short_name(
         IpAddr::V6(address) => {
             groups_name(alloc, address.segments(), frame_len / 16, (len + 15) / 16)
         }
+    }
+}
+
+/// The index of the mark at which the text goes on after this many parts; 0 if no part is to be left out, or if two
+/// marks are side by side before it.
+fn start_after(text: &[u8], mark: u8, parts: usize) -> usize {
+    let mut found: usize = 0;
+    for index in 0..text.len() {
+        if text[index] == mark {
+            found = found.saturating_add(1);
+            if found == parts {
+                return index;
+            }
+            if index > 0 && text[index - 1] == mark {
+                return 0;
+            }
+        }
+    }
+    0
+}
+
+/// Returns the network's text without the octets or groups that all networks of the frame share.
+///
+/// ```text
+/// of 10.20.168.0/22 in a /16: .168.0/22; of 10.0.0.0/8 in a /0: 10.0.0.0/8; of 2001:db8:c000::/40 in a /32: :c000::/40
+/// ```
+pub(crate) fn short_text(
+    alloc: Global,
+    network: &IpNet,
+    frame_len: u8,
+) -> Result<String, AllocError> {
+    let text = network.to_text();
+    let text = text.as_str();
+    let frame_len = usize::from(frame_len);
+    let start = match network {
+        IpNet::V4(_) => start_after(text.as_bytes(), b'.', frame_len / 8),
+        IpNet::V6(_) => start_after(text.as_bytes(), b':', frame_len / 16),
+    };
+    match text.split_at_checked(start) {
+        Some((_, rest)) => String::from_str(alloc, rest),
+        None => String::from_str(alloc, text),
     }
 }

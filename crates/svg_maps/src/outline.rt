@@ -15,6 +15,8 @@ pub enum OutlineClass {
     Free,
     /// A network with a name.
     Named,
+    /// An entry of a list.
+    Entry,
 }
 
 /// The outline of a network on a map.
@@ -37,6 +39,7 @@ fn outline_class(class: OutlineClass) -> &'static str
     match class {
         OutlineClass::Free => "free",
         OutlineClass::Named => "name",
+        OutlineClass::Entry => "hit",
     }
 }
 

@@ -8,41 +8,77 @@ use crate::square_labels::{SquareLabels, square_labels};
 use crate::under::{Under, ink_in};
 use ipnet_maps::{Place, Rectangle, Sides};
 use std::alloc::{AllocError, Global};
+use svg_text::is_shown;
 
-/// The height of a label of an outline, in pixels.
-const HEIGHT: u32 = 13;
+/// The width and the height of a character of the label of a square or of an entry, in pixels.
+const SMALL_WIDTH: u32 = 6;
 
-/// The number of characters, as far as it matters.
-fn characters_of(words: &String) -> u32 {
-    u32::try_from(words.len()).unwrap_or(u32::MAX)
+const SMALL_HEIGHT: u32 = 12;
+
+/// The width and the height of a character of the label of a free block or of a name, in pixels.
+const LARGE_WIDTH: u32 = 7;
+
+const LARGE_HEIGHT: u32 = 13;
+
+/// How many characters wide the character is at most: those from U+1100 on may be wide, and of a character that is not
+/// shown, each byte has four.
+fn columns_of(c: char) -> u32 {
+    if !is_shown(c) {
+        if c <= '\u{7f}' { 4 } else { 16 }
+    } else if c < '\u{1100}' {
+        1
+    } else {
+        2
+    }
 }
 
-/// The rectangle of a label on the map whose left side is at its place.
-fn box_of(label: &Label) -> Rectangle {
-    let characters = characters_of(&label.words);
-    let Place { column, row } = label.place;
-    match label.ink {
-        Ink::Free | Ink::Name => Rectangle {
-            place: Place {
-                column,
-                row: row.saturating_sub(10),
-            },
-            sides: Sides {
-                width: characters.saturating_mul(7),
-                height: HEIGHT,
-            },
+/// The sides of a character of the label of such an outline, in pixels.
+fn character_of(class: OutlineClass) -> Sides {
+    match class {
+        OutlineClass::Free | OutlineClass::Named => Sides {
+            width: LARGE_WIDTH,
+            height: LARGE_HEIGHT,
         },
-        _ => Rectangle {
-            place: Place {
-                column,
-                row: row.saturating_sub(9),
-            },
-            sides: Sides {
-                width: characters.saturating_mul(6),
-                height: 12,
-            },
+        OutlineClass::Entry => Sides {
+            width: SMALL_WIDTH,
+            height: SMALL_HEIGHT,
         },
     }
+}
+
+/// The sides of a label, in pixels, if its characters have these sides.
+fn sides_of_label(character: Sides, words: &str) -> Sides {
+    let mut columns: u32 = 0;
+    for c in words.chars() {
+        columns = columns.saturating_add(columns_of(c));
+    }
+    Sides {
+        width: columns.saturating_mul(character.width),
+        height: character.height,
+    }
+}
+
+/// The rectangle of the label of a square, whose left side is at its place.
+fn box_of(label: &Label) -> Rectangle {
+    let characters = u32::try_from(label.words.len()).unwrap_or(u32::MAX);
+    let Place { column, row } = label.place;
+    Rectangle {
+        place: Place {
+            column,
+            row: row.saturating_sub(9),
+        },
+        sides: Sides {
+            width: characters.saturating_mul(SMALL_WIDTH),
+            height: SMALL_HEIGHT,
+        },
+    }
+}
+
+/// The labels that have a place, and the rectangle of each on the map.
+#[derive(Drop)]
+struct Placed {
+    labels: Vec<Label>,
+    boxes: Vec<Rectangle>,
 }
 
 /// Whether two parts of a line have a place in common: each begins at its first place, and has this length.
@@ -65,19 +101,19 @@ fn meet(one: Rectangle, other: Rectangle) -> bool {
     )
 }
 
-/// Whether the rectangle meets one of the labels.
-fn meets_label(area: Rectangle, labels: &[Label]) -> bool {
-    for label in labels {
-        if meet(area, box_of(label)) {
+/// Whether the rectangle meets one of the others.
+fn meets_one(area: Rectangle, boxes: &[Rectangle]) -> bool {
+    for other in boxes {
+        if meet(area, *other) {
             return true;
         }
     }
     false
 }
 
-/// The rectangle of these sides at the place in the area at which it meets none of the labels, if there is one: in the
+/// The rectangle of these sides at the place in the area at which it meets none of the others, if there is one: in the
 /// middle, or a little beside it.
-fn room_in(area: Rectangle, sides: Sides, labels: &[Label]) -> Option<Rectangle> {
+fn room_in(area: Rectangle, sides: Sides, boxes: &[Rectangle]) -> Option<Rectangle> {
     if sides.width.saturating_add(4) > area.sides.width || sides.height > area.sides.height {
         return None;
     }
@@ -99,7 +135,7 @@ fn room_in(area: Rectangle, sides: Sides, labels: &[Label]) -> Option<Rectangle>
                 row: area.place.row.saturating_add(row.min(down)),
             };
             let found = Rectangle { place, sides };
-            if !meets_label(found, labels) {
+            if !meets_one(found, boxes) {
                 return Some(found);
             }
         }
@@ -107,32 +143,35 @@ fn room_in(area: Rectangle, sides: Sides, labels: &[Label]) -> Option<Rectangle>
     None
 }
 
-/// Adds the label of the outline, if there is room.
+/// Adds the label of the outline, if it has one and there is room.
 fn push_outline_label(
-    alloc: Global,
-    labels: &mut Vec<Label>,
+    placed: &mut Placed,
     scale: u32,
     outline: &Outline,
+    under: &Under,
 ) -> Result<(), AllocError> {
-    let sides = Sides {
-        width: characters_of(&outline.label).saturating_mul(7),
-        height: HEIGHT,
-    };
+    if outline.label.is_empty() {
+        return Ok(());
+    }
+    let character = character_of(outline.class);
+    let sides = sides_of_label(character, outline.label.as_str());
     let area = rectangle_in_pixels(scale, outline.rectangle);
-    let Some(found) = room_in(area, sides, labels.as_slice()) else {
+    let Some(found) = room_in(area, sides, placed.boxes.as_slice()) else {
         return Ok(());
     };
     let ink = match outline.class {
         OutlineClass::Free => Ink::Free,
         OutlineClass::Named => Ink::Name,
+        OutlineClass::Entry => ink_in(under, found),
     };
     let words = outline.label.clone()?;
-    let row = found.place.row.saturating_add(10);
-    labels.push(label_at(ink, found.place.column, row, words))?;
+    let row = found.place.row.saturating_add(character.height.saturating_sub(3));
+    placed.boxes.push(found)?;
+    placed.labels.push(label_at(ink, found.place.column, row, words))?;
     Ok(())
 }
 
-/// Gives each of the labels the look that can be read on the colours below it.
+/// Gives each of the labels of squares the look that can be read on the colours below it.
 fn choose_inks(labels: &mut Vec<Label>, under: &Under) {
     for index in 0..labels.len() {
         let area = box_of(&labels[index]);
@@ -140,8 +179,17 @@ fn choose_inks(labels: &mut Vec<Label>, under: &Under) {
     }
 }
 
-/// Returns the labels of the squares and of the outlines, on a map of this size and place with these colours. Fails
-/// only if memory runs out.
+/// The rectangles of the labels of squares.
+fn boxes_of(alloc: Global, labels: &[Label]) -> Result<Vec<Rectangle>, AllocError> {
+    let mut boxes = Vec::new(alloc);
+    for label in labels {
+        boxes.push(box_of(label))?;
+    }
+    Ok(boxes)
+}
+
+/// Returns the labels of the squares, of the outlines and then of the entries, on a map of this size and place with
+/// these colours. Fails only if memory runs out.
 pub(crate) fn map_labels(
     alloc: Global,
     squares: &[Square],
@@ -149,10 +197,26 @@ pub(crate) fn map_labels(
     sheet: Sheet,
     under: &Under,
 ) -> Result<SquareLabels, AllocError> {
-    let mut labels = square_labels(alloc, squares, sheet)?;
-    choose_inks(&mut labels.inside, under);
+    let SquareLabels { inside, heads } = square_labels(alloc, squares, sheet)?;
+    let boxes = boxes_of(alloc, inside.as_slice())?;
+    let mut placed = Placed {
+        labels: inside,
+        boxes,
+    };
+    choose_inks(&mut placed.labels, under);
     for outline in outlines {
-        push_outline_label(alloc, &mut labels.inside, sheet.scale, outline)?;
+        if outline.class != OutlineClass::Entry {
+            push_outline_label(&mut placed, sheet.scale, outline, under)?;
+        }
     }
-    Ok(labels)
+    for outline in outlines {
+        if outline.class == OutlineClass::Entry {
+            push_outline_label(&mut placed, sheet.scale, outline, under)?;
+        }
+    }
+    let Placed { labels, .. } = placed;
+    Ok(SquareLabels {
+        inside: labels,
+        heads,
+    })
 }

@@ -1,35 +1,45 @@
 //! Overlays: outlines over the cells of a map, and what the legend and the foot say of them.
-ghost use Rattle.std.specs.Prelude.{◌+◌, ◌≤◌, ◌≡◌, [], IfOk};
+ghost use Rattle.std.specs.Prelude.{◌+◌, ◌≤◌, ◌≡◌, ◌++◌, [], IfOk};
 ghost use Rattle.ipnet_base.specs.Address.{width};
 ghost use Rattle.ipnet.specs.NetworkOf.{ip_network};
 ghost use Rattle.ipnet_sets.specs.Members.{IsMember};
+ghost use Rattle.ipnet_sets.specs.RoutesOf.{routes_of};
+ghost use Rattle.svg_maps.specs.EntryOutlines.{AreEntryOutlines};
 ghost use Rattle.svg_maps.specs.FreeOutlines.{AreFreeOutlines, AreOutlinesOf};
+ghost use Rattle.svg_maps.specs.NamedOutlines.{AreNamedOutlines};
+ghost use Rattle.svg_maps.specs.Overlays.{AreOutlinesOver};
 
+use crate::entry::{MapEntries, entry_outlines};
 use crate::free::outlines_of;
+use crate::named::named_outlines;
 use crate::outline::Outline;
 use crate::style::Theme;
 use ipnet::IpNet;
 use ipnet_pictures::summary::{push_free, push_largest};
 use ipnet_pictures::{free_in, largest_of};
-use ipnet_sets::IpSet;
+use ipnet_sets::{IpSet, RouteTable};
 use std::alloc::{AllocError, Global};
 
 /// The most characters of a line of the legend that is cut.
 const LONGEST: usize = 100;
 
-/// How a map looks.
-#[derive(Clone, Copy, Debug, PartialEq, Eq)]
-pub struct Look {
+/// How a map looks, which networks on it have names, and which are entries of its lists.
+#[derive(Clone, Copy)]
+pub struct Look<'a> {
     /// The colours.
     pub theme: Theme,
     /// Whether free blocks are outlined.
     pub shows_free: bool,
+    /// The names of networks, which are outlined; of none if the table is empty.
+    pub names: &'a RouteTable<&'a str>,
+    /// The entries of the lists.
+    pub entries: MapEntries<'a>,
 }
 
 /// The outlines over the cells of a map, and what the legend and the foot say of them.
 #[derive(Drop)]
 pub struct Overlay {
-    /// The outlines, those first whose labels are more important.
+    /// The outlines, in the order in which they are drawn.
     pub outlines: Vec<Outline>,
     /// Lines of the legend.
     pub lines: Vec<String>,
@@ -88,12 +98,12 @@ fn free_lines(alloc: Global, free: &[IpNet], frame: &IpNet) -> Result<Vec<String
     Ok(lines)
 }
 
-/// The note at the foot about free blocks that are not outlined; empty if there are none.
-fn free_note(alloc: Global, left_out: usize) -> Result<String, AllocError> {
+/// The note at the foot about what is left out, in these words; empty if nothing is.
+fn left_out_note(alloc: Global, words: &str, left_out: usize) -> Result<String, AllocError> {
     if left_out == 0 {
         return Ok(String::new(alloc));
     }
-    format!(in alloc; " Free blocks without an outline: {left_out}.")
+    format!(in alloc; " {words}: {left_out}.")
 }
 
 /// The overlay that outlines the free blocks.
@@ -106,7 +116,8 @@ fn free_overlay(alloc: Global, frame: &IpNet, depth: u8, set: &IpSet) -> Result<
     let free = free_in(alloc, set, frame)?;
     let outlines = outlines_of(alloc, frame, depth, set, free.as_slice())?;
     let lines = free_lines(alloc, free.as_slice(), frame)?;
-    let note = free_note(alloc, free.len().saturating_sub(outlines.len()))?;
+    let left_out = free.len().saturating_sub(outlines.len());
+    let note = left_out_note(alloc, "Free blocks without an outline", left_out)?;
     Ok(Overlay {
         outlines,
         lines,
@@ -114,22 +125,99 @@ fn free_overlay(alloc: Global, frame: &IpNet, depth: u8, set: &IpSet) -> Result<
     })
 }
 
-/// Returns what is drawn over the map of the set in the frame: outlines of the free blocks, if the map is to show them.
+/// The overlay that outlines the free blocks, if they are to be shown.
+fn shown_free(
+    alloc: Global,
+    frame: &IpNet,
+    depth: u8,
+    set: &IpSet,
+    shows_free: bool,
+) -> Result<Overlay, AllocError>
+    requires few { depth ≤ 20 }
+    requires fits { (ip_network frame.now).prefix_len + depth ≤ width (ip_network frame.now).family }
+    ensures { IfOk result (λ overlay. AreOutlinesOf shows_free (IsMember set.now) (ip_network frame.now) depth
+        overlay.outlines.items) }
+{
+    if shows_free {
+        free_overlay(alloc, frame, depth, set)
+    } else {
+        Ok(Overlay::new(alloc))
+    }
+}
+
+/// The overlay that outlines the networks with names.
+fn named_overlay(
+    alloc: Global,
+    frame: &IpNet,
+    depth: u8,
+    names: &RouteTable<&str>,
+) -> Result<Overlay, AllocError>
+    requires few { depth ≤ 20 }
+    requires fits { (ip_network frame.now).prefix_len + depth ≤ width (ip_network frame.now).family }
+    ensures { IfOk result (λ overlay.
+        AreNamedOutlines (routes_of names.now) (ip_network frame.now) depth overlay.outlines.items) }
+{
+    let outlines = named_outlines(alloc, frame, depth, names)?;
+    let left_out = names.len().saturating_sub(outlines.len());
+    let note = left_out_note(alloc, "Named networks without an outline", left_out)?;
+    Ok(Overlay {
+        outlines,
+        lines: Vec::new(alloc),
+        note,
+    })
+}
+
+/// The overlay with the areas of the entries.
+fn entry_overlay(
+    alloc: Global,
+    frame: &IpNet,
+    depth: u8,
+    entries: MapEntries<'_>,
+) -> Result<Overlay, AllocError>
+    requires few { depth ≤ 20 }
+    requires fits { (ip_network frame.now).prefix_len + depth ≤ width (ip_network frame.now).family }
+    ensures { IfOk result (λ overlay.
+        AreEntryOutlines entries.entry.titled.now (ip_network frame.now) depth overlay.outlines.items) }
+{
+    let outlines = entry_outlines(alloc, frame, depth, entries.titled)?;
+    let left_out = entries.count.saturating_sub(outlines.len());
+    let note = left_out_note(alloc, "Networks of entries without a title", left_out)?;
+    Ok(Overlay {
+        outlines,
+        lines: Vec::new(alloc),
+        note,
+    })
+}
+
+/// The overlay that draws what both draw, and says what both say: first the one, and then the other.
+fn joined(first: Overlay, second: Overlay) -> Result<Overlay, AllocError>
+    ensures { IfOk result (λ overlay. overlay.outlines.items ≡ first.outlines.items ++ second.outlines.items) }
+{
+    let mut overlay = first;
+    let mut other = second;
+    overlay.outlines.append(&mut other.outlines)?;
+    overlay.lines.append(&mut other.lines)?;
+    overlay.note.push_str(other.note.as_str())?;
+    Ok(overlay)
+}
+
+/// Returns what is drawn over the map of the set in the frame: the areas of the entries, outlines of the networks with
+/// names, and then outlines of the free blocks, if the look shows them.
 pub(crate) fn overlay_of(
     alloc: Global,
     frame: &IpNet,
     depth: u8,
     set: &IpSet,
-    look: Look,
+    look: Look<'_>,
 ) -> Result<Overlay, AllocError>
     requires few { depth ≤ 20 }
     requires fits { (ip_network frame.now).prefix_len + depth ≤ width (ip_network frame.now).family }
-    ensures { IfOk result (λ overlay. AreOutlinesOf look.shows_free (IsMember set.now) (ip_network frame.now) depth
-        overlay.outlines.items) }
+    ensures { IfOk result (λ overlay.
+        AreOutlinesOver look.entry (IsMember set.now) (ip_network frame.now) depth overlay.outlines.items) }
 {
-    if look.shows_free {
-        free_overlay(alloc, frame, depth, set)
-    } else {
-        Ok(Overlay::new(alloc))
-    }
+    let entries = entry_overlay(alloc, frame, depth, look.entries)?;
+    let named = named_overlay(alloc, frame, depth, look.names)?;
+    let free = shown_free(alloc, frame, depth, set, look.shows_free)?;
+    let others = joined(named, free)?;
+    joined(entries, others)
 }

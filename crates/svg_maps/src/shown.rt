@@ -34,8 +34,8 @@ fn note_of(alloc: Global, set: &IpSet, frame: &IpNet) -> Result<String, AllocErr
 /// Returns the map of the set in the frame, as a document of SVG. Fails only if memory runs out.
 ///
 /// A cell is drawn in one of four shades, by the share of its addresses that are in the set. The title of a square says
-/// how many of its addresses are in the set, and the foot how many are outside the frame. Free blocks are outlined if
-/// the look says so.
+/// how many of its addresses are in the set, and the foot how many are outside the frame. The networks with names are
+/// outlined, and the free blocks if the look says so.
 ///
 /// ```text
 /// of 10.20.0.0/20 in 10.20.0.0/16: <svg ..> .. <path class="s4" d="m0 0h256v16h-256z"/> .. </svg>
@@ -44,10 +44,10 @@ pub fn set_map_text(
     alloc: Global,
     frame: &IpNet,
     set: &IpSet,
-    look: Look,
+    look: Look<'_>,
 ) -> Result<String, AllocError>
     ensures { IfOk result (λ text.
-        IsOutlinedSetMap look.shows_free set.now (ip_network frame.now) (string_bytes text)) }
+        IsOutlinedSetMap look.entry set.now (ip_network frame.now) (string_bytes text)) }
 {
     let drawing = draw_set(alloc, frame, set)?;
     let style = style_of(alloc, look.theme)?;
@@ -78,10 +78,10 @@ pub fn change_map_text(
     frame: &IpNet,
     before: &IpSet,
     after: &IpSet,
-    look: Look,
+    look: Look<'_>,
 ) -> Result<String, AllocError>
     ensures { IfOk result (λ text.
-        IsOutlinedChangeMap look.shows_free before.now after.now (ip_network frame.now) (string_bytes text)) }
+        IsOutlinedChangeMap look.entry before.now after.now (ip_network frame.now) (string_bytes text)) }
 {
     let drawing = draw_change(alloc, frame, before, after)?;
     let removed = before.difference(alloc, after)?;
@@ -176,9 +176,9 @@ pub fn sets_map_text(
     frame: &IpNet,
     sets: &[IpSet],
     names: &[&str],
-    look: Look,
+    look: Look<'_>,
 ) -> Result<String, AllocError>
-    ensures { IfOk result (λ text. IsOutlinedSetsMap look.shows_free sets.now (map (λ name. name.now) names.now)
+    ensures { IfOk result (λ text. IsOutlinedSetsMap look.entry sets.now (map (λ name. name.now) names.now)
         (ip_network frame.now) (string_bytes text)) }
 {
     let drawing = draw_sets(alloc, frame, sets)?;

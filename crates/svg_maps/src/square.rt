@@ -10,6 +10,7 @@ ghost use Rattle.svg_maps.specs.Squares.{IsCountText, AreCountTexts, title_start
 ghost use Rattle.svg_maps.specs.Squares.{first_bits, square_bits};
 
 use crate::chart::Square;
+use crate::extent::extent_of;
 use crate::name::short_name;
 use ipnet::IpNet;
 use ipnet_maps::rectangle_in;
@@ -169,6 +170,37 @@ pub(crate) fn squares_of(
     for network in networks {
         let square = square_of(alloc, frame, depth, network, counted)?;
         squares.push(square)?;
+    }
+    Ok(squares)
+}
+
+/// Returns the squares of all values of the octet in which the map begins, without titles: these have labels if the
+/// squares of the map are too low for theirs. Fails only if memory runs out.
+///
+/// ```text
+/// of 172.0.0.0/11 with 19 bits: 32 squares, each of a /16, named .0 to .31
+/// ```
+pub(crate) fn octet_squares(
+    alloc: Global,
+    frame: &IpNet,
+    depth: u8,
+) -> Result<Vec<Square>, AllocError>
+    requires few { depth ≤ 20 }
+    requires fits { (ip_network frame.now).prefix_len + depth ≤ width (ip_network frame.now).family }
+{
+    let len = frame.prefix_len() + first_bits_of(frame.prefix_len(), depth);
+    let networks = subnets_of(alloc, frame, len)?;
+    let mut squares = Vec::new(alloc);
+    for network in networks.as_slice() {
+        if let Some(rectangle) = extent_of(frame, depth, network) {
+            let name = short_name(alloc, network, frame.prefix_len())?;
+            let title = String::new(alloc);
+            squares.push(Square {
+                rectangle,
+                name,
+                title,
+            })?;
+        }
     }
     Ok(squares)
 }

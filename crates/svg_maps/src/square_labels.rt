@@ -21,6 +21,31 @@ fn fits(characters: usize, area: Rectangle) -> bool {
     area.sides.height >= 14 && characters.saturating_mul(6).saturating_add(4) <= area.sides.width
 }
 
+/// Whether one of the squares has room for its name, if a cell has `scale` pixels.
+fn have_room(squares: &[Square], scale: u32) -> bool {
+    for square in squares {
+        let area = rectangle_in_pixels(scale, square.rectangle);
+        if fits(square.name.len(), area) {
+            return true;
+        }
+    }
+    false
+}
+
+/// Returns the squares that have labels: the squares of the map if one of them has room for its name, and otherwise the
+/// squares of all values of an octet.
+pub(crate) fn choose_labelled<'a>(
+    squares: &'a [Square],
+    octets: &'a [Square],
+    scale: u32,
+) -> &'a [Square] {
+    if have_room(squares, scale) {
+        squares
+    } else {
+        octets
+    }
+}
+
 /// The middle of a length.
 fn middle(from: u32, length: u32) -> u32 {
     from.saturating_add(length / 2)

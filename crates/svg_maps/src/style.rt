@@ -29,7 +29,7 @@ const COMMON: &[&str] = &[
     ".hit:hover{fill-opacity:.25}",
     ".grid{fill:none;stroke-width:1;opacity:.35}",
     ".free{fill:none;stroke-width:1;stroke-opacity:.55;shape-rendering:crispEdges;pointer-events:none}",
-    ".name{fill:none;stroke-width:1.5;pointer-events:none}",
+    ".name{fill:none;stroke-width:1.5}",
     ".ring{fill:none;stroke-width:1.5;pointer-events:none}",
     ".halo{stroke-width:3;stroke-linejoin:round;paint-order:stroke}",
     ".pale{fill-opacity:.55}",

@@ -1,5 +1,5 @@
 //! Any text as a part of a document.
-ghost use Rattle.std.specs.Prelude.{◌≡◌, ◌%◌, ◌++◌, OnOk, map, flat_map, string_bytes};
+ghost use Rattle.std.specs.Prelude.{◌≡◌, ◌%◌, ◌++◌, ◌||◌, OnOk, map, flat_map, string_bytes};
 ghost use Rattle.std.specs.Char.{digit_char};
 ghost use Rattle.svg_text.specs.Escapes.{is_reserved, is_plain, turns_writing, is_xml_character, is_referred};
 ghost use Rattle.svg_text.specs.Escapes.{octet, pieces_of, piece_text, escaped};
@@ -45,6 +45,18 @@ fn is_numbered(c: char) -> bool
     ensures { result ≡ is_referred c }
 {
     is_xml_mark(c) || ('\u{a0}' <= c && is_in_xml(c) && !is_turn(c))
+}
+
+/// Whether a reader of a document sees the character itself: otherwise `push_escaped` writes its bytes, each as `\x`
+/// and two digits.
+///
+/// ```text
+/// a, < and ü: true; a tab and a backslash: false
+/// ```
+pub fn is_shown(c: char) -> bool
+    ensures { result ≡ (is_plain c || is_referred c) }
+{
+    is_written(c) || is_numbered(c)
 }
 
 /// The last hexadecimal digit of the number.

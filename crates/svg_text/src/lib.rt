@@ -6,6 +6,6 @@ pub mod laws;
 pub mod name;
 pub mod tag;
 
-pub use escape::push_escaped;
+pub use escape::{is_shown, push_escaped};
 pub use name::{AttributeName, ElementName};
 pub use tag::{Attribute, Value, push_empty, push_end, push_leaf, push_start};

@@ -17,16 +17,16 @@ returns c =
       title = c.as_str-2.result.now;
       summary = c.as_str-3.result.now;
       style = c.args.form.style.now;
-      captions = c.as_slice-3.result.now;
-      heads = c.as_slice-4.result.now;
-      swatches = c.as_slice-5.result.now;
+      captions = c.as_slice-4.result.now;
+      heads = c.as_slice-5.result.now;
+      swatches = c.as_slice-6.result.now;
       area = sheet.area;
       chart_place = sheet.chart_place;
       layers = c.as_slice-layers.result.now;
-      squares = c.as_slice-6.result.now;
+      squares = c.as_slice-7.result.now;
       outlines = c.as_slice-outlines.result.now;
-      rings = c.as_slice-7.result.now;
-      labels = c.as_slice-8.result.now;
+      rings = c.as_slice-8.result.now;
+      labels = c.as_slice-9.result.now;
       sides = c.sides_of-sides.result;
       scale = sheet.scale;
     } in
@@ -38,7 +38,7 @@ returns c =
         width = c.sides_of-sides.ensures.width;
         height = c.sides_of-sides.ensures.height;
         squares = subst (All (IsSquareOf n d.depth (n.prefix_len + square_bits n.prefix_len d.depth) counted))
-            (sym c.as_slice-6.ensures.value) c.in_ok-squares.ensures;
+            (sym c.as_slice-7.ensures.value) c.in_ok-squares.ensures;
         summary = subst (IsTitle n counted) (sym c.as_str-3.ensures.value) c.in_ok-summary.ensures;
         spelled = e;
       },

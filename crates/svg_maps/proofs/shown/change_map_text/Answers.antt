@@ -3,21 +3,20 @@ use Rattle.std.proofs.lemmas.Result.{IfOk-weaker}
 use Rattle.ipnet.specs.NetworkOf.{ip_network}
 use Rattle.ipnet_base.specs.Blocks.{IsInEither}
 use Rattle.ipnet_sets.specs.Members.{IsMember}
-use Rattle.svg_maps.specs.FreeOutlines.{AreOutlinesOf}
-use Rattle.svg_maps.specs.Overlays.{IsOutlinedMap, IsOutlinedChangeMap}
-use Rattle.svg_maps.proofs.FreeLaws.{outlines_same}
+use Rattle.svg_maps.specs.Overlays.{AreOutlinesOver, IsOutlinedMap, IsOutlinedChangeMap}
+use Rattle.svg_maps.proofs.NamedLaws.{over_same}
 use Rattle.svg_maps.proofs.shown.change_map_text.Goals as goal
 
 pub returns : goal.returns
 returns c =
     let n = ip_network c.args.frame.now in
     let d = c.in_ok-drawing.drawing in
-    let shows_free = c.args.look.shows_free in
+    let look = c.args.look in
     let before = c.args.before.now in
     let after = c.args.after.now in
     let outlines = c.in_ok-overlay.overlay.outlines.items in
     IfOk-weaker c.map_text.result (λ text. IsOutlinedMap n _ d outlines (string_bytes text))
-    (λ text. IsOutlinedChangeMap shows_free before after n (string_bytes text)) (λ text m. (
+    (λ text. IsOutlinedChangeMap look before after n (string_bytes text)) (λ text m. (
       record {
         drawing = d;
         drawn = c.in_ok-drawing.ensures;
@@ -32,7 +31,7 @@ returns c =
         words = refl;
         page = m.0;
       },
-      subst (AreOutlinesOf shows_free (IsInEither (IsMember before) (IsMember after)) n d.depth) (sym m.1)
-          (outlines_same shows_free (IsMember c.in_ok-all.all) (IsInEither (IsMember before) (IsMember after)) n d.depth
+      subst (AreOutlinesOver look (IsInEither (IsMember before) (IsMember after)) n d.depth) (sym m.1)
+          (over_same look (IsMember c.in_ok-all.all) (IsInEither (IsMember before) (IsMember after)) n d.depth
           outlines c.in_ok-all.ensures.members c.in_ok-overlay.ensures),
     )) c.map_text.ensures

@@ -2,19 +2,18 @@ use Rattle.std.proofs.Common.{refl, subst, sym, string_bytes}
 use Rattle.std.proofs.lemmas.Result.{IfOk-weaker}
 use Rattle.ipnet.specs.NetworkOf.{ip_network}
 use Rattle.ipnet_sets.specs.Members.{IsMember}
-use Rattle.svg_maps.specs.FreeOutlines.{AreOutlinesOf}
-use Rattle.svg_maps.specs.Overlays.{IsOutlinedMap, IsOutlinedSetMap}
+use Rattle.svg_maps.specs.Overlays.{AreOutlinesOver, IsOutlinedMap, IsOutlinedSetMap}
 use Rattle.svg_maps.proofs.shown.set_map_text.Goals as goal
 
 pub returns : goal.returns
 returns c =
     let n = ip_network c.args.frame.now in
     let d = c.in_ok-drawing.drawing in
-    let shows_free = c.args.look.shows_free in
+    let look = c.args.look in
     let set = c.args.set.now in
     let outlines = c.in_ok-overlay.overlay.outlines.items in
     IfOk-weaker c.map_text.result (λ text. IsOutlinedMap n _ d outlines (string_bytes text))
-    (λ text. IsOutlinedSetMap shows_free set n (string_bytes text)) (λ text m. (
+    (λ text. IsOutlinedSetMap look set n (string_bytes text)) (λ text m. (
       record {
         drawing = d;
         drawn = c.in_ok-drawing.ensures;
@@ -23,5 +22,5 @@ returns c =
         words = refl;
         page = m.0;
       },
-      subst (AreOutlinesOf shows_free (IsMember set) n d.depth) (sym m.1) c.in_ok-overlay.ensures,
+      subst (AreOutlinesOver look (IsMember set) n d.depth) (sym m.1) c.in_ok-overlay.ensures,
     )) c.map_text.ensures

@@ -5,10 +5,9 @@ use Rattle.std.specs.Borrow.{Bor}
 use Rattle.ipnet.specs.NetworkOf.{ip_network}
 use Rattle.ipnet_sets.specs.ManySets.{IsInSome}
 use Rattle.ipnet_sets.specs.Members.{IsMember}
-use Rattle.svg_maps.specs.FreeOutlines.{AreOutlinesOf}
 use Rattle.svg_maps.specs.Maps.{list_words}
-use Rattle.svg_maps.specs.Overlays.{IsOutlinedMap, IsOutlinedSetsMap}
-use Rattle.svg_maps.proofs.FreeLaws.{outlines_same}
+use Rattle.svg_maps.specs.Overlays.{AreOutlinesOver, IsOutlinedMap, IsOutlinedSetsMap}
+use Rattle.svg_maps.proofs.NamedLaws.{over_same}
 use Rattle.svg_maps.proofs.shown.sets_map_text.Goals as goal
 
 words_of_names : (names : List (Bor (List ℕ)))
@@ -28,10 +27,10 @@ returns c =
     let as_many : length c.as_slice.result.now ≡ length given =
     ap (λ z. length z) c.as_slice.ensures.value ∙ sym (length-map words string_bytes)
     ∙ ap (λ z. length z) c.in_ok-words.ensures ∙ length-map given (λ name. list_words name.now) in
-    let shows_free = c.args.look.shows_free in
+    let look = c.args.look in
     let outlines = c.in_ok-overlay.overlay.outlines.items in
     IfOk-weaker c.map_text.result (λ text. IsOutlinedMap n counted d outlines (string_bytes text))
-    (λ text. IsOutlinedSetsMap shows_free sets names n (string_bytes text)) (λ text m. (
+    (λ text. IsOutlinedSetsMap look sets names n (string_bytes text)) (λ text m. (
       record {
         drawing = d;
         drawn = c.in_ok-drawing.ensures;
@@ -43,7 +42,7 @@ returns c =
             ∙ words_of_names given;
         page = m.0;
       },
-      subst (AreOutlinesOf shows_free (IsInSome IsMember sets) n d.depth) (sym m.1)
-          (outlines_same shows_free (IsMember c.in_ok-all.all) (IsInSome IsMember sets) n d.depth outlines
+      subst (AreOutlinesOver look (IsInSome IsMember sets) n d.depth) (sym m.1)
+          (over_same look (IsMember c.in_ok-all.all) (IsInSome IsMember sets) n d.depth outlines
           c.in_ok-all.ensures.members c.in_ok-overlay.ensures),
     )) c.map_text.ensures

@@ -1,0 +1,56 @@
+//! The lists of a map: a session whose largest entries are noted while it reads them.
+use crate::lists::ListReader;
+use netset_entries::EntryNotes;
+use netset_lib::{ReadFailure, Session};
+use std::io;
+use std::io::Read;
+
+/// A session, and the largest entries of its lists.
+#[derive(Drop)]
+pub struct NotedSession {
+    pub session: Session,
+    pub notes: EntryNotes,
+}
+
+/// A source whose bytes are noted as they are read.
+#[derive(Drop)]
+struct NotedInput<'a, R> {
+    input: &'a mut R,
+    notes: &'a mut EntryNotes,
+    /// Whether memory ran out.
+    is_full: bool,
+}
+
+impl<R: Read> Read for NotedInput<'_, R> {
+    fn read(&mut self, buf: &mut [u8]) -> io::Result<usize> {
+        let count = self.input.read(buf)?;
+        if !self.is_full && count <= buf.len() {
+            self.is_full = self.notes.take(&buf[..count]).is_err();
+        }
+        Ok(count)
+    }
+}
+
+impl ListReader for NotedSession {
+    fn read_next<R: Read>(&mut self, input: &mut R) -> Result<(), ReadFailure> {
+        let mut noted = NotedInput {
+            input,
+            notes: &mut self.notes,
+            is_full: false,
+        };
+        self.session.read(&mut noted)?;
+        let is_full = noted.is_full;
+        if is_full || self.notes.end_list().is_err() {
+            return Err(ReadFailure::Memory);
+        }
+        Ok(())
+    }
+
+    fn count_refused(&self) -> usize {
+        self.session.refused_count()
+    }
+
+    fn has_entries(&self) -> bool {
+        self.session.has_entry()
+    }
+}

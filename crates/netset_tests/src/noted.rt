@@ -1,0 +1,84 @@
+//! Tests of the entries that are noted of lists: which, in which order, and with which titles.
+use ipnet::Grammar;
+use netset_entries::EntryNotes;
+use std::alloc::Global;
+use std::test::Fail;
+
+/// The titles of what is noted, each on a line with its network.
+fn noted_text(alloc: Global, notes: EntryNotes) -> Result<String, Fail> {
+    let mut text = String::new(alloc);
+    for noted in notes.into_entries()?.as_slice() {
+        let network = noted.network;
+        let title = noted.title.as_str();
+        write!(text, "{network} {title}\n")?;
+    }
+    Ok(text)
+}
+
+#[test]
+fn titles(rt: HostRuntime) -> Result<(), Fail> {
+    // label, the list, and what is noted
+    let rows = [
+        ("a comment", "10.0.0.0/8 # a, b\r\n", "10.0.0.0/8 10.0.0.0/8: a, b\n"),
+        ("no comment", "10.0.0.1", "10.0.0.1/32 10.0.0.1\n"),
+        ("an empty comment", "10.0.0.1 #", "10.0.0.1/32 10.0.0.1\n"),
+        ("host bits", "10.0.0.9/8;x\n10.0.0.9/8 ;x", "10.0.0.0/8 10.0.0.9/8: x\n"),
+        ("a byte order mark", "\u{feff}fd00::/8", "fd00::/8 fd00::/8\n"),
+        (
+            "the larger first",
+            "10.0.0.1\n10.0.0.0/8\n10.1.0.0/16\n11.0.0.0/8",
+            "10.0.0.0/8 10.0.0.0/8\n11.0.0.0/8 11.0.0.0/8\n10.1.0.0/16 10.1.0.0/16\n10.0.0.1/32 10.0.0.1\n",
+        ),
+        (
+            "the blocks of a range",
+            "10.0.0.0-10.0.0.2 # x",
+            "10.0.0.0/31 10.0.0.0-10.0.0.2: x\n10.0.0.2/32 10.0.0.0-10.0.0.2: x\n",
+        ),
+        ("other lines", "# 10.0.0.1\n\nx\n10.0.0.0/33", ""),
+    ];
+    let alloc = rt.alloc();
+    for (label, list, wanted) in rows {
+        let bytes = list.as_bytes();
+        for cut in 0..=bytes.len() {
+            let mut notes = EntryNotes::new(alloc, Grammar::Strict, None)?;
+            notes.take(&bytes[..cut])?;
+            notes.take(&bytes[cut..])?;
+            notes.end_list()?;
+            let found = noted_text(alloc, notes)?;
+            assert!(&rt; found.as_str() == wanted, "noted: {label}, cut at {cut}: {found}");
+        }
+    }
+    Ok(())
+}
+
+#[test]
+fn most(rt: HostRuntime) -> Result<(), Fail> {
+    let alloc = rt.alloc();
+    let mut notes = EntryNotes::new(alloc, Grammar::Strict, None)?;
+    for number in 0..1_600u32 {
+        let (high, low) = (number / 256, number % 256);
+        let line = format!(in alloc; "10.0.{high}.{low}\n")?;
+        notes.take(line.as_bytes())?;
+    }
+    notes.take(b"11.0.0.0/8\nfd00::/8\n")?;
+    notes.end_list()?;
+    assert!(&rt; notes.count() == 1_602);
+    let entries = notes.into_entries()?;
+    assert!(&rt; entries.len() == 1_501);
+    let found = noted_first(alloc, entries.as_slice())?;
+    assert!(&rt; found.as_str() == "11.0.0.0/8, fd00::/8", "noted: {found}");
+    Ok(())
+}
+
+/// The titles of the first and of the last entry.
+fn noted_first(alloc: Global, entries: &[netset_entries::NotedEntry]) -> Result<String, Fail> {
+    let mut text = String::new(alloc);
+    if let Some(first) = entries.first() {
+        text.push_str(first.title.as_str())?;
+    }
+    if let Some(last) = entries.last() {
+        text.push_str(", ")?;
+        text.push_str(last.title.as_str())?;
+    }
+    Ok(text)
+}

@@ -1,0 +1,33 @@
+-- Networks with names, and the outlines over a map.
+use Rattle.std.proofs.Common.{List, ℕ, All, Contains, ◌↔◌}
+use Rattle.std.proofs.lemmas.List.Elements.{All-map}
+use Rattle.ipnet_base.specs.Address.{Address}
+use Rattle.ipnet_base.specs.Network.{Network, IsSubnetOf}
+use Rattle.ipnet_base.proofs.ListLaws.{all_at, all_from_members}
+use Rattle.ipnet_sets.specs.Routes.{Route, networks_of, AreWithin}
+use Rattle.svg_maps.specs.declared.outline.Outline.{Outline}
+use Rattle.svg_maps.specs.declared.overlay.Look.{Look}
+use Rattle.svg_maps.specs.Overlays.{AreOutlinesOver}
+use Rattle.svg_maps.proofs.FreeLaws.{outlines_same}
+
+-- the networks of the routes within a network are in it
+pub within_inside : {V : Type 0} (names within : List (Route V)) (frame : Network) → AreWithin names frame within
+    → (n : Network) → Contains (networks_of within) n → IsSubnetOf n frame
+within_inside {V} names within frame are n m =
+    all_at (λ k. IsSubnetOf k frame) (networks_of within)
+    (All-map (λ k. IsSubnetOf k frame) (λ (r : Route V). r.0) within
+    (all_from_members (λ (r : Route V). IsSubnetOf r.0 frame) within (λ r c. ((are.members r).0 c).1))) n m
+
+-- sets with the same addresses have the same outlines over their maps
+pub over_same : (look : Look) (First Second : Address → Type 0) (frame : Network) (depth : ℕ) (outlines : List Outline)
+    → ((x : Address) → First x ↔ Second x) → AreOutlinesOver look First frame depth outlines
+    → AreOutlinesOver look Second frame depth outlines
+over_same look First Second frame depth outlines same h = record {
+  entries = h.entries;
+  are_entries = h.are_entries;
+  named = h.named;
+  are_named = h.are_named;
+  free = h.free;
+  are_free = outlines_same look.shows_free First Second frame depth h.free same h.are_free;
+  all = h.all;
+}

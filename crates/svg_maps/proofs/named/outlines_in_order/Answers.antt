@@ -1,0 +1,12 @@
+use Rattle.ipnet.specs.NetworkOf.{ip_network}
+use Rattle.ipnet_pictures.proofs.PartLaws.{one_value_more}
+use Rattle.ipnet_sets.specs.RoutesOf.{routes_of}
+use Rattle.svg_maps.specs.NamedOutlines.{IsNamedOutline}
+use Rattle.svg_maps.proofs.named.outlines_in_order.Goals as goal
+
+pub loop-network-preserved : goal.loop-network-preserved
+loop-network-preserved c =
+    one_value_more (IsNamedOutline (routes_of c.args.names.now) (ip_network c.args.frame.now) c.args.depth) ip_network
+    c.args.networks.now c.loop-network.network-index c.network-item.result c.in_ok-outline.outline
+    c.loop-network.outlines.items c.push.new.self.items c.loop-network-test.true c.network-item.is
+    c.loop-network.invariant c.in_ok-outline.ensures c.in_ok-push.ensures.items

@@ -1,0 +1,104 @@
+//! The entries of lists on a map: areas with titles.
+ghost use Rattle.std.specs.Prelude.{◌+◌, ◌≤◌, IfOk, IfSome, OnOk};
+ghost use Rattle.ipnet_base.specs.Address.{width};
+ghost use Rattle.ipnet.specs.NetworkOf.{ip_network};
+ghost use Rattle.svg_maps.specs.EntryOutlines.{IsEntryOutline, AreEntryOutlines, AddsFound};
+
+use crate::extent::extent_of;
+use crate::name::short_text;
+use crate::outline::{Outline, OutlineClass};
+use crate::sheet::{scale_of, sides_of};
+use ipnet::IpNet;
+use ipnet_maps::Rectangle;
+use std::alloc::{AllocError, Global};
+
+/// How many pixels the shorter side of the area of an entry has at least.
+const LEAST: u32 = 6;
+
+/// An entry on a map.
+#[derive(Debug, Drop)]
+pub struct MapEntry {
+    /// Its network.
+    pub network: IpNet,
+    /// Its title, which a browser shows.
+    pub title: String,
+}
+
+/// The entries of lists that a map may show.
+#[derive(Clone, Copy)]
+pub struct MapEntries<'a> {
+    /// The entries that have a title if they are large enough: the largest first.
+    pub titled: &'a [MapEntry],
+    /// How many networks the entries of the lists have.
+    pub count: usize,
+}
+
+/// Whether the area is large enough for the pointer of a mouse, if a cell has `scale` pixels.
+fn is_large(area: Rectangle, scale: u32) -> bool {
+    let shorter = area.sides.width.min(area.sides.height);
+    shorter.saturating_mul(scale) >= LEAST
+}
+
+/// The area of the entry with its title, if the map shows the entry and its area is large enough.
+fn entry_outline(
+    alloc: Global,
+    frame: &IpNet,
+    depth: u8,
+    entry: &MapEntry,
+) -> Result<Option<Outline>, AllocError>
+    requires few { depth ≤ 20 }
+    requires fits { (ip_network frame.now).prefix_len + depth ≤ width (ip_network frame.now).family }
+    ensures { IfOk result (λ found.
+        IfSome found (λ outline. IsEntryOutline (ip_network frame.now) depth outline entry.now)) }
+{
+    let Some(rectangle) = extent_of(frame, depth, &entry.network) else {
+        return Ok(None);
+    };
+    if !is_large(rectangle, scale_of(sides_of(frame, depth))) {
+        return Ok(None);
+    }
+    let title = String::from_str(alloc, entry.title.as_str())?;
+    let label = short_text(alloc, &entry.network, frame.prefix_len())?;
+    Ok(Some(Outline {
+        class: OutlineClass::Entry,
+        rectangle,
+        title: Some(title),
+        label,
+    }))
+}
+
+/// Appends the outline, if there is one.
+fn push_found(outlines: &mut Vec<Outline>, found: Option<Outline>) -> Result<(), AllocError>
+    ensures { OnOk result (AddsFound outlines.old.items found outlines.new.items) }
+{
+    match found {
+        Some(outline) => {
+            outlines.push(outline)?;
+            Ok(())
+        }
+        None => Ok(()),
+    }
+}
+
+/// Returns the areas of the entries that are large enough, each with its title. Fails only if memory runs out.
+///
+/// ```text
+/// of 10.20.168.0/22 with the title "10.20.168.0/22: dhcp-246", in 10.20.0.0/16: an area with this title
+/// ```
+pub(crate) fn entry_outlines(
+    alloc: Global,
+    frame: &IpNet,
+    depth: u8,
+    entries: &[MapEntry],
+) -> Result<Vec<Outline>, AllocError>
+    requires few { depth ≤ 20 }
+    requires fits { (ip_network frame.now).prefix_len + depth ≤ width (ip_network frame.now).family }
+    ensures { IfOk result (λ list. AreEntryOutlines entries.now (ip_network frame.now) depth list.items) }
+{
+    let mut outlines = Vec::new(alloc);
+    for entry in entries {
+        let found = entry_outline(alloc, frame, depth, entry)?;
+        push_found(&mut outlines, found)?;
+    }
+    Ok(outlines)
+}
