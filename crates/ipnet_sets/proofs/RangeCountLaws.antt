@@ -83,20 +83,10 @@ no_more_ranges s a b few ranges first second h k l =
       halves (length (boundaries_of s IPv6)) (length (boundaries_of a IPv6)) (length (boundaries_of b IPv6)) (few IPv6),
     )
 
-pub one_more_range : (s a : IpSet) → ((f : Family) → length (boundaries_of s f) ≤ length (boundaries_of a f) + 1)
+-- two boundaries more are one range more
+pub one_more_range : (s a : IpSet) → ((f : Family) → length (boundaries_of s f) ≤ length (boundaries_of a f) + 2)
     → HasOneMoreRange s a
 one_more_range s a few f ranges first h k =
-    omega (
-      arith,
-      count_in_family s f ranges h,
-      count_in_family a f first k,
-      halves (length (boundaries_of s f)) (length (boundaries_of a f)) 1 (few f),
-    )
-
--- two boundaries more are one range more
-pub one_more_pair : (s a : IpSet) → ((f : Family) → length (boundaries_of s f) ≤ length (boundaries_of a f) + 2)
-    → HasOneMoreRange s a
-one_more_pair s a few f ranges first h k =
     omega (
       arith,
       count_in_family s f ranges h,
@@ -107,7 +97,7 @@ one_more_pair s a few f ranges first h k =
 -- the boundaries of a complement, by the lists that hold them
 pub one_more_boundary : (a : IpSet) (ipv4 ipv6 first4 first6 : List ℕ) → first4 ≡ a.ipv4.items → first6 ≡ a.ipv6.items
     → length ipv4 ≤ length first4 + 1 → length ipv6 ≤ length first6 + 1
-    → (f : Family) → length (by_family (map (λ n. n) ipv4) (map (λ n. n) ipv6) f) ≤ length (boundaries_of a f) + 1
+    → (f : Family) → length (by_family (map (λ n. n) ipv4) (map (λ n. n) ipv6) f) ≤ length (boundaries_of a f) + 2
 one_more_boundary a ipv4 ipv6 first4 first6 e g h k IPv4 =
     omega (arith, h, ap length e, length-map ipv4 (λ n. n), length-map a.ipv4.items (λ n. n))
 one_more_boundary a ipv4 ipv6 first4 first6 e g h k IPv6 =
