@@ -6,7 +6,6 @@ ghost use Rattle.netset_entries.specs.EntryLineOf.{numbered};
 
 use crate::entry_list::EntryLine;
 use ipnet_text::write_whole;
-use netset_lib::{Cause, MOST_LINES, NO_ENTRY, RefusedText, report_text};
 use std::alloc::AllocError;
 use std::io;
 use std::io::Write;
@@ -88,25 +87,4 @@ pub(crate) fn report_unwritten<X: Write>(faults: &mut X, failure: WriteFailure) 
         WriteFailure::Memory => writeln!(faults, "netset: out of memory"),
         WriteFailure::Unwritable => writeln!(faults, "netset: output cannot be written"),
     }
-}
-
-/// Reports the first refused lines of the list with this name, and the number of the others.
-pub(crate) fn report_refused<X: Write>(
-    faults: &mut X,
-    name: &str,
-    refused: &[RefusedText<Option<Cause>>],
-) -> io::Result<()> {
-    let shown = refused.len().min(MOST_LINES);
-    for line in &refused[..shown] {
-        report_text(faults, name, line.number, NO_ENTRY, line.text.as_slice())?;
-        match line.cause {
-            Some(cause) => writeln!(faults, " ({cause})")?,
-            None => writeln!(faults)?,
-        }
-    }
-    let more = refused.len() - shown;
-    if more != 0 {
-        writeln!(faults, "netset: and {more} more")?;
-    }
-    Ok(())
 }

@@ -14,7 +14,8 @@ use Rattle.netset_lib.specs.declared.rule_answer.RuleFailure.{RuleFailure}
 use Rattle.netset_lib.specs.declared.rule_answer.RuleFailure.TheVariants as Failures
 use Rattle.netset_lib.specs.declared.rule_answer.RuleQuery.{RuleQuery}
 use Rattle.netset_lib.specs.declared.rule_answer.RuleQuery.TheVariants as Queries
-use Rattle.netset_lib.specs.declared.rule_list.RefusedRule.{RefusedRule}
+use Rattle.netset_lib.specs.declared.content_line.RefusedText.{RefusedText}
+use Rattle.netset_lib.specs.declared.rule_line.RuleCause.{RuleCause}
 use Rattle.netset_lib.specs.Answers.{IsSetText}
 use Rattle.netset_lib.specs.RuleContentsOf.{rule_refusal}
 use Rattle.netset_lib.specs.RuleLines.{LineOfRule, RuleContents, IsRuleList}
@@ -77,7 +78,7 @@ pub record IsPermittedSet (default : Action) (grammar : Grammar) (bytes : List �
   pub right : (x : Address) → IsMember set x ↔ IsPermittedBy contents.rules default x
 
 -- Some lines are refused, and these are all of them.
-pub record HasRefusedRules (grammar : Grammar) (bytes : List ℕ) (lines : List RefusedRule) : Type 0 where
+pub record HasRefusedRules (grammar : Grammar) (bytes : List ℕ) (lines : List (RefusedText RuleCause)) : Type 0 where
   pub contents : RuleContents
   pub read : IsRuleList grammar bytes contents
   pub some : contents.refused ≢ []

@@ -65,7 +65,9 @@ pub use change_line::ChangeCause;
 pub use changes::changes_text;
 pub use changes_program::run_changes;
 pub use command::{Command, Flags, Work, families};
-pub use content_line::{ContentLine, RefusedText, content_lines, has_lines, keep_read};
+pub use content_line::{
+    ContentLine, RefusedText, content_lines, has_lines, keep_read, report_refused,
+};
 pub use entry::{Entry, parse_address, read_entry};
 pub use failure::Failure;
 pub use filter::Side;
@@ -81,16 +83,16 @@ pub use plan_program::run_plan;
 pub use prefix_answer::{PrefixFailure, Verdicts, prefix_verdicts};
 pub use prefix_line::PrefixCause;
 pub use prefix_program::{PrefixRequest, run_prefix_list};
-pub use program::{NO_ENTRY, report_failure, report_text, run, run_stream, set_or_report};
+pub use program::{report_failure, report_text, run, run_stream, set_or_report};
 pub use query::Query;
 pub use reader::{FoundEntry, comment_start, contents_of, first_line, read_text};
 pub use reading::{ReadFailure, read_bytes};
 pub use refused::{
-    LineCause, MOST_LINES, Refusals, Refused, RefusedLine, RefusedLines, RefusedPart, report_since,
+    LineCause, Refusals, Refused, RefusedLine, RefusedLines, RefusedPart, report_since,
 };
 pub use rule_answer::{RuleFailure, RuleQuery};
 pub use rule_line::{RuleCause, rule_for};
-pub use rule_list::{RefusedRule, RuleLine, RuleList};
+pub use rule_list::{RuleLine, RuleList};
 pub use rule_program::{report_rule_failure, run_rules};
 pub use session::Session;
 pub use session::stream::{StreamFailure, Streamed};

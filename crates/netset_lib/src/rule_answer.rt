@@ -12,7 +12,9 @@ ghost use Rattle.netset_lib.specs.RuleLines.{IsRuleList};
 ghost use Rattle.netset_lib.specs.declared.rule_answer.RuleFailure.TheVariants.{Memory};
 
 use crate::answer::{Form, set_text};
-use crate::rule_list::{RefusedRule, RuleLine, RuleList};
+use crate::content_line::RefusedText;
+use crate::rule_line::RuleCause;
+use crate::rule_list::{RuleLine, RuleList};
 use ipnet_rules::{Action, Rule, Rules, Unreached};
 use ipnet_sets::IpSet;
 use std::alloc::{AllocError, Global};
@@ -30,7 +32,7 @@ pub enum RuleQuery {
 #[derive(Debug, Drop)]
 pub enum RuleFailure {
     /// These lines are not rules.
-    Refused(Vec<RefusedRule>),
+    Refused(Vec<RefusedText<RuleCause>>),
     /// Memory ran out.
     Memory,
 }

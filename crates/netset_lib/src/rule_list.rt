@@ -4,6 +4,7 @@ ghost use Rattle.ipnet_text.specs.Inputs.{GaveWhole};
 ghost use Rattle.netset_lib.specs.RuleContentsOf.{contents_of, line_of_rule, rule_refusal};
 ghost use Rattle.netset_lib.specs.RuleLines.{IsRuleList, no_rules};
 
+use crate::content_line::RefusedText;
 use crate::mark::skip_mark;
 use crate::reader::{contents_of, first_line};
 use crate::reading::{ReadFailure, read_bytes};
@@ -26,21 +27,6 @@ pub struct RuleLine {
     pub text: Vec<u8>,
 }
 
-/// A line that is not a rule.
-///
-/// ```text
-/// of "permit 10.0.0.0/8\nallow ::1 # x\n": number 2, text "allow ::1", cause UnknownWord
-/// ```
-#[derive(Debug, Drop)]
-pub struct RefusedRule {
-    /// Its number, from 1.
-    pub number: usize,
-    /// Its contents, without a comment and blanks around them.
-    pub text: Vec<u8>,
-    /// Why it is not a rule.
-    pub cause: RuleCause,
-}
-
 /// A list of rules that was read: the rules, the line of each, and the lines that are not rules.
 #[derive(Drop)]
 pub struct RuleList {
@@ -50,7 +36,7 @@ pub struct RuleList {
     /// The line of each rule.
     pub lines: Vec<RuleLine>,
     /// The lines that are not rules, in order.
-    pub refused: Vec<RefusedRule>,
+    pub refused: Vec<RefusedText<RuleCause>>,
 }
 
 /// Reads a list of rules, line by line.
@@ -155,7 +141,7 @@ impl RuleList {
             ≡ joined (contents_of self.old) (refusal_and number text.now cause no_rules)) }
     {
         let text = text.to_vec(self.alloc)?;
-        self.refused.push(RefusedRule {
+        self.refused.push(RefusedText {
             number,
             text,
             cause,

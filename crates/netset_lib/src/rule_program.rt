@@ -8,11 +8,12 @@ ghost use Rattle.netset_lib.specs.RuleAnswers.{IsRuleAnswer, IsOneUnreached, Are
 ghost use Rattle.netset_lib.specs.RuleContentsOf.{contents_of};
 ghost use Rattle.netset_lib.specs.RuleLines.{IsRuleList};
 
+use crate::content_line::report_refused;
 use crate::program::{NO_ENTRY, report_text};
-use crate::refused::MOST_LINES;
+use crate::refused::LineCause;
 use crate::rule_answer::{RuleFailure, RuleQuery};
 use crate::rule_line::RuleCause;
-use crate::rule_list::{RefusedRule, RuleList};
+use crate::rule_list::RuleList;
 use crate::write::write_or_report;
 use std::io;
 use std::io::Write;
@@ -89,37 +90,25 @@ pub fn report_rule_failure<X: Write>(
 ) -> io::Result<()> {
     match failure {
         RuleFailure::Memory => writeln!(faults, "netset: out of memory"),
-        RuleFailure::Refused(lines) => report_lines(faults, name, lines.as_slice()),
+        RuleFailure::Refused(lines) => report_refused(faults, name, lines.as_slice()),
     }
 }
 
-/// Reports the first refused lines, and the number of the others.
-fn report_lines<X: Write>(faults: &mut X, name: &str, lines: &[RefusedRule]) -> io::Result<()> {
-    let shown = lines.len().min(MOST_LINES);
-    for line in &lines[..shown] {
-        report_line(faults, name, line)?;
-    }
-    let more = lines.len() - shown;
-    if more != 0 {
-        writeln!(faults, "netset: and {more} more")?;
-    }
-    Ok(())
-}
-
-/// Reports one refused line, and why it is not a rule.
-fn report_line<X: Write>(faults: &mut X, name: &str, line: &RefusedRule) -> io::Result<()> {
-    report_text(
-        faults,
-        name,
-        line.number,
-        "not a rule",
-        line.text.as_slice(),
-    )?;
-    match line.cause {
-        RuleCause::UnknownWord => writeln!(faults, " (a rule begins with permit or deny)"),
-        RuleCause::NoEntry => writeln!(faults, " (no network, address or range follows)"),
-        RuleCause::TwoEntries => writeln!(faults, " (more than one word follows)"),
-        RuleCause::BadEntry(None) => writeln!(faults, " ({NO_ENTRY})"),
-        RuleCause::BadEntry(Some(cause)) => writeln!(faults, " ({cause})"),
+impl LineCause for RuleCause {
+    fn report<X: Write>(
+        &self,
+        faults: &mut X,
+        name: &str,
+        number: usize,
+        text: &[u8],
+    ) -> io::Result<()> {
+        report_text(faults, name, number, "not a rule", text)?;
+        match *self {
+            RuleCause::UnknownWord => writeln!(faults, " (a rule begins with permit or deny)"),
+            RuleCause::NoEntry => writeln!(faults, " (no network, address or range follows)"),
+            RuleCause::TwoEntries => writeln!(faults, " (more than one word follows)"),
+            RuleCause::BadEntry(None) => writeln!(faults, " ({NO_ENTRY})"),
+            RuleCause::BadEntry(Some(cause)) => writeln!(faults, " ({cause})"),
+        }
     }
 }
