@@ -1,6 +1,6 @@
 //! The commands that read a list of rules.
 ghost use Rattle.std.specs.Prelude.{◌≡◌, codes, Some, IfSome};
-ghost use Rattle.netset.specs.Arguments.{IsQueryOf};
+ghost use Rattle.netset.specs.Arguments.{IsDefault, IsRuleCommand};
 
 use crate::arguments::{FIRST, command_of, first, flags_of};
 use crate::forms::{form_of, operation_command};
@@ -10,7 +10,7 @@ use crate::output::Streams;
 use clap::{Arg, ArgMatches, Command};
 use ipnet_rules::Action;
 use netset_forms::{PermittedRequest, run_permitted};
-use netset_lib::{Form, RuleQuery, run_rules};
+use netset_lib::run_unreached;
 use std::alloc::{AllocError, Global};
 
 /// The names of the two commands.
@@ -56,24 +56,25 @@ pub fn with_rules<'a>(alloc: Global, command: Command<'a>) -> Result<Command<'a>
         .subcommand(unreached)
 }
 
-/// Returns what the command of this name asks of a list of rules, or `None` if it reads no such list.
-fn query_of(name: &str, matches: &ArgMatches) -> Option<RuleQuery>
-    ensures { IfSome result (IsQueryOf name.now matches.now) }
+/// Returns whether the command of this name prints what rules permit, or `None` if it reads no list of rules.
+fn prints_permitted(name: &str) -> Option<bool>
+    ensures { IfSome result (IsRuleCommand name.now) }
 {
-    let form = if matches.get_flag("ranges") {
-        Form::Ranges
-    } else {
-        Form::Networks
-    };
-    let default = if matches.get_str(DEFAULT) == Some(PERMIT) {
+    match name {
+        PERMITTED => Some(true),
+        UNREACHED => Some(false),
+        _ => None,
+    }
+}
+
+/// Returns what happens to the addresses that no rule matches.
+fn default_of(matches: &ArgMatches) -> Action
+    ensures { IsDefault matches.now result }
+{
+    if matches.get_str(DEFAULT) == Some(PERMIT) {
         Action::Permit
     } else {
         Action::Deny
-    };
-    match name {
-        PERMITTED => Some(RuleQuery::Permitted(default, form)),
-        UNREACHED => Some(RuleQuery::Unreached),
-        _ => None,
     }
 }
 
@@ -84,9 +85,7 @@ pub fn run_if_rules(
     streams: &mut Streams<'_>,
 ) -> Option<u8> {
     let (name, matches) = matches.subcommand()?;
-    let query = query_of(name, matches)?;
-    let is_set = matches!(query, RuleQuery::Permitted(_, _));
-    let form = match form_of(rt, matches, is_set) {
+    let form = match form_of(rt, matches, prints_permitted(name)?) {
         Ok(form) => form,
         Err(status) => return Some(status),
     };
@@ -101,11 +100,12 @@ pub fn run_if_rules(
         }
     };
     let (out, faults) = (&mut streams.answer, &mut streams.faults);
-    match (query, form) {
-        (RuleQuery::Permitted(default, _), Some(form)) => {
+    match form {
+        Some(form) => {
+            let default = default_of(matches);
             let request = PermittedRequest { default, form };
             Some(run_permitted(list, request, file, out, faults))
         }
-        _ => Some(run_rules(list, query, file, out, faults)),
+        None => Some(run_unreached(list, file, out, faults)),
     }
 }

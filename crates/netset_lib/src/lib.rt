@@ -90,10 +90,10 @@ pub use reading::{ReadFailure, read_bytes};
 pub use refused::{
     LineCause, Refusals, Refused, RefusedLine, RefusedLines, RefusedPart, report_since,
 };
-pub use rule_answer::{RuleFailure, RuleQuery};
+pub use rule_answer::RuleFailure;
 pub use rule_line::{RuleCause, rule_for};
 pub use rule_list::{RuleLine, RuleList};
-pub use rule_program::{report_rule_failure, run_rules};
+pub use rule_program::{report_rule_failure, run_unreached};
 pub use session::Session;
 pub use session::stream::{StreamFailure, Streamed};
 pub use text_program::{TextRequest, run_text_routes, table_or_report};

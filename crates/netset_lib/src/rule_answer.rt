@@ -3,30 +3,19 @@ ghost use Rattle.std.specs.Prelude.{◌≡◌, ◌↔◌, ◌++◌, List, ℕ, I
 ghost use Rattle.ipnet_base.specs.Address.{Address};
 ghost use Rattle.ipnet.specs.declared.parser.Grammar.{Grammar};
 ghost use Rattle.ipnet_sets.specs.Members.{IsMember};
-ghost use Rattle.netset_lib.specs.Answers.{IsSetText};
-ghost use Rattle.netset_lib.specs.RuleAnswers.{IsPermittedBy, line_text, line_at, covering_lines, IsRuleReply};
-ghost use Rattle.netset_lib.specs.RuleAnswers.{IsRuleAnswer, IsRuleFailure, unreached_lines, AreUnreachedLines};
+ghost use Rattle.netset_lib.specs.RuleAnswers.{IsPermittedBy, line_text, line_at, covering_lines};
+ghost use Rattle.netset_lib.specs.RuleAnswers.{IsUnreachedAnswer, IsRuleFailure, unreached_lines, AreUnreachedLines};
 ghost use Rattle.netset_lib.specs.RuleAnswers.{IsPermittedSet};
 ghost use Rattle.netset_lib.specs.RuleContentsOf.{contents_of, line_of_rule};
 ghost use Rattle.netset_lib.specs.RuleLines.{IsRuleList};
 ghost use Rattle.netset_lib.specs.declared.rule_answer.RuleFailure.TheVariants.{Memory};
 
-use crate::answer::{Form, set_text};
 use crate::content_line::RefusedText;
 use crate::rule_line::RuleCause;
 use crate::rule_list::{RuleLine, RuleList};
 use ipnet_rules::{Action, Rule, Rules, Unreached};
 use ipnet_sets::IpSet;
 use std::alloc::{AllocError, Global};
-
-/// A query on a list of rules.
-#[derive(Clone, Copy, Debug, PartialEq, Eq)]
-pub enum RuleQuery {
-    /// The addresses that the rules permit, in this form. The action is for the addresses that no rule matches.
-    Permitted(Action, Form),
-    /// The rules that decide on no address, and the earlier rules that decide on their addresses.
-    Unreached,
-}
 
 /// Why there is no answer.
 #[derive(Debug, Drop)]
@@ -54,20 +43,6 @@ fn permitted_set(alloc: Global, rules: Vec<Rule>, default: Action) -> Result<IpS
         default,
     };
     rules.permitted(alloc)
-}
-
-/// Returns the text of the set of the addresses that the rules permit.
-fn permitted_text(
-    alloc: Global,
-    rules: Vec<Rule>,
-    default: Action,
-    form: Form,
-) -> Result<Vec<u8>, AllocError>
-    ensures { IfOk result (λ text. IsSetText form (IsPermittedBy rules.items default) text.items) }
-{
-    let set = permitted_set(alloc, rules, default)?;
-    let text = set_text(alloc, form, &set)?;
-    Ok(text.into_bytes())
 }
 
 /// Appends the number of the line and its text.
@@ -151,18 +126,6 @@ fn unreached_text(list: RuleList) -> Result<Vec<u8>, AllocError>
     Ok(text)
 }
 
-/// Returns the text that is asked for.
-fn reply(list: RuleList, query: RuleQuery) -> Result<Vec<u8>, AllocError>
-    ensures { IfOk result (λ text. IsRuleReply query (contents_of list) text.items) }
-{
-    match query {
-        RuleQuery::Permitted(default, form) => {
-            permitted_text(list.alloc, list.rules, default, form)
-        }
-        RuleQuery::Unreached => unreached_text(list),
-    }
-}
-
 impl RuleList {
     /// The allocator of the list.
     pub fn alloc(&self) -> Global {
@@ -194,24 +157,24 @@ impl RuleList {
         Ok(permitted_set(alloc, rules, default)?)
     }
 
-    /// Returns the answer over the list of rules.
+    /// Returns the lines of the rules that decide on no address, each with the lines of the earlier rules that decide on
+    /// its addresses.
     ///
     /// The error is `Refused` if lines are not rules, with all of them; and `Memory` if memory runs out.
     ///
     /// ```text
     /// of "deny 10.0.0.0/9\npermit 10.0.0.0/8\npermit 10.1.0.0/16\n":
-    /// Permitted(Deny, Networks):  "10.128.0.0/9\n"
-    /// Unreached:                  "line 3: permit 10.1.0.0/16\n  line 1: deny 10.0.0.0/9\n"
+    /// "line 3: permit 10.1.0.0/16\n  line 1: deny 10.0.0.0/9\n"
     /// ```
-    pub fn answer(self, query: RuleQuery) -> Result<Vec<u8>, RuleFailure>
+    pub fn unreached(self) -> Result<Vec<u8>, RuleFailure>
         ensures answer { IfOk result (λ text. (grammar : Grammar) → (bytes : List ℕ)
-            → IsRuleList grammar bytes (contents_of self) → IsRuleAnswer query grammar bytes text.items) }
+            → IsRuleList grammar bytes (contents_of self) → IsUnreachedAnswer grammar bytes text.items) }
         ensures failure { IfErr result (λ failure. (grammar : Grammar) → (bytes : List ℕ)
             → IsRuleList grammar bytes (contents_of self) → IsRuleFailure grammar bytes failure) }
     {
         if !self.refused.is_empty() {
             return Err(RuleFailure::Refused(self.refused));
         }
-        Ok(reply(self, query)?)
+        Ok(unreached_text(self)?)
     }
 }
