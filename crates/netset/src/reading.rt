@@ -1,10 +1,16 @@
 //! The lists of a command, which are read with a report if that fails.
 
-use crate::arguments::{ArgumentFailure, refused};
+use crate::arguments::{ArgumentFailure, flags_of, refused};
 use crate::input::report_unread;
 use crate::lists::{ListReader, read_filled, read_lists};
 use crate::output::Streams;
+use clap::ArgMatches;
 use netset_lib::{Session, Work};
+
+/// The work of a command that only reads lists: all their addresses.
+pub fn reading_work(matches: &ArgMatches) -> Work {
+    netset_lib::Command::Union.work(flags_of(matches))
+}
 
 /// Returns a session that has read the lists of these names, as `fill` reads them.
 pub fn session_of(
