@@ -10,17 +10,14 @@ use Rattle.ipnet_sets.specs.Members.{boundaries_of, IsMember, IsMemberOf, HasNoM
 use Rattle.ipnet_sets.specs.SetRanges.{AreRangesOf}
 use Rattle.ipnet_sets.specs.BoundaryRanges.{IsInBoundaries, ranges_of}
 use Rattle.ipnet_sets.proofs.FewestRanges.{fewest_ranges}
+use Rattle.ipnet_sets.proofs.ImageSetLaws.{boundaries_are}
 use Rattle.ipnet_sets.proofs.RangeEndLaws.{length-ranges_of}
 use Rattle.ipnet_sets.proofs.SetRangeLaws.{in_ranges, ranges_some, ranges_apart, members_of_family, ranges_of_set}
-
-boundaries_of_set : (s : IpSet) (f : Family) → AreBoundaries f (boundaries_of s f)
-boundaries_of_set s IPv4 = s.ipv4_boundaries
-boundaries_of_set s IPv6 = s.ipv6_boundaries
 
 -- the ranges of one family of a set
 ranges_of_family : (s : IpSet) (f : Family) → AreRangesOf (IsMemberOf f s) (ranges_of f (boundaries_of s f))
 ranges_of_family s f =
-    let boundaries : AreBoundaries f (boundaries_of s f) = boundaries_of_set s f in
+    let boundaries : AreBoundaries f (boundaries_of s f) = boundaries_are s f in
     record {
       some = all_from_members (λ r. r.start ≤ r.end) (ranges_of f (boundaries_of s f))
           (λ r c. (ranges_some f (boundaries_of s f) boundaries r c).1);
