@@ -97,5 +97,4 @@ pub use rule_program::{report_rule_failure, run_unreached};
 pub use session::Session;
 pub use session::stream::{StreamFailure, Streamed};
 pub use text_program::{TextRequest, run_text_routes, table_or_report};
-pub use text_table::walk_of;
 pub use write::{write_answer, write_or_report, written};
