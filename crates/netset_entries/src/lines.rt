@@ -5,13 +5,11 @@ ghost use Rattle.netset_entries.specs.EntryTexts.{entry_text, entry_line, entry_
 ghost use Rattle.netset_entries.specs.EntryLineOf.{numbered};
 
 use crate::entry_list::EntryLine;
+use ipnet_text::pieces::PIECE;
 use ipnet_text::write_whole;
 use std::alloc::AllocError;
 use std::io;
 use std::io::Write;
-
-/// From this length on, a piece is written.
-const PIECE: usize = 8192;
 
 /// Why an answer was not written.
 #[derive(Clone, Copy, Debug, PartialEq, Eq, Drop)]
