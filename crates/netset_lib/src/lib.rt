@@ -97,4 +97,4 @@ pub use rule_program::{report_rule_failure, run_unreached};
 pub use session::Session;
 pub use session::stream::{StreamFailure, Streamed};
 pub use text_program::{TextRequest, run_text_routes, table_or_report};
-pub use write::{write_answer, write_or_report, written};
+pub use write::{write_and_flush, write_answer, write_or_report};
