@@ -62,13 +62,13 @@ fn status(rt: &HostRuntime) -> u8 {
         Err(failure) => return refused(rt, failure),
     };
     match matches_of(rt.alloc(), words.as_slice()) {
-        Ok(matches) => called(rt, &matches),
-        Err(error) => shown(rt, &error),
+        Ok(matches) => open_and_run(rt, &matches),
+        Err(error) => print_usage(rt, &error),
     }
 }
 
 /// Prints help, the version or what is wrong with the arguments, and returns the status.
-fn shown(rt: &HostRuntime, error: &clap::Error) -> u8 {
+fn print_usage(rt: &HostRuntime, error: &clap::Error) -> u8 {
     let result = error.print(rt);
     if error.use_stderr() {
         return 2;
@@ -84,7 +84,7 @@ fn shown(rt: &HostRuntime, error: &clap::Error) -> u8 {
 }
 
 /// Opens the output, runs the command of the parsed words, and returns its exit status.
-fn called(rt: &HostRuntime, matches: &ArgMatches) -> u8 {
+fn open_and_run(rt: &HostRuntime, matches: &ArgMatches) -> u8 {
     let name = output_of(matches);
     let is_closed = Cell::new(false);
     let mut streams = match Streams::open(rt, name, reports_of(matches), &is_closed) {
@@ -95,12 +95,12 @@ fn called(rt: &HostRuntime, matches: &ArgMatches) -> u8 {
             return 2;
         }
     };
-    let status = ran(rt, matches, &mut streams);
+    let status = run_command(rt, matches, &mut streams);
     streams.end(status)
 }
 
 /// Runs the command of the parsed words, and returns its status.
-fn ran(rt: &HostRuntime, matches: &ArgMatches, streams: &mut Streams<'_>) -> u8 {
+fn run_command(rt: &HostRuntime, matches: &ArgMatches, streams: &mut Streams<'_>) -> u8 {
     if let Some(status) = run_if_rules(rt, matches, streams) {
         return status;
     }
@@ -122,12 +122,12 @@ fn ran(rt: &HostRuntime, matches: &ArgMatches, streams: &mut Streams<'_>) -> u8 
         Some((name, matches)) if name == ROUTE && has_text_flag(matches) => {
             routed(rt, matches, streams)
         }
-        _ => answered(rt, matches, streams),
+        _ => run_call(rt, matches, streams),
     }
 }
 
 /// Reads the lists, and runs the operation or the query.
-fn answered(rt: &HostRuntime, matches: &ArgMatches, streams: &mut Streams<'_>) -> u8 {
+fn run_call(rt: &HostRuntime, matches: &ArgMatches, streams: &mut Streams<'_>) -> u8 {
     let Call {
         work,
         names,
