@@ -157,8 +157,8 @@ impl RuleList {
         Ok(permitted_set(alloc, rules, default)?)
     }
 
-    /// Returns the lines of the rules that decide on no address, each with the lines of the earlier rules that decide on
-    /// its addresses.
+    /// Returns the lines of the rules that decide on no address. After each are the lines of the earlier rules that
+    /// decide on its addresses.
     ///
     /// The error is `Refused` if lines are not rules, with all of them; and `Memory` if memory runs out.
     ///
