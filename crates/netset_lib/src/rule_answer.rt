@@ -1,5 +1,5 @@
 //! The queries on a list of rules: the addresses that it permits, and the rules that decide on no address.
-ghost use Rattle.std.specs.Prelude.{◌≡◌, ◌↔◌, ◌++◌, List, ℕ, IfOk, IfErr, OnOk, map};
+ghost use Rattle.std.specs.Prelude.{◌≡◌, ◌↔◌, ◌++◌, List, ℕ, IfOk, IfErr, OnOk, map, codes, decimal};
 ghost use Rattle.ipnet_base.specs.Address.{Address};
 ghost use Rattle.ipnet.specs.declared.parser.Grammar.{Grammar};
 ghost use Rattle.ipnet_sets.specs.Members.{IsMember};
@@ -45,36 +45,41 @@ fn permitted_set(alloc: Global, rules: Vec<Rule>, default: Action) -> Result<IpS
     rules.permitted(alloc)
 }
 
-/// Appends the number of the line and its text.
-fn push_line(alloc: Global, text: &mut Vec<u8>, line: &RuleLine) -> Result<(), AllocError>
-    ensures { OnOk result (text.new.items ≡ text.old.items ++ line_text (line_of_rule line.now)) }
+/// Appends the number of a line, and its contents. Fails if memory runs out.
+///
+/// ```text
+/// line 4, "10.0.1.192/26": "line 4: 10.0.1.192/26"
+/// ```
+pub fn push_numbered(text: &mut Vec<u8>, number: usize, line: &[u8]) -> Result<(), AllocError>
+    ensures { OnOk result (text.new.items
+        ≡ text.old.items ++ (codes "line " ++ decimal number ++ codes ": " ++ line.now)) }
 {
-    let number = line.number;
-    let mut start = String::new(alloc);
+    let mut start = String::new(*text.allocator());
     write!(start, "line {number}: ")?;
     text.extend_from_slice(start.as_bytes())?;
-    text.extend_from_slice(line.text.as_slice())?;
+    text.extend_from_slice(line)
+}
+
+/// Appends the number of the line and its text.
+fn push_line(text: &mut Vec<u8>, line: &RuleLine) -> Result<(), AllocError>
+    ensures { OnOk result (text.new.items ≡ text.old.items ++ line_text (line_of_rule line.now)) }
+{
+    push_numbered(text, line.number, line.text.as_slice())?;
     text.extend_from_slice(b"\n")
 }
 
 /// Appends the line at this index, if there is one.
-fn push_line_at(
-    alloc: Global,
-    text: &mut Vec<u8>,
-    lines: &[RuleLine],
-    index: usize,
-) -> Result<(), AllocError>
+fn push_line_at(text: &mut Vec<u8>, lines: &[RuleLine], index: usize) -> Result<(), AllocError>
     ensures { OnOk result (text.new.items ≡ text.old.items ++ line_at (map line_of_rule lines.now) index) }
 {
     match lines.get(index) {
-        Some(line) => push_line(alloc, text, line),
+        Some(line) => push_line(text, line),
         None => Ok(()),
     }
 }
 
 /// Appends the lines at these indexes, each after two spaces.
 fn push_covering(
-    alloc: Global,
     text: &mut Vec<u8>,
     lines: &[RuleLine],
     indexes: &[usize],
@@ -84,14 +89,13 @@ fn push_covering(
 {
     for place in 0..indexes.len() {
         text.extend_from_slice(b"  ")?;
-        push_line_at(alloc, text, lines, indexes[place])?;
+        push_line_at(text, lines, indexes[place])?;
     }
     Ok(())
 }
 
 /// Appends the lines of these unreached rules, each with the lines of the rules that decide on its addresses.
 fn push_unreached(
-    alloc: Global,
     text: &mut Vec<u8>,
     lines: &[RuleLine],
     found: &[Unreached],
@@ -100,8 +104,8 @@ fn push_unreached(
         (text.new.items ≡ text.old.items ++ unreached_lines (map line_of_rule lines.now) found.now) }
 {
     for unreached in found {
-        push_line_at(alloc, text, lines, unreached.rule)?;
-        push_covering(alloc, text, lines, unreached.deciders.as_slice())?;
+        push_line_at(text, lines, unreached.rule)?;
+        push_covering(text, lines, unreached.deciders.as_slice())?;
     }
     Ok(())
 }
@@ -122,7 +126,7 @@ fn unreached_text(list: RuleList) -> Result<Vec<u8>, AllocError>
     };
     let found = rules.unreached(alloc)?;
     let mut text = Vec::new(alloc);
-    push_unreached(alloc, &mut text, lines.as_slice(), found.as_slice())?;
+    push_unreached(&mut text, lines.as_slice(), found.as_slice())?;
     Ok(text)
 }
 
