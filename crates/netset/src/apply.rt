@@ -2,10 +2,9 @@
 use crate::arguments::{
     ArgumentFailure, FIRST, OTHERS, command_of, first, flag, other, reads_input_twice, refused,
 };
-use crate::input::{STANDARD_INPUT, report_unread};
-use crate::lists::read_whole;
+use crate::input::STANDARD_INPUT;
 use crate::output::Streams;
-use crate::reading::{reading_work, session_of};
+use crate::reading::{reading_work, session_of, whole_of};
 use clap::{ArgMatches, Command};
 use netset_lib::run_apply;
 use std::alloc::{AllocError, Global};
@@ -40,7 +39,7 @@ pub fn applied(rt: &HostRuntime, matches: &ArgMatches, streams: &mut Streams<'_>
         Ok(session) => session,
         Err(status) => return status,
     };
-    match read_whole(rt, changes, streams.reports) {
+    match whole_of(rt, changes, streams) {
         Ok(bytes) => run_apply(
             session,
             (changes, bytes.as_slice()),
@@ -48,9 +47,6 @@ pub fn applied(rt: &HostRuntime, matches: &ArgMatches, streams: &mut Streams<'_>
             &mut streams.answer,
             &mut streams.faults,
         ),
-        Err(unread) => {
-            report_unread(rt, changes, &unread);
-            2
-        }
+        Err(status) => status,
     }
 }
