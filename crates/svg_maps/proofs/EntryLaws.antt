@@ -1,13 +1,24 @@
 -- The outlines of entries, one more at a time.
-use Rattle.std.proofs.Common.{◌≡◌, ◌<◌, ◌+◌, ℕ, List, [], ◌∷◌, ◌++◌, length, get_or, take, Option, Some, None}
+use Rattle.std.proofs.Common.{◌≡◌, ◌<◌, ◌≤◌, ◌+◌, ℕ, List, [], ◌∷◌, ◌++◌, length, get_or, take, Option, Some, None}
 use Rattle.std.proofs.Common.{option_to_list, inl, inr, refl, sym, ap, ◌∙◌, subst}
 use Rattle.std.proofs.lemmas.List.{take_more}
 use Rattle.ipnet_base.specs.Network.{Network}
+use Rattle.ipnet_maps.specs.declared.layout.Rectangle.{Rectangle}
+use Rattle.ipnet_maps.specs.Places.{IsRectangleIn}
 use Rattle.svg_maps.specs.declared.entry.MapEntry.{MapEntry}
 use Rattle.svg_maps.specs.declared.outline.Outline.{Outline}
-use Rattle.svg_maps.specs.EntryOutlines.{AreEntryOutlines, IsFoundFor}
+use Rattle.svg_maps.specs.EntryOutlines.{IsLarge, AreEntryOutlines, IsFoundFor}
+use Rattle.svg_maps.specs.Pages.{pixels, pixel_rectangle}
 
 module _ (frame : Network) (depth : ℕ) where
+  -- the rectangles of one network have the same sides
+  pub large_again : (n : Network) (scale : ℕ) (a b : Rectangle) → IsRectangleIn frame depth n a
+      → IsRectangleIn frame depth n b → IsLarge (pixel_rectangle scale a) → IsLarge (pixel_rectangle scale b)
+  large_again n scale a b is_a is_b large = (
+    subst (λ z. 6 ≤ pixels scale z) (is_a.width ∙ sym is_b.width) large.0,
+    subst (λ z. 6 ≤ pixels scale z) (is_a.height ∙ sym is_b.height) large.1,
+  )
+
   found_last : (entries : List MapEntry) (e : MapEntry) (found : Option Outline) (old new : List Outline)
       → AreEntryOutlines entries frame depth old → IsFoundFor frame depth e found
       → new ≡ old ++ option_to_list found → AreEntryOutlines (entries ++ e ∷ []) frame depth new
