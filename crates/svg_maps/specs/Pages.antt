@@ -1,5 +1,5 @@
 -- Pages: the document of a map.
-use Rattle.std.specs.Prelude.{ℕ, ◌*◌, min, List, [], ◌∷◌, map, codes, decimal, Option, Some, None, String}
+use Rattle.std.specs.Prelude.{ℕ, ◌*◌, ◌/◌, min, max, List, [], ◌∷◌, map, codes, decimal, Option, Some, None, String}
 use Rattle.std.specs.Prelude.{string_bytes}
 use Rattle.std.specs.Global.{Global}
 use Rattle.ipnet_maps.specs.declared.drawing.Layer.{Layer}
@@ -96,6 +96,11 @@ titled_nodes marks title = element Elements.Rect marks (element Elements.Title [
 -- The area of a square, in cells, with its title. It is not visible, and a browser shows its title.
 abbrev pub square_nodes : Square → Nodes
 square_nodes s = titled_nodes (area_marks (codes "hit") s.rectangle) (string_bytes s.title)
+
+-- How many pixels a cell is wide and high, if the map is this many cells wide: its share of 1,024 pixels, but at least 1
+-- and at most 64. Example: 4 pixels for 256 cells, 64 for 8 cells, and 1 for 2,048 cells.
+abbrev pub cell_pixels : ℕ → ℕ
+cell_pixels width = max 1 (min (1024 / max width 1) 64)
 
 -- A number of cells in pixels, at this number of pixels a cell. No number is above 2^32 - 1.
 abbrev pub pixels : ℕ → ℕ → ℕ

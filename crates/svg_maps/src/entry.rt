@@ -1,13 +1,13 @@
 //! The entries of lists on a map: areas with titles.
-ghost use Rattle.std.specs.Prelude.{◌+◌, ◌≤◌, IfOk, IfSome, OnOk};
+ghost use Rattle.std.specs.Prelude.{◌≡◌, ◌+◌, ◌≤◌, ◌++◌, ◌↔◌, IfOk, IsTrue, OnOk, option_to_list};
 ghost use Rattle.ipnet_base.specs.Address.{width};
 ghost use Rattle.ipnet.specs.NetworkOf.{ip_network};
-ghost use Rattle.svg_maps.specs.EntryOutlines.{IsEntryOutline, AreEntryOutlines, AddsFound};
+ghost use Rattle.svg_maps.specs.EntryOutlines.{IsLarge, AreEntryOutlines, IsFoundFor};
 
 use crate::extent::extent_of;
 use crate::name::short_text;
 use crate::outline::{Outline, OutlineClass};
-use crate::sheet::{scale_of, sides_of};
+use crate::sheet::{rectangle_in_pixels, scale_of, sides_of};
 use ipnet::IpNet;
 use ipnet_maps::Rectangle;
 use std::alloc::{AllocError, Global};
@@ -33,10 +33,11 @@ pub struct MapEntries<'a> {
     pub count: usize,
 }
 
-/// Whether the area is large enough for the pointer of a mouse, if a cell has `scale` pixels.
-fn is_large(area: Rectangle, scale: u32) -> bool {
-    let shorter = area.sides.width.min(area.sides.height);
-    shorter.saturating_mul(scale) >= LEAST
+/// Whether the area, in pixels, is large enough for the pointer of a mouse.
+fn is_large(area: Rectangle) -> bool
+    ensures { IsTrue result ↔ IsLarge area }
+{
+    area.sides.width >= LEAST && area.sides.height >= LEAST
 }
 
 /// The area of the entry with its title, if the map shows the entry and its area is large enough.
@@ -48,13 +49,13 @@ fn entry_outline(
 ) -> Result<Option<Outline>, AllocError>
     requires few { depth ≤ 20 }
     requires fits { (ip_network frame.now).prefix_len + depth ≤ width (ip_network frame.now).family }
-    ensures { IfOk result (λ found.
-        IfSome found (λ outline. IsEntryOutline (ip_network frame.now) depth outline entry.now)) }
+    ensures { IfOk result (IsFoundFor (ip_network frame.now) depth entry.now) }
 {
     let Some(rectangle) = extent_of(frame, depth, &entry.network) else {
         return Ok(None);
     };
-    if !is_large(rectangle, scale_of(sides_of(frame, depth))) {
+    let scale = scale_of(sides_of(frame, depth));
+    if !is_large(rectangle_in_pixels(scale, rectangle)) {
         return Ok(None);
     }
     let title = String::from_str(alloc, entry.title.as_str())?;
@@ -69,7 +70,7 @@ fn entry_outline(
 
 /// Appends the outline, if there is one.
 fn push_found(outlines: &mut Vec<Outline>, found: Option<Outline>) -> Result<(), AllocError>
-    ensures { OnOk result (AddsFound outlines.old.items found outlines.new.items) }
+    ensures { OnOk result (outlines.new.items ≡ outlines.old.items ++ option_to_list found) }
 {
     match found {
         Some(outline) => {

@@ -1,8 +1,9 @@
 //! The area of a network on a map, if the map shows it.
-ghost use Rattle.std.specs.Prelude.{◌+◌, ◌≤◌, IfSome};
+ghost use Rattle.std.specs.Prelude.{◌+◌, ◌≤◌, ◌↔◌, IsSome, IfSome};
 ghost use Rattle.ipnet_base.specs.Address.{width};
 ghost use Rattle.ipnet.specs.NetworkOf.{ip_network};
 ghost use Rattle.ipnet_maps.specs.Places.{IsRectangleIn};
+ghost use Rattle.svg_maps.specs.EntryOutlines.{IsShownIn};
 
 use ipnet::IpNet;
 use ipnet_maps::{Rectangle, rectangle_in};
@@ -16,7 +17,8 @@ use ipnet_maps::{Rectangle, rectangle_in};
 pub(crate) fn extent_of(frame: &IpNet, depth: u8, network: &IpNet) -> Option<Rectangle>
     requires few { depth ≤ 20 }
     requires fits { (ip_network frame.now).prefix_len + depth ≤ width (ip_network frame.now).family }
-    ensures { IfSome result (IsRectangleIn (ip_network frame.now) depth (ip_network network.now)) }
+    ensures some { IfSome result (IsRectangleIn (ip_network frame.now) depth (ip_network network.now)) }
+    ensures shown { IsSome result ↔ IsShownIn (ip_network frame.now) depth (ip_network network.now) }
 {
     if !frame.contains(network) {
         return None;

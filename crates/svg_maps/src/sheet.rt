@@ -4,7 +4,7 @@ ghost use Rattle.ipnet_base.specs.Address.{width};
 ghost use Rattle.ipnet.specs.NetworkOf.{ip_network};
 ghost use Rattle.ipnet_maps.specs.Cuts.{columns_in, rows_in};
 ghost use Rattle.ipnet_maps.specs.Squares.{square_cuts};
-ghost use Rattle.svg_maps.specs.Pages.{pixels, pixel_rectangle};
+ghost use Rattle.svg_maps.specs.Pages.{cell_pixels, pixels, pixel_rectangle};
 
 use ipnet::IpNet;
 use ipnet_maps::{Layout, Place, Rectangle, Sides};
@@ -30,6 +30,7 @@ pub(crate) fn sides_of(frame: &IpNet, depth: u8) -> Sides
 
 /// Returns how many pixels a cell of the map is wide and high.
 pub(crate) fn scale_of(sides: Sides) -> u32
+    ensures pixels { result ≡ cell_pixels sides.width }
     ensures least { 1 ≤ result }
     ensures most { result ≤ 64 }
 {

@@ -11,7 +11,7 @@ returns c =
     let named = c.in_ok-named.named.outlines.items in
     let free = c.in_ok-free.free.outlines.items in
     let others = c.in_ok-others.others.outlines.items in
-    IfOk-weaker c.joined.result (λ overlay. overlay.outlines.items ≡ entries ++ others)
+    IfOk-weaker c.joined-2.result (λ overlay. overlay.outlines.items ≡ entries ++ others)
     (λ overlay. AreOutlinesOver c.args.look (IsMember c.args.set.now) (ip_network c.args.frame.now) c.args.depth
     overlay.outlines.items) (λ overlay e. record {
       entries = entries;
@@ -21,4 +21,4 @@ returns c =
       free = free;
       are_free = c.in_ok-free.ensures;
       all = e ∙ ap (λ z. entries ++ z) c.in_ok-others.ensures;
-    }) c.joined.ensures
+    }) c.joined-2.ensures
