@@ -14,7 +14,7 @@ use Rattle.ipnet_rules.proofs.VerdictLaws.{any_append}
 use Rattle.ipnet.specs.NetworkOf.{ip_network}
 use Rattle.ipnet.specs.declared.net.IpNet.{IpNet}
 use Rattle.ipnet.specs.declared.parser.Grammar.{Grammar}
-use Rattle.netset_entries.specs.NotedEntries.{IsTitledBlock, IsNotedOf, AreLargerFirst}
+use Rattle.netset_entries.specs.NotedEntries.{IsTitledBlock, IsNotedOf, AreLargerFirst, AreNoted, lines_of_all}
 use Rattle.netset_entries.specs.NoteSteps.{blocks_in, AreFiled, AreLargest, AreNone, IsOfFamily, AreKept}
 use Rattle.netset_entries.specs.NoteSteps.{TakesBlock, KeepsBlock}
 use Rattle.netset_entries.specs.declared.largest.Largest.{Largest}
@@ -271,3 +271,29 @@ module _ (old new : NotedBlocks) (block : NotedEntry) (title : List ℕ) (same_g
       ipv4 = subst (AreLargest (IsOfFamily grammar frame lines IPv4)) (sym same_ipv4) h.ipv4;
       ipv6 = takes grammar frame lines IPv6 (is_of IPv6 same_family grammar frame lines any h) h.ipv6;
     }
+
+-- ---- all that is noted
+
+pub all_appended : (grammar : Grammar) (frame : Option IpNet) (lists : List (List ℕ)) (b : NotedBlocks)
+    (entries : List NotedEntry) → entries ≡ blocks_in b.ipv4.by_len.items ++ blocks_in b.ipv6.by_len.items
+    → AreKept grammar frame (lines_of_all lists) b → AreNoted grammar frame lists entries
+all_appended grammar frame lists b entries is h = record {
+  ipv4 = blocks_in b.ipv4.by_len.items;
+  ipv6 = blocks_in b.ipv6.by_len.items;
+  both = is;
+  ipv4_blocks = appended IPv4 (IsOfFamily grammar frame (lines_of_all lists) IPv4) (λ e k. k.same_family) b.ipv4 h.ipv4;
+  ipv6_blocks = appended IPv6 (IsOfFamily grammar frame (lines_of_all lists) IPv6) (λ e k. k.same_family) b.ipv6 h.ipv6;
+  each = subst (All Noted) (sym is)
+      (All-append Noted (blocks_in b.ipv4.by_len.items) (blocks_in b.ipv6.by_len.items)
+      (noted IPv4 b.ipv4 h.ipv4) (noted IPv6 b.ipv6 h.ipv6));
+}
+  where
+    Noted : NotedEntry → Type 0
+    Noted = IsNotedOf grammar frame (lines_of_all lists)
+
+    noted : (family : Family) (l : Largest) → AreLargest (IsOfFamily grammar frame (lines_of_all lists) family) l
+        → All Noted (blocks_in l.by_len.items)
+    noted family l k =
+        All-weaker (λ e. IsOfFamily grammar frame (lines_of_all lists) family e × (0 ≤ len_of e)) Noted
+        (λ e q. q.0.noted) (blocks_in l.by_len.items)
+        (members_filed (IsOfFamily grammar frame (lines_of_all lists) family) l.by_len.items 0 k.filed)

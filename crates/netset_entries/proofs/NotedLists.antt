@@ -1,12 +1,12 @@
 -- Lists that are read in pieces: lines that end, and the start of one that does not.
 use Rattle.std.proofs.Common.{◌≡◌, ◌≢◌, ℕ, ◌+◌, ◌-◌, ◌<◌, ◌≤◌, ◌==◌, Bool, true, false, List, [], ◌∷◌, ◌++◌, All}
 use Rattle.std.proofs.Common.{length, take, drop, get_or, refl, sym, ap, ◌∙◌, subst, arith, append_assoc, append-nil}
-use Rattle.std.proofs.Common.{Option, if◌then◌else◌, eq-eqb, ne_eqb, eqb-true, get_or-take, length-take-le}
+use Rattle.std.proofs.Common.{Option, None, Some, if◌then◌else◌, eq-eqb, ne_eqb, eqb-true, get_or-take, length-take-le}
 use Rattle.std.specs.List.{flat_map}
 use Rattle.std.proofs.lemmas.Grind.{flat_map-append}
 use Rattle.std.proofs.lemmas.List.{take_more, take-append-drop, take_rest}
 use Rattle.std.proofs.lemmas.List.Elements.{All-nil, All-append, All-head, All-tail, All-from_get_or, All-weaker}
-use Rattle.memchr.specs.Find.{NoneBefore, Nowhere, Passes, is_byte}
+use Rattle.memchr.specs.Find.{NoneBefore, Nowhere, Passes, IsFirstByte, is_byte}
 use Rattle.ipnet.specs.Lines.{lines_of, onto_first_line}
 use Rattle.ipnet.specs.declared.net.IpNet.{IpNet}
 use Rattle.ipnet.specs.declared.parser.Grammar.{Grammar}
@@ -237,3 +237,9 @@ all_read start now next bytes rest h none items same_start same_blocks = λ gram
     (append_assoc begun h.taken rest ∙ ap (λ z. begun ++ z) (sym h.cut))
     (line_grows grammar frame lists (begun ++ h.taken) now (h.notes grammar frame lists begun had) rest next
     (no_end rest none) items same_start same_blocks)
+
+-- no end of a line is in the bytes
+pub none_found : (bytes : List ℕ) (found : Option ℕ) → IsFirstByte (is_byte 10) bytes found
+    → ((i : ℕ) → found ≢ Some i) → Nowhere (Passes (is_byte 10) bytes) 0 (length bytes)
+none_found bytes None h not = h
+none_found bytes (Some i) h not = absurd (not i refl)

@@ -261,7 +261,8 @@ impl EntryNotes {
             self.end_line(&rest[..end])?;
             rest = &rest[end + 1..];
         }
-        self.line.extend_from_slice(rest)
+        self.line.extend_from_slice(rest)?;
+        Ok(())
     }
 
     /// Notes the entry of the last line of a list, if that line does not end.
