@@ -9,25 +9,32 @@ use Rattle.std.proofs.lemmas.List.Elements.{All-nil, All-append, All-contains, A
 use Rattle.std.proofs.lemmas.List.Elements.{All-weaker}
 use Rattle.ipnet_base.proofs.ListLaws.{pairs_append}
 use Rattle.ipnet_base.specs.Address.{Family, IPv4, IPv6}
+use Rattle.ipnet_base.specs.Blocks.{IsMaximal}
 use Rattle.ipnet_base.specs.Network.{Network, IsSubnetOf}
+use Rattle.ipnet_base.specs.Ranges.{AddressRange}
+use Rattle.ipnet_sets.specs.SetRanges.{IsInRange}
+use Rattle.std.proofs.lemmas.List.Quantifiers.{Any-push}
 use Rattle.ipnet_rules.proofs.VerdictLaws.{any_append}
 use Rattle.ipnet.specs.NetworkOf.{ip_network}
 use Rattle.ipnet.specs.declared.net.IpNet.{IpNet}
 use Rattle.ipnet.specs.declared.parser.Grammar.{Grammar}
+use Rattle.netset_lib.specs.Entries.{IsEntryText}
+use Rattle.netset_lib.specs.Lists.{IsContents}
 use Rattle.netset_entries.specs.NotedEntries.{IsTitledBlock, IsNotedOf, AreLargerFirst, AreNoted, lines_of_all}
+use Rattle.netset_entries.specs.NotedEntries.{IsCommentOf, title_text}
 use Rattle.netset_entries.specs.NoteSteps.{blocks_in, AreFiled, AreLargest, AreNone, IsOfFamily, AreKept}
-use Rattle.netset_entries.specs.NoteSteps.{TakesBlock, KeepsBlock}
+use Rattle.netset_entries.specs.NoteSteps.{TakesBlock, KeepsBlock, ReadsLine}
 use Rattle.netset_entries.specs.declared.largest.Largest.{Largest}
 use Rattle.netset_entries.specs.declared.largest.NotedEntry.{NotedEntry}
 use Rattle.netset_entries.specs.declared.noted.NotedBlocks.{NotedBlocks}
 
 -- the prefix length of a block
-abbrev pub len_of : NotedEntry → ℕ
+abbrev len_of : NotedEntry → ℕ
 len_of e = (ip_network e.network).prefix_len
 
 -- ---- one list exchanged
 
-pub blocks_set : (lists : List (Vec NotedEntry)) (i : ℕ) (v d : Vec NotedEntry) → i < length lists
+blocks_set : (lists : List (Vec NotedEntry)) (i : ℕ) (v d : Vec NotedEntry) → i < length lists
     → length (blocks_in (set lists i v)) + length (get_or lists i d).items
     ≡ length (blocks_in lists) + length v.items
 blocks_set [] i v d less = absurd (omega (arith, less))
@@ -129,7 +136,7 @@ module _ (Is : NotedEntry → Type 0) where
       omega (arith, one, other))
 
 -- what is filed, by a weaker property
-pub filed_weaker : (Is Other : NotedEntry → Type 0) → ((e : NotedEntry) → Is e → Other e)
+filed_weaker : (Is Other : NotedEntry → Type 0) → ((e : NotedEntry) → Is e → Other e)
     → (lists : List (Vec NotedEntry)) (len : ℕ) → AreFiled Is len lists → AreFiled Other len lists
 filed_weaker Is Other f [] len h = tt
 filed_weaker Is Other f (x ∷ lists) len h = (
@@ -139,7 +146,7 @@ filed_weaker Is Other f (x ∷ lists) len h = (
 
 -- ---- how many blocks there are
 
-pub none_in : (lists : List (Vec NotedEntry)) → All (λ v. v.items ≡ []) lists → length (blocks_in lists) ≡ 0
+none_in : (lists : List (Vec NotedEntry)) → All (λ v. v.items ≡ []) lists → length (blocks_in lists) ≡ 0
 none_in [] h = refl
 none_in (x ∷ lists) h =
     let here = ap length (All-head (λ v. v.items ≡ []) x lists h) in
@@ -152,15 +159,25 @@ pub count_more : (lists : List (Vec NotedEntry)) (i : ℕ) (v w : Vec NotedEntry
     → i < length lists → v ≡ get_or lists i v → w.items ≡ v.items ++ block ∷ []
     → length (blocks_in (set lists i w)) ≡ length (blocks_in lists) + 1
 count_more lists i v w block less read items =
-    omega (arith, blocks_set lists i w v less, ap (λ z. length z.items) read, ap length items,
-    length_push v.items block)
+    omega (
+      arith,
+      blocks_set lists i w v less,
+      ap (λ z. length z.items) read,
+      ap length items,
+      length_push v.items block,
+    )
 
 pub count_less : (lists : List (Vec NotedEntry)) (i : ℕ) (v w : Vec NotedEntry) (popped : Option NotedEntry)
     → i < length lists → v ≡ get_or lists i v → v.items ≡ w.items ++ option_to_list popped
     → length (blocks_in (set lists i w)) + length (option_to_list popped) ≡ length (blocks_in lists)
 count_less lists i v w popped less read items =
-    omega (arith, blocks_set lists i w v less, ap (λ z. length z.items) read, ap length items,
-    length-append w.items (option_to_list popped))
+    omega (
+      arith,
+      blocks_set lists i w v less,
+      ap (λ z. length z.items) read,
+      ap length items,
+      length-append w.items (option_to_list popped),
+    )
 
 -- the lists from an index on have no block, if the one at the index is empty
 pub still_none : (lists : List (Vec NotedEntry)) (i : ℕ) (w : Vec NotedEntry) → i < length lists
@@ -181,7 +198,7 @@ largest_none Is l h = record {
   few = omega (arith, h.kept);
 }
 
-pub largest_weaker : (Is Other : NotedEntry → Type 0) → ((e : NotedEntry) → Is e → Other e) → (l : Largest)
+largest_weaker : (Is Other : NotedEntry → Type 0) → ((e : NotedEntry) → Is e → Other e) → (l : Largest)
     → AreLargest Is l → AreLargest Other l
 largest_weaker Is Other f l h = record {
   filed = filed_weaker Is Other f l.by_len.items 0 h.filed;
@@ -202,7 +219,7 @@ appended family Is f l h = record {
 
 -- ---- more lines
 
-pub noted_more : (grammar : Grammar) (frame : Option IpNet) (lines more : List (List ℕ)) (e : NotedEntry)
+noted_more : (grammar : Grammar) (frame : Option IpNet) (lines more : List (List ℕ)) (e : NotedEntry)
     → IsNotedOf grammar frame lines e → IsNotedOf grammar frame (lines ++ more) e
 noted_more grammar frame lines more e h = record {
   block = (any_append (IsTitledBlock grammar (ip_network e.network) (string_bytes e.title)) lines more).1
@@ -244,7 +261,8 @@ module _ (old new : NotedBlocks) (block : NotedEntry) (title : List ℕ) (same_g
     (inside : IfSome old.frame (λ f. IsSubnetOf (ip_network block.network) (ip_network f)))
   where
     is_of : (family : Family) → (ip_network block.network).family ≡ family → (grammar : Grammar)
-        (frame : Option IpNet) (lines : List (List ℕ)) → Any (IsTitledBlock grammar (ip_network block.network) title) lines
+        (frame : Option IpNet) (lines : List (List ℕ))
+        → Any (IsTitledBlock grammar (ip_network block.network) title) lines
         → AreKept grammar frame lines old → IsOfFamily grammar frame lines family block
     is_of family same_family grammar frame lines any h = record {
       same_family = same_family;
@@ -297,3 +315,22 @@ all_appended grammar frame lists b entries is h = record {
         All-weaker (λ e. IsOfFamily grammar frame (lines_of_all lists) family e × (0 ≤ len_of e)) Noted
         (λ e q. q.0.noted) (blocks_in l.by_len.items)
         (members_filed (IsOfFamily grammar frame (lines_of_all lists) family) l.by_len.items 0 k.filed)
+
+-- one block more of the entry of a line
+pub block_read : (old now new : NotedBlocks) (line text spelled comment title : List ℕ) (range : AddressRange)
+    (n : Network) → IsContents old.grammar line text → IsEntryText old.grammar text range → spelled ≡ text
+    → IsCommentOf line comment → title ≡ title_text spelled comment → IsMaximal (IsInRange range) 0 n
+    → ReadsLine old now line → KeepsBlock now new n title → ReadsLine old new line
+block_read old now new line text spelled comment title range n contents writes same has titled block reads keeps =
+    λ grammar frame lines h. keeps grammar frame (lines ++ line ∷ [])
+    (Any-push (IsTitledBlock grammar n title) lines line (record {
+      text = text;
+      contents = subst (λ z. IsContents z line text) h.same_grammar contents;
+      range = range;
+      writes = subst (λ z. IsEntryText z text range) h.same_grammar writes;
+      block = block;
+      comment = comment;
+      has_comment = has;
+      titled = titled ∙ ap (λ z. title_text z comment) same;
+    }))
+    (reads grammar frame lines h)

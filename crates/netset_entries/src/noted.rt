@@ -112,11 +112,7 @@ struct NotedBlocks {
 
 impl NotedBlocks {
     /// Returns the blocks of no line.
-    fn new(
-        alloc: Global,
-        grammar: Grammar,
-        frame: Option<IpNet>,
-    ) -> Result<NotedBlocks, AllocError>
+    fn new(alloc: Global, grammar: Grammar, frame: Option<IpNet>) -> Result<NotedBlocks, AllocError>
         ensures { IfOk result (AreKept grammar frame []) }
     {
         Ok(NotedBlocks {
@@ -300,12 +296,10 @@ impl EntryNotes {
             → (lists : List (List ℕ)) → HaveNoted grammar frame lists [] self
             → AreNoted grammar frame lists entries.items) }
     {
-        let NotedBlocks {
-            alloc, ipv4, ipv6, ..
-        } = self.blocks;
-        let mut entries = Vec::new(alloc);
-        ipv4.append_to(&mut entries)?;
-        ipv6.append_to(&mut entries)?;
+        let blocks = self.blocks;
+        let mut entries = Vec::new(blocks.alloc);
+        blocks.ipv4.append_to(&mut entries)?;
+        blocks.ipv6.append_to(&mut entries)?;
         Ok(entries)
     }
 }
