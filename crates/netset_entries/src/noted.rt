@@ -12,9 +12,9 @@ ghost use Rattle.netset_entries.specs.NoteSteps.{HaveNoted, IsAtEnd, ReadsNext, 
 use crate::largest::{Largest, NotedEntry};
 use ipnet::{Grammar, IpNet};
 use memchr::memchr;
-use netset_lib::{comment_start, contents_of, read_text, skip_mark, walk_of};
+use netset_lib::{comment_start, contents_of, read_length, read_text, skip_mark, walk_of};
 use std::alloc::{AllocError, Global};
-use std::mem;
+use std::{mem, str};
 
 /// How many bytes of a comment are noted at most.
 const MOST_BYTES: usize = 100;
@@ -45,23 +45,6 @@ fn title_of(alloc: Global, text: &str, comment: &[u8]) -> Result<String, AllocEr
     Ok(title)
 }
 
-/// Returns the number that the digits are; `None` if they are something else, or too many.
-fn number_of(digits: &[u8]) -> Option<usize> {
-    if digits.is_empty() || digits.len() > 3 {
-        return None;
-    }
-    let mut number: usize = 0;
-    for digit in digits {
-        if !digit.is_ascii_digit() {
-            return None;
-        }
-        number = number
-            .saturating_mul(10)
-            .saturating_add(usize::from(digit.saturating_sub(b'0')));
-    }
-    Some(number)
-}
-
 /// Returns the prefix length of the network or address that a line of digits, letters, dots and colons may be, with a
 /// length after a slash, and whether it is of IPv6. `None` if the line has anything else.
 fn plain_len(line: &[u8]) -> Option<(usize, bool)> {
@@ -71,8 +54,8 @@ fn plain_len(line: &[u8]) -> Option<(usize, bool)> {
             b'.' => {}
             b':' => is_ipv6 = true,
             b'/' => {
-                let len = number_of(&line[index + 1..])?;
-                return Some((len, is_ipv6));
+                let len = read_length(str::from_utf8(&line[index..]).ok()?)?;
+                return Some((usize::from(len), is_ipv6));
             }
             byte => {
                 if !byte.is_ascii_alphanumeric() {
