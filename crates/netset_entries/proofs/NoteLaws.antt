@@ -1,10 +1,10 @@
 -- The blocks of one family, in lists by their prefix lengths.
-use Rattle.std.proofs.Common.{◌≡◌, ℕ, zero, suc, ◌+◌, ◌-◌, ◌<◌, ◌≤◌, List, [], ◌∷◌, ◌++◌, length, get_or, set, drop}
-use Rattle.std.proofs.Common.{All, AllPairs, Any, Contains, Option, None, refl, sym, ap, ◌∙◌, subst, arith, inl}
+use Rattle.std.proofs.Common.{◌≡◌, ℕ, zero, suc, Bool, true, false, ◌+◌, ◌-◌, ◌<◌, ◌≤◌, List, [], ◌∷◌, ◌++◌, length, get_or, set, drop}
+use Rattle.std.proofs.Common.{All, AllPairs, Any, Contains, Option, None, Some, refl, sym, ap, ◌∙◌, subst, arith, inl}
 use Rattle.std.proofs.Common.{string_bytes, IfSome}
 use Rattle.std.specs.Global.{Vec}
-use Rattle.std.specs.Option.{option_to_list}
-use Rattle.std.proofs.lemmas.List.{length-append, length_push, drop-set}
+use Rattle.std.specs.Option.{option_to_list, is_some}
+use Rattle.std.proofs.lemmas.List.{length-append, length-set, length_push, drop-set, drop_all}
 use Rattle.std.proofs.lemmas.List.Elements.{All-nil, All-append, All-contains, All-head, All-pop, All-push, All-tail}
 use Rattle.std.proofs.lemmas.List.Elements.{All-weaker}
 use Rattle.ipnet_base.proofs.ListLaws.{pairs_append}
@@ -23,7 +23,7 @@ use Rattle.netset_lib.specs.Lists.{IsContents}
 use Rattle.netset_entries.specs.NotedEntries.{IsTitledBlock, IsNotedOf, AreLargerFirst, AreNoted, lines_of_all}
 use Rattle.netset_entries.specs.NotedEntries.{IsCommentOf, title_text}
 use Rattle.netset_entries.specs.NoteSteps.{blocks_in, AreFiled, AreLargest, AreNone, IsOfFamily, AreKept}
-use Rattle.netset_entries.specs.NoteSteps.{TakesBlock, KeepsBlock, ReadsLine}
+use Rattle.netset_entries.specs.NoteSteps.{TakesBlock, DropsOne, KeepsBlock, ReadsLine}
 use Rattle.netset_entries.specs.declared.largest.Largest.{Largest}
 use Rattle.netset_entries.specs.declared.largest.NotedEntry.{NotedEntry}
 use Rattle.netset_entries.specs.declared.noted.NotedBlocks.{NotedBlocks}
@@ -34,22 +34,24 @@ len_of e = (ip_network e.network).prefix_len
 
 -- ---- one list exchanged
 
+blocks_cons : (x : Vec NotedEntry) (lists : List (Vec NotedEntry))
+    → length (blocks_in (x ∷ lists)) ≡ length x.items + length (blocks_in lists)
+blocks_cons x lists = length-append x.items (blocks_in lists)
+
 blocks_set : (lists : List (Vec NotedEntry)) (i : ℕ) (v d : Vec NotedEntry) → i < length lists
     → length (blocks_in (set lists i v)) + length (get_or lists i d).items
     ≡ length (blocks_in lists) + length v.items
 blocks_set [] i v d less = absurd (omega (arith, less))
 blocks_set (x ∷ lists) zero v d less =
-    let now : length (v.items ++ blocks_in lists) ≡ length v.items + length (blocks_in lists) =
-    length-append v.items (blocks_in lists) in
-    let was : length (x.items ++ blocks_in lists) ≡ length x.items + length (blocks_in lists) =
-    length-append x.items (blocks_in lists) in
-    omega (arith, now, was)
+    let all : length (blocks_in (v ∷ lists)) + length x.items ≡ length (blocks_in (x ∷ lists)) + length v.items =
+    omega (arith, blocks_cons v lists, blocks_cons x lists) in
+    all
 blocks_set (x ∷ lists) (suc i) v d less =
-    let now : length (x.items ++ blocks_in (set lists i v)) ≡ length x.items + length (blocks_in (set lists i v)) =
-    length-append x.items (blocks_in (set lists i v)) in
-    let was : length (x.items ++ blocks_in lists) ≡ length x.items + length (blocks_in lists) =
-    length-append x.items (blocks_in lists) in
-    omega (arith, now, was, blocks_set lists i v d (omega (arith, less)))
+    let later = blocks_set lists i v d (omega (arith, less)) in
+    let all : length (blocks_in (x ∷ set lists i v)) + length (get_or lists i d).items
+    ≡ length (blocks_in (x ∷ lists)) + length v.items =
+    omega (arith, later, blocks_cons x (set lists i v), blocks_cons x lists) in
+    all
 
 module _ (Is : NotedEntry → Type 0) where
   filed_at : (lists : List (Vec NotedEntry)) (i : ℕ) (d : Vec NotedEntry) (len : ℕ) → i < length lists
@@ -79,7 +81,7 @@ module _ (Is : NotedEntry → Type 0) where
   )
 
   -- no block at all
-  pub filed_none : (lists : List (Vec NotedEntry)) (len : ℕ) → All (λ v. v.items ≡ []) lists → AreFiled Is len lists
+  filed_none : (lists : List (Vec NotedEntry)) (len : ℕ) → All (λ v. v.items ≡ []) lists → AreFiled Is len lists
   filed_none [] len h = tt
   filed_none (x ∷ lists) len h = (
     subst (All (λ e. Is e × (len_of e ≡ len))) (sym (All-head (λ v. v.items ≡ []) x lists h))
@@ -109,7 +111,7 @@ module _ (Is : NotedEntry → Type 0) where
 
   -- ---- all blocks, one list after the other
 
-  pub members_filed : (lists : List (Vec NotedEntry)) (len : ℕ) → AreFiled Is len lists
+  members_filed : (lists : List (Vec NotedEntry)) (len : ℕ) → AreFiled Is len lists
       → All (λ e. Is e × (len ≤ len_of e)) (blocks_in lists)
   members_filed [] len h = All-nil (λ e. Is e × (len ≤ len_of e))
   members_filed (x ∷ lists) len h =
@@ -119,9 +121,9 @@ module _ (Is : NotedEntry → Type 0) where
       (All-weaker (λ e. Is e × (len + 1 ≤ len_of e)) (λ e. Is e × (len ≤ len_of e))
       (λ e k. (k.0, omega (arith, k.1))) (blocks_in lists) (members_filed lists (len + 1) h.1))
 
-  pub order_filed : (lists : List (Vec NotedEntry)) (len : ℕ) → AreFiled Is len lists
+  order_filed : (lists : List (Vec NotedEntry)) (len : ℕ) → AreFiled Is len lists
       → AllPairs (λ e later. len_of e ≤ len_of later) (blocks_in lists)
-  order_filed [] len h = λ i j d before less. absurd (omega (arith, less))
+  order_filed [] len h = λ i j d before less. let none : j < 0 = less in absurd (omega (arith, none))
   order_filed (x ∷ lists) len h =
       pairs_append (λ e later. len_of e ≤ len_of later) x.items (blocks_in lists)
       (λ i j d before less.
@@ -149,45 +151,31 @@ filed_weaker Is Other f (x ∷ lists) len h = (
 none_in : (lists : List (Vec NotedEntry)) → All (λ v. v.items ≡ []) lists → length (blocks_in lists) ≡ 0
 none_in [] h = refl
 none_in (x ∷ lists) h =
-    let here = ap length (All-head (λ v. v.items ≡ []) x lists h) in
+    let none : x.items ≡ [] = All-head (λ v. v.items ≡ []) x lists h in
     let later = none_in lists (All-tail (λ v. v.items ≡ []) x lists h) in
-    let all : length (x.items ++ blocks_in lists) ≡ length x.items + length (blocks_in lists) =
-    length-append x.items (blocks_in lists) in
-    omega (arith, here, later, all)
+    blocks_cons x lists ∙ omega (arith, ap length none, later)
 
 pub count_more : (lists : List (Vec NotedEntry)) (i : ℕ) (v w : Vec NotedEntry) (block : NotedEntry)
     → i < length lists → v ≡ get_or lists i v → w.items ≡ v.items ++ block ∷ []
     → length (blocks_in (set lists i w)) ≡ length (blocks_in lists) + 1
 count_more lists i v w block less read items =
-    omega (
-      arith,
-      blocks_set lists i w v less,
-      ap (λ z. length z.items) read,
-      ap length items,
-      length_push v.items block,
-    )
+    let at : length v.items ≡ length (get_or lists i v).items = ap (λ z. length z.items) read in
+    omega (arith, blocks_set lists i w v less, at, ap length items, length_push v.items block)
 
 pub count_less : (lists : List (Vec NotedEntry)) (i : ℕ) (v w : Vec NotedEntry) (popped : Option NotedEntry)
     → i < length lists → v ≡ get_or lists i v → v.items ≡ w.items ++ option_to_list popped
     → length (blocks_in (set lists i w)) + length (option_to_list popped) ≡ length (blocks_in lists)
 count_less lists i v w popped less read items =
-    omega (
-      arith,
-      blocks_set lists i w v less,
-      ap (λ z. length z.items) read,
-      ap length items,
-      length-append w.items (option_to_list popped),
-    )
+    let at : length v.items ≡ length (get_or lists i v).items = ap (λ z. length z.items) read in
+    omega (arith, blocks_set lists i w v less, at, ap length items, length-append w.items (option_to_list popped))
 
 -- the lists from an index on have no block, if the one at the index is empty
 pub still_none : (lists : List (Vec NotedEntry)) (i : ℕ) (w : Vec NotedEntry) → i < length lists
     → length w.items ≡ 0 → length (blocks_in (drop (i + 1) lists)) ≡ 0
     → length (blocks_in (drop i (set lists i w))) ≡ 0
 still_none lists i w less none later =
-    let all : length (w.items ++ blocks_in (drop (i + 1) lists))
-    ≡ length w.items + length (blocks_in (drop (i + 1) lists)) =
-    length-append w.items (blocks_in (drop (i + 1) lists)) in
-    ap (λ z. length (blocks_in z)) (drop-set lists i w less) ∙ all ∙ omega (arith, none, later)
+    ap (λ z. length (blocks_in z)) (drop-set lists i w less) ∙ blocks_cons w (drop (i + 1) lists)
+    ∙ omega (arith, none, later)
 
 -- ---- the blocks of one family
 
@@ -216,6 +204,146 @@ appended family Is f l h = record {
   few = omega (arith, h.few, h.count);
   ordered = order_filed Is l.by_len.items 0 h.filed;
 }
+
+-- ---- one block is pushed
+
+-- A list has the block in addition.
+pub record HasMore (old new : Largest) (block : NotedEntry) : Type 0 where
+  pub index : ℕ
+  pub list : Vec NotedEntry
+  pub longer : Vec NotedEntry
+  pub within : index < length old.by_len.items
+  pub read : list ≡ get_or old.by_len.items index list
+  pub items : longer.items ≡ list.items ++ block ∷ []
+  pub len : (ip_network block.network).prefix_len ≡ index
+  pub lists : new.by_len.items ≡ set old.by_len.items index longer
+  pub kept : old.kept ≤ 1500 → new.kept ≡ old.kept + 1
+
+more_filed : (Is : NotedEntry → Type 0) (old new : Largest) (block : NotedEntry) → HasMore old new block → Is block
+    → AreFiled Is 0 old.by_len.items → AreFiled Is 0 new.by_len.items
+more_filed Is old new block m is h =
+    subst (AreFiled Is 0) (sym m.lists)
+    (filed_more Is old.by_len.items m.index m.list m.longer block m.within m.read m.items is m.len h)
+
+more_count : (old new : Largest) (block : NotedEntry) → HasMore old new block
+    → length (blocks_in new.by_len.items) ≡ length (blocks_in old.by_len.items) + 1
+more_count old new block m =
+    ap (λ z. length (blocks_in z)) m.lists
+    ∙ count_more old.by_len.items m.index m.list m.longer block m.within m.read m.items
+
+pub push_kept : (old new : Largest) (block : NotedEntry) → HasMore old new block → new.kept ≤ 1500
+    → TakesBlock old new block
+push_kept old new block m few = λ grammar frame lines family is h. record {
+  filed = more_filed (IsOfFamily grammar frame lines family) old new block m is h.filed;
+  count = omega (arith, m.kept h.few, h.count, more_count old new block m);
+  few = few;
+}
+
+pub push_dropped : (old now new : Largest) (block : NotedEntry) → HasMore old now block → DropsOne now new
+    → TakesBlock old new block
+push_dropped old now new block m drops = λ grammar frame lines family is h.
+    let count = more_count old now block m in
+    let kept = m.kept h.few in
+    let some : 0 < length (blocks_in now.by_len.items) = omega (arith, count) in
+    let fewer = drops.count some in
+    let less = drops.kept some in
+    record {
+      filed = drops.filed grammar frame lines family
+          (more_filed (IsOfFamily grammar frame lines family) old now block m is h.filed);
+      count = omega (arith, kept, less, fewer, count, h.count);
+      few = omega (arith, kept, less, h.few);
+    }
+
+-- ---- one block is dropped
+
+-- The lists from an index on are empty, and nothing was dropped.
+pub record IsUpTo (index : ℕ) (start now : Largest) : Type 0 where
+  pub lengths : length now.by_len.items ≡ length start.by_len.items
+  pub filed : (grammar : Grammar) → (frame : Option IpNet) → (lines : List (List ℕ)) → (family : Family)
+      → AreFiled (IsOfFamily grammar frame lines family) 0 start.by_len.items
+      → AreFiled (IsOfFamily grammar frame lines family) 0 now.by_len.items
+  pub count : length (blocks_in now.by_len.items) ≡ length (blocks_in start.by_len.items)
+  pub kept : now.kept ≡ start.kept
+  pub past : length (blocks_in (drop index now.by_len.items)) ≡ 0
+
+pub up_to_start : (index : ℕ) (start : Largest) → length start.by_len.items ≤ index → IsUpTo index start start
+up_to_start index start past = record {
+  lengths = refl;
+  filed = λ grammar frame lines family h. h;
+  count = refl;
+  kept = refl;
+  past = ap (λ z. length (blocks_in z)) (drop_all index start.by_len.items past);
+}
+
+none_popped : (popped : Option NotedEntry) → is_some popped ≡ false → length (option_to_list popped) ≡ 0
+none_popped None e = refl
+none_popped (Some b) e = let clash : true ≡ false = e in absurd cc
+
+some_popped : (popped : Option NotedEntry) → is_some popped ≡ true → length (option_to_list popped) ≡ 1
+some_popped None e = let clash : false ≡ true = e in absurd cc
+some_popped (Some b) e = refl
+
+no_longer : (n : ℕ) (b : Bool) → (0 < n → b ≡ true) → b ≡ false → n ≡ 0
+no_longer zero b some e = refl
+no_longer (suc n) b some e = let clash : true ≡ false = sym (some (omega arith)) ∙ e in absurd cc
+
+module _ (start now new : Largest) (index : ℕ) (list shorter : Vec NotedEntry) (popped : Option NotedEntry)
+    (h : IsUpTo (index + 1) start now) (within : index < length now.by_len.items)
+    (read : list ≡ get_or now.by_len.items index list)
+    (items : list.items ≡ shorter.items ++ option_to_list popped)
+    (lists : new.by_len.items ≡ set now.by_len.items index shorter)
+  where
+    filed_now : (grammar : Grammar) → (frame : Option IpNet) → (lines : List (List ℕ)) → (family : Family)
+        → AreFiled (IsOfFamily grammar frame lines family) 0 start.by_len.items
+        → AreFiled (IsOfFamily grammar frame lines family) 0 new.by_len.items
+    filed_now grammar frame lines family k =
+        let Is = IsOfFamily grammar frame lines family in
+        subst (AreFiled Is 0) (sym lists)
+        (filed_less Is now.by_len.items index list shorter popped within read items
+        (h.filed grammar frame lines family k))
+
+    count_now : length (blocks_in new.by_len.items) + length (option_to_list popped)
+        ≡ length (blocks_in start.by_len.items)
+    count_now =
+        ap (λ z. length (blocks_in z) + length (option_to_list popped)) lists
+        ∙ count_less now.by_len.items index list shorter popped within read items ∙ h.count
+
+    pub up_to_next : is_some popped ≡ false → (0 < length list.items → is_some popped ≡ true) → new.kept ≡ now.kept
+        → IsUpTo index start new
+    up_to_next none some kept =
+        let size = none_popped popped none in
+        let empty = no_longer (length list.items) (is_some popped) some none in
+        let same = ap length items in
+        let shorter_empty : length shorter.items ≡ 0 =
+        omega (arith, size, empty, same, length-append shorter.items (option_to_list popped)) in
+        record {
+          lengths = ap length lists ∙ length-set now.by_len.items index shorter ∙ h.lengths;
+          filed = filed_now;
+          count = omega (arith, count_now, size);
+          kept = kept ∙ h.kept;
+          past = ap (λ z. length (blocks_in (drop index z))) lists
+              ∙ still_none now.by_len.items index shorter within shorter_empty h.past;
+        }
+
+    pub up_to_drop : is_some popped ≡ true → new.kept ≡ now.kept - 1 → DropsOne start new
+    up_to_drop some kept =
+        let size = some_popped popped some in
+        record {
+          filed = filed_now;
+          count = λ any. omega (arith, count_now, size);
+          kept = λ any. omega (arith, kept, h.kept);
+        }
+
+-- nothing could be dropped
+pub up_to_none : (index : ℕ) (start now : Largest) → IsUpTo index start now → index ≡ 0 → DropsOne start now
+up_to_none index start now h zero_index =
+    let none : length (blocks_in now.by_len.items) ≡ 0 =
+    sym (ap (λ z. length (blocks_in (drop z now.by_len.items))) zero_index) ∙ h.past in
+    record {
+      filed = h.filed;
+      count = λ any. absurd (omega (arith, any, none, h.count));
+      kept = λ any. absurd (omega (arith, any, none, h.count));
+    }
 
 -- ---- more lines
 

@@ -1,4 +1,16 @@
-use Rattle.std.proofs.Common.{refl, sym, ap, ◌∙◌, arith, get_or}
-use Rattle.netset_entries.specs.NoteSteps.{IsOfFamily}
-use Rattle.netset_entries.proofs.NoteLaws.{count_more, filed_more}
+use Rattle.std.proofs.Common.{refl, sym, ◌∙◌, arith}
+use Rattle.netset_entries.proofs.NoteLaws.{push_kept, push_dropped}
 use Rattle.netset_entries.proofs.largest.Largest.push.Goals as goal
+
+pub returns : goal.returns
+returns c = push_kept c.args.self.now _ c.args.block record {
+  index = c.from-len.result;
+  list = c.index_mut.result.now;
+  longer = c.push.new.self;
+  within = omega arith;
+  read = sym c.index_mut.ensures.value;
+  items = c.in_ok-push.ensures.items;
+  len = omega (arith, c.from-len.ensures, c.prefix_len.ensures);
+  lists = refl;
+  kept = λ few. omega (arith, few, c.saturating_add.ensures);
+} (omega arith)
