@@ -1,5 +1,6 @@
 -- The blocks of one family, in lists by their prefix lengths.
-use Rattle.std.proofs.Common.{◌≡◌, ℕ, zero, suc, Bool, true, false, ◌+◌, ◌-◌, ◌<◌, ◌≤◌, List, [], ◌∷◌, ◌++◌, length, get_or, set, drop}
+use Rattle.std.proofs.Common.{Bool, true, false}
+use Rattle.std.proofs.Common.{◌≡◌, ℕ, zero, suc, ◌+◌, ◌-◌, ◌<◌, ◌≤◌, List, [], ◌∷◌, ◌++◌, length, get_or, set, drop}
 use Rattle.std.proofs.Common.{All, AllPairs, Any, Contains, Option, None, Some, refl, sym, ap, ◌∙◌, subst, arith, inl}
 use Rattle.std.proofs.Common.{string_bytes, IfSome}
 use Rattle.std.specs.Global.{Vec}
@@ -90,7 +91,7 @@ module _ (Is : NotedEntry → Type 0) where
   )
 
   -- one block more
-  pub filed_more : (lists : List (Vec NotedEntry)) (i : ℕ) (v w : Vec NotedEntry) (block : NotedEntry)
+  filed_more : (lists : List (Vec NotedEntry)) (i : ℕ) (v w : Vec NotedEntry) (block : NotedEntry)
       → i < length lists → v ≡ get_or lists i v → w.items ≡ v.items ++ block ∷ [] → Is block → len_of block ≡ i
       → AreFiled Is 0 lists → AreFiled Is 0 (set lists i w)
   filed_more lists i v w block less read items is len h =
@@ -100,7 +101,7 @@ module _ (Is : NotedEntry → Type 0) where
       (subst (λ z. All P z.items) (sym read) (filed_at lists i v 0 less h)) (is, omega (arith, len)))) h
 
   -- one block less, or none
-  pub filed_less : (lists : List (Vec NotedEntry)) (i : ℕ) (v w : Vec NotedEntry) (popped : Option NotedEntry)
+  filed_less : (lists : List (Vec NotedEntry)) (i : ℕ) (v w : Vec NotedEntry) (popped : Option NotedEntry)
       → i < length lists → v ≡ get_or lists i v → v.items ≡ w.items ++ option_to_list popped
       → AreFiled Is 0 lists → AreFiled Is 0 (set lists i w)
   filed_less lists i v w popped less read items h =
@@ -155,14 +156,14 @@ none_in (x ∷ lists) h =
     let later = none_in lists (All-tail (λ v. v.items ≡ []) x lists h) in
     blocks_cons x lists ∙ omega (arith, ap length none, later)
 
-pub count_more : (lists : List (Vec NotedEntry)) (i : ℕ) (v w : Vec NotedEntry) (block : NotedEntry)
+count_more : (lists : List (Vec NotedEntry)) (i : ℕ) (v w : Vec NotedEntry) (block : NotedEntry)
     → i < length lists → v ≡ get_or lists i v → w.items ≡ v.items ++ block ∷ []
     → length (blocks_in (set lists i w)) ≡ length (blocks_in lists) + 1
 count_more lists i v w block less read items =
     let at : length v.items ≡ length (get_or lists i v).items = ap (λ z. length z.items) read in
     omega (arith, blocks_set lists i w v less, at, ap length items, length_push v.items block)
 
-pub count_less : (lists : List (Vec NotedEntry)) (i : ℕ) (v w : Vec NotedEntry) (popped : Option NotedEntry)
+count_less : (lists : List (Vec NotedEntry)) (i : ℕ) (v w : Vec NotedEntry) (popped : Option NotedEntry)
     → i < length lists → v ≡ get_or lists i v → v.items ≡ w.items ++ option_to_list popped
     → length (blocks_in (set lists i w)) + length (option_to_list popped) ≡ length (blocks_in lists)
 count_less lists i v w popped less read items =
@@ -170,7 +171,7 @@ count_less lists i v w popped less read items =
     omega (arith, blocks_set lists i w v less, at, ap length items, length-append w.items (option_to_list popped))
 
 -- the lists from an index on have no block, if the one at the index is empty
-pub still_none : (lists : List (Vec NotedEntry)) (i : ℕ) (w : Vec NotedEntry) → i < length lists
+still_none : (lists : List (Vec NotedEntry)) (i : ℕ) (w : Vec NotedEntry) → i < length lists
     → length w.items ≡ 0 → length (blocks_in (drop (i + 1) lists)) ≡ 0
     → length (blocks_in (drop i (set lists i w))) ≡ 0
 still_none lists i w less none later =
