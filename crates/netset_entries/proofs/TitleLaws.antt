@@ -2,7 +2,6 @@
 use Rattle.std.proofs.Common.{◌≡◌, ℕ, ◌+◌, ◌<◌, ◌≤◌, List, [], ◌∷◌, ◌++◌, length, take, drop, codes, min, sym, ap}
 use Rattle.std.proofs.Common.{◌∙◌, arith, append_assoc}
 use Rattle.std.specs.Str.Lossy.{utf8_lossy}
-use Rattle.std.proofs.Math.Nat.{min_comm}
 use Rattle.std.proofs.lemmas.List.{drop_all, take_min}
 use Rattle.netset_lib.specs.Lists.{IsCommentAt, without_blanks}
 use Rattle.netset_entries.specs.NotedEntries.{IsCommentOf, title_text}
@@ -17,12 +16,12 @@ no_comment line start begins past = record {
 
 -- a line with one, which is cut
 pub some_comment : (line trim comment : List ℕ) (start n : ℕ) → IsCommentAt line start
-    → trim ≡ without_blanks (drop (start + 1) line) → n ≡ min (length trim) 100 → comment ≡ take n trim
+    → trim ≡ without_blanks (drop (start + 1) line) → n ≡ min 100 (length trim) → comment ≡ take n trim
     → IsCommentOf line comment
 some_comment line trim comment start n begins trimmed shorter is = record {
   start = start;
   begins = begins;
-  is = is ∙ ap (λ k. take k trim) (shorter ∙ min_comm (length trim) 100) ∙ take_min 100 trim
+  is = is ∙ ap (λ k. take k trim) shorter ∙ take_min 100 trim
       ∙ ap (take 100) trimmed;
 }
 

@@ -28,7 +28,7 @@ fn comment_of(line: &[u8]) -> &[u8]
         return &[];
     }
     let comment = line[start + 1..].trim_ascii();
-    &comment[..comment.len().min(MOST_BYTES)]
+    &comment[..MOST_BYTES.min(comment.len())]
 }
 
 /// Returns the title of the entry that is written so. Bytes of the comment that are not UTF-8 are replaced by U+FFFD.
