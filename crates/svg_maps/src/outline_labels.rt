@@ -165,9 +165,14 @@ fn push_outline_label(
         OutlineClass::Entry => ink_in(under, found),
     };
     let words = outline.label.clone()?;
-    let row = found.place.row.saturating_add(character.height.saturating_sub(3));
+    let row = found
+        .place
+        .row
+        .saturating_add(character.height.saturating_sub(3));
     placed.boxes.push(found)?;
-    placed.labels.push(label_at(ink, found.place.column, row, words))?;
+    placed
+        .labels
+        .push(label_at(ink, found.place.column, row, words))?;
     Ok(())
 }
 
