@@ -10,19 +10,13 @@ use Rattle.std.proofs.lemmas.List.Elements.{All-nil, All-append, All-contains, A
 use Rattle.std.proofs.lemmas.List.Elements.{All-weaker}
 use Rattle.ipnet_base.proofs.ListLaws.{pairs_append}
 use Rattle.ipnet_base.specs.Address.{Family, IPv4, IPv6}
-use Rattle.ipnet_base.specs.Blocks.{IsMaximal}
 use Rattle.ipnet_base.specs.Network.{Network, IsSubnetOf}
-use Rattle.ipnet_base.specs.Ranges.{AddressRange}
-use Rattle.ipnet_sets.specs.SetRanges.{IsInRange}
 use Rattle.std.proofs.lemmas.List.Quantifiers.{Any-push}
 use Rattle.ipnet_rules.proofs.VerdictLaws.{any_append}
 use Rattle.ipnet.specs.NetworkOf.{ip_network}
 use Rattle.ipnet.specs.declared.net.IpNet.{IpNet}
 use Rattle.ipnet.specs.declared.parser.Grammar.{Grammar}
-use Rattle.netset_lib.specs.Entries.{IsEntryText}
-use Rattle.netset_lib.specs.Lists.{IsContents}
 use Rattle.netset_entries.specs.NotedEntries.{IsTitledBlock, IsNotedOf, AreLargerFirst, AreNoted, lines_of_all}
-use Rattle.netset_entries.specs.NotedEntries.{IsCommentOf, title_text}
 use Rattle.netset_entries.specs.NoteSteps.{blocks_in, AreFiled, AreLargest, AreNone, IsOfFamily, AreKept}
 use Rattle.netset_entries.specs.NoteSteps.{TakesBlock, DropsOne, KeepsBlock, ReadsLine}
 use Rattle.netset_entries.specs.declared.largest.Largest.{Largest}
@@ -288,8 +282,8 @@ no_longer : (n : ℕ) (b : Bool) → (0 < n → b ≡ true) → b ≡ false → 
 no_longer zero b some e = refl
 no_longer (suc n) b some e = let clash : true ≡ false = sym (some (omega arith)) ∙ e in absurd cc
 
-module _ (start now new : Largest) (index : ℕ) (list shorter : Vec NotedEntry) (popped : Option NotedEntry)
-    (h : IsUpTo (index + 1) start now) (within : index < length now.by_len.items)
+module _ (start now new : Largest) (index before : ℕ) (list shorter : Vec NotedEntry) (popped : Option NotedEntry)
+    (h : IsUpTo before start now) (next : before ≡ index + 1) (within : index < length now.by_len.items)
     (read : list ≡ get_or now.by_len.items index list)
     (items : list.items ≡ shorter.items ++ option_to_list popped)
     (lists : new.by_len.items ≡ set now.by_len.items index shorter)
@@ -323,7 +317,8 @@ module _ (start now new : Largest) (index : ℕ) (list shorter : Vec NotedEntry)
           count = omega (arith, count_now, size);
           kept = kept ∙ h.kept;
           past = ap (λ z. length (blocks_in (drop index z))) lists
-              ∙ still_none now.by_len.items index shorter within shorter_empty h.past;
+              ∙ still_none now.by_len.items index shorter within shorter_empty
+              (subst (λ z. length (blocks_in (drop z now.by_len.items)) ≡ 0) next h.past);
         }
 
     pub up_to_drop : is_some popped ≡ true → new.kept ≡ now.kept - 1 → DropsOne start new
@@ -446,20 +441,11 @@ all_appended grammar frame lists b entries is h = record {
         (members_filed (IsOfFamily grammar frame (lines_of_all lists) family) l.by_len.items 0 k.filed)
 
 -- one block more of the entry of a line
-pub block_read : (old now new : NotedBlocks) (line text spelled comment title : List ℕ) (range : AddressRange)
-    (n : Network) → IsContents old.grammar line text → IsEntryText old.grammar text range → spelled ≡ text
-    → IsCommentOf line comment → title ≡ title_text spelled comment → IsMaximal (IsInRange range) 0 n
-    → ReadsLine old now line → KeepsBlock now new n title → ReadsLine old new line
-block_read old now new line text spelled comment title range n contents writes same has titled block reads keeps =
-    λ grammar frame lines h. keeps grammar frame (lines ++ line ∷ [])
-    (Any-push (IsTitledBlock grammar n title) lines line (record {
-      text = text;
-      contents = subst (λ z. IsContents z line text) h.same_grammar contents;
-      range = range;
-      writes = subst (λ z. IsEntryText z text range) h.same_grammar writes;
-      block = block;
-      comment = comment;
-      has_comment = has;
-      titled = titled ∙ ap (λ z. title_text z comment) same;
-    }))
+pub block_read : (old now new : NotedBlocks) (line title : List ℕ) (n : Network)
+    → IsTitledBlock old.grammar n title line → ReadsLine old now line → KeepsBlock now new n title
+    → ReadsLine old new line
+block_read old now new line title n block reads keeps = λ grammar frame lines h.
+    keeps grammar frame (lines ++ line ∷ [])
+    (Any-push (IsTitledBlock grammar n title) lines line
+    (subst (λ z. IsTitledBlock z n title line) h.same_grammar block))
     (reads grammar frame lines h)

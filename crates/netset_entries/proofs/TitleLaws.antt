@@ -1,6 +1,6 @@
 -- The titles of entries, and the comments in them.
 use Rattle.std.proofs.Common.{◌≡◌, ℕ, ◌+◌, ◌<◌, ◌≤◌, List, [], ◌∷◌, ◌++◌, length, take, drop, codes, min, sym, ap}
-use Rattle.std.proofs.Common.{◌∙◌, arith, append_assoc}
+use Rattle.std.proofs.Common.{◌∙◌, arith}
 use Rattle.std.specs.Str.Lossy.{utf8_lossy}
 use Rattle.std.proofs.lemmas.List.{drop_all, take_min}
 use Rattle.netset_lib.specs.Lists.{IsCommentAt, without_blanks}
@@ -35,4 +35,4 @@ plain_title text (b ∷ comment) title none is = absurd (omega (arith, none))
 pub full_title : (text comment title : List ℕ) → 0 < length comment
     → title ≡ (text ++ codes ": ") ++ utf8_lossy comment → title ≡ title_text text comment
 full_title text [] title some is = absurd (omega (arith, some))
-full_title text (b ∷ comment) title some is = is ∙ append_assoc text (codes ": ") (utf8_lossy (b ∷ comment))
+full_title text (b ∷ comment) title some is = is

@@ -217,7 +217,7 @@ impl EntryNotes {
     fn end_line(&mut self, piece: &[u8]) -> Result<(), AllocError>
         ensures { OnOk result (EndsLine self.old self.new piece.now) }
     {
-        if self.line.is_empty() {
+        if self.line.len() == 0 {
             return self.note_line(piece);
         }
         self.line.extend_from_slice(piece)?;
@@ -250,7 +250,7 @@ impl EntryNotes {
             → (begun : List ℕ) → HaveNoted grammar frame lists begun self.old
             → IsAtEnd grammar frame lists begun self.new) }
     {
-        if self.line.is_empty() {
+        if self.line.len() == 0 {
             return Ok(());
         }
         self.note_begun()

@@ -5,10 +5,10 @@ use Rattle.netset_lib.proofs.ListLines.{trimmed}
 use Rattle.netset_entries.proofs.TitleLaws.{no_comment, some_comment}
 use Rattle.netset_entries.proofs.noted.comment_of.Goals as goal
 
-pub returns-then-start-ge-len : goal.returns-then-start-ge-len
-returns-then-start-ge-len c =
+pub returns-then-start-line : goal.returns-then-start-line
+returns-then-start-line c =
     no_comment c.args.line.now c.comment_start-start.result c.comment_start-start.ensures
-    c.if-start-ge-len.true
+    c.if-start-line.true
 
 pub returns : goal.returns
 returns c =

@@ -1,16 +1,29 @@
-use Rattle.std.proofs.Common.{refl, sym, ◌∙◌, arith}
+use Rattle.std.proofs.Common.{refl, sym, arith}
 use Rattle.netset_entries.proofs.NoteLaws.{push_kept, push_dropped}
 use Rattle.netset_entries.proofs.largest.Largest.push.Goals as goal
 
-pub returns : goal.returns
-returns c = push_kept c.args.self.now _ c.args.block record {
+pub returns-then-self-gt-MOST : goal.returns-then-self-gt-MOST
+returns-then-self-gt-MOST c = push_dropped c.args.self.now _ c.drop_smallest.new.self c.args.block record {
   index = c.from-len.result;
   list = c.index_mut.result.now;
   longer = c.push.new.self;
   within = omega arith;
   read = sym c.index_mut.ensures.value;
   items = c.in_ok-push.ensures.items;
-  len = omega (arith, c.from-len.ensures, c.prefix_len.ensures);
+  len = omega arith;
+  lists = refl;
+  kept = λ few. omega (arith, few, c.saturating_add.ensures);
+} c.drop_smallest.ensures
+
+pub returns-else-self-gt-MOST : goal.returns-else-self-gt-MOST
+returns-else-self-gt-MOST c = push_kept c.args.self.now _ c.args.block record {
+  index = c.from-len.result;
+  list = c.index_mut.result.now;
+  longer = c.push.new.self;
+  within = omega arith;
+  read = sym c.index_mut.ensures.value;
+  items = c.in_ok-push.ensures.items;
+  len = omega arith;
   lists = refl;
   kept = λ few. omega (arith, few, c.saturating_add.ensures);
 } (omega arith)

@@ -8,6 +8,6 @@ pub returns : goal.returns
 returns c = record {
   same_grammar = refl;
   same_frame = refl;
-  ipv4 = largest_none (IsOfFamily c.args.grammar c.args.frame [] IPv4) _ c.in_ok-ipv4.ensures;
-  ipv6 = largest_none (IsOfFamily c.args.grammar c.args.frame [] IPv6) _ c.in_ok-ipv6.ensures;
+  ipv4 = largest_none (IsOfFamily c.args.grammar c.args.frame [] IPv4) _ c.in_ok-new.ensures;
+  ipv6 = largest_none (IsOfFamily c.args.grammar c.args.frame [] IPv6) _ c.in_ok-new-2.ensures;
 }

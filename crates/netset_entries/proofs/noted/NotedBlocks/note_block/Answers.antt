@@ -1,4 +1,5 @@
-use Rattle.std.proofs.Common.{refl, sym, ap, ◌∙◌, subst}
+use Rattle.std.proofs.Common.{refl, ap}
+use Rattle.ipnet.specs.NetworkOf.{ip_network}
 use Rattle.ipnet_text.proofs.ListsLaws.{OnOk_then}
 use Rattle.netset_entries.proofs.NoteLaws.{same_blocks, ipv4_taken, ipv6_taken}
 use Rattle.netset_entries.proofs.noted.NotedBlocks.note_block.Goals as goal
@@ -11,10 +12,10 @@ pub returns-in-V4 : goal.returns-in-V4
 returns-in-V4 c =
     OnOk_then c.push.result c.push.ensures
     (λ takes. ipv4_taken c.args.self.now _ _ c.args.title.now refl refl c.in_ok-title.ensures.ok
-    (c.is_in_frame.ensures.0 c.if-not-is_in_frame.false) _ takes refl)
+    (c.is_in_frame.ensures.0 c.if-not-is_in_frame.false) (ap (λ z. (ip_network z).family) c.in-V4.is) takes refl)
 
 pub returns-in-V6 : goal.returns-in-V6
 returns-in-V6 c =
     OnOk_then c.push-in-V6.result c.push-in-V6.ensures
     (λ takes. ipv6_taken c.args.self.now _ _ c.args.title.now refl refl c.in_ok-title.ensures.ok
-    (c.is_in_frame.ensures.0 c.if-not-is_in_frame.false) _ takes refl)
+    (c.is_in_frame.ensures.0 c.if-not-is_in_frame.false) (ap (λ z. (ip_network z).family) c.in-V6.is) takes refl)
