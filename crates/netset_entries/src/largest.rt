@@ -1,5 +1,5 @@
 //! The largest blocks of one family.
-ghost use Rattle.std.specs.Prelude.{◌≡◌, ◌++◌, IfOk, OnOk};
+ghost use Rattle.std.specs.Prelude.{◌≡◌, IfOk, OnOk};
 ghost use Rattle.netset_entries.specs.NoteSteps.{AreNone, TakesBlock, DropsOne, blocks_in};
 
 use ipnet::IpNet;
@@ -19,6 +19,18 @@ pub struct NotedEntry {
     pub network: IpNet,
     /// The entry as written, and the first 100 bytes of its comment, if there is one.
     pub title: String,
+}
+
+/// Returns the blocks of the lists, in one list.
+fn joined(alloc: Global, lists: Vec<Vec<NotedEntry>>) -> Result<Vec<NotedEntry>, AllocError>
+    ensures { IfOk result (λ blocks. blocks.items ≡ blocks_in lists.items) }
+{
+    let mut blocks = Vec::new(alloc);
+    for list in lists {
+        let mut list = list;
+        blocks.append(&mut list)?;
+    }
+    Ok(blocks)
 }
 
 /// The largest blocks of one family.
@@ -77,15 +89,10 @@ impl Largest {
         }
     }
 
-    /// Appends the blocks, the larger first.
-    pub(crate) fn append_to(self, entries: &mut Vec<NotedEntry>) -> Result<(), AllocError>
-        ensures { OnOk result (entries.new.items ≡ entries.old.items ++ blocks_in self.by_len.items) }
+    /// Returns the blocks, the larger first.
+    pub(crate) fn into_blocks(self, alloc: Global) -> Result<Vec<NotedEntry>, AllocError>
+        ensures { IfOk result (λ blocks. blocks.items ≡ blocks_in self.by_len.items) }
     {
-        let Largest { by_len, .. } = self;
-        for blocks in by_len {
-            let mut blocks = blocks;
-            entries.append(&mut blocks)?;
-        }
-        Ok(())
+        joined(alloc, self.by_len)
     }
 }

@@ -280,9 +280,9 @@ impl EntryNotes {
             → AreNoted grammar frame lists entries.items) }
     {
         let blocks = self.blocks;
-        let mut entries = Vec::new(blocks.alloc);
-        blocks.ipv4.append_to(&mut entries)?;
-        blocks.ipv6.append_to(&mut entries)?;
+        let mut entries = blocks.ipv4.into_blocks(blocks.alloc)?;
+        let mut more = blocks.ipv6.into_blocks(blocks.alloc)?;
+        entries.append(&mut more)?;
         Ok(entries)
     }
 }

@@ -8,15 +8,15 @@ loop-len-init c = up_to_start _ c.args.self.now (omega arith)
 pub loop-len-preserved : goal.loop-len-preserved
 loop-len-preserved c =
     up_to_next c.args.self.now c.loop-len.self _ (c.loop-len.len - 1) c.loop-len.len c.index_mut.result.now
-    c.pop.new.self c.pop.result c.loop-len.invariant (omega arith) (omega arith) (sym c.index_mut.ensures.value)
+    c.pop.new.self c.pop.result c.loop-len.invariant (omega arith) (omega arith) c.index_mut.ensures.value
     c.pop.ensures.items refl (sym c.is_some.ensures ∙ c.if-is_some.false)
     (λ some. c.pop.ensures.variant.1 (omega (arith, some, c.index_mut.result.now.ok.0))) refl
 
 pub returns-then-is_some : goal.returns-then-is_some
 returns-then-is_some c =
     up_to_drop c.args.self.now c.loop-len.self _ (c.loop-len.len - 1) c.loop-len.len c.index_mut.result.now
-    c.pop.new.self c.pop.result c.loop-len.invariant (omega arith) (omega arith) (sym c.index_mut.ensures.value)
-    c.pop.ensures.items refl (sym c.is_some.ensures ∙ c.if-is_some.true) (omega (arith, c.saturating_sub.ensures))
+    c.pop.new.self c.pop.result c.loop-len.invariant (omega arith) (omega arith) c.index_mut.ensures.value
+    c.pop.ensures.items refl (sym c.is_some.ensures ∙ c.if-is_some.true) (omega (arith, c.saturating_sub-self.ensures))
 
 pub returns : goal.returns
 returns c = up_to_none c.loop-len.len c.args.self.now c.loop-len.self c.loop-len.invariant (omega arith)

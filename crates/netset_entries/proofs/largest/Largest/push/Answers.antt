@@ -1,4 +1,4 @@
-use Rattle.std.proofs.Common.{refl, sym, arith}
+use Rattle.std.proofs.Common.{refl, arith}
 use Rattle.netset_entries.proofs.NoteLaws.{push_kept, push_dropped}
 use Rattle.netset_entries.proofs.largest.Largest.push.Goals as goal
 
@@ -8,11 +8,11 @@ returns-then-self-gt-MOST c = push_dropped c.args.self.now _ c.drop_smallest.new
   list = c.index_mut.result.now;
   longer = c.push.new.self;
   within = omega arith;
-  read = sym c.index_mut.ensures.value;
+  read = c.index_mut.ensures.value;
   items = c.in_ok-push.ensures.items;
-  len = omega arith;
+  len = omega (arith, c.from-len.ensures, c.prefix_len.ensures);
   lists = refl;
-  kept = λ few. omega (arith, few, c.saturating_add.ensures);
+  kept = λ few. omega (arith, few, c.saturating_add-self.ensures);
 } c.drop_smallest.ensures
 
 pub returns-else-self-gt-MOST : goal.returns-else-self-gt-MOST
@@ -21,9 +21,9 @@ returns-else-self-gt-MOST c = push_kept c.args.self.now _ c.args.block record {
   list = c.index_mut.result.now;
   longer = c.push.new.self;
   within = omega arith;
-  read = sym c.index_mut.ensures.value;
+  read = c.index_mut.ensures.value;
   items = c.in_ok-push.ensures.items;
-  len = omega arith;
+  len = omega (arith, c.from-len.ensures, c.prefix_len.ensures);
   lists = refl;
-  kept = λ few. omega (arith, few, c.saturating_add.ensures);
+  kept = λ few. omega (arith, few, c.saturating_add-self.ensures);
 } (omega arith)

@@ -33,10 +33,10 @@ loop-network-init c =
 
 pub loop-network-preserved : goal.loop-network-preserved
 loop-network-preserved c =
-    let n = ip_network c.in-Some-next.network in
+    let n = ip_network c.in-Some-network.network in
     let before = c.loop-network.invariant in
     let after = ip_subnets_left c.next.new.self in
-    let steps = sym c.in-Some-next.ensures.steps in
+    let steps = sym c.in-Some-network.ensures.steps in
     record {
       left = λ k m. before.left k (subst (λ z. Contains z k) steps (contains_there n after k m));
       reads = block_read c.args.self.now c.loop-network.self c.note_block.new.self c.args.line.now
