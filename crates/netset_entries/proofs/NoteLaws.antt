@@ -234,9 +234,9 @@ push_kept old new block m few = λ grammar frame lines family is h. record {
   few = few;
 }
 
-pub push_dropped : (old now new : Largest) (block : NotedEntry) → HasMore old now block → DropsOne now new
+pub push_dropped : (old now new : Largest) (block : NotedEntry) → DropsOne now new → HasMore old now block
     → TakesBlock old new block
-push_dropped old now new block m drops = λ grammar frame lines family is h.
+push_dropped old now new block drops m = λ grammar frame lines family is h.
     let count = more_count old now block m in
     let kept = m.kept h.few in
     let some : 0 < length (blocks_in now.by_len.items) = omega (arith, count) in

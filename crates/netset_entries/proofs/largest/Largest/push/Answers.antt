@@ -3,7 +3,7 @@ use Rattle.netset_entries.proofs.NoteLaws.{push_kept, push_dropped}
 use Rattle.netset_entries.proofs.largest.Largest.push.Goals as goal
 
 pub returns-then-self-gt-MOST : goal.returns-then-self-gt-MOST
-returns-then-self-gt-MOST c = push_dropped c.args.self.now _ c.drop_smallest.new.self c.args.block record {
+returns-then-self-gt-MOST c = push_dropped c.args.self.now _ c.drop_smallest.new.self c.args.block c.drop_smallest.ensures record {
   index = c.from-len.result;
   list = c.index_mut.result.now;
   longer = c.push.new.self;
@@ -13,7 +13,7 @@ returns-then-self-gt-MOST c = push_dropped c.args.self.now _ c.drop_smallest.new
   len = omega (arith, c.from-len.ensures, c.prefix_len.ensures);
   lists = refl;
   kept = λ few. omega (arith, few, c.saturating_add-self.ensures);
-} c.drop_smallest.ensures
+}
 
 pub returns-else-self-gt-MOST : goal.returns-else-self-gt-MOST
 returns-else-self-gt-MOST c = push_kept c.args.self.now _ c.args.block record {
