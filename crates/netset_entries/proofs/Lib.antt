@@ -11,3 +11,6 @@ pub mod RunLaws
 pub mod PairLaws
 pub mod OverlapTextLaws
 pub mod TwoListLaws
+pub mod NoteLaws
+pub mod NotedLists
+pub mod TitleLaws

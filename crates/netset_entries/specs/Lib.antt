@@ -9,3 +9,5 @@ pub mod Spans
 pub mod Covers
 pub mod Overlaps
 pub mod Sweeps
+pub mod NotedEntries
+pub mod NoteSteps

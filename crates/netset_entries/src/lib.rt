@@ -3,6 +3,7 @@
 #![tactic(auto)]
 
 mod entry_list;
+mod largest;
 mod lines;
 pub mod noted;
 mod overlaps;
@@ -15,7 +16,8 @@ mod span;
 pub mod supernet;
 pub mod supernet_program;
 
-pub use noted::{EntryNotes, NotedEntry};
+pub use largest::NotedEntry;
+pub use noted::EntryNotes;
 pub use overlaps_program::{run_overlaps, run_overlaps_of_two};
 pub use redundant_program::run_redundant;
 pub use supernet::supernet_text;

@@ -1,0 +1,6 @@
+-- Each list so far is empty.
+use Rattle.std.proofs.Common.{◌≡◌, [], All}
+use Rattle.netset_entries.proofs.largest.Largest.new.Given as goal
+
+abbrev pub invariant-loop : goal.invariant-loop
+invariant-loop l = All (λ v. v.items ≡ []) l.by_len.items

@@ -1,0 +1,30 @@
+use Rattle.std.proofs.Common.{refl, arith}
+use Rattle.netset_entries.proofs.NoteLaws.{push_kept, push_dropped}
+use Rattle.netset_entries.proofs.largest.Largest.push.Goals as goal
+
+pub returns-then-self-gt-MOST : goal.returns-then-self-gt-MOST
+returns-then-self-gt-MOST c =
+    push_dropped c.args.self.now _ c.drop_smallest.new.self c.args.block c.drop_smallest.ensures record {
+      index = c.from-len.result;
+      list = c.index_mut.result.now;
+      longer = c.push.new.self;
+      within = omega arith;
+      read = c.index_mut.ensures.value;
+      items = c.in_ok-push.ensures.items;
+      len = omega (arith, c.from-len.ensures, c.prefix_len.ensures);
+      lists = refl;
+      kept = λ few. omega (arith, few, c.saturating_add-self.ensures);
+    }
+
+pub returns-else-self-gt-MOST : goal.returns-else-self-gt-MOST
+returns-else-self-gt-MOST c = push_kept c.args.self.now _ c.args.block record {
+  index = c.from-len.result;
+  list = c.index_mut.result.now;
+  longer = c.push.new.self;
+  within = omega arith;
+  read = c.index_mut.ensures.value;
+  items = c.in_ok-push.ensures.items;
+  len = omega (arith, c.from-len.ensures, c.prefix_len.ensures);
+  lists = refl;
+  kept = λ few. omega (arith, few, c.saturating_add-self.ensures);
+} (omega arith)

@@ -1,0 +1,21 @@
+use Rattle.std.proofs.Common.{refl, ap}
+use Rattle.ipnet.specs.NetworkOf.{ip_network}
+use Rattle.ipnet_text.proofs.ListsLaws.{OnOk_then}
+use Rattle.netset_entries.proofs.NoteLaws.{same_blocks, ipv4_taken, ipv6_taken}
+use Rattle.netset_entries.proofs.noted.NotedBlocks.note_block.Goals as goal
+
+pub returns-then-not-is_in_frame : goal.returns-then-not-is_in_frame
+returns-then-not-is_in_frame c = λ grammar frame lines any h.
+    same_blocks c.args.self.now _ refl refl refl refl grammar frame lines h
+
+pub returns-in-V4 : goal.returns-in-V4
+returns-in-V4 c =
+    OnOk_then c.push.result c.push.ensures
+    (λ takes. ipv4_taken c.args.self.now _ _ c.args.title.now refl refl c.in_ok-title.ensures.ok
+    (c.is_in_frame.ensures.0 c.if-not-is_in_frame.false) (ap (λ z. (ip_network z).family) c.in-V4.is) takes refl)
+
+pub returns-in-V6 : goal.returns-in-V6
+returns-in-V6 c =
+    OnOk_then c.push-in-V6.result c.push-in-V6.ensures
+    (λ takes. ipv6_taken c.args.self.now _ _ c.args.title.now refl refl c.in_ok-title.ensures.ok
+    (c.is_in_frame.ensures.0 c.if-not-is_in_frame.false) (ap (λ z. (ip_network z).family) c.in-V6.is) takes refl)

@@ -1,0 +1,21 @@
+use Rattle.std.proofs.Common.{◌+◌, ◌-◌, ◌∙◌, ap, drop, length, refl, take}
+use Rattle.netset_lib.specs.Lists.{without_blanks}
+use Rattle.netset_lib.proofs.CommentLaws.{behind}
+use Rattle.netset_lib.proofs.ListLines.{trimmed}
+use Rattle.netset_entries.proofs.TitleLaws.{no_comment, some_comment}
+use Rattle.netset_entries.proofs.noted.comment_of.Goals as goal
+
+pub returns-then-start-line : goal.returns-then-start-line
+returns-then-start-line c =
+    no_comment c.args.line.now c.comment_start-start.result c.comment_start-start.ensures
+    c.if-start-line.true
+
+pub returns : goal.returns
+returns c =
+    let line = c.args.line.now in
+    let from = c.comment_start-start.result + 1 in
+    some_comment line c.trim_ascii-comment.result.now _ c.comment_start-start.result c.min.result
+    c.comment_start-start.ensures
+    (trimmed (take (length line - from) (drop from line)) c.trim_ascii-comment.result.now
+    c.trim_ascii-comment.ensures.value ∙ ap without_blanks (behind line from))
+    c.min.ensures refl

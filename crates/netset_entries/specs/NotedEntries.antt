@@ -1,0 +1,80 @@
+-- The entries of lists that are noted: their titles, their blocks, and the lines that they are of.
+use Rattle.std.specs.Prelude.{◌≡◌, ◌≤◌, ℕ, ◌+◌, List, [], ◌∷◌, ◌++◌, codes, drop, take, length, All, AllPairs, Any}
+use Rattle.std.specs.Prelude.{Option, IfSome, string_bytes}
+use Rattle.std.specs.List.{flat_map}
+use Rattle.std.specs.Str.Lossy.{utf8_lossy}
+use Rattle.ipnet_base.specs.Address.{Family, IPv4, IPv6}
+use Rattle.ipnet_base.specs.Blocks.{IsMaximal}
+use Rattle.ipnet_base.specs.Network.{Network, IsSubnetOf}
+use Rattle.ipnet_base.specs.Ranges.{AddressRange}
+use Rattle.ipnet.specs.Lines.{lines_of}
+use Rattle.ipnet.specs.NetworkOf.{ip_network}
+use Rattle.ipnet.specs.declared.net.IpNet.{IpNet}
+use Rattle.ipnet.specs.declared.parser.Grammar.{Grammar}
+use Rattle.ipnet_sets.specs.SetRanges.{IsInRange}
+use Rattle.netset_entries.specs.declared.largest.NotedEntry.{NotedEntry}
+use Rattle.netset_lib.specs.Entries.{IsEntryText}
+use Rattle.netset_lib.specs.Lists.{IsCommentAt, IsContents, after_mark, without_blanks}
+
+-- The first 100 bytes of the comment of the line, without its sign and blanks around it; none if there is no comment.
+-- Example: `dhcp-246` of `10.20.168.9/22 # dhcp-246`.
+pub record IsCommentOf (line comment : List ℕ) : Type 0 where
+  pub start : ℕ
+  pub begins : IsCommentAt line start
+  pub is : comment ≡ take 100 (without_blanks (drop (start + 1) line))
+
+-- The title of an entry with this text and this comment. Bytes of the comment that are not UTF-8 are replaced by
+-- U+FFFD. Example: `10.20.168.9/22: dhcp-246` of `10.20.168.9/22` and `dhcp-246`; `10.0.0.1` of `10.0.0.1` and nothing.
+abbrev pub title_text : List ℕ → List ℕ → List ℕ
+title_text text [] = text
+title_text text (b ∷ comment) = text ++ codes ": " ++ utf8_lossy (b ∷ comment)
+
+-- The network is a block of the entry of the line, and this is the title of the entry. The blocks of an entry are the
+-- fewest networks with its addresses.
+-- Example: 10.0.0.2/32 and `10.0.0.0-10.0.0.2: x`, for the line `10.0.0.0-10.0.0.2 # x`.
+pub record IsTitledBlock (grammar : Grammar) (n : Network) (title line : List ℕ) : Type 0 where
+  pub text : List ℕ
+  pub contents : IsContents grammar line text
+  pub range : AddressRange
+  pub writes : IsEntryText grammar text range
+  pub block : IsMaximal (IsInRange range) 0 n
+  pub comment : List ℕ
+  pub has_comment : IsCommentOf line comment
+  pub titled : title ≡ title_text text comment
+
+-- What is noted is a block of the entry of one of the lines, with the title of this entry. It is in the frame, if there
+-- is one.
+pub record IsNotedOf (grammar : Grammar) (frame : Option IpNet) (lines : List (List ℕ)) (e : NotedEntry) : Type 0 where
+  pub block : Any (IsTitledBlock grammar (ip_network e.network) (string_bytes e.title)) lines
+  pub inside : IfSome frame (λ f. IsSubnetOf (ip_network e.network) (ip_network f))
+
+-- The lines, the first without a byte order mark at its start.
+abbrev pub without_mark : List (List ℕ) → List (List ℕ)
+without_mark [] = []
+without_mark (line ∷ lines) = after_mark line ∷ lines
+
+-- The lines of a list, without a byte order mark at its start.
+abbrev pub list_lines : List ℕ → List (List ℕ)
+list_lines bytes = without_mark (lines_of bytes)
+
+-- The lines of all the lists, in order. Example: `a`, `b` and `c` of `"a\nb"` and `"c\n"`.
+abbrev pub lines_of_all : List (List ℕ) → List (List ℕ)
+lines_of_all lists = flat_map list_lines lists
+
+-- At most 1,500 blocks of this family, the larger first.
+pub record AreLargerFirst (family : Family) (entries : List NotedEntry) : Type 0 where
+  pub same_family : All (λ e. (ip_network e.network).family ≡ family) entries
+  pub few : length entries ≤ 1500
+  pub ordered : AllPairs (λ e later. (ip_network e.network).prefix_len ≤ (ip_network later.network).prefix_len) entries
+
+-- What is noted of these lists. IPv4 comes first.
+-- Example: 10.0.0.0/8 and 10.1.0.0/16 with the titles `10.0.0.0/8: a` and `10.1.0.0/16`, of the one list
+-- `"10.1.0.0/16\n10.0.0.0/8 # a\n"`.
+pub record AreNoted (grammar : Grammar) (frame : Option IpNet) (lists : List (List ℕ)) (entries : List NotedEntry) :
+    Type 0 where
+  pub ipv4 : List NotedEntry
+  pub ipv6 : List NotedEntry
+  pub both : entries ≡ ipv4 ++ ipv6
+  pub ipv4_blocks : AreLargerFirst IPv4 ipv4
+  pub ipv6_blocks : AreLargerFirst IPv6 ipv6
+  pub each : All (IsNotedOf grammar frame (lines_of_all lists)) entries
