@@ -111,7 +111,7 @@ fn read_noted(
     names: &[&str],
     frame: Frame,
     streams: &Streams<'_>,
-) -> Result<NotedSession, u8> {
+) -> Result<(Session, EntryNotes), u8> {
     let work = pictured_work(rt, matches, names)?;
     let network = match frame {
         Frame::Named(network) => Some(network),
@@ -123,9 +123,16 @@ fn read_noted(
     let Ok(notes) = EntryNotes::new(rt.alloc(), flags_of(matches).grammar(), network) else {
         return Err(refused(rt, ArgumentFailure::Memory));
     };
-    let mut noted = NotedSession { session, notes };
+    let mut noted = NotedSession {
+        session,
+        notes: Some(notes),
+    };
     fill(rt, &mut noted, names, streams)?;
-    Ok(noted)
+    let NotedSession { session, notes } = noted;
+    match notes {
+        Some(notes) => Ok((session, notes)),
+        None => Err(refused(rt, ArgumentFailure::Memory)),
+    }
 }
 
 /// The entries that were noted, as a map shows them. Fails only if memory runs out.
@@ -165,11 +172,10 @@ fn draw_lists(
     request: MapRequest<'_>,
     streams: &mut Streams<'_>,
 ) -> u8 {
-    let noted = match read_noted(rt, matches, names, request.frame, streams) {
+    let (session, notes) = match read_noted(rt, matches, names, request.frame, streams) {
         Ok(noted) => noted,
         Err(status) => return status,
     };
-    let NotedSession { session, notes } = noted;
     let count = notes.count();
     let Ok(entries) = entries_of(rt.alloc(), notes) else {
         return refused(rt, ArgumentFailure::Memory);

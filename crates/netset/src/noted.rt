@@ -9,14 +9,15 @@ use std::io::Read;
 #[derive(Drop)]
 pub struct NotedSession {
     pub session: Session,
-    pub notes: EntryNotes,
+    /// There are none after a list that could not be read.
+    pub notes: Option<EntryNotes>,
 }
 
 /// A source whose bytes are noted as they are read.
 #[derive(Drop)]
 struct NotedInput<'a, R> {
     input: &'a mut R,
-    notes: &'a mut EntryNotes,
+    notes: EntryNotes,
     /// Whether memory ran out.
     is_full: bool,
 }
@@ -33,16 +34,21 @@ impl<R: Read> Read for NotedInput<'_, R> {
 
 impl ListReader for NotedSession {
     fn read_next<R: Read>(&mut self, input: &mut R) -> Result<(), ReadFailure> {
+        let Some(notes) = self.notes.take() else {
+            return Err(ReadFailure::Memory);
+        };
         let mut noted = NotedInput {
             input,
-            notes: &mut self.notes,
+            notes,
             is_full: false,
         };
         self.session.read(&mut noted)?;
-        let is_full = noted.is_full;
-        if is_full || self.notes.end_list().is_err() {
+        let NotedInput { notes, is_full, .. } = noted;
+        let mut notes = notes;
+        if is_full || notes.end_list().is_err() {
             return Err(ReadFailure::Memory);
         }
+        self.notes = Some(notes);
         Ok(())
     }
 
