@@ -1,5 +1,7 @@
 //! The command `filter --lines`: its flags, and its run.
-use crate::arguments::{ArgumentFailure, FIRST, OTHERS, flag, flags_of, reads_input_twice, refused};
+use crate::arguments::{
+    ArgumentFailure, FIRST, OTHERS, flag, flags_of, reads_input_twice, refused,
+};
 use crate::input::{STANDARD_INPUT, open_list, report_unread};
 use crate::output::Streams;
 use crate::reading::session_of;

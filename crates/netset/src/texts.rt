@@ -2,7 +2,9 @@
 ghost use Rattle.std.specs.Prelude.{codes};
 ghost use Rattle.netset.specs.Arguments.{IsFlag};
 
-use crate::arguments::{ArgumentFailure, FIRST, OTHERS, flag, flags_of, reads_input_twice, refused};
+use crate::arguments::{
+    ArgumentFailure, FIRST, OTHERS, flag, flags_of, reads_input_twice, refused,
+};
 use crate::input::STANDARD_INPUT;
 use crate::output::Streams;
 use crate::reading::bytes_of;

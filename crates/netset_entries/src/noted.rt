@@ -228,11 +228,7 @@ impl EntryNotes {
 
     /// Notes the entry of the next line, if it is one.
     fn note_line(&mut self, line: &[u8]) -> Result<(), AllocError> {
-        let line = if self.is_start {
-            skip_mark(line)
-        } else {
-            line
-        };
+        let line = if self.is_start { skip_mark(line) } else { line };
         self.is_start = false;
         if self.is_small(line) {
             self.count = self.count.saturating_add(1);

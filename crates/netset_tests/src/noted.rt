@@ -19,11 +19,23 @@ fn noted_text(alloc: Global, notes: EntryNotes) -> Result<String, Fail> {
 fn titles(rt: HostRuntime) -> Result<(), Fail> {
     // label, the list, and what is noted
     let rows = [
-        ("a comment", "10.0.0.0/8 # a, b\r\n", "10.0.0.0/8 10.0.0.0/8: a, b\n"),
+        (
+            "a comment",
+            "10.0.0.0/8 # a, b\r\n",
+            "10.0.0.0/8 10.0.0.0/8: a, b\n",
+        ),
         ("no comment", "10.0.0.1", "10.0.0.1/32 10.0.0.1\n"),
         ("an empty comment", "10.0.0.1 #", "10.0.0.1/32 10.0.0.1\n"),
-        ("host bits", "10.0.0.9/8;x\n10.0.0.9/8 ;x", "10.0.0.0/8 10.0.0.9/8: x\n"),
-        ("a byte order mark", "\u{feff}fd00::/8", "fd00::/8 fd00::/8\n"),
+        (
+            "host bits",
+            "10.0.0.9/8;x\n10.0.0.9/8 ;x",
+            "10.0.0.0/8 10.0.0.9/8: x\n",
+        ),
+        (
+            "a byte order mark",
+            "\u{feff}fd00::/8",
+            "fd00::/8 fd00::/8\n",
+        ),
         (
             "the larger first",
             "10.0.0.1\n10.0.0.0/8\n10.1.0.0/16\n11.0.0.0/8",
@@ -45,7 +57,10 @@ fn titles(rt: HostRuntime) -> Result<(), Fail> {
             notes.take(&bytes[cut..])?;
             notes.end_list()?;
             let found = noted_text(alloc, notes)?;
-            assert!(&rt; found.as_str() == wanted, "noted: {label}, cut at {cut}: {found}");
+            assert!(&rt;
+                found.as_str() == wanted,
+                "noted: {label}, cut at {cut}: {found}"
+            );
         }
     }
     Ok(())
