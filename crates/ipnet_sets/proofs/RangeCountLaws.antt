@@ -10,17 +10,14 @@ use Rattle.ipnet_sets.specs.Members.{boundaries_of, IsMember, IsMemberOf, HasNoM
 use Rattle.ipnet_sets.specs.SetRanges.{AreRangesOf}
 use Rattle.ipnet_sets.specs.BoundaryRanges.{IsInBoundaries, ranges_of}
 use Rattle.ipnet_sets.proofs.FewestRanges.{fewest_ranges}
+use Rattle.ipnet_sets.proofs.ImageSetLaws.{boundaries_are}
 use Rattle.ipnet_sets.proofs.RangeEndLaws.{length-ranges_of}
 use Rattle.ipnet_sets.proofs.SetRangeLaws.{in_ranges, ranges_some, ranges_apart, members_of_family, ranges_of_set}
-
-boundaries_of_set : (s : IpSet) (f : Family) → AreBoundaries f (boundaries_of s f)
-boundaries_of_set s IPv4 = s.ipv4_boundaries
-boundaries_of_set s IPv6 = s.ipv6_boundaries
 
 -- the ranges of one family of a set
 ranges_of_family : (s : IpSet) (f : Family) → AreRangesOf (IsMemberOf f s) (ranges_of f (boundaries_of s f))
 ranges_of_family s f =
-    let boundaries : AreBoundaries f (boundaries_of s f) = boundaries_of_set s f in
+    let boundaries : AreBoundaries f (boundaries_of s f) = boundaries_are s f in
     record {
       some = all_from_members (λ r. r.start ≤ r.end) (ranges_of f (boundaries_of s f))
           (λ r c. (ranges_some f (boundaries_of s f) boundaries r c).1);
@@ -83,20 +80,10 @@ no_more_ranges s a b few ranges first second h k l =
       halves (length (boundaries_of s IPv6)) (length (boundaries_of a IPv6)) (length (boundaries_of b IPv6)) (few IPv6),
     )
 
-pub one_more_range : (s a : IpSet) → ((f : Family) → length (boundaries_of s f) ≤ length (boundaries_of a f) + 1)
+-- two boundaries more are one range more
+pub one_more_range : (s a : IpSet) → ((f : Family) → length (boundaries_of s f) ≤ length (boundaries_of a f) + 2)
     → HasOneMoreRange s a
 one_more_range s a few f ranges first h k =
-    omega (
-      arith,
-      count_in_family s f ranges h,
-      count_in_family a f first k,
-      halves (length (boundaries_of s f)) (length (boundaries_of a f)) 1 (few f),
-    )
-
--- two boundaries more are one range more
-pub one_more_pair : (s a : IpSet) → ((f : Family) → length (boundaries_of s f) ≤ length (boundaries_of a f) + 2)
-    → HasOneMoreRange s a
-one_more_pair s a few f ranges first h k =
     omega (
       arith,
       count_in_family s f ranges h,
@@ -107,7 +94,7 @@ one_more_pair s a few f ranges first h k =
 -- the boundaries of a complement, by the lists that hold them
 pub one_more_boundary : (a : IpSet) (ipv4 ipv6 first4 first6 : List ℕ) → first4 ≡ a.ipv4.items → first6 ≡ a.ipv6.items
     → length ipv4 ≤ length first4 + 1 → length ipv6 ≤ length first6 + 1
-    → (f : Family) → length (by_family (map (λ n. n) ipv4) (map (λ n. n) ipv6) f) ≤ length (boundaries_of a f) + 1
+    → (f : Family) → length (by_family (map (λ n. n) ipv4) (map (λ n. n) ipv6) f) ≤ length (boundaries_of a f) + 2
 one_more_boundary a ipv4 ipv6 first4 first6 e g h k IPv4 =
     omega (arith, h, ap length e, length-map ipv4 (λ n. n), length-map a.ipv4.items (λ n. n))
 one_more_boundary a ipv4 ipv6 first4 first6 e g h k IPv6 =

@@ -17,7 +17,7 @@ use Rattle.ipnet_sets.specs.Parts.{IsInPart, IsPartBetween}
 use Rattle.ipnet_sets.proofs.InsideLaws.{AreAscending, is_odd, odd_more, not_twice, ascending_push}
 use Rattle.ipnet_sets.proofs.InsideLaws.{inside_front, inside_before, inside_from, inside_push_before}
 use Rattle.ipnet_sets.proofs.MemberLaws.{HasBoundaries, block_from_to, fits_to}
-use Rattle.ipnet_sets.proofs.RangeCountLaws.{one_more_pair}
+use Rattle.ipnet_sets.proofs.RangeCountLaws.{one_more_range}
 
 -- ---- numbers
 
@@ -318,7 +318,7 @@ within_block s part n low high slice items first last valid least greatest e g o
 pub within_ranges : (s part : IpSet) (f : Family) (slice items : List ℕ) (first last : ℕ) → HasBoundaries s f slice
     → IsPartBetween f (map (λ n. n) slice) first last (map (λ n. n) items) → HasBoundaries part f items
     → ((g : Family) → (g ≡ f → ⊥) → boundaries_of part g ≡ []) → HasOneMoreRange part s
-within_ranges s part f slice items first last of_s between of_part none = one_more_pair part s (λ g.
+within_ranges s part f slice items first last of_s between of_part none = one_more_range part s (λ g.
     elim (cases_family g f) [
       | inl same ↦ subst (λ h. length (boundaries_of part h) ≤ length (boundaries_of s h) + 2) (sym same)
           (omega (arith, between.no_more, ap length of_s, ap length of_part))

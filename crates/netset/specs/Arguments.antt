@@ -5,13 +5,9 @@ use Rattle.clap.specs.declared.parser.matches.ArgMatches.{ArgMatches}
 use Rattle.clap.specs.Matches.{found_of, first_value, matched_of, one_text, raw_values}
 use Rattle.ipnet_rules.specs.declared.rules.Action.{Action}
 use Rattle.ipnet_rules.specs.declared.rules.Action.TheVariants.{Permit}
-use Rattle.netset_lib.specs.Commands.{form_of}
-use Rattle.netset_lib.specs.declared.answer.Form.{Form}
 use Rattle.netset_lib.specs.declared.command.Work.{Work}
 use Rattle.netset_lib.specs.declared.command.Work.TheVariants.{Combine, Ask}
 use Rattle.netset_lib.specs.declared.query.Query.TheVariants.{Count, Compare, Filter, Route}
-use Rattle.netset_lib.specs.declared.rule_answer.RuleQuery.{RuleQuery}
-use Rattle.netset_lib.specs.declared.rule_answer.RuleQuery.TheVariants.{Permitted, Unreached}
 
 -- The name of standard input.
 abbrev pub standard_input : List ℕ
@@ -49,15 +45,7 @@ abbrev pub IsDefault : ArgMatches → Action → Type 0
 IsDefault matches action =
     (action ≡ Permit) ↔ (first_value (found_of matches) (codes "default") ≡ Some (codes "permit"))
 
--- A set is printed as ranges if and only if the flag `--ranges` is set.
-pub record IsFormOf (matches : ArgMatches) (form : Form) : Type 0 where
-  pub ranges : Bool
-  pub flag : IsFlag matches (codes "ranges") ranges
-  pub is : form ≡ form_of ranges
-
--- The query on a list of rules of the command with this name.
--- Example: `permitted` with `--default permit` is `Permitted(Permit, Networks)`.
-abbrev pub IsQueryOf : List ℕ → ArgMatches → RuleQuery → Type 0
-IsQueryOf name matches (Permitted action form) =
-    (name ≡ codes "permitted") × IsDefault matches action × IsFormOf matches form
-IsQueryOf name matches Unreached = name ≡ codes "unreached"
+-- The command with this name prints the addresses that rules permit; otherwise the rules that decide on no address.
+abbrev pub IsRuleCommand : List ℕ → Bool → Type 0
+IsRuleCommand name true = name ≡ codes "permitted"
+IsRuleCommand name false = name ≡ codes "unreached"

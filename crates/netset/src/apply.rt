@@ -1,12 +1,10 @@
 //! The command `apply`: its arguments, and its run.
 use crate::arguments::{
-    ArgumentFailure, FIRST, OTHERS, command_of, first, flag, flags_of, other, reads_input_twice,
-    refused,
+    ArgumentFailure, FIRST, OTHERS, command_of, first, flag, other, reads_input_twice, refused,
 };
-use crate::input::{STANDARD_INPUT, report_unread};
-use crate::lists::read_whole;
+use crate::input::STANDARD_INPUT;
 use crate::output::Streams;
-use crate::reading::session_of;
+use crate::reading::{reading_work, session_of, whole_of};
 use clap::{ArgMatches, Command};
 use netset_lib::run_apply;
 use std::alloc::{AllocError, Global};
@@ -36,13 +34,12 @@ pub fn applied(rt: &HostRuntime, matches: &ArgMatches, streams: &mut Streams<'_>
     if reads_input_twice(&[old, changes]) {
         return refused(rt, ArgumentFailure::InputTwice);
     }
-    let work = netset_lib::Command::Union.work(flags_of(matches));
     let names = [old];
-    let session = match session_of(rt, work, &names, streams) {
+    let session = match session_of(rt, reading_work(matches), &names, streams) {
         Ok(session) => session,
         Err(status) => return status,
     };
-    match read_whole(rt, changes, streams.reports) {
+    match whole_of(rt, changes, streams) {
         Ok(bytes) => run_apply(
             session,
             (changes, bytes.as_slice()),
@@ -50,9 +47,6 @@ pub fn applied(rt: &HostRuntime, matches: &ArgMatches, streams: &mut Streams<'_>
             &mut streams.answer,
             &mut streams.faults,
         ),
-        Err(unread) => {
-            report_unread(rt, changes, &unread);
-            2
-        }
+        Err(status) => status,
     }
 }

@@ -5,7 +5,7 @@ use crate::arguments::{
 use crate::input::STANDARD_INPUT;
 use crate::listing::read_network;
 use crate::output::Streams;
-use crate::reading::session_of;
+use crate::reading::{reading_work, session_of};
 use clap::{Arg, ArgMatches, Command};
 use ipnet_pictures::{BarForm, Frame, Marks, RowWidth};
 use netset_lib::{Session, Work};
@@ -182,12 +182,10 @@ pub fn pictured_work(rt: &HostRuntime, matches: &ArgMatches, names: &[&str]) -> 
     if reads_input_twice(names) {
         return Err(refused(rt, ArgumentFailure::InputTwice));
     }
-    let command = if matches.get_flag(COMPARE) {
-        netset_lib::Command::Compare
-    } else {
-        netset_lib::Command::Union
-    };
-    Ok(command.work(flags_of(matches)))
+    if matches.get_flag(COMPARE) {
+        return Ok(netset_lib::Command::Compare.work(flags_of(matches)));
+    }
+    Ok(reading_work(matches))
 }
 
 /// Reads the lists of these names for a bar. If that fails, it is reported, and the error is the exit status.

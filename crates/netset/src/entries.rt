@@ -5,7 +5,7 @@ use crate::arguments::{
 };
 use crate::input::STANDARD_INPUT;
 use crate::output::Streams;
-use crate::reading::{bytes_of, session_of};
+use crate::reading::{bytes_of, reading_work, session_of};
 use clap::{ArgMatches, Command};
 use netset_entries::{run_overlaps, run_overlaps_of_two, run_redundant, run_supernet};
 use std::alloc::{AllocError, Global};
@@ -50,9 +50,8 @@ pub fn with_entries<'a>(alloc: Global, command: Command<'a>) -> Result<Command<'
 
 /// Reads the list, and prints the smallest networks around its addresses.
 fn supernet(rt: &HostRuntime, matches: &ArgMatches, streams: &mut Streams<'_>) -> u8 {
-    let work = netset_lib::Command::Union.work(flags_of(matches));
     let names = [matches.get_str(FIRST).unwrap_or(STANDARD_INPUT)];
-    match session_of(rt, work, &names, streams) {
+    match session_of(rt, reading_work(matches), &names, streams) {
         Ok(session) => run_supernet(session, &names, &mut streams.answer, &mut streams.faults),
         Err(status) => status,
     }
@@ -121,13 +120,14 @@ fn overlaps(rt: &HostRuntime, matches: &ArgMatches, streams: &mut Streams<'_>) -
 /// Runs the command if it is about entries, and returns the status. `None` if it is not.
 pub fn run_if_entries(
     rt: &HostRuntime,
+    name: &str,
     matches: &ArgMatches,
     streams: &mut Streams<'_>,
 ) -> Option<u8> {
-    match matches.subcommand() {
-        Some((name, matches)) if name == SUPERNET => Some(supernet(rt, matches, streams)),
-        Some((name, matches)) if name == REDUNDANT => Some(redundant(rt, matches, streams)),
-        Some((name, matches)) if name == OVERLAPS => Some(overlaps(rt, matches, streams)),
+    match name {
+        SUPERNET => Some(supernet(rt, matches, streams)),
+        REDUNDANT => Some(redundant(rt, matches, streams)),
+        OVERLAPS => Some(overlaps(rt, matches, streams)),
         _ => None,
     }
 }

@@ -4,7 +4,7 @@ use crate::arguments::{
 };
 use crate::input::{STANDARD_INPUT, open_list, report_unread};
 use crate::output::Streams;
-use crate::reading::session_of;
+use crate::reading::{reading_work, session_of};
 use clap::{Arg, ArgAction, ArgMatches, Command};
 use netset_lib::report_failure;
 use netset_words::{LineFilter, LinesRequest, run_lines};
@@ -54,8 +54,7 @@ pub fn filtered(rt: &HostRuntime, matches: &ArgMatches, streams: &mut Streams<'_
         any: matches.get_flag(ANY),
         others: matches.get_flag(OTHER_LINES),
     };
-    let work = netset_lib::Command::Union.work(flags);
-    let session = match session_of(rt, work, &names[..1], streams) {
+    let session = match session_of(rt, reading_work(matches), &names[..1], streams) {
         Ok(session) => session,
         Err(status) => return status,
     };

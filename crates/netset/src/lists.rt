@@ -1,7 +1,7 @@
 //! The lists, read from files and from standard input.
 use crate::input::{STANDARD_INPUT, Unread, open_list};
 use ipnet::Grammar;
-use netset_lib::{ReadFailure, RuleList, Session, has_lines, read_bytes};
+use netset_lib::{ReadFailure, RuleList, Session, read_bytes};
 use netset_words::Extraction;
 use std::io::{IsTerminal, Read, Write};
 
@@ -89,7 +89,7 @@ impl Reports {
 
     /// Returns whether a list with this name may have no entry, and reports its name if it should be. Standard input
     /// may always be empty.
-    fn allow_empty(self, rt: &HostRuntime, name: &str, what: &str) -> bool {
+    pub fn allow_empty(self, rt: &HostRuntime, name: &str, what: &str) -> bool {
         if name == STANDARD_INPUT || self.empties == Empties::Allow {
             return true;
         }
@@ -157,23 +157,4 @@ pub fn read_whole(rt: &HostRuntime, name: &str, reports: Reports) -> Result<Vec<
     };
     reports.report_count(rt, name, bytes.len(), bytes.len());
     Ok(bytes)
-}
-
-/// Reads the list of this name as `read_whole` does. `None` if a file has no line, and that is to be refused; `what`
-/// says what its lines are.
-pub fn read_filled(
-    rt: &HostRuntime,
-    name: &str,
-    what: &str,
-    reports: Reports,
-) -> Result<Option<Vec<u8>>, Unread> {
-    let bytes = read_whole(rt, name, reports)?;
-    let is_empty = match has_lines(rt.alloc(), bytes.as_slice(), Grammar::Strict) {
-        Ok(has) => !has,
-        Err(_) => false,
-    };
-    if is_empty && !reports.allow_empty(rt, name, what) {
-        return Ok(None);
-    }
-    Ok(Some(bytes))
 }

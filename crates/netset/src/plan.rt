@@ -1,8 +1,8 @@
 //! The command `plan`: its arguments, and its run.
-use crate::arguments::{ArgumentFailure, FIRST, command_of, first, flag, flags_of, refused};
+use crate::arguments::{ArgumentFailure, FIRST, command_of, first, flag, refused};
 use crate::bar::{BAR, form_of, with_plan_bar};
 use crate::output::Streams;
-use crate::reading::session_of;
+use crate::reading::{reading_work, session_of};
 use clap::{Arg, ArgAction, ArgMatches, Command};
 use ipnet_pictures::BarForm;
 use netset_lib::{PlanRequest, families, read_length, run_plan};
@@ -83,9 +83,8 @@ pub fn planned(rt: &HostRuntime, matches: &ArgMatches, streams: &mut Streams<'_>
         Ok(bar) => bar,
         Err(status) => return status,
     };
-    let work = netset_lib::Command::Union.work(flags_of(matches));
     let names = matches.get_strs(FIRST).unwrap_or(&[]);
-    let session = match session_of(rt, work, names, streams) {
+    let session = match session_of(rt, reading_work(matches), names, streams) {
         Ok(session) => session,
         Err(status) => return status,
     };

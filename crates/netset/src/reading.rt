@@ -1,10 +1,17 @@
 //! The lists of a command, which are read with a report if that fails.
 
-use crate::arguments::{ArgumentFailure, refused};
+use crate::arguments::{ArgumentFailure, flags_of, refused};
 use crate::input::report_unread;
-use crate::lists::{ListReader, read_filled, read_lists};
+use crate::lists::{ListReader, read_lists, read_whole};
 use crate::output::Streams;
-use netset_lib::{Session, Work};
+use clap::ArgMatches;
+use ipnet::Grammar;
+use netset_lib::{Session, Work, has_lines};
+
+/// The work of a command that only reads lists: all their addresses.
+pub fn reading_work(matches: &ArgMatches) -> Work {
+    netset_lib::Command::Union.work(flags_of(matches))
+}
 
 /// Returns a session that has read the lists of these names, as `fill` reads them.
 pub fn session_of(
@@ -38,20 +45,31 @@ pub fn fill<L: ListReader>(
     }
 }
 
-/// Reads the bytes of the list of this name. If that fails, it is reported, and the error is the exit status. So it is
-/// if a file has no line, and that is to be refused.
+/// Reads the bytes of the list of this name, which may have no line. If that fails, it is reported, and the error is
+/// the exit status.
+pub fn whole_of(rt: &HostRuntime, name: &str, streams: &Streams<'_>) -> Result<Vec<u8>, u8> {
+    match read_whole(rt, name, streams.reports) {
+        Ok(bytes) => Ok(bytes),
+        Err(unread) => {
+            report_unread(rt, name, &unread);
+            Err(2)
+        }
+    }
+}
+
+/// Reads the bytes of the list of this name as `whole_of` does. It also fails if a file has no line, and that is to be
+/// refused; `what` says what its lines are.
 pub fn bytes_of(
     rt: &HostRuntime,
     name: &str,
     what: &str,
     streams: &Streams<'_>,
 ) -> Result<Vec<u8>, u8> {
-    match read_filled(rt, name, what, streams.reports) {
-        Ok(Some(bytes)) => Ok(bytes),
-        Ok(None) => Err(2),
-        Err(unread) => {
-            report_unread(rt, name, &unread);
-            Err(2)
-        }
+    let bytes = whole_of(rt, name, streams)?;
+    // A line that is empty in one grammar is empty in the other.
+    let has = has_lines(rt.alloc(), bytes.as_slice(), Grammar::Strict);
+    if matches!(has, Ok(false)) && !streams.reports.allow_empty(rt, name, what) {
+        return Err(2);
     }
+    Ok(bytes)
 }

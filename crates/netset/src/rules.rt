@@ -1,6 +1,6 @@
 //! The commands that read a list of rules.
 ghost use Rattle.std.specs.Prelude.{◌≡◌, codes, Some, IfSome};
-ghost use Rattle.netset.specs.Arguments.{IsQueryOf};
+ghost use Rattle.netset.specs.Arguments.{IsDefault, IsRuleCommand};
 
 use crate::arguments::{FIRST, command_of, first, flags_of};
 use crate::forms::{form_of, operation_command};
@@ -10,7 +10,7 @@ use crate::output::Streams;
 use clap::{Arg, ArgMatches, Command};
 use ipnet_rules::Action;
 use netset_forms::{PermittedRequest, run_permitted};
-use netset_lib::{Form, RuleQuery, run_rules};
+use netset_lib::{RuleList, run_unreached};
 use std::alloc::{AllocError, Global};
 
 /// The names of the two commands.
@@ -56,56 +56,83 @@ pub fn with_rules<'a>(alloc: Global, command: Command<'a>) -> Result<Command<'a>
         .subcommand(unreached)
 }
 
-/// Returns what the command of this name asks of a list of rules, or `None` if it reads no such list.
-fn query_of(name: &str, matches: &ArgMatches) -> Option<RuleQuery>
-    ensures { IfSome result (IsQueryOf name.now matches.now) }
+/// Returns whether the command of this name prints what rules permit, or `None` if it reads no list of rules.
+fn prints_permitted(name: &str) -> Option<bool>
+    ensures { IfSome result (IsRuleCommand name.now) }
 {
-    let form = if matches.get_flag("ranges") {
-        Form::Ranges
-    } else {
-        Form::Networks
-    };
-    let default = if matches.get_str(DEFAULT) == Some(PERMIT) {
+    match name {
+        PERMITTED => Some(true),
+        UNREACHED => Some(false),
+        _ => None,
+    }
+}
+
+/// Returns what happens to the addresses that no rule matches.
+fn default_of(matches: &ArgMatches) -> Action
+    ensures { IsDefault matches.now result }
+{
+    if matches.get_str(DEFAULT) == Some(PERMIT) {
         Action::Permit
     } else {
         Action::Deny
+    }
+}
+
+/// The name of the list of rules.
+fn file_of<'a>(matches: &ArgMatches<'a>) -> &'a str {
+    matches.get_str(FIRST).unwrap_or(STANDARD_INPUT)
+}
+
+/// Reads the list of rules. If that fails, it is reported, and the error is the exit status.
+fn rules_of(rt: &HostRuntime, matches: &ArgMatches, streams: &Streams<'_>) -> Result<RuleList, u8> {
+    let file = file_of(matches);
+    match read_rules(rt, file, flags_of(matches).grammar(), streams.reports) {
+        Ok(Some(list)) => Ok(list),
+        Ok(None) => Err(2),
+        Err(unread) => {
+            report_unread(rt, file, &unread);
+            Err(2)
+        }
+    }
+}
+
+/// Reads the arguments and the rules, prints what they permit, and returns the status.
+fn permitted(rt: &HostRuntime, matches: &ArgMatches, streams: &mut Streams<'_>) -> u8 {
+    let form = match form_of(rt, matches) {
+        Ok(form) => form,
+        Err(status) => return status,
     };
-    match name {
-        PERMITTED => Some(RuleQuery::Permitted(default, form)),
-        UNREACHED => Some(RuleQuery::Unreached),
-        _ => None,
+    let list = match rules_of(rt, matches, streams) {
+        Ok(list) => list,
+        Err(status) => return status,
+    };
+    let default = default_of(matches);
+    let request = PermittedRequest { default, form };
+    let (out, faults) = (&mut streams.answer, &mut streams.faults);
+    run_permitted(list, request, file_of(matches), out, faults)
+}
+
+/// Reads the rules, prints those that decide on no address, and returns the status.
+fn unreached(rt: &HostRuntime, matches: &ArgMatches, streams: &mut Streams<'_>) -> u8 {
+    match rules_of(rt, matches, streams) {
+        Ok(list) => {
+            let (out, faults) = (&mut streams.answer, &mut streams.faults);
+            run_unreached(list, file_of(matches), out, faults)
+        }
+        Err(status) => status,
     }
 }
 
 /// Runs the command if it reads a list of rules, and returns the status. `None` if it does not.
 pub fn run_if_rules(
     rt: &HostRuntime,
+    name: &str,
     matches: &ArgMatches,
     streams: &mut Streams<'_>,
 ) -> Option<u8> {
-    let (name, matches) = matches.subcommand()?;
-    let query = query_of(name, matches)?;
-    let is_set = matches!(query, RuleQuery::Permitted(_, _));
-    let form = match form_of(rt, matches, is_set) {
-        Ok(form) => form,
-        Err(status) => return Some(status),
-    };
-    let file = matches.get_str(FIRST).unwrap_or(STANDARD_INPUT);
-    let grammar = flags_of(matches).grammar();
-    let list = match read_rules(rt, file, grammar, streams.reports) {
-        Ok(Some(list)) => list,
-        Ok(None) => return Some(2),
-        Err(unread) => {
-            report_unread(rt, file, &unread);
-            return Some(2);
-        }
-    };
-    let (out, faults) = (&mut streams.answer, &mut streams.faults);
-    match (query, form) {
-        (RuleQuery::Permitted(default, _), Some(form)) => {
-            let request = PermittedRequest { default, form };
-            Some(run_permitted(list, request, file, out, faults))
-        }
-        _ => Some(run_rules(list, query, file, out, faults)),
+    if prints_permitted(name)? {
+        Some(permitted(rt, matches, streams))
+    } else {
+        Some(unreached(rt, matches, streams))
     }
 }

@@ -1,19 +1,18 @@
 -- Lines about entries that are written in pieces.
 use Rattle.std.proofs.Common.{◌≡◌, ℕ, ◌+◌, ◌-◌, ◌<◌, List, [], ◌∷◌, ◌++◌, length, map, take, drop, get_or, codes}
 use Rattle.std.proofs.Common.{refl, sym, ap, ◌∙◌, Option}
-use Rattle.std.proofs.Common.{append_assoc, append-nil, take-append-drop, subst, zero, suc, ◌≤◌, arith}
+use Rattle.std.proofs.Common.{append_assoc, append-nil, take-append-drop, subst, ◌≤◌}
 use Rattle.std.specs.Io.KnownBytes.{Appends, Keeps}
 use Rattle.std.proofs.KnownBytes.{Appends-nil, Appends-trans, Appends-kept}
 use Rattle.std.proofs.lemmas.List.{map-append, take_all, take_more}
 use Rattle.ipnet_text.specs.Pieces.{IsInPieces}
 use Rattle.ipnet_text.proofs.WritingLaws.{front_written, all_written, whole_front}
-use Rattle.netset_entries.specs.EntryLineOf.{numbered}
 use Rattle.netset_entries.specs.NumberedEntries.{NumberedEntry}
 use Rattle.netset_entries.specs.declared.redundancy.Covered.{Covered}
 use Rattle.netset_entries.specs.declared.span.Span.{Span}
 use Rattle.netset_entries.specs.Covers.{dropped_of}
 use Rattle.netset_entries.specs.Spans.{for_family}
-use Rattle.netset_entries.specs.EntryTexts.{entry_text, entry_line_at, IsFront}
+use Rattle.netset_entries.specs.EntryTexts.{entry_line_at, IsFront}
 use Rattle.netset_entries.specs.Redundancy.{Dropped, witness_lines, dropped_lines}
 
 -- nothing is written yet

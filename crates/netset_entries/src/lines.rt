@@ -1,18 +1,16 @@
 //! Lines about entries, written piece by piece, so that an answer of any length takes little memory.
 ghost use Rattle.std.specs.Prelude.{◌≡◌, ◌++◌, OnOk, OnErr, map};
 ghost use Rattle.ipnet_text.specs.Pieces.{IsInPieces};
-ghost use Rattle.netset_entries.specs.EntryTexts.{entry_text, entry_line, entry_line_at, IsFront};
+ghost use Rattle.netset_entries.specs.EntryTexts.{entry_line, entry_line_at, IsFront};
 ghost use Rattle.netset_entries.specs.EntryLineOf.{numbered};
 
 use crate::entry_list::EntryLine;
+use ipnet_text::pieces::PIECE;
 use ipnet_text::write_whole;
-use netset_lib::{Cause, MOST_LINES, NO_ENTRY, RefusedText, report_text};
+use netset_lib::rule_answer::push_numbered;
 use std::alloc::AllocError;
 use std::io;
 use std::io::Write;
-
-/// From this length on, a piece is written.
-const PIECE: usize = 8192;
 
 /// Why an answer was not written.
 #[derive(Clone, Copy, Debug, PartialEq, Eq, Drop)]
@@ -35,22 +33,11 @@ impl From<io::Error> for WriteFailure {
     }
 }
 
-/// Appends the number of the entry's line, and the entry as written: `line 4: 10.0.1.192/26`.
-pub(crate) fn push_entry(text: &mut Vec<u8>, line: &EntryLine<'_>) -> Result<(), AllocError>
-    ensures { OnOk result (text.new.items ≡ text.old.items ++ entry_text (numbered line.now)) }
-{
-    let number = line.number;
-    let mut start = String::new(*text.allocator());
-    write!(start, "line {number}: ")?;
-    text.extend_from_slice(start.as_bytes())?;
-    text.extend_from_slice(line.text)
-}
-
 /// Appends the line of the entry.
 fn push_line(text: &mut Vec<u8>, line: &EntryLine<'_>) -> Result<(), AllocError>
     ensures { OnOk result (text.new.items ≡ text.old.items ++ entry_line (numbered line.now)) }
 {
-    push_entry(text, line)?;
+    push_numbered(text, line.number, line.text)?;
     text.extend_from_slice(b"\n")
 }
 
@@ -88,25 +75,4 @@ pub(crate) fn report_unwritten<X: Write>(faults: &mut X, failure: WriteFailure) 
         WriteFailure::Memory => writeln!(faults, "netset: out of memory"),
         WriteFailure::Unwritable => writeln!(faults, "netset: output cannot be written"),
     }
-}
-
-/// Reports the first refused lines of the list with this name, and the number of the others.
-pub(crate) fn report_refused<X: Write>(
-    faults: &mut X,
-    name: &str,
-    refused: &[RefusedText<Option<Cause>>],
-) -> io::Result<()> {
-    let shown = refused.len().min(MOST_LINES);
-    for line in &refused[..shown] {
-        report_text(faults, name, line.number, NO_ENTRY, line.text.as_slice())?;
-        match line.cause {
-            Some(cause) => writeln!(faults, " ({cause})")?,
-            None => writeln!(faults)?,
-        }
-    }
-    let more = refused.len() - shown;
-    if more != 0 {
-        writeln!(faults, "netset: and {more} more")?;
-    }
-    Ok(())
 }

@@ -1,7 +1,7 @@
 //! The largest entries of lists with their comments, noted while the lists are read.
 
 use ipnet::{Grammar, IpNet};
-use netset_lib::{comment_start, contents_of, first_line, read_text, skip_mark, walk_of};
+use netset_lib::{comment_start, contents_of, first_line, read_text, skip_mark};
 use std::alloc::{AllocError, Global};
 use std::mem;
 
@@ -220,7 +220,7 @@ impl EntryNotes {
             return Ok(());
         };
         let title = title_of(self.alloc, found.text, comment_of(line))?;
-        for network in walk_of(found.entry) {
+        for network in found.entry.walk() {
             self.note_block(network, title.as_str())?;
         }
         Ok(())

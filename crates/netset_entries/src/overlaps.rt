@@ -19,11 +19,12 @@ ghost use Rattle.netset_lib.specs.EntryOf.{entry_range};
 ghost use Rattle.ipnet_text.specs.Outputs.{IsWritten, IsFrontWritten};
 
 use crate::entry_list::EntryLine;
-use crate::lines::{WriteFailure, push_entry, write_if_long};
+use crate::lines::{WriteFailure, write_if_long};
 use crate::runs::runs_of;
 use crate::span::{Family, Span, span_of, spans_of};
 use ipnet::IpAddr;
 use ipnet_text::write_whole;
+use netset_lib::rule_answer::push_numbered;
 use netset_lib::{Entry, ip_addr_text};
 use std::alloc::{AllocError, Global};
 use std::io::Write;
@@ -94,9 +95,9 @@ fn push_both(
     ensures { OnOk result (text.new.items
         ≡ text.old.items ++ (entry_text (numbered first.now) ++ 9 ∷ entry_text (numbered second.now))) }
 {
-    push_entry(text, first)?;
+    push_numbered(text, first.number, first.text)?;
     text.extend_from_slice(b"\t")?;
-    push_entry(text, second)
+    push_numbered(text, second.number, second.text)
 }
 
 /// Appends the lines of the entries of two spans, in the order of the list.

@@ -7,9 +7,10 @@ ghost use Rattle.netset_entries.specs.Overlaps.{IsOverlapAnswer, IsOverlapAnswer
 ghost use Rattle.ipnet_text.specs.Outputs.{IsWritten, IsFrontWritten};
 
 use crate::entry_list::{EntryLine, entry_list};
-use crate::lines::{WriteFailure, report_refused, report_unwritten};
+use crate::lines::{WriteFailure, report_unwritten};
 use crate::overlaps::{Asked, write_overlaps};
 use ipnet::Grammar;
+use netset_lib::report_refused;
 use std::alloc::{AllocError, Global};
 use std::io::Write;
 

@@ -6,9 +6,10 @@ ghost use Rattle.netset_entries.specs.Redundancy.{IsRedundantAnswer, HasDropped,
 ghost use Rattle.ipnet_text.specs.Outputs.{IsWritten, IsFrontWritten};
 
 use crate::entry_list::entry_list;
-use crate::lines::{WriteFailure, report_refused, report_unwritten};
+use crate::lines::{WriteFailure, report_unwritten};
 use crate::redundant::write_redundant;
 use ipnet::Grammar;
+use netset_lib::report_refused;
 use std::alloc::Global;
 use std::io::Write;
 

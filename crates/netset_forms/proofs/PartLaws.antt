@@ -1,6 +1,7 @@
 -- The parts of an answer: their sets, and their texts.
 use Rattle.std.proofs.Common.{◌≡◌, ℕ, ◌/◌, ◌≤◌, ◌<◌, ◌^◌, ◌↔◌, List, [], ◌++◌, Option, Some, None, refl, sym, ap, ◌∙◌}
 use Rattle.std.proofs.Common.{subst, arith, append-nil, max}
+use Rattle.std.proofs.Math.Nat.{div-eq_of_lt, zero-div}
 use Rattle.std.specs.Borrow.{Bor}
 use Rattle.ipnet_base.specs.Address.{Family, IPv4, IPv6, Address, IsAddress, width}
 use Rattle.ipnet_base.specs.Network.{Network, InBlock}
@@ -24,11 +25,11 @@ whole f = record { family = f; number = 0; prefix_len = 0 }
 in_whole : (f : Family) (x : Address) → IsAddress x → x.family ≡ f → InBlock (whole f) x
 in_whole IPv4 x fits is =
     let low : x.number < 2 ^ 32 = subst (λ f. x.number < 2 ^ width f) is fits in
-    let none : x.number / 2 ^ 32 ≡ 0 / 2 ^ 32 = omega (arith, low) in
+    let none : x.number / 2 ^ 32 ≡ 0 / 2 ^ 32 = div-eq_of_lt low ∙ sym (zero-div (2 ^ 32)) in
     in_block_at (whole IPv4) x 32 refl is none
 in_whole IPv6 x fits is =
     let low : x.number < 2 ^ 128 = subst (λ f. x.number < 2 ^ width f) is fits in
-    let none : x.number / 2 ^ 128 ≡ 0 / 2 ^ 128 = omega (arith, low) in
+    let none : x.number / 2 ^ 128 ≡ 0 / 2 ^ 128 = div-eq_of_lt low ∙ sym (zero-div (2 ^ 128)) in
     in_block_at (whole IPv6) x 128 refl is none
 
 pub of_family : (InSet : Address → Type 0) (f : Family) (n : Network) → n ≡ whole f

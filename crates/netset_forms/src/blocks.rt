@@ -1,12 +1,9 @@
 //! The networks of a set and its ranges as the items of a text, without a list of them.
-ghost use Rattle.std.specs.Prelude.{◌≡◌, ◌≤◌, ◌++◌, ℕ, List, map, codes, IfOk, OnOk, OnErr};
-ghost use Rattle.ipnet_base.specs.Address.{width};
-ghost use Rattle.ipnet_base.specs.Blocks.{AreMaximalBlocks};
+ghost use Rattle.std.specs.Prelude.{◌≡◌, ◌≤◌, ◌++◌, map, IfOk, OnOk, OnErr};
 ghost use Rattle.ipnet_base.specs.RangeOf.{ip_range};
 ghost use Rattle.ipnet.specs.NetworkOf.{ip_network};
 ghost use Rattle.ipnet.specs.SubnetsLeft.{ip_subnets_left};
 ghost use Rattle.ipnet_sets.specs.Members.{IsMember};
-ghost use Rattle.ipnet_sets.specs.SetRanges.{IsInRange};
 ghost use Rattle.ipnet_text.specs.Pieces.{IsInPieces};
 ghost use Rattle.netset_lib.specs.Answers.{range_text};
 ghost use Rattle.netset_forms.specs.Forms.{AreBlocksIn, AreRangesIn};
@@ -16,31 +13,11 @@ ghost use Rattle.netset_forms.specs.FormSteps.{IsPartText, FitsPart};
 use crate::parts::{Item, Part};
 use crate::pieces::{put, put_network, put_pair, put_row};
 use arrayvec::ArrayString;
-use ipnet::{IpAddrRange, IpNet, IpSubnets, Ipv4Addr, Ipv4Subnets, Ipv6Addr, Ipv6Subnets};
-use ipnet_sets::IpSet;
+use ipnet::{IpAddrRange, IpNet, IpSubnets};
+use ipnet_sets::set_networks::walk_of;
 use ipnet_text::pieces::PIECE;
 use std::io;
 use std::io::Write;
-
-/// The walk over the range by networks of at least this prefix length.
-fn walk_of(range: IpAddrRange, min_length: u8) -> IpSubnets
-    requires some { let r = ip_range range in r.start ≤ r.end }
-    requires fits { min_length ≤ width (ip_range range).family }
-    ensures { AreMaximalBlocks (IsInRange (ip_range range)) min_length (ip_subnets_left result) }
-{
-    match range {
-        IpAddrRange::V4(range) => {
-            let first = range.min().unwrap_or(Ipv4Addr::from_bits(0));
-            let last = range.max().unwrap_or(Ipv4Addr::from_bits(0));
-            IpSubnets::V4(Ipv4Subnets::new(first, last, min_length))
-        }
-        IpAddrRange::V6(range) => {
-            let first = range.min().unwrap_or(Ipv6Addr::from_bits(0));
-            let last = range.max().unwrap_or(Ipv6Addr::from_bits(0));
-            IpSubnets::V6(Ipv6Subnets::new(first, last, min_length))
-        }
-    }
-}
 
 /// Appends the item of a network to the piece.
 fn put_item<W: Write>(

@@ -97,7 +97,7 @@ pub fn run_form<W: Write, X: Write>(
 /// Writes the addresses that the rules permit to `out`, in the form that is asked for, and returns the exit status.
 ///
 /// `name` is the name of the list, for the reports on `faults`. The statuses and reports are as for `run_form`. Lines
-/// that are not rules are reported as `run_rules` of `netset_lib` does.
+/// that are not rules are reported as `run_unreached` of `netset_lib` does.
 ///
 /// ```text
 /// of "permit 10.0.0.0/9\npermit 10.128.0.0/9\n", Deny and Json: status 0, and out gets "[\n  \"10.0.0.0/8\"\n]\n"

@@ -7,8 +7,7 @@ use Rattle.ipnet.specs.declared.parser.Grammar.{Grammar}
 use Rattle.ipnet_rules.specs.declared.unreached.Unreached.{Unreached}
 use Rattle.ipnet_text.proofs.ListsLaws.{OnOk_then}
 use Rattle.ipnet_rules.proofs.VerdictLaws.{any_cons, any_nil}
-use Rattle.netset_lib.specs.declared.rule_answer.RuleQuery.TheVariants as Queries
-use Rattle.netset_lib.specs.RuleAnswers.{text_at, line_at, covering_lines, unreached_lines, IsRuleAnswer}
+use Rattle.netset_lib.specs.RuleAnswers.{text_at, line_at, covering_lines, unreached_lines, IsUnreachedAnswer}
 use Rattle.netset_lib.specs.RuleAnswers.{AreAllReached, IsOneUnreached}
 use Rattle.netset_lib.specs.RuleLines.{LineOfRule, RuleContents, AreRulesRead}
 
@@ -62,7 +61,7 @@ line_some (l ∷ lines) zero less =
 line_some (l ∷ lines) (suc i) less = line_some lines i (omega (arith, less))
 
 -- a text with a line is of an unreached rule
-pub one_unreached : (grammar : Grammar) (bytes text : List ℕ) → IsRuleAnswer Queries.Unreached grammar bytes text
+pub one_unreached : (grammar : Grammar) (bytes text : List ℕ) → IsUnreachedAnswer grammar bytes text
     → text ≢ [] → IsOneUnreached grammar bytes
 one_unreached grammar bytes text h some = of h.right.found refl
   where
@@ -79,7 +78,7 @@ one_unreached grammar bytes text h some = of h.right.found refl
     }
 
 -- an empty text is of a list whose rules all decide on some address
-pub all_reached : (grammar : Grammar) (bytes text : List ℕ) → IsRuleAnswer Queries.Unreached grammar bytes text
+pub all_reached : (grammar : Grammar) (bytes text : List ℕ) → IsUnreachedAnswer grammar bytes text
     → text ≡ [] → AreAllReached grammar bytes
 all_reached grammar bytes text h none = of h.right.found refl
   where

@@ -1,98 +1,106 @@
 -- Lists of rules that are read line by line, and the lines of an answer.
-use Rattle.std.proofs.Common.{◌≡◌, ◌≢◌, ℕ, ◌+◌, ◌<◌, ◌≤◌, List, [], ◌∷◌, length, take, drop, refl}
-use Rattle.std.proofs.Common.{sym, ap, ◌∙◌, arith, inl, inr, subst, append_assoc, append-nil, get_or, ◌-◌, true, false}
+use Rattle.std.proofs.Common.{◌≡◌, ℕ, ◌+◌, ◌-◌, ◌<◌, ◌≤◌, ◌⊎◌, List, [], ◌∷◌, ◌++◌, length, map, take, drop, get_or}
+use Rattle.std.proofs.Common.{refl, sym, ap, ◌∙◌, arith, inl, inr, subst, take_all, true, false}
 use Rattle.std.specs.Char.{is_ascii_whitespace}
 use Rattle.std.specs.List.{position_or_len, prefix_len}
 use Rattle.std.specs.Str.{IsTrimAsciiStart}
+use Rattle.std.proofs.lemmas.List.{map_more}
 use Rattle.std.proofs.lemmas.List.Sums.{position_or_len_is}
 use Rattle.std.proofs.lemmas.Str.Ascii.{trim_ascii_start_is}
 use Rattle.ipnet.specs.declared.parser.Grammar.{Grammar}
-use Rattle.ipnet.specs.Lines.{lines_of}
 use Rattle.ipnet_rules.specs.declared.rules.Rule.{Rule}
+use Rattle.netset_lib.specs.declared.content_line.ContentLine.{ContentLine}
 use Rattle.netset_lib.specs.declared.rule_line.RuleCause.{RuleCause}
-use Rattle.netset_lib.specs.declared.rule_list.RuleReader.{RuleReader}
-use Rattle.netset_lib.specs.Lists.{IsContents}
-use Rattle.netset_lib.specs.RuleContentsOf.{contents_of}
-use Rattle.netset_lib.specs.RuleLines.{RuleContents, no_rules}
-use Rattle.netset_lib.specs.RuleLines.{AreRulesRead, AreRuleLines, rule_and, refusal_and, after_word}
+use Rattle.netset_lib.specs.ContentLineOf.{line_of}
+use Rattle.netset_lib.specs.ContentLines as lists
+use Rattle.netset_lib.specs.ContentLines.{AreNumbered, AreContentLines}
+use Rattle.netset_lib.specs.RuleLines.{RuleContents, no_rules, IsNextRule, IsNextRuleRefusal, IsRuleList}
+use Rattle.netset_lib.specs.RuleLines.{AreRulesRead, rule_and, refusal_and, after_word}
 use Rattle.netset_lib.specs.RuleLines.{IsRuleText, IsNoRule, IsRuleCause, leading_word, word_of}
 use Rattle.ipnet_rules.specs.declared.rules.Action.{Action}
 use Rattle.netset_lib.specs.declared.rule_line.RuleCause.TheVariants.{UnknownWord, NoEntry, TwoEntries, BadEntry}
 use Rattle.netset_lib.specs.Causes.{IsReportedCause}
 use Rattle.netset_lib.specs.Entries.{IsEntryText, IsNoEntry}
 use Rattle.netset_lib.proofs.CommentLaws.{behind}
-use Rattle.netset_lib.specs.RuleSteps.{joined, AddsText, AddsLine, AreReadUpTo, IsEntryCause}
+use Rattle.netset_lib.specs.RuleSteps.{joined, AddsRule, IsEntryCause}
 
--- contents with the same rules, lines and refused lines
-same_contents : (a b : RuleContents) → a.rules ≡ b.rules → a.lines ≡ b.lines → a.refused ≡ b.refused → a ≡ b
-same_contents a b p q r =
-    ap (λ z. record { rules = z; lines = a.lines; refused = a.refused }) p
-    ∙ ap (λ z. record { rules = b.rules; lines = z; refused = a.refused }) q
-    ∙ ap (λ z. record { rules = b.rules; lines = b.lines; refused = z }) r
+-- each of these lines is a rule or a refused line
+abbrev pub AreLineRules : Grammar → List lists.ContentLine → RuleContents → Type 0
+AreLineRules grammar [] contents = contents ≡ no_rules
+AreLineRules grammar (line ∷ lines) contents = (more : RuleContents) × AreLineRules grammar lines more
+    × (IsNextRule grammar line.number line.text contents more
+    ⊎ IsNextRuleRefusal grammar line.number line.text contents more)
 
-pub joined_none : (c : RuleContents) → joined c no_rules ≡ c
-joined_none c =
-    same_contents (joined c no_rules) c (append-nil c.rules) (append-nil c.lines) (append-nil c.refused)
-
-pub joined_more : (a b c : RuleContents) → joined (joined a b) c ≡ joined a (joined b c)
-joined_more a b c =
-    same_contents (joined (joined a b) c) (joined a (joined b c)) (append_assoc a.rules b.rules c.rules)
-    (append_assoc a.lines b.lines c.lines) (append_assoc a.refused b.refused c.refused)
-
--- the text of one line, and then the others
-text_more : (grammar : Grammar) (number : ℕ) (text : List ℕ) (texts : List (List ℕ)) (old new more : RuleContents)
-    → AddsText grammar number text old new → AreRulesRead grammar (number + 1) texts more
-    → (whole : RuleContents) × AreRulesRead grammar number (text ∷ texts) whole × (joined old whole ≡ joined new more)
-text_more grammar number [] texts old new more adds h = (more, h, ap (λ z. joined z more) (sym adds))
-text_more grammar number (b ∷ text) texts old new more (one, is, inl next) h = (
-  rule_and number (b ∷ text) next.rule more,
-  (more, h, inl (record { rule = next.rule; is = next.is; next = refl })),
-  ap (λ z. joined old (joined z more)) (sym next.next) ∙ sym (joined_more old one more)
-      ∙ ap (λ z. joined z more) (sym is),
+-- one line more
+rules_last : (grammar : Grammar) (lines : List lists.ContentLine) (line : lists.ContentLine)
+    (contents one : RuleContents) → AreLineRules grammar lines contents
+    → (IsNextRule grammar line.number line.text one no_rules
+    ⊎ IsNextRuleRefusal grammar line.number line.text one no_rules)
+    → AreLineRules grammar (lines ++ line ∷ []) (joined contents one)
+rules_last grammar [] line contents one none (inl next) = (
+  no_rules,
+  refl,
+  inl (record {
+    rule = next.rule;
+    is = next.is;
+    next = ap (λ z. joined z one) none ∙ ap (joined no_rules) next.next;
+  }),
 )
-text_more grammar number (b ∷ text) texts old new more (one, is, inr next) h = (
-  refusal_and number (b ∷ text) next.cause more,
-  (more, h, inr (record { cause = next.cause; none = next.none; reported = next.reported; next = refl })),
-  ap (λ z. joined old (joined z more)) (sym next.next) ∙ sym (joined_more old one more)
-      ∙ ap (λ z. joined z more) (sym is),
+rules_last grammar [] line contents one none (inr next) = (
+  no_rules,
+  refl,
+  inr (record {
+    cause = next.cause;
+    none = next.none;
+    reported = next.reported;
+    next = ap (λ z. joined z one) none ∙ ap (joined no_rules) next.next;
+  }),
+)
+rules_last grammar (l ∷ lines) line contents one (more, rest, inl first) adds = (
+  joined more one,
+  rules_last grammar lines line more one rest adds,
+  inl (record { rule = first.rule; is = first.is; next = ap (λ z. joined z one) first.next }),
+)
+rules_last grammar (l ∷ lines) line contents one (more, rest, inr first) adds = (
+  joined more one,
+  rules_last grammar lines line more one rest adds,
+  inr (record {
+    cause = first.cause;
+    none = first.none;
+    reported = first.reported;
+    next = ap (λ z. joined z one) first.next;
+  }),
 )
 
--- no line was read yet
-pub up_to_start : (reader : RuleReader) (bytes : List ℕ) → reader.number ≡ 0 → contents_of reader.list ≡ no_rules
-    → AreReadUpTo reader reader bytes bytes
-up_to_start reader bytes first none = record {
-  same_grammar = refl;
-  whole = λ more h. subst (λ z. AreRuleLines reader.grammar 1 (lines_of bytes) (joined z more)) (sym none)
-      (subst (λ n. AreRuleLines reader.grammar (n + 1) (lines_of bytes) more) first h);
-}
+pub rules_more : (grammar : Grammar) (xs : List ContentLine) (i : ℕ) (d : ContentLine) (old new : RuleContents)
+    → i < length xs → AreLineRules grammar (map line_of (take i xs)) old
+    → AddsRule grammar (line_of (get_or xs i d)) old new
+    → AreLineRules grammar (map line_of (take (i + 1) xs)) new
+rules_more grammar xs i d old new less h (one, is, next) =
+    subst (λ z. AreLineRules grammar z new) (sym (map_more line_of xs i d less))
+    (subst (AreLineRules grammar (map line_of (take i xs) ++ line_of (get_or xs i d) ∷ [])) (sym is)
+    (rules_last grammar (map line_of (take i xs)) (line_of (get_or xs i d)) old one h next))
 
--- one line more was read
-pub up_to_more : (old mid new : RuleReader) (bytes rest line after : List ℕ) → AreReadUpTo old mid bytes rest
-    → lines_of rest ≡ line ∷ lines_of after → AddsLine mid new line → AreReadUpTo old new bytes after
-up_to_more old mid new bytes rest line after h cut one = record {
-  same_grammar = one.same_grammar ∙ h.same_grammar;
-  whole = λ more read_after.
-      let (texts, are, read) = read_after in
-      let (whole, wide, same) = text_more old.grammar (mid.number + 1) one.text texts (contents_of mid.list)
-      (contents_of new.list) more
-      (subst (λ g. AddsText g (mid.number + 1) one.text (contents_of mid.list) (contents_of new.list)) h.same_grammar
-      one.adds)
-      (subst (λ n. AreRulesRead old.grammar (n + 1) texts more) one.next read) in
-      subst (AreRuleLines old.grammar 1 (lines_of bytes)) same
-      (h.whole whole
-      (subst (λ ls. AreRuleLines old.grammar (mid.number + 1) ls whole) (sym cut) (
-        one.text ∷ texts,
-        (one.text, texts, refl, subst (λ g. IsContents g line one.text) h.same_grammar one.contents, are),
-        wide,
-      )));
-}
+-- the lines that are not empty are the rules and refused lines of all
+rules_of_texts : (grammar : Grammar) (number : ℕ) (texts : List (List ℕ)) (lines : List lists.ContentLine)
+    (contents : RuleContents) → AreNumbered number texts lines → AreLineRules grammar lines contents
+    → AreRulesRead grammar number texts contents
+rules_of_texts grammar number [] lines contents none h = subst (λ z. AreLineRules grammar z contents) none h
+rules_of_texts grammar number ([] ∷ texts) lines contents numbered h =
+    rules_of_texts grammar (number + 1) texts lines contents numbered h
+rules_of_texts grammar number ((b ∷ text) ∷ texts) lines contents (later, is, numbered) h =
+    let (more, rest, one) = subst (λ z. AreLineRules grammar z contents) is h in
+    (more, rules_of_texts grammar (number + 1) texts later more numbered rest, one)
 
--- all lines were read
-pub up_to_end : (old new : RuleReader) (bytes : List ℕ) → AreReadUpTo old new bytes []
-    → AreRuleLines old.grammar 1 (lines_of bytes) (contents_of new.list)
-up_to_end old new bytes h =
-    subst (AreRuleLines old.grammar 1 (lines_of bytes)) (joined_none (contents_of new.list))
-    (h.whole no_rules ([], refl, refl))
+pub rules_whole : (grammar : Grammar) (bytes : List ℕ) (xs : List ContentLine) (i : ℕ) (contents : RuleContents)
+    → length xs ≤ i → AreContentLines grammar bytes (map line_of xs)
+    → AreLineRules grammar (map line_of (take i xs)) contents → IsRuleList grammar bytes contents
+rules_whole grammar bytes xs i contents past (texts, are, numbered) h = (
+  texts,
+  are,
+  rules_of_texts grammar 1 texts (map line_of xs) contents numbered
+      (subst (λ z. AreLineRules grammar (map line_of z) contents) (take_all i xs past) h),
+)
 
 -- what follows the first word, as it is cut
 pub cut_rest : (text rest : List ℕ) (end : ℕ) → end ≡ position_or_len is_ascii_whitespace text
@@ -116,20 +124,18 @@ no_blank text i past before =
     sym (position_or_len_is is_ascii_whitespace text (length text) 0 (omega arith)
     (λ k less. before k (omega (arith, past))) (λ less. absurd (omega (arith, less))))
 
--- what a text adds
-pub adds_rule : (grammar : Grammar) (number : ℕ) (text : List ℕ) (old new : RuleContents) (rule : Rule)
-    → length text ≢ 0 → IsRuleText grammar text rule → new ≡ joined old (rule_and number text rule no_rules)
-    → AddsText grammar number text old new
-adds_rule grammar number [] old new rule some is adds = absurd (some refl)
-adds_rule grammar number (b ∷ text) old new rule some is adds =
-    (rule_and number (b ∷ text) rule no_rules, adds, inl (record { rule = rule; is = is; next = refl }))
+-- what a line adds
+pub adds_rule : (grammar : Grammar) (line : lists.ContentLine) (old new : RuleContents) (rule : Rule)
+    → IsRuleText grammar line.text rule → new ≡ joined old (rule_and line.number line.text rule no_rules)
+    → AddsRule grammar line old new
+adds_rule grammar line old new rule is adds =
+    (rule_and line.number line.text rule no_rules, adds, inl (record { rule = rule; is = is; next = refl }))
 
-pub adds_refusal : (grammar : Grammar) (number : ℕ) (text : List ℕ) (old new : RuleContents) (cause : RuleCause)
-    → length text ≢ 0 → IsNoRule grammar text → IsRuleCause grammar text cause
-    → new ≡ joined old (refusal_and number text cause no_rules) → AddsText grammar number text old new
-adds_refusal grammar number [] old new cause some none reported adds = absurd (some refl)
-adds_refusal grammar number (b ∷ text) old new cause some none reported adds = (
-  refusal_and number (b ∷ text) cause no_rules,
+pub adds_refusal : (grammar : Grammar) (line : lists.ContentLine) (old new : RuleContents) (cause : RuleCause)
+    → IsNoRule grammar line.text → IsRuleCause grammar line.text cause
+    → new ≡ joined old (refusal_and line.number line.text cause no_rules) → AddsRule grammar line old new
+adds_refusal grammar line old new cause none reported adds = (
+  refusal_and line.number line.text cause no_rules,
   adds,
   inr (record { cause = cause; none = none; reported = reported; next = refl }),
 )

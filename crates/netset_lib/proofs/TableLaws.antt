@@ -5,50 +5,24 @@ use Rattle.std.proofs.Common.{Option, Some, None, IsNone, IsSome, IfSome, refl, 
 use Rattle.std.proofs.lemmas.Bool.{cases_order}
 use Rattle.std.proofs.lemmas.List.{map-append, length-map}
 use Rattle.std.proofs.lemmas.List.Elements.{Contains-append_left, Contains-append_right, Contains-append_cases}
-use Rattle.ipnet_base.specs.Address.{Address, width}
+use Rattle.ipnet_base.specs.Address.{Address}
 use Rattle.ipnet_base.specs.Network.{Network, IsNetwork, IsTruncated, truncation}
-use Rattle.ipnet_base.specs.Blocks.{IsInside, IsMaximal, AreMaximalBlocks}
+use Rattle.ipnet_base.specs.Blocks.{IsMaximal, AreMaximalBlocks}
 use Rattle.ipnet_base.specs.Ranges.{AddressRange}
-use Rattle.ipnet_base.proofs.BlockLaws.{between_from_block, block_from_between}
 use Rattle.ipnet_base.proofs.FamilyLaws.{cases_family}
 use Rattle.ipnet_base.proofs.ListLaws.{contains_nil, contains_here, contains_there, contains_cases, all_at}
-use Rattle.ipnet_base.proofs.NetworkLaws.{same_network, same_from_block, IsTruncated-truncation, IsNetwork-truncation}
-use Rattle.ipnet_base.proofs.NetworkLaws.{truncation_in, in_truncation, truncation_of_truncated}
+use Rattle.ipnet_base.proofs.NetworkLaws.{same_network, truncation_of_truncated}
 use Rattle.ipnet.specs.declared.net.IpNet.{IpNet}
 use Rattle.ipnet.specs.NetworkOf.{ip_network}
-use Rattle.ipnet.specs.NetworkParts.{network_at}
 use Rattle.ipnet_sets.specs.Routes.{Route, networks_of, ip_routes, ip_networks, without_host_bits, IsLatest, IsTableOf}
-use Rattle.ipnet_sets.specs.SetRanges.{range_of, IsInRange}
+use Rattle.ipnet_sets.specs.SetRanges.{IsInRange}
 use Rattle.ipnet_sets.specs.declared.routes.RouteTable.{RouteTable}
 use Rattle.ipnet_sets.proofs.RouteLaws.{same_networks, all_valid}
-use Rattle.netset_lib.specs.Entries.{block_range}
 use Rattle.netset_lib.specs.Lists.{ListEntry}
 use Rattle.netset_lib.specs.Routing.{IsTruncatedOne, AddsMaximal, AreTableNetworks, InTable}
 use Rattle.ipnet_sets.proofs.JoinLaws.{any_push}
-use Rattle.netset_lib.proofs.RangeCovers.{whole_block}
 
 -- ---- the fewest networks of a range
-
--- those of a network's own addresses are one: the network without its host bits
-block_maximal : (k n : Network) → IsNetwork k → (truncation k ≡ n) ↔ IsMaximal (IsInRange (block_range k)) 0 n
-block_maximal k n valid = (
-  λ e. subst (IsMaximal (IsInRange (block_range k)) 0) e (record {
-    inside = own_inside;
-    largest = λ m inside sub.
-        same_from_block m (truncation k) inside.network own_inside.network inside.truncated own_inside.truncated
-        (λ x a. in_truncation k x (block_from_between k x (inside.within x a)), sub);
-  }),
-  λ maximal. maximal.largest (truncation k) own_inside
-      (λ x a. in_truncation k x (block_from_between k x (maximal.inside.within x a))),
-)
-  where
-    own_inside : IsInside (IsInRange (block_range k)) 0 (truncation k)
-    own_inside = record {
-      network = IsNetwork-truncation k valid;
-      truncated = IsTruncated-truncation k;
-      long_enough = omega arith;
-      within = λ x a. between_from_block k x (truncation_in k x a);
-    }
 
 -- networks that have no host bits are those without their host bits
 one_of_truncated : (networks : List Network) → ((n : Network) → Contains networks n → truncation n ≡ n)
@@ -96,23 +70,6 @@ adds_more old more new range same e n =
 pub adds_blocks : (old more new : List Network) (range : AddressRange) → AreMaximalBlocks (IsInRange range) 0 more
     → new ≡ old ++ more → AddsMaximal old range new
 adds_blocks old more new range blocks = adds_more old more new range (blocks_maximal (IsInRange range) more blocks)
-
-pub adds_one : (old new : List Network) (k : Network) → IsNetwork k → new ≡ old ++ k ∷ []
-    → AddsMaximal old (block_range k) new
-adds_one old new k valid =
-    adds_more old (k ∷ []) new (block_range k) (λ n. (
-      λ h. elim (contains_cases (truncation k) [] n h) [
-        | inl here ↦ (block_maximal k n valid).0 here
-        | inr none ↦ absurd (contains_nil n none)
-      ],
-      λ maximal. subst (IsTruncatedOne (k ∷ [])) ((block_maximal k n valid).1 maximal)
-          (contains_here (truncation k) []),
-    ))
-
-pub adds_host : (old new : List Network) (x : Address) (k : Network) → IsNetwork k → k ≡ network_at x (width x.family)
-    → new ≡ old ++ k ∷ [] → AddsMaximal old (range_of x.family x.number x.number) new
-adds_host old new x k valid is e =
-    subst (λ r. AddsMaximal old r new) (ap block_range is ∙ whole_block x.family x.number) (adds_one old new k valid e)
 
 -- ---- the networks of a table, entry by entry
 

@@ -12,10 +12,8 @@ use Rattle.ipnet_sets.specs.Members.{IsMember}
 use Rattle.ipnet_rules.specs.UnreachedRules.{IsUnreached, AreUnreached}
 use Rattle.netset_lib.specs.declared.rule_answer.RuleFailure.{RuleFailure}
 use Rattle.netset_lib.specs.declared.rule_answer.RuleFailure.TheVariants as Failures
-use Rattle.netset_lib.specs.declared.rule_answer.RuleQuery.{RuleQuery}
-use Rattle.netset_lib.specs.declared.rule_answer.RuleQuery.TheVariants as Queries
-use Rattle.netset_lib.specs.declared.rule_list.RefusedRule.{RefusedRule}
-use Rattle.netset_lib.specs.Answers.{IsSetText}
+use Rattle.netset_lib.specs.declared.content_line.RefusedText.{RefusedText}
+use Rattle.netset_lib.specs.declared.rule_line.RuleCause.{RuleCause}
 use Rattle.netset_lib.specs.RuleContentsOf.{rule_refusal}
 use Rattle.netset_lib.specs.RuleLines.{LineOfRule, RuleContents, IsRuleList}
 
@@ -57,17 +55,12 @@ pub record AreUnreachedLines (contents : RuleContents) (text : List ℕ) : Type 
   pub unreached : AreUnreached contents.rules found
   pub spelled : text ≡ unreached_lines contents.lines found
 
--- The text that is asked for: the set of the addresses that the rules permit, in this form, or the unreached rules.
-abbrev pub IsRuleReply : RuleQuery → RuleContents → List ℕ → Type 0
-IsRuleReply (Queries.Permitted default form) contents = IsSetText form (IsPermittedBy contents.rules default)
-IsRuleReply Queries.Unreached contents = AreUnreachedLines contents
-
--- No line of the list is refused, and the text is what is asked for.
-pub record IsRuleAnswer (query : RuleQuery) (grammar : Grammar) (bytes text : List ℕ) : Type 0 where
+-- No line of the list is refused, and the text has the lines of the rules that decide on no address.
+pub record IsUnreachedAnswer (grammar : Grammar) (bytes text : List ℕ) : Type 0 where
   pub contents : RuleContents
   pub read : IsRuleList grammar bytes contents
   pub none : contents.refused ≡ []
-  pub right : IsRuleReply query contents text
+  pub right : AreUnreachedLines contents text
 
 -- No line of the list is refused, and the set has the addresses that the rules permit.
 pub record IsPermittedSet (default : Action) (grammar : Grammar) (bytes : List ℕ) (set : IpSet) : Type 0 where
@@ -77,7 +70,7 @@ pub record IsPermittedSet (default : Action) (grammar : Grammar) (bytes : List �
   pub right : (x : Address) → IsMember set x ↔ IsPermittedBy contents.rules default x
 
 -- Some lines are refused, and these are all of them.
-pub record HasRefusedRules (grammar : Grammar) (bytes : List ℕ) (lines : List RefusedRule) : Type 0 where
+pub record HasRefusedRules (grammar : Grammar) (bytes : List ℕ) (lines : List (RefusedText RuleCause)) : Type 0 where
   pub contents : RuleContents
   pub read : IsRuleList grammar bytes contents
   pub some : contents.refused ≢ []

@@ -1,6 +1,7 @@
 -- A list of rules that was read, as contracts see it.
 use Rattle.std.specs.Prelude.{map}
-use Rattle.netset_lib.specs.declared.rule_list.RefusedRule.{RefusedRule}
+use Rattle.netset_lib.specs.declared.content_line.RefusedText.{RefusedText}
+use Rattle.netset_lib.specs.declared.rule_line.RuleCause.{RuleCause}
 use Rattle.netset_lib.specs.declared.rule_list.RuleLine.{RuleLine}
 use Rattle.netset_lib.specs.declared.rule_list.RuleList.{RuleList}
 use Rattle.netset_lib.specs.RuleLines.{LineOfRule, RuleRefusal, RuleContents}
@@ -10,7 +11,7 @@ abbrev pub line_of_rule : RuleLine → LineOfRule
 line_of_rule l = record { number = l.number; text = l.text.items }
 
 -- The refused line that a value represents.
-abbrev pub rule_refusal : RefusedRule → RuleRefusal
+abbrev pub rule_refusal : RefusedText RuleCause → RuleRefusal
 rule_refusal r = record { number = r.number; text = r.text.items; cause = r.cause }
 
 -- The rules of the list, their lines, and its refused lines.

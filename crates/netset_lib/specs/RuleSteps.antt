@@ -1,16 +1,12 @@
 -- The private steps of reading rules.
 -- Only private contracts use these.
-use Rattle.std.specs.Prelude.{◌≡◌, ◌≢◌, ◌⊎◌, ℕ, ◌+◌, List, [], ◌∷◌, ◌++◌}
+use Rattle.std.specs.Prelude.{◌≡◌, ◌≢◌, ◌⊎◌, ℕ, List, [], ◌++◌}
 use Rattle.ipnet.specs.declared.parser.Grammar.{Grammar}
-use Rattle.ipnet.specs.Lines.{lines_of}
 use Rattle.netset_lib.specs.declared.rule_line.RuleCause.{RuleCause}
 use Rattle.netset_lib.specs.declared.rule_line.RuleCause.TheVariants.{UnknownWord, NoEntry, TwoEntries, BadEntry}
 use Rattle.netset_lib.specs.Causes.{IsReportedCause}
-use Rattle.netset_lib.specs.declared.rule_list.RuleReader.{RuleReader}
-use Rattle.netset_lib.specs.Lists.{IsContents}
-use Rattle.netset_lib.specs.RuleContentsOf.{contents_of}
+use Rattle.netset_lib.specs.ContentLines.{ContentLine}
 use Rattle.netset_lib.specs.RuleLines.{leading_word, RuleContents, no_rules, IsNextRule, IsNextRuleRefusal}
-use Rattle.netset_lib.specs.RuleLines.{AreRuleLines}
 
 -- Why a text that is not an entry is not one.
 abbrev pub IsEntryCause : Grammar → List ℕ → RuleCause → Type 0
@@ -28,22 +24,8 @@ joined first second = record {
   refused = first.refused ++ second.refused;
 }
 
--- The text of the line with this number adds a rule or a refused line, or nothing if it is empty.
-abbrev pub AddsText : Grammar → ℕ → List ℕ → RuleContents → RuleContents → Type 0
-AddsText grammar number [] old new = new ≡ old
-AddsText grammar number (b ∷ text) old new = (one : RuleContents) × (new ≡ joined old one)
-    × (IsNextRule grammar number (b ∷ text) one no_rules ⊎ IsNextRuleRefusal grammar number (b ∷ text) one no_rules)
-
--- One more line was read.
-pub record AddsLine (old new : RuleReader) (line : List ℕ) : Type 0 where
-  pub same_grammar : new.grammar ≡ old.grammar
-  pub next : new.number ≡ old.number + 1
-  pub text : List ℕ
-  pub contents : IsContents old.grammar line text
-  pub adds : AddsText old.grammar (old.number + 1) text (contents_of old.list) (contents_of new.list)
-
--- The lines before the rest of the bytes were read. The list and the contents of the rest are the contents of all.
-pub record AreReadUpTo (old new : RuleReader) (bytes rest : List ℕ) : Type 0 where
-  pub same_grammar : new.grammar ≡ old.grammar
-  pub whole : (more : RuleContents) → AreRuleLines old.grammar (new.number + 1) (lines_of rest) more
-      → AreRuleLines old.grammar 1 (lines_of bytes) (joined (contents_of new.list) more)
+-- The line adds a rule or a refused line.
+abbrev pub AddsRule : Grammar → ContentLine → RuleContents → RuleContents → Type 0
+AddsRule grammar line old new = (one : RuleContents) × (new ≡ joined old one)
+    × (IsNextRule grammar line.number line.text one no_rules
+    ⊎ IsNextRuleRefusal grammar line.number line.text one no_rules)

@@ -6,11 +6,11 @@ ghost use Rattle.netset_lib.specs.Runs.{WritesAnswer, WritesFront};
 
 use crate::apply::{ChangeFailure, changed_text};
 use crate::change_line::ChangeCause;
-use crate::content_line::RefusedText;
+use crate::content_line::report_refused;
 use crate::failure::Failure;
 use crate::network_entry::NetworkCause;
 use crate::program::{NO_ENTRY, report_failure, report_text, set_or_report};
-use crate::refused::MOST_LINES;
+use crate::refused::LineCause;
 use crate::session::Session;
 use crate::write::write_answer;
 use std::io;
@@ -72,45 +72,27 @@ pub fn run_apply<W: Write, X: Write>(
 fn report_changes<X: Write>(faults: &mut X, name: &str, failure: &ChangeFailure) -> io::Result<()> {
     match failure {
         ChangeFailure::Memory => writeln!(faults, "netset: out of memory"),
-        ChangeFailure::Refused(lines) => report_lines(faults, name, lines.as_slice()),
+        ChangeFailure::Refused(lines) => report_refused(faults, name, lines.as_slice()),
     }
 }
 
-/// Reports the first refused lines, and the number of the others.
-fn report_lines<X: Write>(
-    faults: &mut X,
-    name: &str,
-    lines: &[RefusedText<ChangeCause>],
-) -> io::Result<()> {
-    let shown = lines.len().min(MOST_LINES);
-    for line in &lines[..shown] {
-        report_line(faults, name, line)?;
-    }
-    let more = lines.len() - shown;
-    if more != 0 {
-        writeln!(faults, "netset: and {more} more")?;
-    }
-    Ok(())
-}
-
-/// Reports one refused line, and why it is not a change of the list.
-fn report_line<X: Write>(
-    faults: &mut X,
-    name: &str,
-    line: &RefusedText<ChangeCause>,
-) -> io::Result<()> {
-    report_text(
-        faults,
-        name,
-        line.number,
-        "not a change of the list",
-        line.text.as_slice(),
-    )?;
-    match line.cause {
-        ChangeCause::UnknownSign => writeln!(faults, " (a change begins with + or - and a blank)"),
-        ChangeCause::Present => writeln!(faults, " (the list has this network already)"),
-        ChangeCause::Absent => writeln!(faults, " (the list has no such network)"),
-        ChangeCause::NoNetwork(cause) => report_network_cause(faults, cause),
+impl LineCause for ChangeCause {
+    fn report<X: Write>(
+        &self,
+        faults: &mut X,
+        name: &str,
+        number: usize,
+        text: &[u8],
+    ) -> io::Result<()> {
+        report_text(faults, name, number, "not a change of the list", text)?;
+        match *self {
+            ChangeCause::UnknownSign => {
+                writeln!(faults, " (a change begins with + or - and a blank)")
+            }
+            ChangeCause::Present => writeln!(faults, " (the list has this network already)"),
+            ChangeCause::Absent => writeln!(faults, " (the list has no such network)"),
+            ChangeCause::NoNetwork(cause) => report_network_cause(faults, cause),
+        }
     }
 }
 

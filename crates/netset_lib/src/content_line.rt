@@ -6,8 +6,11 @@ ghost use Rattle.netset_lib.specs.ContentLineOf.{line_of, refused_of, AddsLine, 
 
 use crate::mark::skip_mark;
 use crate::reader::{contents_of, first_line};
+use crate::refused::{LineCause, MOST_LINES, report_more};
 use ipnet::Grammar;
 use std::alloc::{AllocError, Global};
+use std::io;
+use std::io::Write;
 
 /// A line that is not empty.
 ///
@@ -133,4 +136,22 @@ pub fn keep_read<T: Drop, C: Drop>(
             Ok(())
         }
     }
+}
+
+/// Reports the first refused lines of the list with this name, and the number of the others.
+///
+/// ```text
+/// twelve lines: ten lines, and "netset: and 2 more"
+/// ```
+pub fn report_refused<X: Write, C: LineCause>(
+    faults: &mut X,
+    name: &str,
+    lines: &[RefusedText<C>],
+) -> io::Result<()> {
+    let shown = lines.len().min(MOST_LINES);
+    for line in &lines[..shown] {
+        line.cause
+            .report(faults, name, line.number, line.text.as_slice())?;
+    }
+    report_more(faults, lines.len() - shown)
 }

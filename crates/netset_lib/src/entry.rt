@@ -11,7 +11,9 @@ ghost use Rattle.netset_lib.specs.EntryOf.{entry_range, IsWrittenAs};
 ghost use Rattle.netset_lib.specs.EntrySteps.{HasEnds};
 
 use arrayvec::ArrayString;
-use ipnet::{Grammar, IpAddr, IpNet, Ipv4Addr, Ipv4Net, Ipv6Addr};
+use ipnet::{
+    Grammar, IpAddr, IpNet, IpSubnets, Ipv4Addr, Ipv4Net, Ipv4Subnets, Ipv6Addr, Ipv6Subnets,
+};
 
 /// An entry of a list.
 ///
@@ -32,6 +34,9 @@ pub enum Entry {
 
 impl Entry {
     ghost use Rattle.ipnet_base.specs.Address.{address_at};
+    ghost use Rattle.ipnet_base.specs.Blocks.{AreMaximalBlocks};
+    ghost use Rattle.ipnet.specs.SubnetsLeft.{ip_subnets_left};
+    ghost use Rattle.ipnet_sets.specs.SetRanges.{IsInRange};
     ghost use Rattle.netset_lib.specs.EntryOf.{entry_range};
 
     /// Returns the first and the last address of the entry. They are of one family, and the first is at most the last
@@ -51,6 +56,28 @@ impl Entry {
             Entry::Address(address) => (address, address),
             Entry::Ipv4Range(first, last) => (IpAddr::V4(first), IpAddr::V4(last)),
             Entry::Ipv6Range(first, last) => (IpAddr::V6(first), IpAddr::V6(last)),
+        }
+    }
+
+    /// Returns a walk over the fewest networks with the addresses of the entry.
+    ///
+    /// ```text
+    /// of 10.0.0.0-10.0.0.5: 10.0.0.0/30, 10.0.0.4/31
+    /// ```
+    pub fn walk(self) -> IpSubnets
+        ensures { AreMaximalBlocks (IsInRange (entry_range self)) 0 (ip_subnets_left result) }
+    {
+        match self.ends() {
+            (IpAddr::V4(first), IpAddr::V4(last)) => {
+                IpSubnets::V4(Ipv4Subnets::new(first, last, 0))
+            }
+            (IpAddr::V6(first), IpAddr::V6(last)) => {
+                IpSubnets::V6(Ipv6Subnets::new(first, last, 0))
+            }
+            _ => {
+                let address = Ipv4Addr::from_bits(0);
+                IpSubnets::V4(Ipv4Subnets::new(address, address, 0))
+            }
         }
     }
 }

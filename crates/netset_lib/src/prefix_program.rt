@@ -5,12 +5,12 @@ ghost use Rattle.netset_lib.specs.PrefixAnswers.{IsVerdictAnswer};
 ghost use Rattle.ipnet_text.specs.Outputs.{IsWritten, IsFrontWritten};
 
 use crate::apply_program::report_network_cause;
-use crate::content_line::RefusedText;
+use crate::content_line::report_refused;
 use crate::network_entry::NetworkCause;
 use crate::prefix_answer::{PrefixFailure, prefix_verdicts};
 use crate::prefix_line::PrefixCause;
 use crate::program::report_text;
-use crate::refused::MOST_LINES;
+use crate::refused::LineCause;
 use crate::write::write_or_report;
 use ipnet::Grammar;
 use std::alloc::Global;
@@ -94,65 +94,41 @@ fn report<X: Write>(
 ) -> io::Result<()> {
     match failure {
         PrefixFailure::Memory => writeln!(faults, "netset: out of memory"),
-        PrefixFailure::Prefixes(lines) => report_prefixes(faults, names.0, lines.as_slice()),
-        PrefixFailure::Networks(lines) => report_networks(faults, names.1, lines.as_slice()),
+        PrefixFailure::Prefixes(lines) => report_refused(faults, names.0, lines.as_slice()),
+        PrefixFailure::Networks(lines) => report_refused(faults, names.1, lines.as_slice()),
     }
 }
 
-/// Reports the number of the refused lines that are not shown.
-fn report_more<X: Write>(faults: &mut X, count: usize) -> io::Result<()> {
-    let more = count.saturating_sub(MOST_LINES);
-    if more != 0 {
-        writeln!(faults, "netset: and {more} more")?;
-    }
-    Ok(())
-}
-
-/// Reports the first refused lines of a prefix list, and the number of the others.
-fn report_prefixes<X: Write>(
-    faults: &mut X,
-    name: &str,
-    lines: &[RefusedText<PrefixCause>],
-) -> io::Result<()> {
-    let shown = lines.len().min(MOST_LINES);
-    for line in &lines[..shown] {
-        let text = line.text.as_slice();
-        report_text(
-            faults,
-            name,
-            line.number,
-            "not a rule of a prefix list",
-            text,
-        )?;
-        report_cause(faults, &line.cause)?;
-    }
-    report_more(faults, lines.len())
-}
-
-/// Reports why a line is not a rule of a prefix list.
-fn report_cause<X: Write>(faults: &mut X, cause: &PrefixCause) -> io::Result<()> {
-    match cause {
-        PrefixCause::UnknownWord => writeln!(faults, " (a rule begins with permit or deny)"),
-        PrefixCause::NoNetwork(cause) => report_network_cause(faults, *cause),
-        PrefixCause::BadBounds => writeln!(
-            faults,
-            " (after the network: ge or le and a number, each at most once)"
-        ),
-        PrefixCause::RefusedBounds(error) => writeln!(faults, " ({error})"),
+impl LineCause for PrefixCause {
+    fn report<X: Write>(
+        &self,
+        faults: &mut X,
+        name: &str,
+        number: usize,
+        text: &[u8],
+    ) -> io::Result<()> {
+        report_text(faults, name, number, "not a rule of a prefix list", text)?;
+        match self {
+            PrefixCause::UnknownWord => writeln!(faults, " (a rule begins with permit or deny)"),
+            PrefixCause::NoNetwork(cause) => report_network_cause(faults, *cause),
+            PrefixCause::BadBounds => writeln!(
+                faults,
+                " (after the network: ge or le and a number, each at most once)"
+            ),
+            PrefixCause::RefusedBounds(error) => writeln!(faults, " ({error})"),
+        }
     }
 }
 
-/// Reports the first refused lines of a list of networks, and the number of the others.
-fn report_networks<X: Write>(
-    faults: &mut X,
-    name: &str,
-    lines: &[RefusedText<NetworkCause>],
-) -> io::Result<()> {
-    let shown = lines.len().min(MOST_LINES);
-    for line in &lines[..shown] {
-        let text = line.text.as_slice();
-        report_text(faults, name, line.number, "not a network", text)?;
-        report_network_cause(faults, line.cause)?;
+impl LineCause for NetworkCause {
+    fn report<X: Write>(
+        &self,
+        faults: &mut X,
+        name: &str,
+        number: usize,
+        text: &[u8],
+    ) -> io::Result<()> {
+        report_text(faults, name, number, "not a network", text)?;
+        report_network_cause(faults, *self)
     }
-    report_more(faults, lines.len())
 }

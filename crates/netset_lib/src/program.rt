@@ -25,7 +25,7 @@ use std::io::{Read, Write};
 const MOST_SHOWN: usize = 100;
 
 /// The words of a report for a line that is not an entry.
-pub const NO_ENTRY: &str = "not a network, an address or a range";
+pub(crate) const NO_ENTRY: &str = "not a network, an address or a range";
 
 /// The report of a complement that has no family.
 const NO_FAMILY: &str = "netset: the list has no entries: choose --ipv4 or --ipv6, or both";

@@ -8,7 +8,7 @@ use std::io;
 use std::io::Write;
 
 /// At most this many refused lines are reported.
-pub const MOST_LINES: usize = 10;
+pub(crate) const MOST_LINES: usize = 10;
 
 /// Why a line is refused.
 pub trait LineCause: Drop {
@@ -139,9 +139,16 @@ pub fn report_since<X: Write, C: LineCause>(
             .report(faults, name, line.line, line.text.as_slice())?;
     }
     let new = lines.count.saturating_sub(count);
-    let more = new.saturating_sub(lines.shown.len().saturating_sub(shown));
-    if more != 0 {
-        writeln!(faults, "netset: and {more} more")?;
+    report_more(
+        faults,
+        new.saturating_sub(lines.shown.len().saturating_sub(shown)),
+    )
+}
+
+/// Reports the number of the refused lines that are not shown. Nothing is printed if all are.
+pub(crate) fn report_more<X: Write>(faults: &mut X, more: usize) -> io::Result<()> {
+    if more == 0 {
+        return Ok(());
     }
-    Ok(())
+    writeln!(faults, "netset: and {more} more")
 }

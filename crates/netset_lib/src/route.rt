@@ -3,7 +3,6 @@ ghost use Rattle.std.specs.Prelude.{◌≡◌, ◌↔◌, ◌++◌, IsTrue, IfOk
 ghost use Rattle.ipnet_base.specs.Address.{ip_address};
 ghost use Rattle.ipnet_base.specs.Network.{InBlock, truncation};
 ghost use Rattle.ipnet.specs.NetworkOf.{ip_network};
-ghost use Rattle.ipnet.specs.SubnetsLeft.{ip_subnets_left};
 ghost use Rattle.ipnet_sets.specs.Routes.{ip_networks};
 ghost use Rattle.netset_lib.specs.EntryOf.{entry_range};
 ghost use Rattle.netset_lib.specs.Reading.{WasMadeOf};
@@ -13,36 +12,18 @@ ghost use Rattle.netset_lib.specs.Routing.{IsLongestIfAny, route_line};
 use crate::entry::Entry;
 use crate::reader::Collector;
 use crate::reading::{ReadFailure, Reading};
-use ipnet::{IpAddr, IpNet, IpSubnets, Ipv4Subnets, Ipv6Subnets};
+use ipnet::{IpAddr, IpNet};
 use ipnet_sets::RouteTable;
 use std::alloc::AllocError;
 use std::io::Read;
-
-/// Puts the networks of the walk at the end of the routes.
-fn push_walk(routes: &mut Vec<(IpNet, ())>, walk: IpSubnets) -> Result<(), AllocError>
-    ensures { OnOk result
-        (ip_networks routes.new.items ≡ ip_networks routes.old.items ++ ip_subnets_left walk) }
-{
-    for network in walk {
-        routes.push((network, ()))?;
-    }
-    Ok(())
-}
 
 /// Puts the fewest networks with the addresses of the entry at the end of the routes.
 fn push_entry(routes: &mut Vec<(IpNet, ())>, entry: Entry) -> Result<(), AllocError>
     ensures { OnOk result
         (AddsMaximal (ip_networks routes.old.items) (entry_range entry) (ip_networks routes.new.items)) }
 {
-    match entry {
-        Entry::Network(network) => routes.push((network, ()))?,
-        Entry::Address(address) => routes.push((IpNet::from(address), ()))?,
-        Entry::Ipv4Range(first, last) => {
-            push_walk(routes, IpSubnets::V4(Ipv4Subnets::new(first, last, 0)))?;
-        }
-        Entry::Ipv6Range(first, last) => {
-            push_walk(routes, IpSubnets::V6(Ipv6Subnets::new(first, last, 0)))?;
-        }
+    for network in entry.walk() {
+        routes.push((network, ()))?;
     }
     Ok(())
 }

@@ -1,36 +1,27 @@
 //! The queries on a list of rules: the addresses that it permits, and the rules that decide on no address.
-ghost use Rattle.std.specs.Prelude.{◌≡◌, ◌↔◌, ◌++◌, List, ℕ, IfOk, IfErr, OnOk, map};
+ghost use Rattle.std.specs.Prelude.{◌≡◌, ◌↔◌, ◌++◌, List, ℕ, IfOk, IfErr, OnOk, map, codes, decimal};
 ghost use Rattle.ipnet_base.specs.Address.{Address};
 ghost use Rattle.ipnet.specs.declared.parser.Grammar.{Grammar};
 ghost use Rattle.ipnet_sets.specs.Members.{IsMember};
-ghost use Rattle.netset_lib.specs.Answers.{IsSetText};
-ghost use Rattle.netset_lib.specs.RuleAnswers.{IsPermittedBy, line_text, line_at, covering_lines, IsRuleReply};
-ghost use Rattle.netset_lib.specs.RuleAnswers.{IsRuleAnswer, IsRuleFailure, unreached_lines, AreUnreachedLines};
+ghost use Rattle.netset_lib.specs.RuleAnswers.{IsPermittedBy, line_text, line_at, covering_lines};
+ghost use Rattle.netset_lib.specs.RuleAnswers.{IsUnreachedAnswer, IsRuleFailure, unreached_lines, AreUnreachedLines};
 ghost use Rattle.netset_lib.specs.RuleAnswers.{IsPermittedSet};
 ghost use Rattle.netset_lib.specs.RuleContentsOf.{contents_of, line_of_rule};
 ghost use Rattle.netset_lib.specs.RuleLines.{IsRuleList};
 ghost use Rattle.netset_lib.specs.declared.rule_answer.RuleFailure.TheVariants.{Memory};
 
-use crate::answer::{Form, set_text};
-use crate::rule_list::{RefusedRule, RuleLine, RuleList};
+use crate::content_line::RefusedText;
+use crate::rule_line::RuleCause;
+use crate::rule_list::{RuleLine, RuleList};
 use ipnet_rules::{Action, Rule, Rules, Unreached};
 use ipnet_sets::IpSet;
 use std::alloc::{AllocError, Global};
-
-/// A query on a list of rules.
-#[derive(Clone, Copy, Debug, PartialEq, Eq)]
-pub enum RuleQuery {
-    /// The addresses that the rules permit, in this form. The action is for the addresses that no rule matches.
-    Permitted(Action, Form),
-    /// The rules that decide on no address, and the earlier rules that decide on their addresses.
-    Unreached,
-}
 
 /// Why there is no answer.
 #[derive(Debug, Drop)]
 pub enum RuleFailure {
     /// These lines are not rules.
-    Refused(Vec<RefusedRule>),
+    Refused(Vec<RefusedText<RuleCause>>),
     /// Memory ran out.
     Memory,
 }
@@ -54,50 +45,41 @@ fn permitted_set(alloc: Global, rules: Vec<Rule>, default: Action) -> Result<IpS
     rules.permitted(alloc)
 }
 
-/// Returns the text of the set of the addresses that the rules permit.
-fn permitted_text(
-    alloc: Global,
-    rules: Vec<Rule>,
-    default: Action,
-    form: Form,
-) -> Result<Vec<u8>, AllocError>
-    ensures { IfOk result (λ text. IsSetText form (IsPermittedBy rules.items default) text.items) }
+/// Appends the number of a line, and its contents. Fails if memory runs out.
+///
+/// ```text
+/// line 4, "10.0.1.192/26": "line 4: 10.0.1.192/26"
+/// ```
+pub fn push_numbered(text: &mut Vec<u8>, number: usize, line: &[u8]) -> Result<(), AllocError>
+    ensures { OnOk result (text.new.items
+        ≡ text.old.items ++ (codes "line " ++ decimal number ++ codes ": " ++ line.now)) }
 {
-    let set = permitted_set(alloc, rules, default)?;
-    let text = set_text(alloc, form, &set)?;
-    Ok(text.into_bytes())
+    let mut start = String::new(*text.allocator());
+    write!(start, "line {number}: ")?;
+    text.extend_from_slice(start.as_bytes())?;
+    text.extend_from_slice(line)
 }
 
 /// Appends the number of the line and its text.
-fn push_line(alloc: Global, text: &mut Vec<u8>, line: &RuleLine) -> Result<(), AllocError>
+fn push_line(text: &mut Vec<u8>, line: &RuleLine) -> Result<(), AllocError>
     ensures { OnOk result (text.new.items ≡ text.old.items ++ line_text (line_of_rule line.now)) }
 {
-    let number = line.number;
-    let mut start = String::new(alloc);
-    write!(start, "line {number}: ")?;
-    text.extend_from_slice(start.as_bytes())?;
-    text.extend_from_slice(line.text.as_slice())?;
+    push_numbered(text, line.number, line.text.as_slice())?;
     text.extend_from_slice(b"\n")
 }
 
 /// Appends the line at this index, if there is one.
-fn push_line_at(
-    alloc: Global,
-    text: &mut Vec<u8>,
-    lines: &[RuleLine],
-    index: usize,
-) -> Result<(), AllocError>
+fn push_line_at(text: &mut Vec<u8>, lines: &[RuleLine], index: usize) -> Result<(), AllocError>
     ensures { OnOk result (text.new.items ≡ text.old.items ++ line_at (map line_of_rule lines.now) index) }
 {
     match lines.get(index) {
-        Some(line) => push_line(alloc, text, line),
+        Some(line) => push_line(text, line),
         None => Ok(()),
     }
 }
 
 /// Appends the lines at these indexes, each after two spaces.
 fn push_covering(
-    alloc: Global,
     text: &mut Vec<u8>,
     lines: &[RuleLine],
     indexes: &[usize],
@@ -107,14 +89,13 @@ fn push_covering(
 {
     for place in 0..indexes.len() {
         text.extend_from_slice(b"  ")?;
-        push_line_at(alloc, text, lines, indexes[place])?;
+        push_line_at(text, lines, indexes[place])?;
     }
     Ok(())
 }
 
 /// Appends the lines of these unreached rules, each with the lines of the rules that decide on its addresses.
 fn push_unreached(
-    alloc: Global,
     text: &mut Vec<u8>,
     lines: &[RuleLine],
     found: &[Unreached],
@@ -123,8 +104,8 @@ fn push_unreached(
         (text.new.items ≡ text.old.items ++ unreached_lines (map line_of_rule lines.now) found.now) }
 {
     for unreached in found {
-        push_line_at(alloc, text, lines, unreached.rule)?;
-        push_covering(alloc, text, lines, unreached.deciders.as_slice())?;
+        push_line_at(text, lines, unreached.rule)?;
+        push_covering(text, lines, unreached.deciders.as_slice())?;
     }
     Ok(())
 }
@@ -145,20 +126,8 @@ fn unreached_text(list: RuleList) -> Result<Vec<u8>, AllocError>
     };
     let found = rules.unreached(alloc)?;
     let mut text = Vec::new(alloc);
-    push_unreached(alloc, &mut text, lines.as_slice(), found.as_slice())?;
+    push_unreached(&mut text, lines.as_slice(), found.as_slice())?;
     Ok(text)
-}
-
-/// Returns the text that is asked for.
-fn reply(list: RuleList, query: RuleQuery) -> Result<Vec<u8>, AllocError>
-    ensures { IfOk result (λ text. IsRuleReply query (contents_of list) text.items) }
-{
-    match query {
-        RuleQuery::Permitted(default, form) => {
-            permitted_text(list.alloc, list.rules, default, form)
-        }
-        RuleQuery::Unreached => unreached_text(list),
-    }
 }
 
 impl RuleList {
@@ -192,24 +161,24 @@ impl RuleList {
         Ok(permitted_set(alloc, rules, default)?)
     }
 
-    /// Returns the answer over the list of rules.
+    /// Returns the lines of the rules that decide on no address. After each are the lines of the earlier rules that
+    /// decide on its addresses.
     ///
     /// The error is `Refused` if lines are not rules, with all of them; and `Memory` if memory runs out.
     ///
     /// ```text
     /// of "deny 10.0.0.0/9\npermit 10.0.0.0/8\npermit 10.1.0.0/16\n":
-    /// Permitted(Deny, Networks):  "10.128.0.0/9\n"
-    /// Unreached:                  "line 3: permit 10.1.0.0/16\n  line 1: deny 10.0.0.0/9\n"
+    /// "line 3: permit 10.1.0.0/16\n  line 1: deny 10.0.0.0/9\n"
     /// ```
-    pub fn answer(self, query: RuleQuery) -> Result<Vec<u8>, RuleFailure>
+    pub fn unreached(self) -> Result<Vec<u8>, RuleFailure>
         ensures answer { IfOk result (λ text. (grammar : Grammar) → (bytes : List ℕ)
-            → IsRuleList grammar bytes (contents_of self) → IsRuleAnswer query grammar bytes text.items) }
+            → IsRuleList grammar bytes (contents_of self) → IsUnreachedAnswer grammar bytes text.items) }
         ensures failure { IfErr result (λ failure. (grammar : Grammar) → (bytes : List ℕ)
             → IsRuleList grammar bytes (contents_of self) → IsRuleFailure grammar bytes failure) }
     {
         if !self.refused.is_empty() {
             return Err(RuleFailure::Refused(self.refused));
         }
-        Ok(reply(self, query)?)
+        Ok(unreached_text(self)?)
     }
 }

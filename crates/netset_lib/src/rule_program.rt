@@ -1,23 +1,23 @@
-//! The commands of the program that read a list of rules, over any writers.
+//! The command `unreached` of the program, over any writers.
 ghost use Rattle.std.specs.Prelude.{◌≡◌, ◌≢◌, ◌≤◌, ◌⊎◌, ◌↔◌, List, [], ℕ};
 ghost use Rattle.std.specs.Io.KnownBytes.{Keeps};
 ghost use Rattle.ipnet.specs.declared.parser.Grammar.{Grammar};
-ghost use Rattle.netset_lib.specs.declared.rule_answer.RuleQuery.TheVariants.{Unreached};
 ghost use Rattle.ipnet_text.specs.Outputs.{IsWritten, IsFrontWritten};
-ghost use Rattle.netset_lib.specs.RuleAnswers.{IsRuleAnswer, IsOneUnreached, AreAllReached};
+ghost use Rattle.netset_lib.specs.RuleAnswers.{IsUnreachedAnswer, IsOneUnreached, AreAllReached};
 ghost use Rattle.netset_lib.specs.RuleContentsOf.{contents_of};
 ghost use Rattle.netset_lib.specs.RuleLines.{IsRuleList};
 
+use crate::content_line::report_refused;
 use crate::program::{NO_ENTRY, report_text};
-use crate::refused::MOST_LINES;
-use crate::rule_answer::{RuleFailure, RuleQuery};
+use crate::refused::LineCause;
+use crate::rule_answer::RuleFailure;
 use crate::rule_line::RuleCause;
-use crate::rule_list::{RefusedRule, RuleList};
+use crate::rule_list::RuleList;
 use crate::write::write_or_report;
 use std::io;
 use std::io::Write;
 
-/// Writes the answer over the list of rules to `out`, and returns the exit status.
+/// Writes the lines of the rules that decide on no address to `out`, and returns the exit status.
 ///
 /// `name` is the name of the list, for the reports on `faults`. If a report cannot be written, the status is the same.
 ///
@@ -26,19 +26,16 @@ use std::io::Write;
 /// | 2 | `NAME:LINE: not a rule: TEXT (CAUSE)`, ten at most | some lines are not rules |
 /// | 2 | `netset: out of memory` | memory runs out |
 /// | 2 | `netset: output cannot be written` | a write fails, or the flush after it; the answer may be out in part |
-/// | 1 | nothing | the unreached rules were asked for, and there are some; `out` has them |
+/// | 1 | nothing | there are such rules; `out` has them |
 /// | 0 | nothing | otherwise |
 ///
 /// If a text has more than 100 bytes, the first 100 are reported, and `..` after them.
 ///
 /// ```text
-/// Permitted(Deny, Networks) of "permit 10.0.0.0/9\npermit 10.128.0.0/9\n":  status 0, and out gets "10.0.0.0/8\n"
-/// Unreached of "deny 10.0.0.0/8\npermit 10.0.0.1\n":                        status 1, and out gets
-///     "line 2: permit 10.0.0.1\n  line 1: deny 10.0.0.0/8\n"
+/// "deny 10.0.0.0/8\npermit 10.0.0.1\n": status 1, and out gets "line 2: permit 10.0.0.1\n  line 1: deny 10.0.0.0/8\n"
 /// ```
-pub fn run_rules<W: Write, X: Write>(
+pub fn run_unreached<W: Write, X: Write>(
     list: RuleList,
-    query: RuleQuery,
     name: &str,
     out: &mut W,
     faults: &mut X,
@@ -46,18 +43,18 @@ pub fn run_rules<W: Write, X: Write>(
     ensures status { result ≤ 2 }
     ensures answered { result ≤ 1 → (grammar : Grammar) → (bytes : List ℕ)
         → IsRuleList grammar bytes (contents_of list)
-        → IsWritten (IsRuleAnswer query grammar bytes) (W.contents out.old) (W.contents out.new) }
+        → IsWritten (IsUnreachedAnswer grammar bytes) (W.contents out.old) (W.contents out.new) }
     ensures unreached { result ≡ 1 → (grammar : Grammar) → (bytes : List ℕ)
-        → IsRuleList grammar bytes (contents_of list) → (query ≡ Unreached) × IsOneUnreached grammar bytes }
-    ensures reached { result ≡ 0 → query ≡ Unreached → (grammar : Grammar) → (bytes : List ℕ)
+        → IsRuleList grammar bytes (contents_of list) → IsOneUnreached grammar bytes }
+    ensures reached { result ≡ 0 → (grammar : Grammar) → (bytes : List ℕ)
         → IsRuleList grammar bytes (contents_of list) → AreAllReached grammar bytes }
     ensures cut_short { result ≡ 2 → (grammar : Grammar) → (bytes : List ℕ)
         → IsRuleList grammar bytes (contents_of list)
         → Keeps (W.contents out.old) (W.contents out.new)
-        ⊎ IsFrontWritten (IsRuleAnswer query grammar bytes) (W.contents out.old) (W.contents out.new) }
+        ⊎ IsFrontWritten (IsUnreachedAnswer grammar bytes) (W.contents out.old) (W.contents out.new) }
     ensures faultless { result ≤ 1 → Keeps (X.contents faults.old) (X.contents faults.new) }
 {
-    let text = match list.answer(query) {
+    let text = match list.unreached() {
         Ok(text) => text,
         Err(failure) => {
             let _ = report_rule_failure(faults, name, &failure);
@@ -67,21 +64,18 @@ pub fn run_rules<W: Write, X: Write>(
     if !write_or_report(out, faults, text.as_slice()) {
         return 2;
     }
-    status_of(query, text.as_slice())
+    status_of(text.as_slice())
 }
 
-/// Returns the exit status for this answer: 1 if unreached rules were asked for and found.
-fn status_of(query: RuleQuery, text: &[u8]) -> u8
+/// Returns the exit status for these lines: 1 if there are any.
+fn status_of(text: &[u8]) -> u8
     ensures status { result ≤ 1 }
-    ensures unreached { (result ≡ 1) ↔ ((query ≡ Unreached) × (text.now ≢ [])) }
+    ensures unreached { (result ≡ 1) ↔ (text.now ≢ []) }
 {
-    match query {
-        RuleQuery::Unreached if !text.is_empty() => 1,
-        _ => 0,
-    }
+    if text.is_empty() { 0 } else { 1 }
 }
 
-/// Reports why a list of rules has no answer, as `run_rules` does.
+/// Reports why a list of rules has no answer, as `run_unreached` does.
 pub fn report_rule_failure<X: Write>(
     faults: &mut X,
     name: &str,
@@ -89,37 +83,25 @@ pub fn report_rule_failure<X: Write>(
 ) -> io::Result<()> {
     match failure {
         RuleFailure::Memory => writeln!(faults, "netset: out of memory"),
-        RuleFailure::Refused(lines) => report_lines(faults, name, lines.as_slice()),
+        RuleFailure::Refused(lines) => report_refused(faults, name, lines.as_slice()),
     }
 }
 
-/// Reports the first refused lines, and the number of the others.
-fn report_lines<X: Write>(faults: &mut X, name: &str, lines: &[RefusedRule]) -> io::Result<()> {
-    let shown = lines.len().min(MOST_LINES);
-    for line in &lines[..shown] {
-        report_line(faults, name, line)?;
-    }
-    let more = lines.len() - shown;
-    if more != 0 {
-        writeln!(faults, "netset: and {more} more")?;
-    }
-    Ok(())
-}
-
-/// Reports one refused line, and why it is not a rule.
-fn report_line<X: Write>(faults: &mut X, name: &str, line: &RefusedRule) -> io::Result<()> {
-    report_text(
-        faults,
-        name,
-        line.number,
-        "not a rule",
-        line.text.as_slice(),
-    )?;
-    match line.cause {
-        RuleCause::UnknownWord => writeln!(faults, " (a rule begins with permit or deny)"),
-        RuleCause::NoEntry => writeln!(faults, " (no network, address or range follows)"),
-        RuleCause::TwoEntries => writeln!(faults, " (more than one word follows)"),
-        RuleCause::BadEntry(None) => writeln!(faults, " ({NO_ENTRY})"),
-        RuleCause::BadEntry(Some(cause)) => writeln!(faults, " ({cause})"),
+impl LineCause for RuleCause {
+    fn report<X: Write>(
+        &self,
+        faults: &mut X,
+        name: &str,
+        number: usize,
+        text: &[u8],
+    ) -> io::Result<()> {
+        report_text(faults, name, number, "not a rule", text)?;
+        match *self {
+            RuleCause::UnknownWord => writeln!(faults, " (a rule begins with permit or deny)"),
+            RuleCause::NoEntry => writeln!(faults, " (no network, address or range follows)"),
+            RuleCause::TwoEntries => writeln!(faults, " (more than one word follows)"),
+            RuleCause::BadEntry(None) => writeln!(faults, " ({NO_ENTRY})"),
+            RuleCause::BadEntry(Some(cause)) => writeln!(faults, " ({cause})"),
+        }
     }
 }

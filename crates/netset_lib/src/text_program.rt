@@ -8,7 +8,7 @@ use crate::cause::Cause;
 use crate::content_line::RefusedText;
 use crate::failure::Failure;
 use crate::program::{report_failure, report_text};
-use crate::refused::MOST_LINES;
+use crate::refused::{MOST_LINES, report_more};
 use crate::text_route::{TextFailure, table_of_texts, text_route_answers};
 use crate::write::write_or_report;
 use ipnet::Grammar;
@@ -143,9 +143,5 @@ fn report_lines<X: Write>(
             None => writeln!(faults)?,
         }
     }
-    let more = lines.len().saturating_sub(MOST_LINES);
-    if more != 0 {
-        writeln!(faults, "netset: and {more} more")?;
-    }
-    Ok(())
+    report_more(faults, lines.len() - shown)
 }

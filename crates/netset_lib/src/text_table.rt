@@ -1,8 +1,5 @@
 //! Tables of networks with texts, read line by line.
 ghost use Rattle.std.specs.Prelude.{IfOk, OnOk};
-ghost use Rattle.ipnet.specs.SubnetsLeft.{ip_subnets_left};
-ghost use Rattle.ipnet_base.specs.Blocks.{AreMaximalBlocks};
-ghost use Rattle.ipnet_sets.specs.SetRanges.{IsInRange};
 ghost use Rattle.netset_lib.specs.ContentLineOf.{line_of};
 ghost use Rattle.netset_lib.specs.EntryOf.{entry_range};
 ghost use Rattle.netset_lib.specs.TextSteps.{AddsBlocks, AddsTableLine, AreTextsRead, texts_in};
@@ -11,7 +8,7 @@ use crate::cause::Cause;
 use crate::content_line::{ContentLine, RefusedText, content_lines};
 use crate::entry::Entry;
 use crate::text_line::{TableLine, read_table_line};
-use ipnet::{Grammar, IpAddr, IpNet, IpSubnets, Ipv4Addr, Ipv4Subnets, Ipv6Subnets};
+use ipnet::{Grammar, IpNet};
 use std::alloc::{AllocError, Global};
 
 /// The routes of a table in the order of its lines, and its refused lines.
@@ -19,24 +16,6 @@ use std::alloc::{AllocError, Global};
 pub(crate) struct TextRoutes<'a> {
     pub(crate) routes: Vec<(IpNet, &'a str)>,
     pub(crate) refused: Vec<RefusedText<Option<Cause>>>,
-}
-
-/// Returns a walk over the fewest networks with the addresses of the entry.
-///
-/// ```text
-/// of 10.0.0.0-10.0.0.5: 10.0.0.0/30, 10.0.0.4/31
-/// ```
-pub fn walk_of(entry: Entry) -> IpSubnets
-    ensures { AreMaximalBlocks (IsInRange (entry_range entry)) 0 (ip_subnets_left result) }
-{
-    match entry.ends() {
-        (IpAddr::V4(first), IpAddr::V4(last)) => IpSubnets::V4(Ipv4Subnets::new(first, last, 0)),
-        (IpAddr::V6(first), IpAddr::V6(last)) => IpSubnets::V6(Ipv6Subnets::new(first, last, 0)),
-        _ => {
-            let address = Ipv4Addr::from_bits(0);
-            IpSubnets::V4(Ipv4Subnets::new(address, address, 0))
-        }
-    }
 }
 
 /// Puts the networks of the entry at the end of the routes, each with this text.
@@ -48,7 +27,7 @@ fn push_blocks<'a>(
     ensures { OnOk result
         (AddsBlocks (texts_in routes.old.items) (entry_range entry) text.now (texts_in routes.new.items)) }
 {
-    for network in walk_of(entry) {
+    for network in entry.walk() {
         routes.push((network, text))?;
     }
     Ok(())

@@ -12,7 +12,7 @@ use std::io::Write;
 /// ```text
 /// "10.0.0.0/8\n" to a writer that fails after four bytes: false, and "10.0" is written
 /// ```
-pub fn written<W: Write>(out: &mut W, bytes: &[u8]) -> bool
+pub fn write_and_flush<W: Write>(out: &mut W, bytes: &[u8]) -> bool
     ensures whole { IsTrue result → Appends (W.contents out.old) (W.contents out.new) bytes.now }
     ensures front { (front : List ℕ) × StartsWith bytes.now front
         × Appends (W.contents out.old) (W.contents out.new) front }
@@ -20,7 +20,7 @@ pub fn written<W: Write>(out: &mut W, bytes: &[u8]) -> bool
     write_whole(out, bytes).is_ok() && out.flush().is_ok()
 }
 
-/// Writes the bytes as `written` does, reports on `faults` if that fails, and returns whether it succeeded.
+/// Writes the bytes as `write_and_flush` does, reports on `faults` if that fails, and returns whether it succeeded.
 ///
 /// ```text
 /// "10.0.0.0/8\n" to a writer that fails after four bytes: false, "10.0" is written, and faults gets
@@ -32,7 +32,7 @@ pub fn write_or_report<W: Write, X: Write>(out: &mut W, faults: &mut X, bytes: &
         × Appends (W.contents out.old) (W.contents out.new) front }
     ensures faultless { IsTrue result → Keeps (X.contents faults.old) (X.contents faults.new) }
 {
-    if written(out, bytes) {
+    if write_and_flush(out, bytes) {
         return true;
     }
     let _ = writeln!(faults, "netset: output cannot be written");

@@ -5,16 +5,17 @@ ghost use Rattle.ipnet_pictures.specs.Frames.{HasNoFrame};
 ghost use Rattle.ipnet_sets.specs.Members.{IsMember, IsUnion};
 ghost use Rattle.ipnet_sets.specs.declared.set.IpSet.{IpSet};
 ghost use Rattle.netset_pictures.specs.BarAnswers.{width_text, IsFramedBar, IsFramedComparison};
-ghost use Rattle.netset_pictures.specs.declared.bar.BarFailure.TheVariants.{NoFrame, Memory};
+ghost use Rattle.netset_pictures.specs.declared.bar.PictureFailure.TheVariants.{NoFrame, Memory};
 
 use ipnet_pictures::{BarForm, Frame, RowWidth, bar_text, comparison_bar_text, frame_of};
 use ipnet_sets::IpSet;
 use std::alloc::{AllocError, Global};
+use std::io::Write;
 use thiserror::Error;
 
-/// Why there is no bar.
+/// Why there is no bar and no map.
 #[derive(Clone, Copy, Debug, PartialEq, Eq, Drop, Error)]
-pub enum BarFailure {
+pub enum PictureFailure {
     /// No network is named, and the lists have no address around which to draw one.
     #[error("no address to draw: name a network with --in")]
     NoFrame,
@@ -23,11 +24,21 @@ pub enum BarFailure {
     Memory,
 }
 
-impl From<AllocError> for BarFailure {
+impl From<AllocError> for PictureFailure {
     ghost from_gives = { λ _ result. result ≡ Memory };
 
-    fn from(_: AllocError) -> BarFailure {
-        BarFailure::Memory
+    fn from(_: AllocError) -> PictureFailure {
+        PictureFailure::Memory
+    }
+}
+
+impl PictureFailure {
+    /// Reports the failure on `faults`, and returns the exit status.
+    pub(crate) fn report<X: Write>(self, faults: &mut X) -> u8
+        ensures { result ≡ 2 }
+    {
+        let _ = writeln!(faults, "netset: {self}");
+        2
     }
 }
 
@@ -68,12 +79,12 @@ pub fn framed_bar_text(
     alloc: Global,
     set: &IpSet,
     request: BarRequest,
-) -> Result<String, BarFailure>
+) -> Result<String, PictureFailure>
     ensures bar { IfOk result (λ text. IsFramedBar (IsMember set.now) request.frame request.form (string_bytes text)) }
     ensures none { result ≡ Err NoFrame → HasNoFrame request.frame (IsMember set.now) }
 {
     let Some(network) = frame_of(alloc, set, request.frame)? else {
-        return Err(BarFailure::NoFrame);
+        return Err(PictureFailure::NoFrame);
     };
     Ok(bar_text(alloc, set, &network, request.form)?)
 }
@@ -89,7 +100,7 @@ pub fn framed_comparison_text(
     before: &IpSet,
     after: &IpSet,
     request: BarRequest,
-) -> Result<String, BarFailure>
+) -> Result<String, PictureFailure>
     ensures bar { IfOk result (λ text.
         IsFramedComparison before.now after.now request.frame request.form (string_bytes text)) }
     ensures none { result ≡ Err NoFrame
@@ -97,7 +108,7 @@ pub fn framed_comparison_text(
 {
     let all = before.union(alloc, after)?;
     let Some(network) = frame_of(alloc, &all, request.frame)? else {
-        return Err(BarFailure::NoFrame);
+        return Err(PictureFailure::NoFrame);
     };
     Ok(comparison_bar_text(alloc, before, after, &network, request.form)?)
 }

@@ -20,7 +20,7 @@ use std::io::Write;
 /// | Status | On `faults` | When |
 /// |---|---|---|
 /// | 2 | as `run` reports it | the lists have no set |
-/// | 2 | `netset: no address to draw: name a network with --in` | as `BarFailure::NoFrame` says |
+/// | 2 | `netset: no address to draw: name a network with --in` | as `PictureFailure::NoFrame` says |
 /// | 2 | `netset: out of memory` | memory runs out |
 /// | 2 | `netset: output cannot be written` | a write fails, or the flush after it; the bar may be out in part |
 /// | 0 | nothing | otherwise |
@@ -48,10 +48,7 @@ pub fn run_bar<W: Write, X: Write>(
     };
     let text = match framed_bar_text(alloc, &set, request) {
         Ok(text) => text,
-        Err(failure) => {
-            let _ = writeln!(faults, "netset: {failure}");
-            return 2;
-        }
+        Err(failure) => return failure.report(faults),
     };
     write_answer(out, faults, text.as_bytes())
 }
@@ -65,7 +62,7 @@ pub fn run_bar<W: Write, X: Write>(
 /// | Status | On `faults` | When |
 /// |---|---|---|
 /// | 2 | as `run` reports it | there are not two lists, or lines of them are not entries |
-/// | 2 | `netset: no address to draw: name a network with --in` | as `BarFailure::NoFrame` says |
+/// | 2 | `netset: no address to draw: name a network with --in` | as `PictureFailure::NoFrame` says |
 /// | 2 | `netset: out of memory` | memory runs out |
 /// | 2 | `netset: output cannot be written` | a write fails, or the flush after it; the bar may be out in part |
 /// | 1 | nothing | the lists do not have the same addresses |
@@ -106,10 +103,7 @@ pub fn run_comparison_bar<W: Write, X: Write>(
     };
     let text = match framed_comparison_text(alloc, &before, &after, request) {
         Ok(text) => text,
-        Err(failure) => {
-            let _ = writeln!(faults, "netset: {failure}");
-            return 2;
-        }
+        Err(failure) => return failure.report(faults),
     };
     if !write_or_report(out, faults, text.as_bytes()) {
         return 2;

@@ -9,7 +9,9 @@ pub mod map_program;
 pub mod plan_bar;
 pub mod plan_bar_program;
 
-pub use bar::{BarFailure, BarRequest, framed_bar_text, framed_comparison_text, read_row_width};
+pub use bar::{
+    BarRequest, PictureFailure, framed_bar_text, framed_comparison_text, read_row_width,
+};
 pub use bar_program::{run_bar, run_comparison_bar};
 pub use locale::{LocaleValues, MarkChoice, chosen_marks, is_utf8_locale};
 pub use map::{

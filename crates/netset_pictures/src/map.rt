@@ -6,9 +6,9 @@ ghost use Rattle.ipnet_sets.specs.Members.{IsMember, IsUnion};
 ghost use Rattle.ipnet_sets.specs.declared.set.IpSet.{IpSet};
 ghost use Rattle.netset_pictures.specs.MapAnswers.{theme_text, IsFramedMap, IsFramedSetsMap, IsFramedChangeMap};
 ghost use Rattle.svg_maps.specs.declared.style.Theme.{Theme};
-ghost use Rattle.netset_pictures.specs.declared.bar.BarFailure.TheVariants.{NoFrame};
+ghost use Rattle.netset_pictures.specs.declared.bar.PictureFailure.TheVariants.{NoFrame};
 
-use crate::bar::BarFailure;
+use crate::bar::PictureFailure;
 use ipnet_pictures::{Frame, frame_of};
 use ipnet_sets::IpSet;
 use std::alloc::Global;
@@ -49,12 +49,12 @@ pub fn framed_map_text(
     alloc: Global,
     set: &IpSet,
     request: MapRequest<'_>,
-) -> Result<String, BarFailure>
+) -> Result<String, PictureFailure>
     ensures map { IfOk result (λ text. IsFramedMap set.now request.entry (string_bytes text)) }
     ensures none { result ≡ Err NoFrame → HasNoFrame request.entry.frame (IsMember set.now) }
 {
     let Some(network) = frame_of(alloc, set, request.frame)? else {
-        return Err(BarFailure::NoFrame);
+        return Err(PictureFailure::NoFrame);
     };
     Ok(set_map_text(alloc, &network, set, request.look)?)
 }
@@ -71,14 +71,14 @@ pub fn framed_sets_map_text(
     sets: &[IpSet],
     names: &[&str],
     request: MapRequest<'_>,
-) -> Result<String, BarFailure>
+) -> Result<String, PictureFailure>
     ensures map { IfOk result (λ text.
         IsFramedSetsMap sets.now (map (λ name. name.now) names.now) request.entry (string_bytes text)) }
     ensures none { result ≡ Err NoFrame → HasNoFrame request.entry.frame (IsInSome IsMember sets.now) }
 {
     let all = IpSet::union_all(alloc, sets)?;
     let Some(network) = frame_of(alloc, &all, request.frame)? else {
-        return Err(BarFailure::NoFrame);
+        return Err(PictureFailure::NoFrame);
     };
     Ok(sets_map_text(alloc, &network, sets, names, request.look)?)
 }
@@ -95,14 +95,14 @@ pub fn framed_change_map_text(
     before: &IpSet,
     after: &IpSet,
     request: MapRequest<'_>,
-) -> Result<String, BarFailure>
+) -> Result<String, PictureFailure>
     ensures map { IfOk result (λ text. IsFramedChangeMap before.now after.now request.entry (string_bytes text)) }
     ensures none { result ≡ Err NoFrame
         → ((all : IpSet) × IsUnion all before.now after.now × HasNoFrame request.entry.frame (IsMember all)) }
 {
     let all = before.union(alloc, after)?;
     let Some(network) = frame_of(alloc, &all, request.frame)? else {
-        return Err(BarFailure::NoFrame);
+        return Err(PictureFailure::NoFrame);
     };
     Ok(change_map_text(alloc, &network, before, after, request.look)?)
 }

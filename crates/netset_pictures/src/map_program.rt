@@ -20,7 +20,7 @@ use std::io::Write;
 /// | Status | On `faults` | When |
 /// |---|---|---|
 /// | 2 | as `run` reports it | the lists have no set |
-/// | 2 | `netset: no address to draw: name a network with --in` | as `BarFailure::NoFrame` says |
+/// | 2 | `netset: no address to draw: name a network with --in` | as `PictureFailure::NoFrame` says |
 /// | 2 | `netset: out of memory` | memory runs out |
 /// | 2 | `netset: output cannot be written` | a write fails, or the flush after it; the map may be out in part |
 /// | 0 | nothing | otherwise |
@@ -47,10 +47,7 @@ pub fn run_map<W: Write, X: Write>(
     };
     let text = match framed_map_text(alloc, &set, request) {
         Ok(text) => text,
-        Err(failure) => {
-            let _ = writeln!(faults, "netset: {failure}");
-            return 2;
-        }
+        Err(failure) => return failure.report(faults),
     };
     write_answer(out, faults, text.as_bytes())
 }
@@ -64,7 +61,7 @@ pub fn run_map<W: Write, X: Write>(
 /// | Status | On `faults` | When |
 /// |---|---|---|
 /// | 2 | as `run` reports it | the operation takes another number of lists, or lines of them are not entries |
-/// | 2 | `netset: no address to draw: name a network with --in` | as `BarFailure::NoFrame` says |
+/// | 2 | `netset: no address to draw: name a network with --in` | as `PictureFailure::NoFrame` says |
 /// | 2 | `netset: out of memory` | memory runs out |
 /// | 2 | `netset: output cannot be written` | a write fails, or the flush after it; the map may be out in part |
 /// | 0 | nothing | otherwise |
@@ -98,10 +95,7 @@ pub fn run_sets_map<W: Write, X: Write>(
     };
     let text = match framed_sets_map_text(alloc, sets.as_slice(), names, request) {
         Ok(text) => text,
-        Err(failure) => {
-            let _ = writeln!(faults, "netset: {failure}");
-            return 2;
-        }
+        Err(failure) => return failure.report(faults),
     };
     write_answer(out, faults, text.as_bytes())
 }
@@ -115,7 +109,7 @@ pub fn run_sets_map<W: Write, X: Write>(
 /// | Status | On `faults` | When |
 /// |---|---|---|
 /// | 2 | as `run` reports it | there are not two lists, or lines of them are not entries |
-/// | 2 | `netset: no address to draw: name a network with --in` | as `BarFailure::NoFrame` says |
+/// | 2 | `netset: no address to draw: name a network with --in` | as `PictureFailure::NoFrame` says |
 /// | 2 | `netset: out of memory` | memory runs out |
 /// | 2 | `netset: output cannot be written` | a write fails, or the flush after it; the map may be out in part |
 /// | 1 | nothing | the lists do not have the same addresses |
@@ -152,10 +146,7 @@ pub fn run_change_map<W: Write, X: Write>(
     };
     let text = match framed_change_map_text(alloc, &before, &after, request) {
         Ok(text) => text,
-        Err(failure) => {
-            let _ = writeln!(faults, "netset: {failure}");
-            return 2;
-        }
+        Err(failure) => return failure.report(faults),
     };
     if !write_or_report(out, faults, text.as_bytes()) {
         return 2;

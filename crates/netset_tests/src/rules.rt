@@ -1,27 +1,35 @@
 //! Lists of rules: their lines, the answers, the reports, and refused memory.
 use ipnet::{Grammar, IpAddr, Ipv4Addr, Ipv6Addr};
 use ipnet_rules::{Action, Rules};
-use netset_lib::{Form, ReadFailure, RuleFailure, RuleList, RuleQuery, run_rules};
+use netset_lib::{ReadFailure, RuleFailure, RuleList, lines_of_ranges, run_unreached};
 use std::alloc::Global;
 use std::io::ErrorKind;
 use std::test::Fail;
 use test_support::devices::{ArrayWriter, ByteReader, NEVER, WHOLE};
 use test_support::memory::{Outcome, grow_stack, is_refused};
 
-/// The addresses that are permitted, as networks, if the default is to deny.
-const PERMITTED: RuleQuery = RuleQuery::Permitted(Action::Deny, Form::Networks);
-
 /// A list of rules with an unreached one on line 6.
 const LIST: &str = "\u{feff}deny 10.0.1.128/25 # leased\r\n\npermit 10.0.0.0/23\n\
     ; IPv6\npermit\tfd00::-fd00::f\npermit 10.0.1.192/26\npermit 10.0.0.9";
 
-/// The outcome of the query over the list, if this text is the right answer.
-fn outcome(alloc: Global, list: &str, query: RuleQuery, wanted: &str) -> Outcome {
+/// The ranges that the rules permit, with this default; without one, the lines of the unreached rules.
+fn answer(alloc: Global, list: RuleList, default: Option<Action>) -> Result<Vec<u8>, RuleFailure> {
+    match default {
+        Some(default) => {
+            let set = list.permitted(default)?;
+            Ok(lines_of_ranges(alloc, &set)?.into_bytes())
+        }
+        None => list.unreached(),
+    }
+}
+
+/// The outcome of `answer`, if this text is right.
+fn outcome(alloc: Global, list: &str, default: Option<Action>, wanted: &str) -> Outcome {
     let list = match RuleList::from_bytes(alloc, list.as_bytes(), Grammar::Strict) {
         Ok(list) => list,
         Err(_) => return Outcome::Refused,
     };
-    match list.answer(query) {
+    match answer(alloc, list, default) {
         Ok(text) => {
             if text.as_slice() == wanted.as_bytes() {
                 Outcome::Answered
@@ -38,58 +46,58 @@ fn outcome(alloc: Global, list: &str, query: RuleQuery, wanted: &str) -> Outcome
 
 #[test]
 fn no_rule(rt: HostRuntime) {
-    let found = outcome(rt.alloc(), "# none\n", PERMITTED, "");
+    let found = outcome(rt.alloc(), "# none\n", Some(Action::Deny), "");
     assert!(&rt; found == Outcome::Answered, "no rule");
 }
 
 #[test]
 fn answers(rt: HostRuntime) -> Result<(), Fail> {
     grow_stack(rt.alloc())?;
-    // label, list, query, answer
+    // label, list, default, answer
     let rows = [
         (
             "no rule, permit by default",
             "",
-            RuleQuery::Permitted(Action::Permit, Form::Ranges),
+            Some(Action::Permit),
             "0.0.0.0-255.255.255.255\n::-ffff:ffff:ffff:ffff:ffff:ffff:ffff:ffff\n",
         ),
         (
             "the first match decides",
             "permit 10.0.0.0/24\ndeny 10.0.0.0/16\npermit 10.0.0.0/15\n",
-            PERMITTED,
-            "10.0.0.0/24\n10.1.0.0/16\n",
+            Some(Action::Deny),
+            "10.0.0.0-10.0.0.255\n10.1.0.0-10.1.255.255\n",
         ),
         (
             "all forms of lines",
             LIST,
-            RuleQuery::Permitted(Action::Deny, Form::Ranges),
+            Some(Action::Deny),
             "10.0.0.0-10.0.1.127\nfd00::-fd00::f\n",
         ),
         (
             "unreached rules",
             LIST,
-            RuleQuery::Unreached,
+            None,
             "line 6: permit 10.0.1.192/26\n  line 1: deny 10.0.1.128/25\n\
              line 7: permit 10.0.0.9\n  line 3: permit 10.0.0.0/23\n",
         ),
         (
             "two rules cover one",
             "deny 10.0.0.0/9\npermit 10.128.0.0/9\npermit 10.0.0.0/8\n",
-            RuleQuery::Unreached,
+            None,
             "line 3: permit 10.0.0.0/8\n  line 1: deny 10.0.0.0/9\n  line 2: permit 10.128.0.0/9\n",
         ),
         (
             "all are reached",
             "deny 10.0.0.0/9\npermit 10.0.0.0/8\n",
-            RuleQuery::Unreached,
+            None,
             "",
         ),
     ];
-    for (label, list, query, wanted) in rows {
+    for (label, list, default, wanted) in rows {
         let alloc = rt.alloc();
-        let found = outcome(alloc, list, query, wanted);
+        let found = outcome(alloc, list, default, wanted);
         assert!(&rt; found == Outcome::Answered, "{label}");
-        let call = || outcome(alloc, list, query, wanted);
+        let call = || outcome(alloc, list, default, wanted);
         assert!(&rt; is_refused(alloc, call)?, "memory: {label}");
     }
     Ok(())
@@ -149,7 +157,7 @@ fn reports(rt: HostRuntime) -> Result<(), Fail> {
         let read = RuleList::from_bytes(alloc, list.as_bytes(), Grammar::Strict)?;
         let mut out = ArrayWriter::whole();
         let mut faults = ArrayWriter::whole();
-        let status = run_rules(read, PERMITTED, "a", &mut out, &mut faults);
+        let status = run_unreached(read, "a", &mut out, &mut faults);
         assert!(&rt; status == 2 && out.held().is_empty(), "{list}: status");
         let reported = faults.held();
         assert!(&rt; reported.starts_with(b"a:1: not a rule: "), "{list}: place");
@@ -161,22 +169,20 @@ fn reports(rt: HostRuntime) -> Result<(), Fail> {
 #[test]
 fn statuses(rt: HostRuntime) -> Result<(), Fail> {
     let alloc = rt.alloc();
-    // list, query, status, output
+    // list, status, output
     let rows = [
-        ("permit 10.0.0.1\n", PERMITTED, 0, "10.0.0.1/32\n"),
-        ("permit 10.0.0.1\n", RuleQuery::Unreached, 0, ""),
+        ("permit 10.0.0.1\n", 0, ""),
         (
             "permit 10.0.0.1\ndeny 10.0.0.1\n",
-            RuleQuery::Unreached,
             1,
             "line 2: deny 10.0.0.1\n  line 1: permit 10.0.0.1\n",
         ),
     ];
-    for (list, query, status, output) in rows {
+    for (list, status, output) in rows {
         let read = RuleList::from_bytes(alloc, list.as_bytes(), Grammar::Strict)?;
         let mut out = ArrayWriter::whole();
         let mut faults = ArrayWriter::whole();
-        let found = run_rules(read, query, "a", &mut out, &mut faults);
+        let found = run_unreached(read, "a", &mut out, &mut faults);
         assert!(&rt; found == status, "{list}: status");
         assert!(&rt; out.held() == output.as_bytes(), "{list}: output");
         assert!(&rt; faults.held().is_empty(), "{list}: report");

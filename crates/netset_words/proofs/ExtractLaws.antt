@@ -1,9 +1,9 @@
 -- Lines that are read one after another, their entries and their refused lines.
-use Rattle.std.proofs.Common.{◌≡◌, ◌≢◌, ◌↔◌, ℕ, ◌+◌, ◌≤◌, ◌||◌, Bool, true, false, List, [], ◌∷◌}
+use Rattle.std.proofs.Common.{◌≡◌, ◌≢◌, ◌↔◌, ℕ, ◌+◌, ◌||◌, Bool, true, false, List, [], ◌∷◌}
 use Rattle.std.proofs.Common.{◌++◌, length, take, refl, sym, ap, ◌∙◌, arith, inl, inr, subst, append_assoc}
-use Rattle.std.proofs.Common.{append-nil, length-append, drop, ◌-◌, Option, add-zero, take_all}
+use Rattle.std.proofs.Common.{append-nil, length-append, drop, ◌-◌, Option, add-zero}
 use Rattle.std.proofs.Math.ListN.{drop_of_length-le}
-use Rattle.std.proofs.lemmas.List.{length-map, take-append-drop, take_rest}
+use Rattle.std.proofs.lemmas.List.{take-append-drop, take_rest}
 use Rattle.ipnet.specs.Lines.{lines_of}
 use Rattle.std.specs.Io.KnownBytes.{Consumes, IsAtEnd}
 use Rattle.ipnet_text.proofs.ClosedLines.{IsClosed, closed_append, closed_behind}
@@ -59,7 +59,7 @@ or_false : (a : Bool) → a ≡ (a || false)
 or_false true = refl
 or_false false = refl
 
-words_none : (reader : WordReader) → ReadsWords reader reader []
+pub words_none : (reader : WordReader) → ReadsWords reader reader []
 words_none reader = record {
   same_request = refl;
   same_list = refl;

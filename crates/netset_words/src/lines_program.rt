@@ -17,7 +17,7 @@ ghost use Rattle.netset_words.specs.FilterSteps.{IsLogUpTo, IsTaken, IsStreamed}
 use crate::line_filter::LineFilter;
 use crate::refused_word::RefusedWords;
 use ipnet_text::{ReadError, Window};
-use netset_lib::{MOST_READS, ReadFailure, begin_input, report_since, written};
+use netset_lib::{MOST_READS, ReadFailure, begin_input, report_since, write_and_flush};
 use std::alloc::AllocError;
 use std::io;
 use std::io::{Read, Write};
@@ -61,7 +61,7 @@ fn put<W: Write>(text: &mut Vec<u8>, out: &mut W) -> Result<(), LogFailure>
     ensures front { (front : List ℕ) × StartsWith text.old.items front
         × Appends (W.contents out.old) (W.contents out.new) front }
 {
-    if !written(out, text.as_slice()) {
+    if !write_and_flush(out, text.as_slice()) {
         return Err(LogFailure::Unwritable);
     }
     text.clear();

@@ -18,7 +18,7 @@ use crate::mark::MOST_READS;
 use crate::query::Query;
 use crate::reading::{ReadFailure, Reading};
 use crate::refused::report_since;
-use crate::write::written;
+use crate::write::write_and_flush;
 use ipnet_text::ReadError;
 use std::alloc::AllocError;
 use std::io::{Read, Write};
@@ -85,7 +85,7 @@ fn put<W: Write>(answers: &mut Answers, out: &mut W) -> Result<(), StreamFailure
         × Appends (W.contents out.old) (W.contents out.new) front }
     ensures cause { IfErr result IsBroken }
 {
-    if !written(out, answers.text.as_bytes()) {
+    if !write_and_flush(out, answers.text.as_bytes()) {
         return Err(StreamFailure::Unwritable);
     }
     answers.text.clear();

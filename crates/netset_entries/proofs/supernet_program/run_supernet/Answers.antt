@@ -1,4 +1,4 @@
-use Rattle.std.proofs.Common.{refl, subst, inr, string_bytes}
+use Rattle.std.proofs.Common.{subst, inr, string_bytes}
 use Rattle.std.proofs.KnownBytes.{Keeps-trans}
 use Rattle.std.specs.Io.{StartsWith}
 use Rattle.std.specs.Io.KnownBytes.{Appends}

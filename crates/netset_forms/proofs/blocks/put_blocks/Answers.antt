@@ -42,7 +42,7 @@ loop-range-preserved g c =
     (held c.loop-range.out) (held c.put_walk.new.out) c.args.piece.now.bytes c.loop-range.piece.bytes
     c.put_walk.new.piece.bytes c.loop-range.none c.in_ok-none.none (ranges_left c.loop-range.range-iterator)
     (ranges_left c.next.new.self) (ip_range c.in-Some.range) (ip_subnets_left c.walk_of-walk.result)
-    c.in-Some.ensures.steps c.walk_of-walk.ensures c.in_ok-none.ensures.none c.in_ok-none.ensures.ok
+    c.in-Some.ensures.steps c.walk_of-walk.ensures.blocks c.in_ok-none.ensures.none c.in_ok-none.ensures.ok
     c.loop-range.invariant
 
 pub returns-in_err-none-clause-cut : goal.returns-in_err-none-clause-cut
@@ -53,7 +53,7 @@ returns-in_err-none-clause-cut g c =
     (putting_cut (layout_of p.frame) (item_text p.item) p.min_length (IsMember p.set) (held c.args.out.now)
     (held c.loop-range.out) (held c.put_walk.new.out) c.args.piece.now.bytes c.loop-range.piece.bytes c.loop-range.none
     (ranges_left c.loop-range.range-iterator) (ranges_left c.next.new.self) (ip_range c.in-Some.range)
-    (ip_subnets_left c.walk_of-walk.result) c.in-Some.ensures.steps c.walk_of-walk.ensures
+    (ip_subnets_left c.walk_of-walk.result) c.in-Some.ensures.steps c.walk_of-walk.ensures.blocks
     c.in_err-none.ensures.cut c.requires c.loop-range.invariant)
 
 pub returns-clause-ok : goal.returns-clause-ok

@@ -32,7 +32,7 @@ returns c =
     ++ map (λ n. (n, text)) (ip_subnets_left c.into_iter-network-iterator.result) in (
       ip_subnets_left c.into_iter-network-iterator.result,
       subst (λ w. AreMaximalBlocks (IsInRange (entry_range c.args.entry)) 0 (ip_subnets_left w))
-          (sym c.into_iter-network-iterator.ensures.into_iter_gives) c.walk_of-network-items.ensures,
+          (sym c.into_iter-network-iterator.ensures.into_iter_gives) c.walk-network-items.ensures,
       sym (append-nil now)
           ∙ subst (λ z. now ++ map (λ k. (k, text)) z ≡ whole) c.in-None.ensures.steps.0 c.loop-network.invariant,
     )

@@ -1,11 +1,26 @@
-use Rattle.std.proofs.Common.{◌≡◌, ◌++◌, length, true, false, sym, ap, ◌∙◌, subst, append-nil}
-use Rattle.std.proofs.lemmas.Bool.{eqb-false}
+use Rattle.std.proofs.Common.{◌≡◌, ◌++◌, [], length, true, false, refl, sym, ap, ◌∙◌, subst, append-nil}
+use Rattle.std.proofs.lemmas.Bool.{eqb-true, eqb-false}
 use Rattle.ipnet.specs.Lines.{lines_of}
+use Rattle.ipnet_text.proofs.LineCuts.{empty_text}
 use Rattle.netset_words.specs.ExtractSteps.{ReadsWords}
-use Rattle.netset_words.proofs.ExtractLaws.{front_after}
+use Rattle.netset_words.proofs.ExtractLaws.{front_after, words_none}
 use Rattle.netset_words.proofs.extraction.read_front.Goals as goal
 use Rattle.netset_words.proofs.extraction.read_front.Goals.{else-is_empty-2-via-then-is_empty-2+else-more}
 use Rattle.netset_words.proofs.extraction.read_front.Goals.{else-is_empty-2-via-else-is_empty-2}
+
+pub returns-then-more : goal.returns-then-more
+returns-then-more c =
+    let carry = c.args.carry.now.items in
+    let front = c.args.front.now in
+    let none : front ≡ [] =
+    empty_text front (eqb-true (length front) 0 (sym c.is_empty-2.ensures ∙ c.if-is_empty-2.true)) in
+    record {
+      taken = [];
+      is = ap (λ z. carry ++ z) none ∙ append-nil carry;
+      closed = λ e rest. refl;
+      all = λ e. let clash : true ≡ false = sym c.if-more.true ∙ e in absurd cc;
+      lines = words_none c.args.words.now;
+    }
 
 pub returns : goal.returns
 returns c =

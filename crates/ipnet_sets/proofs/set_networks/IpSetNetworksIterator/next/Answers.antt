@@ -7,11 +7,14 @@ use Rattle.ipnet_sets.specs.RangesLeft.{ranges_left}
 use Rattle.ipnet_sets.proofs.NetworkListLaws.{first_range_valid, first_network}
 use Rattle.ipnet_sets.proofs.set_networks.IpSetNetworksIterator.next.Goals as goal
 
+pub walk_of-self-requires-clause-some : goal.walk_of-self-requires-clause-some
+walk_of-self-requires-clause-some c =
+    (first_range_valid c.args.self.now.ranges (ip_range c.in_ok-range.range) (ranges_left c.next-2.new.self)
+    c.in_ok-range.ensures.steps).0
+
 pub returns-in_err-network-clause-steps : goal.returns-in_err-network-clause-steps
 returns-in_err-network-clause-steps c =
-    let valid = first_range_valid c.args.self.now.ranges (ip_range c.in_ok-range.range)
-    (ranges_left c.next-2.new.self) c.in_ok-range.ensures.steps in
-    absurd (omega (arith, c.walk_of-self.ensures.some valid.0, c.in_err-network.ensures.goes.over.0 refl))
+    absurd (omega (arith, c.walk_of-self.ensures.some, c.in_err-network.ensures.goes.over.0 refl))
 
 pub returns-clause-steps : goal.returns-clause-steps
 returns-clause-steps c =
@@ -20,7 +23,7 @@ returns-clause-steps c =
     let valid = first_range_valid c.args.self.now.ranges r later c.in_ok-range.ensures.steps in
     first_network (ip_subnets_left c.walk_of-self.result) (ip_subnets_left c.args.self.now.walk)
     (ip_network c.in_ok-network.network) (ip_subnets_left c.next-3.new.self) (ranges_left c.args.self.now.ranges) later
-    r c.in_default.ensures.steps.0 c.in_ok-range.ensures.steps valid.1 (c.walk_of-self.ensures.blocks valid.0)
+    r c.in_default.ensures.steps.0 c.in_ok-range.ensures.steps valid.1 c.walk_of-self.ensures.blocks
     c.in_ok-network.ensures.steps
 
 pub returns-clause-goes : goal.returns-clause-goes

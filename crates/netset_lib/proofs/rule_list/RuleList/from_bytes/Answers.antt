@@ -1,16 +1,24 @@
-use Rattle.std.proofs.Common.{subst}
-use Rattle.ipnet.specs.Lines.{lines_of}
-use Rattle.netset_lib.specs.Lists.{after_mark}
+-- Each line gives one rule or one refused line.
+use Rattle.std.proofs.Common.{map, sym, subst}
+use Rattle.netset_lib.specs.ContentLineOf.{line_of}
+use Rattle.netset_lib.specs.ContentLines.{AreContentLines}
 use Rattle.netset_lib.specs.RuleContentsOf.{contents_of}
-use Rattle.netset_lib.specs.RuleLines.{AreRuleLines}
-use Rattle.netset_lib.proofs.RuleLaws.{up_to_end}
+use Rattle.netset_lib.proofs.RuleLaws.{rules_more, rules_whole}
 use Rattle.netset_lib.proofs.rule_list.RuleList.from_bytes.Goals as goal
+
+pub loop-line-init : goal.loop-line-init
+loop-line-init c = c.new-list.ensures
+
+pub loop-line-preserved : goal.loop-line-preserved
+loop-line-preserved c =
+    rules_more c.args.grammar c.as_slice-line-items.result.now c.loop-line.line-index _ (contents_of c.loop-line.list)
+    (contents_of c.add_line.new.self) c.loop-line-test.true c.loop-line.invariant c.in_ok-add_line.ensures
 
 pub returns : goal.returns
 returns c =
-    let reader = c.new-reader.result in
-    let after = c.read_lines.new.self in
-    subst (λ g. AreRuleLines g 1 (lines_of (after_mark c.args.bytes.now)) (contents_of after.list))
-    c.new-reader.ensures.grammar
-    (subst (λ b. AreRuleLines reader.grammar 1 (lines_of b) (contents_of after.list)) c.skip_mark.ensures
-    (up_to_end reader after c.skip_mark.result.now c.in_ok-read_lines.ensures))
+    let items = c.as_slice-line-items.result.now in
+    rules_whole c.args.grammar c.args.bytes.now items c.loop-line.line-index (contents_of c.loop-line.list)
+    c.loop-line-test.false
+    (subst (λ z. AreContentLines c.args.grammar c.args.bytes.now (map line_of z))
+    (sym c.as_slice-line-items.ensures.value) c.in_ok-lines.ensures)
+    c.loop-line.invariant

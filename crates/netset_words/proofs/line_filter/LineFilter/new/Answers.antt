@@ -17,11 +17,11 @@ returns-clause-begun c = record {
     result = no_result;
     are = refl;
     partial = no_result;
-    current = inl record { rest_is = refl; kept = c.new-3.ensures.items; short = omega arith; nothing = refl };
-    text = c.new-2.ensures.items;
+    current = inl record { rest_is = refl; kept = c.new-2.ensures.items; short = omega arith; nothing = refl };
+    text = c.new.ensures.items;
     printed = refl;
     nones = refl;
-    undecided = c.new-4.ensures;
+    undecided = c.new-3.ensures;
     least_count = omega arith;
   };
 }

@@ -1,10 +1,9 @@
 use Rattle.std.proofs.Common.{refl, sym, subst, inr, ◌∙◌}
 use Rattle.std.specs.Io.{StartsWith}
 use Rattle.std.specs.Io.KnownBytes.{Appends}
-use Rattle.netset_lib.specs.RuleAnswers.{IsRuleAnswer}
 use Rattle.netset_lib.proofs.RuleAnswerLaws.{none_or_some}
 use Rattle.netset_lib.proofs.RuleAnswerLaws.{one_unreached, all_reached}
-use Rattle.netset_lib.proofs.rule_program.run_rules.Goals as goal
+use Rattle.netset_lib.proofs.rule_program.run_unreached.Goals as goal
 
 pub returns-clause-answered : goal.returns-clause-answered
 returns-clause-answered g c = λ few grammar bytes h. record {
@@ -16,22 +15,15 @@ returns-clause-answered g c = λ few grammar bytes h. record {
 
 pub returns-clause-unreached : goal.returns-clause-unreached
 returns-clause-unreached g c = λ one grammar bytes h.
-    let d = c.status_of.ensures.unreached.0 one in
-    let text = c.in-Ok.text.items in (
-      d.0,
-      one_unreached grammar bytes text
-          (subst (λ q. IsRuleAnswer q grammar bytes text) d.0 (c.in-Ok.ensures.answer grammar bytes h))
-          (λ none. d.1 (c.as_slice-2.ensures.value ∙ none)),
-    )
+    one_unreached grammar bytes c.in-Ok.text.items (c.in-Ok.ensures.answer grammar bytes h)
+    (λ none. c.status_of.ensures.unreached.0 one (c.as_slice-2.ensures.value ∙ none))
 
 pub returns-clause-reached : goal.returns-clause-reached
-returns-clause-reached g c = λ zero is grammar bytes h.
-    let text = c.in-Ok.text.items in
-    all_reached grammar bytes text
-    (subst (λ q. IsRuleAnswer q grammar bytes text) is (c.in-Ok.ensures.answer grammar bytes h))
+returns-clause-reached g c = λ zero grammar bytes h.
+    all_reached grammar bytes c.in-Ok.text.items (c.in-Ok.ensures.answer grammar bytes h)
     (sym c.as_slice-2.ensures.value
     ∙ none_or_some c.as_slice-2.result.now c.status_of.result zero
-    (λ some. c.status_of.ensures.unreached.1 (is, some)))
+    (λ some. c.status_of.ensures.unreached.1 some))
 
 pub returns-then-not-write_or_report-clause-cut_short : goal.returns-then-not-write_or_report-clause-cut_short
 returns-then-not-write_or_report-clause-cut_short g c = λ two grammar bytes h.
