@@ -192,6 +192,33 @@ fn draw_lists(
     draw(session, request, names, matches.get_flag(COMPARE), streams)
 }
 
+/// Reads the names of networks from these bytes, and the lists, prints the map, and returns the exit status.
+fn draw_named(
+    rt: &HostRuntime,
+    matches: &ArgMatches,
+    frame: Frame,
+    bytes: &[u8],
+    streams: &mut Streams<'_>,
+) -> u8 {
+    let file = matches.get_str(NAMES).unwrap_or(STANDARD_INPUT);
+    let grammar = flags_of(matches).grammar();
+    let faults = &mut streams.faults;
+    let Some(table) = table_or_report(rt.alloc(), bytes, grammar, file, faults) else {
+        return 2;
+    };
+    let look = Look {
+        theme: theme_of(matches),
+        shows_free: matches.get_flag(FREE),
+        names: &table,
+        entries: MapEntries {
+            titled: &[],
+            count: 0,
+        },
+    };
+    let names = matches.get_strs(FIRST).unwrap_or(&[STANDARD_INPUT]);
+    draw_lists(rt, matches, names, MapRequest { frame, look }, streams)
+}
+
 /// Reads the arguments and the lists, prints the map, and returns the exit status.
 pub fn mapped(rt: &HostRuntime, matches: &ArgMatches, streams: &mut Streams<'_>) -> u8 {
     let frame = match frame_of(rt, matches) {
@@ -206,20 +233,5 @@ pub fn mapped(rt: &HostRuntime, matches: &ArgMatches, streams: &mut Streams<'_>)
         Ok(bytes) => bytes,
         Err(status) => return status,
     };
-    let file = matches.get_str(NAMES).unwrap_or(STANDARD_INPUT);
-    let grammar = flags_of(matches).grammar();
-    let faults = &mut streams.faults;
-    let Some(table) = table_or_report(rt.alloc(), bytes.as_slice(), grammar, file, faults) else {
-        return 2;
-    };
-    let look = Look {
-        theme: theme_of(matches),
-        shows_free: matches.get_flag(FREE),
-        names: &table,
-        entries: MapEntries {
-            titled: &[],
-            count: 0,
-        },
-    };
-    draw_lists(rt, matches, names, MapRequest { frame, look }, streams)
+    draw_named(rt, matches, frame, bytes.as_slice(), streams)
 }

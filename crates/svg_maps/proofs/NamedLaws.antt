@@ -1,5 +1,5 @@
 -- Networks with names, and the outlines over a map.
-use Rattle.std.proofs.Common.{List, ℕ, All, Contains, ◌↔◌}
+use Rattle.std.proofs.Common.{List, ℕ, Contains, ◌↔◌}
 use Rattle.std.proofs.lemmas.List.Elements.{All-map}
 use Rattle.ipnet_base.specs.Address.{Address}
 use Rattle.ipnet_base.specs.Network.{Network, IsSubnetOf}
