@@ -9,6 +9,7 @@ use crate::output::Streams;
 use crate::reading::{bytes_of, fill};
 use clap::{Arg, ArgMatches, Command};
 use ipnet_pictures::Frame;
+use ipnet_sets::RouteTable;
 use netset_entries::{EntryNotes, NotedEntry};
 use netset_lib::{Session, table_or_report};
 use netset_pictures::{MapRequest, read_theme, run_change_map, run_map, run_sets_map};
@@ -192,7 +193,30 @@ fn draw_lists(
     draw(session, request, names, matches.get_flag(COMPARE), streams)
 }
 
+/// Reads the lists, prints the map with these names of networks, and returns the exit status.
+fn draw_table(
+    rt: &HostRuntime,
+    matches: &ArgMatches,
+    frame: Frame,
+    table: &RouteTable<&str>,
+    streams: &mut Streams<'_>,
+) -> u8 {
+    let look = Look {
+        theme: theme_of(matches),
+        shows_free: matches.get_flag(FREE),
+        names: table,
+        entries: MapEntries {
+            titled: &[],
+            count: 0,
+        },
+    };
+    let names = matches.get_strs(FIRST).unwrap_or(&[STANDARD_INPUT]);
+    draw_lists(rt, matches, names, MapRequest { frame, look }, streams)
+}
+
 /// Reads the names of networks from these bytes, and the lists, prints the map, and returns the exit status.
+//
+// The check of borrows does not cover a table that is made and made part of a look in one function.
 fn draw_named(
     rt: &HostRuntime,
     matches: &ArgMatches,
@@ -202,21 +226,10 @@ fn draw_named(
 ) -> u8 {
     let file = matches.get_str(NAMES).unwrap_or(STANDARD_INPUT);
     let grammar = flags_of(matches).grammar();
-    let faults = &mut streams.faults;
-    let Some(table) = table_or_report(rt.alloc(), bytes, grammar, file, faults) else {
-        return 2;
-    };
-    let look = Look {
-        theme: theme_of(matches),
-        shows_free: matches.get_flag(FREE),
-        names: &table,
-        entries: MapEntries {
-            titled: &[],
-            count: 0,
-        },
-    };
-    let names = matches.get_strs(FIRST).unwrap_or(&[STANDARD_INPUT]);
-    draw_lists(rt, matches, names, MapRequest { frame, look }, streams)
+    match table_or_report(rt.alloc(), bytes, grammar, file, &mut streams.faults) {
+        Some(table) => draw_table(rt, matches, frame, &table, streams),
+        None => 2,
+    }
 }
 
 /// Reads the arguments and the lists, prints the map, and returns the exit status.
