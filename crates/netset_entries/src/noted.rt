@@ -45,27 +45,29 @@ fn title_of(alloc: Global, text: &str, comment: &[u8]) -> Result<String, AllocEr
     Ok(title)
 }
 
-/// Returns the prefix length of the network or address that a line of digits, letters, dots and colons may be, with a
-/// length after a slash, and whether it is of IPv6. `None` if the line has anything else.
+/// Returns the prefix length of the network or address that a line of hexadecimal digits, dots and colons may be, if it
+/// has a length after a slash or none, and whether it is of IPv6. `None` if the line has anything else.
+//
+// Most lines of a long list end here, so each byte is tested without a branch.
 fn plain_len(line: &[u8]) -> Option<(usize, bool)> {
+    let mut is_plain = !line.is_empty();
     let mut is_ipv6 = false;
-    for index in 0..line.len() {
-        match line[index] {
-            b'.' => {}
-            b':' => is_ipv6 = true,
-            b'/' => {
-                let len = read_length(str::from_utf8(&line[index..]).ok()?)?;
-                return Some((usize::from(len), is_ipv6));
-            }
-            byte => {
-                if !byte.is_ascii_alphanumeric() {
-                    return None;
-                }
-            }
-        }
+    for byte in line {
+        // these are ".", "/", the digits and ":"
+        let is_mark_or_digit = (*byte >= b'.') & (*byte <= b':');
+        let small = *byte | 32;
+        let is_letter = (small >= b'a') & (small <= b'f');
+        is_plain = is_plain & (is_mark_or_digit | is_letter);
+        is_ipv6 = is_ipv6 | (*byte == b':');
     }
-    if line.is_empty() {
+    if !is_plain {
         return None;
+    }
+    for index in line.len().saturating_sub(4)..line.len() {
+        if line[index] == b'/' {
+            let len = read_length(str::from_utf8(&line[index..]).ok()?)?;
+            return Some((usize::from(len), is_ipv6));
+        }
     }
     Some((if is_ipv6 { 128 } else { 32 }, is_ipv6))
 }
