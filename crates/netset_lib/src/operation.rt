@@ -148,6 +148,7 @@ pub(crate) fn combine_sets(
     match (operation, sets) {
         (Operation::Union, sets) => IpSet::union_all(alloc, sets),
         (Operation::Intersection, sets) => IpSet::intersection_all(alloc, sets),
+        (Operation::Difference, [first, second]) => first.difference(alloc, second),
         (Operation::Difference, [first, others @ ..]) => difference_of(alloc, first, others),
         (Operation::SymmetricDifference, [first, second]) => {
             first.symmetric_difference(alloc, second)
@@ -155,4 +156,18 @@ pub(crate) fn combine_sets(
         (Operation::Complement(families), [set]) => complement_of(alloc, families, set),
         _ => Ok(IpSet::new(alloc)),
     }
+}
+
+/// Returns what `combine_sets` returns for these sets. The union of one set is that set, and not a copy of it.
+pub(crate) fn combine_owned_sets(
+    alloc: Global,
+    operation: Operation,
+    mut sets: Vec<IpSet>,
+) -> Result<IpSet, AllocError>
+    ensures { IfOk result (λ s. (x : Address) → IsMember s x ↔ IsInResult IsMember operation sets.items x) }
+{
+    if matches!(operation, Operation::Union) && sets.len() == 1 {
+        return Ok(sets.remove(0));
+    }
+    combine_sets(alloc, operation, sets.as_slice())
 }
