@@ -1,25 +1,11 @@
 -- A text that is written in pieces: what the writer got, and what the piece holds.
-use Rattle.std.proofs.Common.{◌≡◌, ℕ, List, [], ◌∷◌, ◌++◌, length, take, drop, map, refl, sym, ap, ◌∙◌, subst, Option}
-use Rattle.std.proofs.Common.{append_assoc, append-nil, take-append-drop}
+use Rattle.std.proofs.Common.{◌≡◌, ℕ, List, [], ◌++◌, length, take, drop, refl, sym, ap, ◌∙◌, subst, Option}
+use Rattle.std.proofs.Common.{append_assoc, append-nil, Result, Ok, Err, OnOk, OnErr}
 use Rattle.std.specs.Io.{StartsWith}
 use Rattle.std.specs.Io.KnownBytes.{Appends}
-use Rattle.std.proofs.KnownBytes.{Appends-trans, starts_with_rest}
-use Rattle.std.proofs.lemmas.List.{map-append, take_at}
-use Rattle.ipnet.specs.Network.{Network}
-use Rattle.ipnet_text.specs.LineTexts.{text_of_lines}
-use Rattle.ipnet_text.specs.Pieces.{IsInPieces}
-use Rattle.ipnet_text.proofs.LineTextLaws.{text_of_lines-append}
-
--- one line more
-pub pieces_more : (a b c : Option (List ℕ)) (piece new line text whole : List ℕ) → IsInPieces a b piece text
-    → IsInPieces b c new ((piece ++ line) ++ 10 ∷ []) → whole ≡ (text ++ line) ++ 10 ∷ [] → IsInPieces a c new whole
-pieces_more a b c piece new line text whole h k is = record {
-  done = h.done ++ k.done;
-  written = Appends-trans a b c h.done k.done h.written k.written;
-  is = append_assoc h.done k.done new ∙ ap (λ z. h.done ++ z) k.is
-      ∙ sym (append_assoc h.done (piece ++ line) (10 ∷ []))
-      ∙ ap (λ z. z ++ 10 ∷ []) (sym (append_assoc h.done piece line) ∙ ap (λ z. z ++ line) h.is) ∙ sym is;
-}
+use Rattle.std.proofs.KnownBytes.{Appends-nil, Appends-trans, starts_with_rest}
+use Rattle.std.proofs.lemmas.List.{take_at}
+use Rattle.ipnet_text.specs.Pieces.{IsInPieces, IsCut, IsPutUpTo}
 
 -- a front of the piece is written, which makes a front of the whole text
 pub front_written : (a b c : Option (List ℕ)) (piece text more whole : List ℕ) → IsInPieces a b piece text
@@ -45,11 +31,99 @@ all_written a b c piece text h written =
 pub whole_front : (text : List ℕ) → StartsWith text text
 whole_front text = ap (take (length text)) (sym (append-nil text)) ∙ take_at text [] _ refl
 
--- the text of a list is the text of its first networks, then the text of the others
-pub text_cut : {X : Type 0} (network_of : X → Network) (items : List X) (i : ℕ)
-    → text_of_lines (map network_of items)
-    ≡ text_of_lines (map network_of (take i items)) ++ text_of_lines (map network_of (drop i items))
-text_cut network_of items i =
-    ap (λ z. text_of_lines (map network_of z)) (sym (take-append-drop i items))
-    ∙ ap text_of_lines (map-append network_of (take i items) (drop i items))
-    ∙ text_of_lines-append (map network_of (take i items)) (map network_of (drop i items))
+-- ---- one text after another
+
+pub put_then : (a b c : Option (List ℕ)) (piece middle last text more : List ℕ)
+    → IsInPieces a b middle (piece ++ text) → IsInPieces b c last (middle ++ more)
+    → IsInPieces a c last (piece ++ (text ++ more))
+put_then a b c piece middle last text more h k = record {
+  done = h.done ++ k.done;
+  written = Appends-trans a b c h.done k.done h.written k.written;
+  is = append_assoc h.done k.done last ∙ ap (λ z. h.done ++ z) k.is ∙ sym (append_assoc h.done middle more)
+      ∙ ap (λ z. z ++ more) h.is ∙ append_assoc piece text more;
+}
+
+-- what is cut off in a text is cut off in a longer one
+pub cut_first : (a b : Option (List ℕ)) (piece text more : List ℕ) → IsCut a b piece text
+    → IsCut a b piece (text ++ more)
+cut_first a b piece text more cut =
+    front_written a a b (piece ++ text) (piece ++ text) more (piece ++ (text ++ more))
+    (record { done = []; written = Appends-nil a; is = refl }) (sym (append_assoc piece text more)) cut
+
+-- and so is what is cut off after a text
+pub cut_then : (a b c : Option (List ℕ)) (piece middle text more : List ℕ) → IsInPieces a b middle (piece ++ text)
+    → IsCut b c middle more → IsCut a c piece (text ++ more)
+cut_then a b c piece middle text more h cut =
+    front_written a b c (middle ++ more) (piece ++ (text ++ more)) [] (piece ++ (text ++ more))
+    (record {
+      done = h.done;
+      written = h.written;
+      is = sym (append_assoc h.done middle more) ∙ ap (λ z. z ++ more) h.is ∙ append_assoc piece text more;
+    })
+    (sym (append-nil (piece ++ (text ++ more)))) cut
+
+-- a text that has no room in a piece is written after the piece
+pub both_written : (a b c : Option (List ℕ)) (piece text new : List ℕ) → Appends a b piece → Appends b c text
+    → new ≡ [] → IsInPieces a c new (piece ++ text)
+both_written a b c piece text new first second empty = record {
+  done = piece ++ text;
+  written = Appends-trans a b c piece text first second;
+  is = ap (λ z. (piece ++ text) ++ z) empty ∙ append-nil (piece ++ text);
+}
+
+pub front_of_both : (a b c : Option (List ℕ)) (piece text : List ℕ) → Appends a b piece
+    → (front : List ℕ) × StartsWith text front × Appends b c front → IsCut a c piece text
+front_of_both a b c piece text first cut =
+    front_written a b c text (piece ++ text) [] (piece ++ text)
+    (record { done = piece; written = first; is = refl }) (sym (append-nil (piece ++ text))) cut
+
+-- a clause of a call that succeeded, and of one that failed
+pub if_ok : {T E P : Type 0} (r : Result T E) → P → OnOk r P
+if_ok (Ok x) h = h
+if_ok (Err e) h = tt
+
+pub if_err : {T E P : Type 0} (r : Result T E) → P → OnErr r P
+if_err (Ok x) h = tt
+if_err (Err e) h = h
+
+-- ---- a text up to here
+
+pub up_to_start : (a : Option (List ℕ)) (piece text : List ℕ) → IsPutUpTo a a piece piece text text
+up_to_start a piece text = record {
+  done = [];
+  pieces = record { done = []; written = Appends-nil a; is = sym (append-nil piece) };
+  split = refl;
+}
+
+pub up_to_more : (a b c : Option (List ℕ)) (piece here new rest more left text : List ℕ)
+    → IsPutUpTo a b piece here rest text → rest ≡ more ++ left → IsInPieces b c new (here ++ more)
+    → IsPutUpTo a c piece new left text
+up_to_more a b c piece here new rest more left text h cut put = record {
+  done = h.done ++ more;
+  pieces = put_then a b c piece here new h.done more h.pieces put;
+  split = append_assoc h.done more left ∙ ap (λ z. h.done ++ z) (sym cut) ∙ h.split;
+}
+
+pub up_to_cut : (a b c : Option (List ℕ)) (piece here rest more left text : List ℕ)
+    → IsPutUpTo a b piece here rest text → rest ≡ more ++ left → IsCut b c here more → IsCut a c piece text
+up_to_cut a b c piece here rest more left text h split cut =
+    let whole : (h.done ++ more) ++ left ≡ text =
+    append_assoc h.done more left ∙ ap (λ z. h.done ++ z) (sym split) ∙ h.split in
+    rw (← whole) (cut_first a c piece (h.done ++ more) left (cut_then a b c piece here h.done more h.pieces cut))
+
+pub up_to_end : (a b : Option (List ℕ)) (piece here rest text : List ℕ) → rest ≡ []
+    → IsPutUpTo a b piece here rest text → IsInPieces a b here (piece ++ text)
+up_to_end a b piece here rest text none h =
+    let whole : h.done ≡ text = sym (append-nil h.done) ∙ ap (λ z. h.done ++ z) (sym none) ∙ h.split in
+    rw (← whole) h.pieces
+
+-- after an empty piece: what is cut off in the last piece is cut off in the text
+pub up_to_front : (a b c : Option (List ℕ)) (piece rest text : List ℕ) → IsPutUpTo a b [] piece rest text
+    → (front : List ℕ) × StartsWith piece front × Appends b c front
+    → (front : List ℕ) × StartsWith text front × Appends a c front
+up_to_front a b c piece rest text h cut = front_written a b c piece h.done rest text h.pieces (sym h.split) cut
+
+-- and the text is written with the last piece
+pub up_to_whole : (a b c : Option (List ℕ)) (piece rest text : List ℕ) → rest ≡ [] → IsPutUpTo a b [] piece rest text
+    → Appends b c piece → Appends a c text
+up_to_whole a b c piece rest text none h = all_written a b c piece text (up_to_end a b [] piece rest text none h)

@@ -1,11 +1,8 @@
-//! Lines of networks, written piece by piece.
-ghost use Rattle.std.specs.Prelude.{◌≡◌, ℕ, ◌+◌, ◌<◌, ◌≤◌, List, ◌++◌, ◌∷◌, [], OnOk, OnErr, length};
-ghost use Rattle.std.specs.Io.{StartsWith};
-ghost use Rattle.std.specs.Io.KnownBytes.{Appends};
-ghost use Rattle.arrayvec.specs.ArrayString.{array_string_len};
+//! Texts, also lines of networks, written piece by piece.
+ghost use Rattle.std.specs.Prelude.{◌++◌, ◌∷◌, [], OnOk, OnErr};
 ghost use Rattle.ipnet.specs.CanonicalTexts.{canonical_text};
 ghost use Rattle.ipnet.specs.NetworkOf.{ip_network};
-ghost use Rattle.ipnet_text.specs.Pieces.{IsInPieces};
+ghost use Rattle.ipnet_text.specs.Pieces.{IsInPieces, IsCut};
 
 use crate::output::write_whole;
 use arrayvec::ArrayString;
@@ -16,9 +13,9 @@ use std::io::Write;
 /// How many bytes are written at once.
 pub const PIECE: usize = 8192;
 
-/// Appends the network's canonical text and a newline to the piece. If they do not fit, the piece is written first.
+/// Appends the network's canonical text and a newline to the piece. If it does not fit, the piece is written first.
 ///
-/// Fails if that write fails; then the writer received a front of the piece.
+/// Fails if a write fails; then the writer received a front of the piece and the line.
 ///
 /// ```text
 /// the piece "fd00::/32\n" and the network 10.0.0.0/8: nothing is written, the piece is "fd00::/32\n10.0.0.0/8\n"
@@ -29,46 +26,47 @@ pub fn put_line<W: Write>(
     network: IpNet,
 ) -> io::Result<()>
     ensures ok { OnOk result (IsInPieces (W.contents out.old) (W.contents out.new) piece.new.bytes
-        ((piece.old.bytes ++ canonical_text (ip_network network)) ++ 10 ∷ [])) }
-    ensures front { OnErr result ((front : List ℕ) × StartsWith piece.old.bytes front
-        × Appends (W.contents out.old) (W.contents out.new) front) }
+        (piece.old.bytes ++ (canonical_text (ip_network network) ++ 10 ∷ []))) }
+    ensures cut { OnErr result (IsCut (W.contents out.old) (W.contents out.new) piece.old.bytes
+        (canonical_text (ip_network network) ++ 10 ∷ [])) }
 {
     put_text(out, piece, network.to_text().as_str())
 }
 
-/// Appends the text and a newline to the piece. If they do not fit, the piece is written first.
+/// Appends the text and a newline to the piece. If it does not fit, the piece is written first.
 ///
-/// Fails if that write fails; then the writer received a front of the piece.
+/// Fails if a write fails; then the writer received a front of the piece and the line.
 ///
 /// ```text
 /// the piece "::1\n" and the text "::2": nothing is written, the piece is "::1\n::2\n"
 /// ```
 pub fn put_text<W: Write>(out: &mut W, piece: &mut ArrayString<PIECE>, text: &str) -> io::Result<()>
-    requires { length text.now < 8192 }
     ensures ok { OnOk result (IsInPieces (W.contents out.old) (W.contents out.new) piece.new.bytes
-        ((piece.old.bytes ++ text.now) ++ 10 ∷ [])) }
-    ensures front { OnErr result ((front : List ℕ) × StartsWith piece.old.bytes front
-        × Appends (W.contents out.old) (W.contents out.new) front) }
+        (piece.old.bytes ++ (text.now ++ 10 ∷ []))) }
+    ensures cut { OnErr result
+        (IsCut (W.contents out.old) (W.contents out.new) piece.old.bytes (text.now ++ 10 ∷ [])) }
 {
-    make_room(out, piece, text.len() + 1)?;
-    piece.push_str(text);
-    piece.push_str("\n");
-    Ok(())
+    put(out, piece, text)?;
+    put(out, piece, "\n")
 }
 
-/// Writes the piece, unless it has room for `more` bytes.
-fn make_room<W: Write>(out: &mut W, piece: &mut ArrayString<PIECE>, more: usize) -> io::Result<()>
-    requires { more ≤ 8192 }
-    ensures room { OnOk result (array_string_len piece.new + more ≤ 8192) }
-    ensures ok { OnOk result
-        (IsInPieces (W.contents out.old) (W.contents out.new) piece.new.bytes piece.old.bytes) }
-    ensures front { OnErr result ((front : List ℕ) × StartsWith piece.old.bytes front
-        × Appends (W.contents out.old) (W.contents out.new) front) }
+/// Appends the text to the piece. If it does not fit, the piece is written first.
+///
+/// Fails if a write fails; then the writer received a front of the piece and the text.
+pub fn put<W: Write>(out: &mut W, piece: &mut ArrayString<PIECE>, text: &str) -> io::Result<()>
+    ensures ok { OnOk result (IsInPieces (W.contents out.old) (W.contents out.new) piece.new.bytes
+        (piece.old.bytes ++ text.now)) }
+    ensures cut { OnErr result (IsCut (W.contents out.old) (W.contents out.new) piece.old.bytes text.now) }
 {
-    if more <= piece.remaining_capacity() {
+    if text.len() <= piece.remaining_capacity() {
+        piece.push_str(text);
         return Ok(());
     }
     write_whole(out, piece.as_str().as_bytes())?;
     piece.clear();
-    Ok(())
+    if text.len() <= PIECE {
+        piece.push_str(text);
+        return Ok(());
+    }
+    write_whole(out, text.as_bytes())
 }

@@ -1,8 +1,6 @@
 -- The private steps of writing an answer in a form.
 -- Only private contracts use these.
 use Rattle.std.specs.Prelude.{◌≡◌, ℕ, Bool, true, false, List, [], ◌∷◌, ◌++◌, map, Option, Some, None, string_bytes}
-use Rattle.std.specs.Io.{StartsWith}
-use Rattle.std.specs.Io.KnownBytes.{Appends}
 use Rattle.std.specs.Borrow.{Bor}
 use Rattle.ipnet_base.specs.Address.{IPv4, IPv6, Address}
 use Rattle.ipnet_base.specs.Network.{Network}
@@ -11,7 +9,7 @@ use Rattle.ipnet_base.specs.Ranges.{AddressRange}
 use Rattle.ipnet.specs.CanonicalTexts.{canonical_text}
 use Rattle.ipnet_sets.specs.Members.{IsMember}
 use Rattle.ipnet_sets.specs.SetRanges.{IsInRange}
-use Rattle.ipnet_text.specs.Pieces.{IsInPieces}
+use Rattle.ipnet_text.specs.Pieces.{IsInPieces, IsCut}
 use Rattle.netset_forms.specs.declared.frame.Frame.{Frame}
 use Rattle.netset_forms.specs.declared.parts.Item.{Item}
 use Rattle.netset_forms.specs.declared.parts.Item.TheVariants as Items
@@ -63,17 +61,6 @@ front_in l none (item ∷ items) = lead_of l none ++ (item ++ front_in l false i
 abbrev pub none_after : Bool → List (List ℕ) → Bool
 none_after none [] = none
 none_after none (item ∷ items) = false
-
--- A front of the piece and the text was written.
-abbrev pub IsCut : Option (List ℕ) → Option (List ℕ) → List ℕ → List ℕ → Type 0
-IsCut held held_after piece text =
-    (front : List ℕ) × StartsWith (piece ++ text) front × Appends held held_after front
-
--- A text was put after the piece up to here: `rest` is still to be put.
-pub record IsPutUpTo (held held_after : Option (List ℕ)) (piece piece_after rest text : List ℕ) : Type 0 where
-  pub done : List ℕ
-  pub pieces : IsInPieces held held_after piece_after (piece ++ done)
-  pub split : done ++ rest ≡ text
 
 -- A text with this property was put after the piece, which was written as far as it had no room.
 abbrev pub PutsSome : (List ℕ → Type 0) → Option (List ℕ) → Option (List ℕ) → List ℕ → List ℕ → Type 0

@@ -1,149 +1,155 @@
--- Each loop keeps this: the written bytes and the piece are the text of the networks so far (`one_line_more`); the
--- second loop begins after the first has printed all of IPv4. A front of the piece is a front of the whole text.
-use Rattle.std.proofs.Common.{◌≡◌, List, ℕ, [], ◌∷◌, ◌++◌, length, map, take, drop, take_all, refl, sym, ap, ◌∙◌, subst}
-use Rattle.std.proofs.Common.{append-nil, append_assoc, OnOk, Result, Ok, Err, ◌+◌, ◌≤◌}
+-- Each turn puts the first line that is left; the second loop begins after the first has put all of IPv4.
+use Rattle.std.proofs.Common.{◌≡◌, List, ℕ, [], ◌∷◌, ◌++◌, length, map, drop, get_or, refl, sym, ap, ◌∙◌, subst}
+use Rattle.std.proofs.Common.{append_assoc, OnOk, ◌+◌, ◌<◌}
 use Rattle.std.specs.Io.{StartsWith}
 use Rattle.std.specs.Io.KnownBytes.{Appends}
-use Rattle.std.proofs.KnownBytes.{Appends-kept}
+use Rattle.std.proofs.KnownBytes.{Appends-nil, Appends-kept}
+use Rattle.std.proofs.lemmas.List.{at_drop_more, at_drop_all}
 use Rattle.ipnet.specs.CanonicalTexts.{canonical_text}
+use Rattle.ipnet.specs.Network.{Network}
 use Rattle.ipnet.specs.NetworkOf.{ipv4_network, ipv6_network}
 use Rattle.ipnet_text.specs.LineTexts.{text_of_lines}
 use Rattle.ipnet_text.specs.NetLists.{networks_of}
-use Rattle.ipnet_text.specs.Pieces.{IsInPieces}
-use Rattle.ipnet_text.specs.declared.net_lists.NetLists.{NetLists}
-use Rattle.ipnet.specs.declared.net.ipv6_net.Ipv6Net.{Ipv6Net}
-use Rattle.ipnet_text.proofs.LineTextLaws.{one_line_more, text_of_lines-append}
-use Rattle.ipnet_text.proofs.WritingLaws.{pieces_more, front_written, all_written, whole_front, text_cut}
+use Rattle.ipnet_text.specs.Pieces.{IsPutUpTo}
+use Rattle.ipnet_text.proofs.LineTextLaws.{text_of_lines-append}
+use Rattle.ipnet_text.proofs.WritingLaws.{up_to_more, up_to_cut, up_to_front, up_to_whole, whole_front, if_ok}
 use Rattle.ipnet_tool.proofs.answer.write_answer.Goals as goal
+
+-- the line of one network, and then what is left
+line_then : {X : Type 0} (network_of : X → Network) (items : List X) (i : ℕ) (item : X) → i < length items
+    → item ≡ get_or items i item
+    → text_of_lines (map network_of (drop i items))
+    ≡ (canonical_text (network_of item) ++ 10 ∷ []) ++ text_of_lines (map network_of (drop (i + 1) items))
+line_then network_of items i item less is =
+    at_drop_more (λ z. text_of_lines (map network_of z)) items i item less
+    ∙ ap (λ z. text_of_lines (map network_of (z ∷ drop (i + 1) items))) (sym is)
+
+-- and then more
+line_then_more : {X : Type 0} (network_of : X → Network) (items : List X) (i : ℕ) (item : X) (more : List ℕ)
+    → i < length items → item ≡ get_or items i item
+    → text_of_lines (map network_of (drop i items)) ++ more
+    ≡ (canonical_text (network_of item) ++ 10 ∷ []) ++ (text_of_lines (map network_of (drop (i + 1) items)) ++ more)
+line_then_more network_of items i item more less is =
+    ap (λ z. z ++ more) (line_then network_of items i item less is)
+    ∙ append_assoc (canonical_text (network_of item) ++ 10 ∷ [])
+    (text_of_lines (map network_of (drop (i + 1) items))) more
+
+pub loop-network-init : goal.loop-network-init
+loop-network-init g c =
+    let families = c.args.families.now in record {
+      done = [];
+      pieces = record { done = []; written = Appends-nil (g.W.Write.contents c.args.out.now); is = c.new-piece.ensures };
+      split = ap (λ z. text_of_lines (map ipv4_network z) ++ text_of_lines (map ipv6_network families.ipv6.items))
+          c.deref-network-items.ensures.value
+          ∙ sym (text_of_lines-append (map ipv4_network families.ipv4.items) (map ipv6_network families.ipv6.items));
+    }
 
 pub loop-network-preserved : goal.loop-network-preserved
 loop-network-preserved g c =
     let held = g.W.Write.contents in
+    let more = text_of_lines (map ipv6_network c.args.families.now.ipv6.items) in
     let items = c.deref-network-items.result.now in
     let i = c.loop-network.network-index in
-    let text = text_of_lines (map ipv4_network (take i items)) in
-    let line = canonical_text (ipv4_network c.network-item.result) in
-    let more = one_line_more ipv4_network [] items i c.network-item.result text ((text ++ line) ++ 10 ∷ [])
-    c.loop-network-test.true c.network-item.is refl refl in
-    pieces_more (held c.args.out.now) (held c.loop-network.out) (held c.put_line.new.out) c.loop-network.piece.bytes
-    c.put_line.new.piece.bytes line text (text_of_lines (map ipv4_network (take (i + 1) items)))
-    c.loop-network.invariant c.in_ok-put_line.ensures.ok (sym more)
-
-pub loop-network-2-preserved : goal.loop-network-2-preserved
-loop-network-2-preserved g c =
-    let held = g.W.Write.contents in
-    let first = text_of_lines (map ipv4_network c.args.families.now.ipv4.items) in
-    let items = c.deref-network-items-2.result.now in
-    let i = c.loop-network-2.network-index in
-    let text = first ++ text_of_lines (map ipv6_network (take i items)) in
-    let line = canonical_text (ipv6_network c.network-item-in-loop-network-2.result) in
-    let more = one_line_more ipv6_network first items i c.network-item-in-loop-network-2.result text
-    ((text ++ line) ++ 10 ∷ []) c.loop-network-2-test.true c.network-item-in-loop-network-2.is refl refl in
-    pieces_more (held c.args.out.now) (held c.loop-network-2.out) (held c.put_line-in-loop-network-2.new.out)
-    c.loop-network-2.piece.bytes c.put_line-in-loop-network-2.new.piece.bytes line text
-    (first ++ text_of_lines (map ipv6_network (take (i + 1) items))) c.loop-network-2.invariant
-    c.in_ok-put_line-2.ensures.ok (sym more)
+    let item = c.network-item.result in
+    up_to_more (held c.args.out.now) (held c.loop-network.out) (held c.put_line.new.out) [] c.loop-network.piece.bytes
+    c.put_line.new.piece.bytes (text_of_lines (map ipv4_network (drop i items)) ++ more)
+    (canonical_text (ipv4_network item) ++ 10 ∷ []) (text_of_lines (map ipv4_network (drop (i + 1) items)) ++ more)
+    (text_of_lines (networks_of c.args.families.now)) c.loop-network.invariant
+    (line_then_more ipv4_network items i item more c.loop-network-test.true c.network-item.is)
+    c.in_ok-put_line.ensures.ok
 
 pub returns-in_err-put_line-clause-front : goal.returns-in_err-put_line-clause-front
 returns-in_err-put_line-clause-front g c =
     let held = g.W.Write.contents in
-    let ipv4 = c.args.families.now.ipv4.items in
-    let ipv6 = text_of_lines (map ipv6_network c.args.families.now.ipv6.items) in
+    let more = text_of_lines (map ipv6_network c.args.families.now.ipv6.items) in
     let items = c.deref-network-items.result.now in
     let i = c.loop-network.network-index in
-    let text = text_of_lines (map ipv4_network (take i items)) in
-    let rest = text_of_lines (map ipv4_network (drop i items)) in
-    let cut : text_of_lines (networks_of c.args.families.now) ≡ text ++ (rest ++ ipv6) =
-    text_of_lines-append (map ipv4_network ipv4) (map ipv6_network c.args.families.now.ipv6.items)
-    ∙ ap (λ z. text_of_lines (map ipv4_network z) ++ ipv6) (sym c.deref-network-items.ensures.value)
-    ∙ ap (λ z. z ++ ipv6) (text_cut ipv4_network items i) ∙ append_assoc text rest ipv6 in
-    front_written (held c.args.out.now) (held c.loop-network.out) (held c.put_line.new.out)
-    c.loop-network.piece.bytes text (rest ++ ipv6) (text_of_lines (networks_of c.args.families.now))
-    c.loop-network.invariant cut c.in_err-put_line.ensures.front
+    let item = c.network-item.result in
+    up_to_cut (held c.args.out.now) (held c.loop-network.out) (held c.put_line.new.out) [] c.loop-network.piece.bytes
+    (text_of_lines (map ipv4_network (drop i items)) ++ more) (canonical_text (ipv4_network item) ++ 10 ∷ [])
+    (text_of_lines (map ipv4_network (drop (i + 1) items)) ++ more) (text_of_lines (networks_of c.args.families.now))
+    c.loop-network.invariant
+    (line_then_more ipv4_network items i item more c.loop-network-test.true c.network-item.is)
+    c.in_err-put_line.ensures.cut
+
+pub loop-network-2-init : goal.loop-network-2-init
+loop-network-2-init g c =
+    let families = c.args.families.now in
+    let held = g.W.Write.contents in
+    let more = text_of_lines (map ipv6_network families.ipv6.items) in
+    subst (λ z. IsPutUpTo (held c.args.out.now) (held c.loop-network.out) [] c.loop-network.piece.bytes z
+    (text_of_lines (networks_of families)))
+    (at_drop_all (λ z. text_of_lines (map ipv4_network z) ++ more) c.deref-network-items.result.now
+    c.loop-network.network-index c.loop-network-test.false
+    ∙ ap (λ z. text_of_lines (map ipv6_network z)) (sym c.deref-network-items-2.ensures.value))
+    c.loop-network.invariant
+
+pub loop-network-2-preserved : goal.loop-network-2-preserved
+loop-network-2-preserved g c =
+    let held = g.W.Write.contents in
+    let items = c.deref-network-items-2.result.now in
+    let i = c.loop-network-2.network-index in
+    let item = c.network-item-in-loop-network-2.result in
+    up_to_more (held c.args.out.now) (held c.loop-network-2.out) (held c.put_line-in-loop-network-2.new.out) []
+    c.loop-network-2.piece.bytes c.put_line-in-loop-network-2.new.piece.bytes
+    (text_of_lines (map ipv6_network (drop i items))) (canonical_text (ipv6_network item) ++ 10 ∷ [])
+    (text_of_lines (map ipv6_network (drop (i + 1) items))) (text_of_lines (networks_of c.args.families.now))
+    c.loop-network-2.invariant
+    (line_then ipv6_network items i item c.loop-network-2-test.true c.network-item-in-loop-network-2.is)
+    c.in_ok-put_line-2.ensures.ok
 
 pub returns-in_err-put_line-2-clause-front : goal.returns-in_err-put_line-2-clause-front
 returns-in_err-put_line-2-clause-front g c =
     let held = g.W.Write.contents in
-    let first = text_of_lines (map ipv4_network c.args.families.now.ipv4.items) in
     let items = c.deref-network-items-2.result.now in
     let i = c.loop-network-2.network-index in
-    let text = text_of_lines (map ipv6_network (take i items)) in
-    let rest = text_of_lines (map ipv6_network (drop i items)) in
-    let cut : text_of_lines (networks_of c.args.families.now) ≡ (first ++ text) ++ rest =
-    text_of_lines-append (map ipv4_network c.args.families.now.ipv4.items)
-    (map ipv6_network c.args.families.now.ipv6.items)
-    ∙ ap (λ z. first ++ text_of_lines (map ipv6_network z)) (sym c.deref-network-items-2.ensures.value)
-    ∙ ap (λ z. first ++ z) (text_cut ipv6_network items i) ∙ sym (append_assoc first text rest) in
-    front_written (held c.args.out.now) (held c.loop-network-2.out) (held c.put_line-in-loop-network-2.new.out)
-    c.loop-network-2.piece.bytes (first ++ text) rest (text_of_lines (networks_of c.args.families.now))
-    c.loop-network-2.invariant cut c.in_err-put_line-2.ensures.front
-
--- the text of all networks, after the second loop has gone through its list
-whole_text : (families : NetLists) (items : List Ipv6Net) (i : ℕ) → length items ≤ i → items ≡ families.ipv6.items
-    → text_of_lines (map ipv4_network families.ipv4.items) ++ text_of_lines (map ipv6_network (take i items))
-    ≡ text_of_lines (networks_of families)
-whole_text families items i all is =
-    ap (λ z. text_of_lines (map ipv4_network families.ipv4.items) ++ text_of_lines (map ipv6_network z))
-    (take_all i items all ∙ is)
-    ∙ sym (text_of_lines-append (map ipv4_network families.ipv4.items) (map ipv6_network families.ipv6.items))
+    let item = c.network-item-in-loop-network-2.result in
+    up_to_cut (held c.args.out.now) (held c.loop-network-2.out) (held c.put_line-in-loop-network-2.new.out) []
+    c.loop-network-2.piece.bytes (text_of_lines (map ipv6_network (drop i items)))
+    (canonical_text (ipv6_network item) ++ 10 ∷ []) (text_of_lines (map ipv6_network (drop (i + 1) items)))
+    (text_of_lines (networks_of c.args.families.now)) c.loop-network-2.invariant
+    (line_then ipv6_network items i item c.loop-network-2-test.true c.network-item-in-loop-network-2.is)
+    c.in_err-put_line-2.ensures.cut
 
 pub returns-in_err-write_whole-clause-front : goal.returns-in_err-write_whole-clause-front
 returns-in_err-write_whole-clause-front g c =
     let held = g.W.Write.contents in
-    let start = held c.args.out.now in
     let here = held c.loop-network-2.out in
-    let families = c.args.families.now in
-    let whole = text_of_lines (networks_of families) in
-    let bytes = c.loop-network-2.piece.bytes in
-    let piece : c.as_bytes.result.now ≡ bytes = c.as_bytes.ensures.value ∙ c.as_str.ensures.value in
-    let all : IsInPieces start here bytes whole =
-    subst (IsInPieces start here bytes) (whole_text families c.deref-network-items-2.result.now
-    c.loop-network-2.network-index c.loop-network-2-test.false c.deref-network-items-2.ensures.value)
-    c.loop-network-2.invariant in
-    front_written start here (held c.write_whole.new.out) bytes whole [] whole all (sym (append-nil whole))
-    (subst (λ z. (front : List ℕ) × StartsWith z front × Appends here (held c.write_whole.new.out) front) piece
-    c.in_err-write_whole.ensures.front)
-
-on_ok : {T E P : Type 0} (result : Result T E) → P → OnOk result P
-on_ok (Ok x) p = p
-on_ok (Err e) p = tt
+    let items = c.deref-network-items-2.result.now in
+    up_to_front (held c.args.out.now) here (held c.write_whole.new.out) c.loop-network-2.piece.bytes
+    (text_of_lines (map ipv6_network (drop c.loop-network-2.network-index items)))
+    (text_of_lines (networks_of c.args.families.now)) c.loop-network-2.invariant
+    (subst (λ z. (front : List ℕ) × StartsWith z front × Appends here (held c.write_whole.new.out) front)
+    (c.as_bytes.ensures.value ∙ c.as_str.ensures.value) c.in_err-write_whole.ensures.front)
 
 pub returns-clause-whole : goal.returns-clause-whole
 returns-clause-whole g c =
     let held = g.W.Write.contents in
     let start = held c.args.out.now in
     let here = held c.loop-network-2.out in
-    let families = c.args.families.now in
-    let whole = text_of_lines (networks_of families) in
-    let bytes = c.loop-network-2.piece.bytes in
-    let piece : c.as_bytes.result.now ≡ bytes = c.as_bytes.ensures.value ∙ c.as_str.ensures.value in
-    let all : IsInPieces start here bytes whole =
-    subst (IsInPieces start here bytes) (whole_text families c.deref-network-items-2.result.now
-    c.loop-network-2.network-index c.loop-network-2-test.false c.deref-network-items-2.ensures.value)
-    c.loop-network-2.invariant in
-    let written : Appends start (held c.flush.new.self) whole =
-    Appends-kept start (held c.write_whole.new.out) (held c.flush.new.self) whole
-    (all_written start here (held c.write_whole.new.out) bytes whole all
-    (subst (Appends here (held c.write_whole.new.out)) piece c.in_ok-write_whole.ensures.whole))
-    c.flush.ensures.bytes in
-    on_ok c.flush.result written
+    let i = c.loop-network-2.network-index in
+    let items = c.deref-network-items-2.result.now in
+    let whole = text_of_lines (networks_of c.args.families.now) in
+    if_ok c.flush.result (Appends-kept start (held c.write_whole.new.out) (held c.flush.new.self) whole
+    (up_to_whole start here (held c.write_whole.new.out) c.loop-network-2.piece.bytes
+    (text_of_lines (map ipv6_network (drop i items))) whole
+    (at_drop_all (λ z. text_of_lines (map ipv6_network z)) items i c.loop-network-2-test.false)
+    c.loop-network-2.invariant
+    (subst (Appends here (held c.write_whole.new.out)) (c.as_bytes.ensures.value ∙ c.as_str.ensures.value)
+    c.in_ok-write_whole.ensures.whole)) c.flush.ensures.bytes)
 
 pub returns-clause-front : goal.returns-clause-front
 returns-clause-front g c =
     let held = g.W.Write.contents in
     let start = held c.args.out.now in
     let here = held c.loop-network-2.out in
-    let families = c.args.families.now in
-    let whole = text_of_lines (networks_of families) in
-    let bytes = c.loop-network-2.piece.bytes in
-    let piece : c.as_bytes.result.now ≡ bytes = c.as_bytes.ensures.value ∙ c.as_str.ensures.value in
-    let all : IsInPieces start here bytes whole =
-    subst (IsInPieces start here bytes) (whole_text families c.deref-network-items-2.result.now
-    c.loop-network-2.network-index c.loop-network-2-test.false c.deref-network-items-2.ensures.value)
-    c.loop-network-2.invariant in
-    let written : Appends start (held c.flush.new.self) whole =
-    Appends-kept start (held c.write_whole.new.out) (held c.flush.new.self) whole
-    (all_written start here (held c.write_whole.new.out) bytes whole all
-    (subst (Appends here (held c.write_whole.new.out)) piece c.in_ok-write_whole.ensures.whole))
-    c.flush.ensures.bytes in
-    (whole, whole_front whole, written)
+    let i = c.loop-network-2.network-index in
+    let items = c.deref-network-items-2.result.now in
+    let whole = text_of_lines (networks_of c.args.families.now) in
+    (whole, whole_front whole, Appends-kept start (held c.write_whole.new.out) (held c.flush.new.self) whole
+    (up_to_whole start here (held c.write_whole.new.out) c.loop-network-2.piece.bytes
+    (text_of_lines (map ipv6_network (drop i items))) whole
+    (at_drop_all (λ z. text_of_lines (map ipv6_network z)) items i c.loop-network-2-test.false)
+    c.loop-network-2.invariant
+    (subst (Appends here (held c.write_whole.new.out)) (c.as_bytes.ensures.value ∙ c.as_str.ensures.value)
+    c.in_ok-write_whole.ensures.whole)) c.flush.ensures.bytes)

@@ -1,11 +1,10 @@
 -- The piece is written, and then the text: it has no room in a piece.
-use Rattle.std.proofs.Common.{◌≡◌, ◌∙◌, subst, ℕ, List, [], OnOk}
+use Rattle.std.proofs.Common.{◌≡◌, ◌∙◌, subst, ℕ, List}
 use Rattle.std.specs.Io.{StartsWith}
 use Rattle.std.specs.Io.KnownBytes.{Appends}
-use Rattle.std.proofs.lemmas.Result.{on_err_weaker}
 use Rattle.ipnet_text.proofs.ListsLaws.{OnOk_then}
-use Rattle.netset_forms.proofs.PieceLaws.{both_written, front_of_both, if_err}
-use Rattle.netset_forms.proofs.pieces.put.Goals as goal
+use Rattle.ipnet_text.proofs.WritingLaws.{both_written, front_of_both, if_err}
+use Rattle.ipnet_text.proofs.pieces.put.Goals as goal
 
 pub returns-clause-ok : goal.returns-clause-ok
 returns-clause-ok g c =
