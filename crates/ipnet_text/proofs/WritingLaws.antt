@@ -2,8 +2,8 @@
 use Rattle.std.proofs.Common.{◌≡◌, ℕ, List, [], ◌++◌, length, take, drop, refl, sym, ap, ◌∙◌, subst, Option}
 use Rattle.std.proofs.Common.{append_assoc, append-nil, Result, Ok, Err, OnOk, OnErr}
 use Rattle.std.specs.Io.{StartsWith}
-use Rattle.std.specs.Io.KnownBytes.{Appends}
-use Rattle.std.proofs.KnownBytes.{Appends-nil, Appends-trans, starts_with_rest}
+use Rattle.std.specs.Io.KnownBytes.{Appends, Keeps}
+use Rattle.std.proofs.KnownBytes.{Appends-nil, Appends-trans, Appends-kept, starts_with_rest}
 use Rattle.std.proofs.lemmas.List.{take_at}
 use Rattle.ipnet_text.specs.Pieces.{IsInPieces, IsCut, IsPutUpTo}
 
@@ -118,12 +118,21 @@ up_to_end a b piece here rest text none h =
     rw (← whole) h.pieces
 
 -- after an empty piece: what is cut off in the last piece is cut off in the text
-pub up_to_front : (a b c : Option (List ℕ)) (piece rest text : List ℕ) → IsPutUpTo a b [] piece rest text
-    → (front : List ℕ) × StartsWith piece front × Appends b c front
+pub up_to_front : (a b c : Option (List ℕ)) (piece bytes rest text : List ℕ) → IsPutUpTo a b [] piece rest text
+    → bytes ≡ piece → (front : List ℕ) × StartsWith bytes front × Appends b c front
     → (front : List ℕ) × StartsWith text front × Appends a c front
-up_to_front a b c piece rest text h cut = front_written a b c piece h.done rest text h.pieces (sym h.split) cut
+up_to_front a b c piece bytes rest text h same cut =
+    front_written a b c piece h.done rest text h.pieces (sym h.split)
+    (subst (λ z. (front : List ℕ) × StartsWith z front × Appends b c front) same cut)
 
--- and the text is written with the last piece
-pub up_to_whole : (a b c : Option (List ℕ)) (piece rest text : List ℕ) → rest ≡ [] → IsPutUpTo a b [] piece rest text
-    → Appends b c piece → Appends a c text
-up_to_whole a b c piece rest text none h = all_written a b c piece text (up_to_end a b [] piece rest text none h)
+-- and the whole text is written with the last piece, and flushed
+pub up_to_whole : (a b c d : Option (List ℕ)) (piece bytes rest text : List ℕ) → IsPutUpTo a b [] piece rest text
+    → bytes ≡ piece → rest ≡ [] → Appends b c bytes → Keeps c d → Appends a d text
+up_to_whole a b c d piece bytes rest text h same none written kept =
+    Appends-kept a c d text
+    (all_written a b c piece text (up_to_end a b [] piece rest text none h) (subst (Appends b c) same written)) kept
+
+-- a text that was written is a front of itself
+pub front_of_whole : (a c : Option (List ℕ)) (whole : List ℕ) → Appends a c whole
+    → (front : List ℕ) × StartsWith whole front × Appends a c front
+front_of_whole a c whole written = (whole, whole_front whole, written)

@@ -1,9 +1,7 @@
 -- Each turn puts the first line that is left; the second loop begins after the first has put all of IPv4.
 use Rattle.std.proofs.Common.{◌≡◌, List, ℕ, [], ◌∷◌, ◌++◌, length, map, drop, get_or, refl, sym, ap, ◌∙◌, subst}
 use Rattle.std.proofs.Common.{append_assoc, OnOk, ◌+◌, ◌<◌}
-use Rattle.std.specs.Io.{StartsWith}
-use Rattle.std.specs.Io.KnownBytes.{Appends}
-use Rattle.std.proofs.KnownBytes.{Appends-nil, Appends-kept}
+use Rattle.std.proofs.KnownBytes.{Appends-nil}
 use Rattle.std.proofs.lemmas.List.{at_drop_more, at_drop_all}
 use Rattle.ipnet.specs.CanonicalTexts.{canonical_text}
 use Rattle.ipnet.specs.Network.{Network}
@@ -12,7 +10,7 @@ use Rattle.ipnet_text.specs.LineTexts.{text_of_lines}
 use Rattle.ipnet_text.specs.NetLists.{networks_of}
 use Rattle.ipnet_text.specs.Pieces.{IsPutUpTo}
 use Rattle.ipnet_text.proofs.LineTextLaws.{text_of_lines-append}
-use Rattle.ipnet_text.proofs.WritingLaws.{up_to_more, up_to_cut, up_to_front, up_to_whole, whole_front, if_ok}
+use Rattle.ipnet_text.proofs.WritingLaws.{up_to_more, up_to_cut, up_to_front, up_to_whole, front_of_whole, if_ok}
 use Rattle.ipnet_tool.proofs.answer.write_answer.Goals as goal
 
 -- the line of one network, and then what is left
@@ -46,110 +44,59 @@ loop-network-init g c =
 
 pub loop-network-preserved : goal.loop-network-preserved
 loop-network-preserved g c =
-    let held = g.W.Write.contents in
-    let more = text_of_lines (map ipv6_network c.args.families.now.ipv6.items) in
-    let items = c.deref-network-items.result.now in
-    let i = c.loop-network.network-index in
-    let item = c.network-item.result in
-    up_to_more (held c.args.out.now) (held c.loop-network.out) (held c.put_line.new.out) [] c.loop-network.piece.bytes
-    c.put_line.new.piece.bytes (text_of_lines (map ipv4_network (drop i items)) ++ more)
-    (canonical_text (ipv4_network item) ++ 10 ∷ []) (text_of_lines (map ipv4_network (drop (i + 1) items)) ++ more)
-    (text_of_lines (networks_of c.args.families.now)) c.loop-network.invariant
-    (line_then_more ipv4_network items i item more c.loop-network-test.true c.network-item.is)
+    up_to_more _ _ _ [] _ _ _ _ _ _ c.loop-network.invariant
+    (line_then_more ipv4_network c.deref-network-items.result.now c.loop-network.network-index c.network-item.result
+    (text_of_lines (map ipv6_network c.args.families.now.ipv6.items)) c.loop-network-test.true c.network-item.is)
     c.in_ok-put_line.ensures.ok
 
 pub returns-in_err-put_line-clause-front : goal.returns-in_err-put_line-clause-front
 returns-in_err-put_line-clause-front g c =
-    let held = g.W.Write.contents in
-    let more = text_of_lines (map ipv6_network c.args.families.now.ipv6.items) in
-    let items = c.deref-network-items.result.now in
-    let i = c.loop-network.network-index in
-    let item = c.network-item.result in
-    up_to_cut (held c.args.out.now) (held c.loop-network.out) (held c.put_line.new.out) [] c.loop-network.piece.bytes
-    (text_of_lines (map ipv4_network (drop i items)) ++ more) (canonical_text (ipv4_network item) ++ 10 ∷ [])
-    (text_of_lines (map ipv4_network (drop (i + 1) items)) ++ more) (text_of_lines (networks_of c.args.families.now))
-    c.loop-network.invariant
-    (line_then_more ipv4_network items i item more c.loop-network-test.true c.network-item.is)
+    up_to_cut _ _ _ [] _ _ _ _ _ c.loop-network.invariant
+    (line_then_more ipv4_network c.deref-network-items.result.now c.loop-network.network-index c.network-item.result
+    (text_of_lines (map ipv6_network c.args.families.now.ipv6.items)) c.loop-network-test.true c.network-item.is)
     c.in_err-put_line.ensures.cut
 
 pub loop-network-2-init : goal.loop-network-2-init
 loop-network-2-init g c =
-    let families = c.args.families.now in
-    let held = g.W.Write.contents in
-    let more = text_of_lines (map ipv6_network families.ipv6.items) in
-    subst (λ z. IsPutUpTo (held c.args.out.now) (held c.loop-network.out) [] c.loop-network.piece.bytes z
-    (text_of_lines (networks_of families)))
-    (at_drop_all (λ z. text_of_lines (map ipv4_network z) ++ more) c.deref-network-items.result.now
+    subst (λ z. IsPutUpTo (g.W.Write.contents c.args.out.now) (g.W.Write.contents c.loop-network.out) []
+    c.loop-network.piece.bytes z (text_of_lines (networks_of c.args.families.now)))
+    (at_drop_all (λ z. text_of_lines (map ipv4_network z)
+    ++ text_of_lines (map ipv6_network c.args.families.now.ipv6.items)) c.deref-network-items.result.now
     c.loop-network.network-index c.loop-network-test.false
     ∙ ap (λ z. text_of_lines (map ipv6_network z)) (sym c.deref-network-items-2.ensures.value))
     c.loop-network.invariant
 
 pub loop-network-2-preserved : goal.loop-network-2-preserved
 loop-network-2-preserved g c =
-    let held = g.W.Write.contents in
-    let items = c.deref-network-items-2.result.now in
-    let i = c.loop-network-2.network-index in
-    let item = c.network-item-in-loop-network-2.result in
-    up_to_more (held c.args.out.now) (held c.loop-network-2.out) (held c.put_line-in-loop-network-2.new.out) []
-    c.loop-network-2.piece.bytes c.put_line-in-loop-network-2.new.piece.bytes
-    (text_of_lines (map ipv6_network (drop i items))) (canonical_text (ipv6_network item) ++ 10 ∷ [])
-    (text_of_lines (map ipv6_network (drop (i + 1) items))) (text_of_lines (networks_of c.args.families.now))
-    c.loop-network-2.invariant
-    (line_then ipv6_network items i item c.loop-network-2-test.true c.network-item-in-loop-network-2.is)
+    up_to_more _ _ _ [] _ _ _ _ _ _ c.loop-network-2.invariant
+    (line_then ipv6_network c.deref-network-items-2.result.now c.loop-network-2.network-index
+    c.network-item-in-loop-network-2.result c.loop-network-2-test.true c.network-item-in-loop-network-2.is)
     c.in_ok-put_line-2.ensures.ok
 
 pub returns-in_err-put_line-2-clause-front : goal.returns-in_err-put_line-2-clause-front
 returns-in_err-put_line-2-clause-front g c =
-    let held = g.W.Write.contents in
-    let items = c.deref-network-items-2.result.now in
-    let i = c.loop-network-2.network-index in
-    let item = c.network-item-in-loop-network-2.result in
-    up_to_cut (held c.args.out.now) (held c.loop-network-2.out) (held c.put_line-in-loop-network-2.new.out) []
-    c.loop-network-2.piece.bytes (text_of_lines (map ipv6_network (drop i items)))
-    (canonical_text (ipv6_network item) ++ 10 ∷ []) (text_of_lines (map ipv6_network (drop (i + 1) items)))
-    (text_of_lines (networks_of c.args.families.now)) c.loop-network-2.invariant
-    (line_then ipv6_network items i item c.loop-network-2-test.true c.network-item-in-loop-network-2.is)
+    up_to_cut _ _ _ [] _ _ _ _ _ c.loop-network-2.invariant
+    (line_then ipv6_network c.deref-network-items-2.result.now c.loop-network-2.network-index
+    c.network-item-in-loop-network-2.result c.loop-network-2-test.true c.network-item-in-loop-network-2.is)
     c.in_err-put_line-2.ensures.cut
 
 pub returns-in_err-write_whole-clause-front : goal.returns-in_err-write_whole-clause-front
 returns-in_err-write_whole-clause-front g c =
-    let held = g.W.Write.contents in
-    let here = held c.loop-network-2.out in
-    let items = c.deref-network-items-2.result.now in
-    up_to_front (held c.args.out.now) here (held c.write_whole.new.out) c.loop-network-2.piece.bytes
-    (text_of_lines (map ipv6_network (drop c.loop-network-2.network-index items)))
-    (text_of_lines (networks_of c.args.families.now)) c.loop-network-2.invariant
-    (subst (λ z. (front : List ℕ) × StartsWith z front × Appends here (held c.write_whole.new.out) front)
-    (c.as_bytes.ensures.value ∙ c.as_str.ensures.value) c.in_err-write_whole.ensures.front)
+    up_to_front _ _ _ _ _ _ _ c.loop-network-2.invariant (c.as_bytes.ensures.value ∙ c.as_str.ensures.value)
+    c.in_err-write_whole.ensures.front
 
 pub returns-clause-whole : goal.returns-clause-whole
 returns-clause-whole g c =
-    let held = g.W.Write.contents in
-    let start = held c.args.out.now in
-    let here = held c.loop-network-2.out in
-    let i = c.loop-network-2.network-index in
-    let items = c.deref-network-items-2.result.now in
-    let whole = text_of_lines (networks_of c.args.families.now) in
-    if_ok c.flush.result (Appends-kept start (held c.write_whole.new.out) (held c.flush.new.self) whole
-    (up_to_whole start here (held c.write_whole.new.out) c.loop-network-2.piece.bytes
-    (text_of_lines (map ipv6_network (drop i items))) whole
-    (at_drop_all (λ z. text_of_lines (map ipv6_network z)) items i c.loop-network-2-test.false)
-    c.loop-network-2.invariant
-    (subst (Appends here (held c.write_whole.new.out)) (c.as_bytes.ensures.value ∙ c.as_str.ensures.value)
-    c.in_ok-write_whole.ensures.whole)) c.flush.ensures.bytes)
+    if_ok c.flush.result
+    (up_to_whole _ _ _ _ _ _ _ _ c.loop-network-2.invariant (c.as_bytes.ensures.value ∙ c.as_str.ensures.value)
+    (at_drop_all (λ z. text_of_lines (map ipv6_network z)) c.deref-network-items-2.result.now
+    c.loop-network-2.network-index c.loop-network-2-test.false) c.in_ok-write_whole.ensures.whole
+    c.flush.ensures.bytes)
 
 pub returns-clause-front : goal.returns-clause-front
 returns-clause-front g c =
-    let held = g.W.Write.contents in
-    let start = held c.args.out.now in
-    let here = held c.loop-network-2.out in
-    let i = c.loop-network-2.network-index in
-    let items = c.deref-network-items-2.result.now in
-    let whole = text_of_lines (networks_of c.args.families.now) in
-    (whole, whole_front whole, Appends-kept start (held c.write_whole.new.out) (held c.flush.new.self) whole
-    (up_to_whole start here (held c.write_whole.new.out) c.loop-network-2.piece.bytes
-    (text_of_lines (map ipv6_network (drop i items))) whole
-    (at_drop_all (λ z. text_of_lines (map ipv6_network z)) items i c.loop-network-2-test.false)
-    c.loop-network-2.invariant
-    (subst (Appends here (held c.write_whole.new.out)) (c.as_bytes.ensures.value ∙ c.as_str.ensures.value)
-    c.in_ok-write_whole.ensures.whole)) c.flush.ensures.bytes)
+    front_of_whole _ _ _
+    (up_to_whole _ _ _ _ _ _ _ _ c.loop-network-2.invariant (c.as_bytes.ensures.value ∙ c.as_str.ensures.value)
+    (at_drop_all (λ z. text_of_lines (map ipv6_network z)) c.deref-network-items-2.result.now
+    c.loop-network-2.network-index c.loop-network-2-test.false) c.in_ok-write_whole.ensures.whole
+    c.flush.ensures.bytes)
