@@ -14,7 +14,7 @@ use std::io::{ErrorKind, Write};
 pub const FIRST: &str = "first";
 
 /// The id and the name of the option for the output.
-const OUTPUT: &str = "output";
+pub const OUTPUT: &str = "output";
 
 /// The names of the flags for files without an entry.
 const ALLOW_EMPTY: &str = "allow-empty";
@@ -89,15 +89,8 @@ pub fn output_option<'a>(alloc: Global) -> Arg<'a> {
         .help("Replace FILE by the answer as a whole; at status 2, FILE stays as it is")
 }
 
-/// The name of the file that the answer replaces, if one was given.
-pub fn output_of<'a>(matches: &ArgMatches<'a>) -> Option<&'a str> {
-    let (_, matches) = matches.subcommand()?;
-    matches.get_str(OUTPUT)
-}
-
 /// Reads what to report of the lists.
 pub fn reports_of(matches: &ArgMatches) -> Reports {
-    let (_, matches) = matches.subcommand().unwrap_or(("", matches));
     let empties = if matches.get_flag(NO_EMPTY) {
         Empties::Refuse
     } else if matches.get_flag(ALLOW_EMPTY) {
@@ -233,9 +226,12 @@ pub fn reads_input_twice(names: &[&str]) -> bool {
     inputs.count() > 1
 }
 
-/// Reads the parsed words: the work, and the names of the lists.
-pub fn call_of<'a>(alloc: Global, matches: &ArgMatches<'a>) -> Result<Call<'a>, ArgumentFailure> {
-    let (name, matches) = matches.subcommand().unwrap_or(("", matches));
+/// Reads the arguments of the command of this name: the work, and the names of the lists.
+pub fn call_of<'a>(
+    alloc: Global,
+    name: &str,
+    matches: &ArgMatches<'a>,
+) -> Result<Call<'a>, ArgumentFailure> {
     let Some(command) = netset_lib::Command::from_name(name) else {
         return Err(ArgumentFailure::NoCommand);
     };

@@ -120,13 +120,14 @@ fn overlaps(rt: &HostRuntime, matches: &ArgMatches, streams: &mut Streams<'_>) -
 /// Runs the command if it is about entries, and returns the status. `None` if it is not.
 pub fn run_if_entries(
     rt: &HostRuntime,
+    name: &str,
     matches: &ArgMatches,
     streams: &mut Streams<'_>,
 ) -> Option<u8> {
-    match matches.subcommand() {
-        Some((name, matches)) if name == SUPERNET => Some(supernet(rt, matches, streams)),
-        Some((name, matches)) if name == REDUNDANT => Some(redundant(rt, matches, streams)),
-        Some((name, matches)) if name == OVERLAPS => Some(overlaps(rt, matches, streams)),
+    match name {
+        SUPERNET => Some(supernet(rt, matches, streams)),
+        REDUNDANT => Some(redundant(rt, matches, streams)),
+        OVERLAPS => Some(overlaps(rt, matches, streams)),
         _ => None,
     }
 }

@@ -167,16 +167,9 @@ fn request_of<'a>(matches: &ArgMatches<'a>) -> Result<FormRequest<'a>, FormFault
 
 /// Returns the form that the options of the command ask for, or `None` if its result is not a set. If the options
 /// cannot be used, that is reported, and the error is the exit status.
-pub fn form_of<'a>(
-    rt: &HostRuntime,
-    matches: &ArgMatches<'a>,
-    is_set: bool,
-) -> Result<Option<FormRequest<'a>>, u8> {
-    if !is_set {
-        return Ok(None);
-    }
+pub fn form_of<'a>(rt: &HostRuntime, matches: &ArgMatches<'a>) -> Result<FormRequest<'a>, u8> {
     match request_of(matches) {
-        Ok(request) => Ok(Some(request)),
+        Ok(request) => Ok(request),
         Err(fault) => {
             let _ = writeln!(rt.stderr(), "netset: {fault}");
             Err(2)

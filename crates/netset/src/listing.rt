@@ -84,18 +84,24 @@ fn split(rt: &HostRuntime, matches: &ArgMatches, streams: &mut Streams<'_>) -> u
     run_split(&network, length, &mut streams.answer, &mut streams.faults)
 }
 
+/// Reads the argument of `hosts`, and prints the hosts.
+fn hosts(rt: &HostRuntime, matches: &ArgMatches, streams: &mut Streams<'_>) -> u8 {
+    match network_of(rt, matches) {
+        Some(network) => run_hosts(&network, &mut streams.answer, &mut streams.faults),
+        None => 2,
+    }
+}
+
 /// Runs the command if it lists what a network contains, and returns the status. `None` if it does not.
 pub fn run_if_listing(
     rt: &HostRuntime,
+    name: &str,
     matches: &ArgMatches,
     streams: &mut Streams<'_>,
 ) -> Option<u8> {
-    match matches.subcommand() {
-        Some((name, matches)) if name == SPLIT => Some(split(rt, matches, streams)),
-        Some((name, matches)) if name == HOSTS => match network_of(rt, matches) {
-            Some(network) => Some(run_hosts(&network, &mut streams.answer, &mut streams.faults)),
-            None => Some(2),
-        },
+    match name {
+        SPLIT => Some(split(rt, matches, streams)),
+        HOSTS => Some(hosts(rt, matches, streams)),
         _ => None,
     }
 }

@@ -27,7 +27,7 @@ mod texts;
 mod version;
 
 use crate::apply::{APPLY, applied};
-use crate::arguments::{Call, call_of, output_of, refused, reports_of, words};
+use crate::arguments::{ArgumentFailure, Call, OUTPUT, call_of, refused, reports_of, words};
 use crate::bar::{BAR, drawn};
 use crate::changes::{CHANGES, changed};
 use crate::commands::matches_of;
@@ -62,7 +62,10 @@ fn status(rt: &HostRuntime) -> u8 {
         Err(failure) => return refused(rt, failure),
     };
     match matches_of(rt.alloc(), words.as_slice()) {
-        Ok(matches) => open_and_run(rt, &matches),
+        Ok(matches) => match matches.subcommand() {
+            Some((name, matches)) => open_and_run(rt, name, matches),
+            None => refused(rt, ArgumentFailure::NoCommand),
+        },
         Err(error) => print_usage(rt, &error),
     }
 }
@@ -83,81 +86,96 @@ fn print_usage(rt: &HostRuntime, error: &clap::Error) -> u8 {
     }
 }
 
-/// Opens the output, runs the command of the parsed words, and returns its exit status.
-fn open_and_run(rt: &HostRuntime, matches: &ArgMatches) -> u8 {
-    let name = output_of(matches);
+/// Opens the output, runs the command of this name, and returns its exit status.
+fn open_and_run(rt: &HostRuntime, name: &str, matches: &ArgMatches) -> u8 {
+    let file = matches.get_str(OUTPUT);
     let is_closed = Cell::new(false);
-    let mut streams = match Streams::open(rt, name, reports_of(matches), &is_closed) {
+    let mut streams = match Streams::open(rt, file, reports_of(matches), &is_closed) {
         Ok(streams) => streams,
         Err(failure) => {
-            let name = name.unwrap_or_default().as_bytes().escape_ascii();
-            let _ = writeln!(rt.stderr(), "netset: {name}: {failure}");
+            let file = file.unwrap_or_default().as_bytes().escape_ascii();
+            let _ = writeln!(rt.stderr(), "netset: {file}: {failure}");
             return 2;
         }
     };
-    let status = run_command(rt, matches, &mut streams);
+    let status = run_command(rt, name, matches, &mut streams);
     streams.end(status)
 }
 
-/// Runs the command of the parsed words, and returns its status.
-fn run_command(rt: &HostRuntime, matches: &ArgMatches, streams: &mut Streams<'_>) -> u8 {
-    if let Some(status) = run_if_rules(rt, matches, streams) {
+/// Runs the command of this name, and returns its status.
+fn run_command(
+    rt: &HostRuntime,
+    name: &str,
+    matches: &ArgMatches,
+    streams: &mut Streams<'_>,
+) -> u8 {
+    if let Some(status) = run_if_rules(rt, name, matches, streams) {
         return status;
     }
-    if let Some(status) = run_if_listing(rt, matches, streams) {
+    if let Some(status) = run_if_listing(rt, name, matches, streams) {
         return status;
     }
-    if let Some(status) = run_if_entries(rt, matches, streams) {
+    if let Some(status) = run_if_entries(rt, name, matches, streams) {
         return status;
     }
-    match matches.subcommand() {
-        Some((name, matches)) if name == PLAN => planned(rt, matches, streams),
-        Some((name, matches)) if name == BAR => drawn(rt, matches, streams),
-        Some((name, matches)) if name == MAP => mapped(rt, matches, streams),
-        Some((name, matches)) if name == CHANGES => changed(rt, matches, streams),
-        Some((name, matches)) if name == APPLY => applied(rt, matches, streams),
-        Some((name, matches)) if name == PREFIX_LIST => matched(rt, matches, streams),
-        Some((name, matches)) if name == EXTRACT => extracted(rt, matches, streams),
-        Some((_, matches)) if matches.get_flag(LINES) => filtered(rt, matches, streams),
-        Some((name, matches)) if name == ROUTE && has_text_flag(matches) => {
-            routed(rt, matches, streams)
-        }
-        _ => run_call(rt, matches, streams),
+    match name {
+        PLAN => planned(rt, matches, streams),
+        BAR => drawn(rt, matches, streams),
+        MAP => mapped(rt, matches, streams),
+        CHANGES => changed(rt, matches, streams),
+        APPLY => applied(rt, matches, streams),
+        PREFIX_LIST => matched(rt, matches, streams),
+        EXTRACT => extracted(rt, matches, streams),
+        _ if matches.get_flag(LINES) => filtered(rt, matches, streams),
+        ROUTE if has_text_flag(matches) => routed(rt, matches, streams),
+        _ => run_call(rt, name, matches, streams),
     }
 }
 
-/// Reads the lists, and runs the operation or the query.
-fn run_call(rt: &HostRuntime, matches: &ArgMatches, streams: &mut Streams<'_>) -> u8 {
-    let Call {
-        work,
-        names,
-        is_streamed,
-    } = match call_of(rt.alloc(), matches) {
+/// Reads the arguments and the lists, and runs the operation or the query.
+fn run_call(rt: &HostRuntime, name: &str, matches: &ArgMatches, streams: &mut Streams<'_>) -> u8 {
+    let call = match call_of(rt.alloc(), name, matches) {
         Ok(call) => call,
         Err(failure) => return refused(rt, failure),
     };
-    let names = names.as_slice();
-    let form = match matches.subcommand() {
-        Some((_, matches)) => form_of(rt, matches, matches!(work, Work::Combine(_))),
-        None => Ok(None),
-    };
-    let form = match form {
+    match call.work {
+        Work::Combine(_) => run_operation(rt, matches, call, streams),
+        Work::Ask(_, _) => run_query(rt, call, streams),
+    }
+}
+
+/// Reads the lists, prints what the operation makes of them, and returns the status.
+fn run_operation(
+    rt: &HostRuntime,
+    matches: &ArgMatches,
+    call: Call<'_>,
+    streams: &mut Streams<'_>,
+) -> u8 {
+    let form = match form_of(rt, matches) {
         Ok(form) => form,
         Err(status) => return status,
     };
+    let names = call.names.as_slice();
+    match session_of(rt, call.work, names, streams) {
+        Ok(session) => {
+            let (out, faults) = (&mut streams.answer, &mut streams.faults);
+            run_form(session, form, names, out, faults)
+        }
+        Err(status) => status,
+    }
+}
+
+/// Reads the lists, prints the answer to the query, and returns the status.
+fn run_query(rt: &HostRuntime, call: Call<'_>, streams: &mut Streams<'_>) -> u8 {
+    let work = call.work;
+    let names = call.names.as_slice();
     match names {
-        [_, name] if is_streamed => match session_of(rt, work, &names[..1], streams) {
+        [_, name] if call.is_streamed => match session_of(rt, work, &names[..1], streams) {
             Ok(session) => stream_list(rt, session, names, name, streams),
             Err(status) => status,
         },
         _ => match session_of(rt, work, names, streams) {
-            Ok(session) => {
-                let (out, faults) = (&mut streams.answer, &mut streams.faults);
-                match form {
-                    Some(request) => run_form(session, request, names, out, faults),
-                    None => run(session, names, out, faults),
-                }
-            }
+            Ok(session) => run(session, names, &mut streams.answer, &mut streams.faults),
             Err(status) => status,
         },
     }

@@ -10,7 +10,7 @@ use crate::output::Streams;
 use clap::{Arg, ArgMatches, Command};
 use ipnet_rules::Action;
 use netset_forms::{PermittedRequest, run_permitted};
-use netset_lib::run_unreached;
+use netset_lib::{RuleList, run_unreached};
 use std::alloc::{AllocError, Global};
 
 /// The names of the two commands.
@@ -78,34 +78,61 @@ fn default_of(matches: &ArgMatches) -> Action
     }
 }
 
+/// The name of the list of rules.
+fn file_of<'a>(matches: &ArgMatches<'a>) -> &'a str {
+    matches.get_str(FIRST).unwrap_or(STANDARD_INPUT)
+}
+
+/// Reads the list of rules. If that fails, it is reported, and the error is the exit status.
+fn rules_of(rt: &HostRuntime, matches: &ArgMatches, streams: &Streams<'_>) -> Result<RuleList, u8> {
+    let file = file_of(matches);
+    match read_rules(rt, file, flags_of(matches).grammar(), streams.reports) {
+        Ok(Some(list)) => Ok(list),
+        Ok(None) => Err(2),
+        Err(unread) => {
+            report_unread(rt, file, &unread);
+            Err(2)
+        }
+    }
+}
+
+/// Reads the arguments and the rules, prints what they permit, and returns the status.
+fn permitted(rt: &HostRuntime, matches: &ArgMatches, streams: &mut Streams<'_>) -> u8 {
+    let form = match form_of(rt, matches) {
+        Ok(form) => form,
+        Err(status) => return status,
+    };
+    let list = match rules_of(rt, matches, streams) {
+        Ok(list) => list,
+        Err(status) => return status,
+    };
+    let default = default_of(matches);
+    let request = PermittedRequest { default, form };
+    let (out, faults) = (&mut streams.answer, &mut streams.faults);
+    run_permitted(list, request, file_of(matches), out, faults)
+}
+
+/// Reads the rules, prints those that decide on no address, and returns the status.
+fn unreached(rt: &HostRuntime, matches: &ArgMatches, streams: &mut Streams<'_>) -> u8 {
+    match rules_of(rt, matches, streams) {
+        Ok(list) => {
+            let (out, faults) = (&mut streams.answer, &mut streams.faults);
+            run_unreached(list, file_of(matches), out, faults)
+        }
+        Err(status) => status,
+    }
+}
+
 /// Runs the command if it reads a list of rules, and returns the status. `None` if it does not.
 pub fn run_if_rules(
     rt: &HostRuntime,
+    name: &str,
     matches: &ArgMatches,
     streams: &mut Streams<'_>,
 ) -> Option<u8> {
-    let (name, matches) = matches.subcommand()?;
-    let form = match form_of(rt, matches, prints_permitted(name)?) {
-        Ok(form) => form,
-        Err(status) => return Some(status),
-    };
-    let file = matches.get_str(FIRST).unwrap_or(STANDARD_INPUT);
-    let grammar = flags_of(matches).grammar();
-    let list = match read_rules(rt, file, grammar, streams.reports) {
-        Ok(Some(list)) => list,
-        Ok(None) => return Some(2),
-        Err(unread) => {
-            report_unread(rt, file, &unread);
-            return Some(2);
-        }
-    };
-    let (out, faults) = (&mut streams.answer, &mut streams.faults);
-    match form {
-        Some(form) => {
-            let default = default_of(matches);
-            let request = PermittedRequest { default, form };
-            Some(run_permitted(list, request, file, out, faults))
-        }
-        None => Some(run_unreached(list, file, out, faults)),
+    if prints_permitted(name)? {
+        Some(permitted(rt, matches, streams))
+    } else {
+        Some(unreached(rt, matches, streams))
     }
 }

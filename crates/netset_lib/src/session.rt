@@ -101,6 +101,14 @@ fn has_no_family(work: Work, sets: &[IpSet]) -> bool
     is_named_complement(work) && is_one_empty(sets)
 }
 
+/// Appends a set. Fails if memory runs out.
+fn keep(sets: &mut Vec<IpSet>, set: IpSet) -> Result<(), AllocError>
+    ensures { OnOk result (sets.new.items ≡ sets.old.items ++ set ∷ []) }
+{
+    sets.push(set)?;
+    Ok(())
+}
+
 /// The text of the set that the operation makes of the sets.
 fn combined_text(alloc: Global, request: Request, sets: &[IpSet]) -> Result<String, AllocError>
     ensures { IfOk result (λ text. (entries : List (List ListEntry)) → HaveMembers sets.now entries
@@ -169,8 +177,7 @@ impl Session {
             (R.remaining input.old) (R.remaining input.new) self.old self.new) }
     {
         let set = read_set(&mut self.reading, input)?;
-        self.sets.push(set)?;
-        Ok(())
+        Ok(keep(&mut self.sets, set)?)
     }
 
     /// Reads the next list of a filter or a route: the first into the answerer, and the second into the answers.

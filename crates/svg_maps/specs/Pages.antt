@@ -97,8 +97,8 @@ titled_nodes marks title = element Elements.Rect marks (element Elements.Title [
 abbrev pub square_nodes : Square → Nodes
 square_nodes s = titled_nodes (area_marks (codes "hit") s.rectangle) (string_bytes s.title)
 
--- How many pixels a cell is wide and high, if the map is this many cells wide: its share of 1,024 pixels, but at least 1
--- and at most 64. Example: 4 pixels for 256 cells, 64 for 8 cells, and 1 for 2,048 cells.
+-- How many pixels a cell is wide and high, if the map is this many cells wide: its share of 1,024 pixels, but at least
+-- 1 and at most 64. Example: 4 pixels for 256 cells, 64 for 8 cells, and 1 for 2,048 cells.
 abbrev pub cell_pixels : ℕ → ℕ
 cell_pixels width = max 1 (min (1024 / max width 1) 64)
 

@@ -5,6 +5,11 @@ use Rattle.netset_lib.proofs.CauseTexts.{reported_no_entry}
 use Rattle.netset_lib.proofs.ListLines.{entry_utf8}
 use Rattle.netset_lib.proofs.cause.cause_of.Goals as goal
 
+pub returns-in-Ok-clause-reported : goal.returns-in-Ok-clause-reported
+returns-in-Ok-clause-reported c =
+    let same : c.in-Ok.text.now ≡ c.args.text.now = search rules in
+    subst (λ t. IsReportedCause c.args.grammar t c.cause_in_text.result) same c.cause_in_text.ensures
+
 pub returns-in-Ok-clause-no_entry : goal.returns-in-Ok-clause-no_entry
 returns-in-Ok-clause-no_entry c =
     let grammar = c.args.grammar in

@@ -1,4 +1,12 @@
+use Rattle.std.proofs.Common.{◌≡◌, ◌==◌, ap, sym, ◌∙◌}
+use Rattle.std.specs.List.{list_any}
 use Rattle.netset_lib.proofs.cause.explains.Goals as goal
+
+pub returns-in-NulByte : goal.returns-in-NulByte
+returns-in-NulByte c =
+    let same : c.has_byte.result ≡ list_any (λ b. b == 0) c.args.text.now =
+    c.has_byte.ensures ∙ ap (list_any (λ b. b == 0)) c.as_bytes.ensures.value in
+    rw c.in-NulByte.is (λ e. sym same ∙ e, λ e. same ∙ e)
 
 pub returns-in-LegacyAlone : goal.returns-in-LegacyAlone
 returns-in-LegacyAlone c = rw c.in-LegacyAlone.is c.is_entry.ensures

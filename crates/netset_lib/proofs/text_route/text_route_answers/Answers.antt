@@ -7,3 +7,6 @@ returns-clause-answers c =
     text_answer c.args.grammar c.args.table.now c.args.list.now made.lines c.in-Ok.table
     c.in_ok-answers.field-0.answers c.in_ok-answers.field-0.refused made.read made.right
     c.in_ok-answers.ensures c.if-refused-ne0.false
+
+pub returns-in-Err-clause-failure : goal.returns-in-Err-clause-failure
+returns-in-Err-clause-failure c = c.in-Err.ensures.failure c.args.list.now

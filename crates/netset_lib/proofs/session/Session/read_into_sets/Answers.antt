@@ -13,5 +13,5 @@ returns g c =
       read = made_weaker (g.R.Read.remaining c.args.input.now) (g.R.Read.remaining c.read_set.new.input) old.reading
           c.read_set.new.reading (HaveAddresses (IsMember set)) _ c.in_ok-set.ensures
           (λ entries same before count state. subst (λ z. HaveMembers z (before ++ entries ∷ []))
-          (sym c.in_ok-push.ensures.items) (members_push old.sets.items before set entries state same));
+          (sym c.in_ok-keep.ensures) (members_push old.sets.items before set entries state same));
     }
