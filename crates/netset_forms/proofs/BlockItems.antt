@@ -19,17 +19,18 @@ use Rattle.ipnet_sets.specs.Members.{IsMember}
 use Rattle.ipnet_sets.specs.SetRanges.{IsInRange, LiesApart, AreRangesOf}
 use Rattle.ipnet_sets.proofs.NetworkListLaws.{blocks_of_first, blocks_of_none}
 use Rattle.ipnet_sets.proofs.SetRangeLaws.{IsInRanges, ranges_of_set}
-use Rattle.ipnet_text.specs.Pieces.{IsInPieces}
+use Rattle.ipnet_text.specs.Pieces.{IsInPieces, IsCut, IsPutUpTo}
 use Rattle.netset_lib.specs.Answers.{range_text}
+use Rattle.ipnet_text.proofs.WritingLaws.{up_to_start, up_to_more, up_to_cut, up_to_end}
 use Rattle.netset_forms.specs.declared.parts.Item.{Item}
 use Rattle.netset_forms.specs.declared.parts.Item.TheVariants as Items
 use Rattle.netset_forms.specs.declared.parts.Part.{Part}
 use Rattle.netset_forms.specs.Forms.{FitsFamilies, AreBlocksIn, network_row}
-use Rattle.netset_forms.specs.FormSteps.{AreBlocksOf, IsCut, IsPutUpTo, PutsSome, CutsSome, rest_in, front_in}
+use Rattle.netset_forms.specs.FormSteps.{AreBlocksOf, PutsSome, CutsSome, rest_in, front_in}
 use Rattle.netset_forms.specs.FormSteps.{none_after}
 use Rattle.netset_forms.specs.FormSteps.{end_of, layout_of, item_text, IsItemsText, IsTextIfSome, FitsIfSome}
 use Rattle.netset_forms.specs.Layouts.{Layout, text_in}
-use Rattle.netset_forms.proofs.PieceLaws.{up_to_start, up_to_more, up_to_cut, up_to_end, rest_append, rest_none}
+use Rattle.netset_forms.proofs.LayoutLaws.{rest_append, rest_none}
 
 -- the blocks of ranges that lie apart are the maximal blocks of all of them
 maximal_of_ranges : (least : ℕ) (ranges : List AddressRange) (networks : List Network) → AllPairs LiesApart ranges

@@ -3,6 +3,6 @@ pub mod BlockItems
 pub mod CommandLaws
 pub mod FormLaws
 pub mod PartLaws
-pub mod PieceLaws
+pub mod LayoutLaws
 pub mod RangeItems
 pub mod WriteLaws

@@ -5,12 +5,13 @@ use Rattle.std.proofs.lemmas.List.Elements.{All-head, All-tail}
 use Rattle.ipnet_base.specs.Address.{Address}
 use Rattle.ipnet_base.specs.Ranges.{AddressRange}
 use Rattle.ipnet_sets.specs.SetRanges.{AreRangesOf}
-use Rattle.ipnet_text.specs.Pieces.{IsInPieces}
+use Rattle.ipnet_text.specs.Pieces.{IsInPieces, IsCut, IsPutUpTo}
 use Rattle.netset_lib.specs.Answers.{range_text}
+use Rattle.ipnet_text.proofs.WritingLaws.{up_to_start, up_to_more, up_to_cut, up_to_end}
 use Rattle.netset_forms.specs.Forms.{AreRangesIn}
-use Rattle.netset_forms.specs.FormSteps.{IsCut, IsPutUpTo, PutsSome, CutsSome, rest_in, lead_of, end_of}
+use Rattle.netset_forms.specs.FormSteps.{PutsSome, CutsSome, rest_in, lead_of, end_of}
 use Rattle.netset_forms.specs.Layouts.{Layout, text_in}
-use Rattle.netset_forms.proofs.PieceLaws.{up_to_start, up_to_more, up_to_cut, up_to_end, rest_more, rest_none}
+use Rattle.netset_forms.proofs.LayoutLaws.{rest_more, rest_none}
 
 module _ (layout : Layout) (InSet : Address → Type 0) where
   -- some ranges of the set are put, and the others are left

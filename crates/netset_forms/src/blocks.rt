@@ -4,18 +4,18 @@ ghost use Rattle.ipnet_base.specs.RangeOf.{ip_range};
 ghost use Rattle.ipnet.specs.NetworkOf.{ip_network};
 ghost use Rattle.ipnet.specs.SubnetsLeft.{ip_subnets_left};
 ghost use Rattle.ipnet_sets.specs.Members.{IsMember};
-ghost use Rattle.ipnet_text.specs.Pieces.{IsInPieces};
+ghost use Rattle.ipnet_text.specs.Pieces.{IsInPieces, IsCut};
 ghost use Rattle.netset_lib.specs.Answers.{range_text};
 ghost use Rattle.netset_forms.specs.Forms.{AreBlocksIn, AreRangesIn};
-ghost use Rattle.netset_forms.specs.FormSteps.{layout_of, IsCut, PutsSome, CutsSome, item_text, front_in, none_after};
+ghost use Rattle.netset_forms.specs.FormSteps.{layout_of, PutsSome, CutsSome, item_text, front_in, none_after};
 ghost use Rattle.netset_forms.specs.FormSteps.{IsPartText, FitsPart};
 
 use crate::parts::{Item, Part};
-use crate::pieces::{put, put_network, put_pair, put_row};
+use crate::pieces::{put_network, put_pair, put_row};
 use arrayvec::ArrayString;
 use ipnet::{IpAddrRange, IpNet, IpSubnets};
 use ipnet_sets::set_networks::walk_of;
-use ipnet_text::pieces::PIECE;
+use ipnet_text::pieces::{PIECE, put};
 use std::io;
 use std::io::Write;
 

@@ -1,42 +1,17 @@
-//! Texts, addresses and rows, written piece by piece, so that an answer of any length takes little memory.
+//! Addresses, networks and rows, written piece by piece, so that an answer of any length takes little memory.
 ghost use Rattle.std.specs.Prelude.{◌++◌, codes, OnOk, OnErr};
 ghost use Rattle.ipnet_base.specs.Address.{ip_address};
 ghost use Rattle.ipnet.specs.CanonicalTexts.{address_text, canonical_text};
 ghost use Rattle.ipnet.specs.NetworkOf.{ip_network};
-ghost use Rattle.ipnet_text.specs.Pieces.{IsInPieces};
+ghost use Rattle.ipnet_text.specs.Pieces.{IsInPieces, IsCut};
 ghost use Rattle.netset_forms.specs.Forms.{network_row};
-ghost use Rattle.netset_forms.specs.FormSteps.{IsCut};
 
 use arrayvec::ArrayString;
 use ipnet::{IpAddr, IpNet};
-use ipnet_text::pieces::PIECE;
-use ipnet_text::write_whole;
+use ipnet_text::pieces::{PIECE, put};
 use netset_lib::ip_addr_text;
 use std::io;
 use std::io::Write;
-
-/// Appends the text to the piece. If it does not fit, the piece is written first.
-pub(crate) fn put<W: Write>(
-    out: &mut W,
-    piece: &mut ArrayString<PIECE>,
-    text: &str,
-) -> io::Result<()>
-    ensures ok { OnOk result (IsInPieces (W.contents out.old) (W.contents out.new) piece.new.bytes
-        (piece.old.bytes ++ text.now)) }
-    ensures cut { OnErr result (IsCut (W.contents out.old) (W.contents out.new) piece.old.bytes text.now) }
-{
-    if text.len() <= piece.remaining_capacity() {
-        piece.push_str(text);
-        return Ok(());
-    }
-    write_whole(out, piece.as_str().as_bytes())?;
-    piece.clear();
-    if text.len() <= PIECE {
-        piece.push_str(text);
-        return Ok(());
-    }
-    write_whole(out, text.as_bytes())
-}
 
 /// Appends the address's text to the piece.
 fn put_address<W: Write>(

@@ -13,7 +13,6 @@ pub mod CauseOrder
 pub mod LengthTexts
 pub mod PlanLaws
 pub mod ChangeLaws
-pub mod ListingLaws
 pub mod ListReading
 pub mod MarkLaws
 pub mod WindowReading

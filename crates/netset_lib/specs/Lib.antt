@@ -31,7 +31,6 @@ pub mod SetsOf
 pub mod Changes
 pub mod ChangeSteps
 pub mod Listings
-pub mod ListingSteps
 pub mod Runs
 pub mod Commands
 pub mod Sessions

@@ -7,7 +7,7 @@ ghost use Rattle.ipnet_base.specs.RangeOf.{ip_addresses};
 ghost use Rattle.ipnet.specs.CanonicalTexts.{address_text};
 ghost use Rattle.ipnet.specs.SubnetsLeft.{ip_subnets_left};
 ghost use Rattle.ipnet_text.specs.LineTexts.{text_of_lines};
-ghost use Rattle.ipnet_text.specs.Pieces.{IsInPieces};
+ghost use Rattle.ipnet_text.specs.Pieces.{IsInPieces, IsCut};
 ghost use Rattle.netset_lib.specs.Listings.{text_of_addresses};
 
 use crate::address_text::ip_addr_text;
@@ -18,7 +18,7 @@ use ipnet_text::write_whole;
 use std::io;
 use std::io::Write;
 
-/// Appends the address's text and a newline to the piece. If they do not fit, the piece is written first.
+/// Appends the address's text and a newline to the piece. If it does not fit, the piece is written first.
 fn put_address<W: Write>(
     out: &mut W,
     piece: &mut ArrayString<PIECE>,
@@ -26,9 +26,9 @@ fn put_address<W: Write>(
 ) -> io::Result<()>
     ensures ok { let a = ip_address address in
         OnOk result (IsInPieces (W.contents out.old) (W.contents out.new) piece.new.bytes
-        ((piece.old.bytes ++ address_text a.family a.number) ++ 10 ∷ [])) }
-    ensures front { OnErr result ((front : List ℕ) × StartsWith piece.old.bytes front
-        × Appends (W.contents out.old) (W.contents out.new) front) }
+        (piece.old.bytes ++ (address_text a.family a.number ++ 10 ∷ []))) }
+    ensures cut { let a = ip_address address in OnErr result (IsCut (W.contents out.old) (W.contents out.new)
+        piece.old.bytes (address_text a.family a.number ++ 10 ∷ [])) }
 {
     put_text(out, piece, ip_addr_text(address).as_str())
 }

@@ -34,12 +34,16 @@ line_then_more network_of items i item more less is =
 
 pub loop-network-init : goal.loop-network-init
 loop-network-init g c =
-    let families = c.args.families.now in record {
+    let families = c.args.families.now in
+    let ipv6 = map ipv6_network families.ipv6.items in record {
       done = [];
-      pieces = record { done = []; written = Appends-nil (g.W.Write.contents c.args.out.now); is = c.new-piece.ensures };
-      split = ap (λ z. text_of_lines (map ipv4_network z) ++ text_of_lines (map ipv6_network families.ipv6.items))
-          c.deref-network-items.ensures.value
-          ∙ sym (text_of_lines-append (map ipv4_network families.ipv4.items) (map ipv6_network families.ipv6.items));
+      pieces = record {
+        done = [];
+        written = Appends-nil (g.W.Write.contents c.args.out.now);
+        is = c.new-piece.ensures;
+      };
+      split = ap (λ z. text_of_lines (map ipv4_network z) ++ text_of_lines ipv6) c.deref-network-items.ensures.value
+          ∙ sym (text_of_lines-append (map ipv4_network families.ipv4.items) ipv6);
     }
 
 pub loop-network-preserved : goal.loop-network-preserved

@@ -6,11 +6,11 @@ use Rattle.ipnet.specs.SubnetsLeft.{ip_subnets_left}
 use Rattle.ipnet_sets.specs.Members.{IsMember}
 use Rattle.ipnet_sets.specs.RangesLeft.{ranges_left}
 use Rattle.ipnet_text.proofs.ListsLaws.{OnOk_then}
-use Rattle.ipnet_text.specs.Pieces.{IsInPieces}
-use Rattle.netset_forms.specs.FormSteps.{layout_of, item_text, IsCut}
+use Rattle.ipnet_text.specs.Pieces.{IsInPieces, IsCut}
+use Rattle.ipnet_text.proofs.WritingLaws.{if_err}
+use Rattle.netset_forms.specs.FormSteps.{layout_of, item_text}
 use Rattle.netset_forms.proofs.BlockItems.{IsFitting, IsPutting, putting_start, first_fits, putting_more, putting_cut}
 use Rattle.netset_forms.proofs.BlockItems.{putting_end, putting_end_cut}
-use Rattle.netset_forms.proofs.PieceLaws.{if_err}
 use Rattle.netset_forms.proofs.blocks.put_blocks.Goals as goal
 
 pub loop-range-init : goal.loop-range-init

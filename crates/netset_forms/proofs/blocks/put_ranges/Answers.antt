@@ -5,10 +5,10 @@ use Rattle.ipnet_base.specs.RangeOf.{ip_range}
 use Rattle.ipnet_sets.specs.Members.{IsMember}
 use Rattle.ipnet_sets.specs.RangesLeft.{ranges_left}
 use Rattle.ipnet_text.proofs.ListsLaws.{OnOk_then}
-use Rattle.ipnet_text.specs.Pieces.{IsInPieces}
+use Rattle.ipnet_text.specs.Pieces.{IsInPieces, IsCut}
 use Rattle.netset_lib.specs.Answers.{range_text}
-use Rattle.netset_forms.specs.FormSteps.{layout_of, lead_of, IsCut}
-use Rattle.netset_forms.proofs.PieceLaws.{put_then, cut_first, cut_then, if_err}
+use Rattle.ipnet_text.proofs.WritingLaws.{put_then, cut_first, cut_then, if_err}
+use Rattle.netset_forms.specs.FormSteps.{layout_of, lead_of}
 use Rattle.netset_forms.proofs.RangeItems.{IsPuttingRanges, ranges_start, first_some, ranges_more, ranges_cut}
 use Rattle.netset_forms.proofs.RangeItems.{ranges_end, ranges_end_cut}
 use Rattle.netset_forms.proofs.blocks.put_ranges.Goals as goal

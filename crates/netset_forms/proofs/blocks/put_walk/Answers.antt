@@ -2,10 +2,11 @@
 use Rattle.std.proofs.Common.{◌≡◌, ◌++◌, ap, sym, subst, ◌∙◌, map, false}
 use Rattle.ipnet.specs.NetworkOf.{ip_network}
 use Rattle.ipnet.specs.SubnetsLeft.{ip_subnets_left}
-use Rattle.ipnet_text.specs.Pieces.{IsInPieces}
-use Rattle.netset_forms.specs.FormSteps.{layout_of, item_text, front_in, none_after, lead_of, IsCut, IsPutUpTo}
-use Rattle.netset_forms.proofs.PieceLaws.{up_to_start, up_to_more, up_to_cut, up_to_end, put_then, cut_first, cut_then}
-use Rattle.netset_forms.proofs.PieceLaws.{if_err, front_step, none_step}
+use Rattle.ipnet_text.specs.Pieces.{IsInPieces, IsCut, IsPutUpTo}
+use Rattle.ipnet_text.proofs.WritingLaws.{up_to_start, up_to_more, up_to_cut, up_to_end, put_then, cut_first}
+use Rattle.ipnet_text.proofs.WritingLaws.{cut_then, if_err}
+use Rattle.netset_forms.specs.FormSteps.{layout_of, item_text, front_in, none_after, lead_of}
+use Rattle.netset_forms.proofs.LayoutLaws.{front_step, none_step}
 use Rattle.netset_forms.proofs.blocks.put_walk.Goals as goal
 
 pub loop-network-init : goal.loop-network-init

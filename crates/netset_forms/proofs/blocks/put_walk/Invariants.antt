@@ -1,7 +1,8 @@
 -- The items of the walk up to here are put, and the items of the networks that are left are not.
 use Rattle.std.proofs.Common.{◌≡◌, length, map}
 use Rattle.ipnet.specs.SubnetsLeft.{ip_subnets_left}
-use Rattle.netset_forms.specs.FormSteps.{IsPutUpTo, layout_of, item_text, front_in, none_after}
+use Rattle.ipnet_text.specs.Pieces.{IsPutUpTo}
+use Rattle.netset_forms.specs.FormSteps.{layout_of, item_text, front_in, none_after}
 use Rattle.netset_forms.proofs.blocks.put_walk.Given as goal
 
 abbrev pub invariant-loop-network : goal.invariant-loop-network

@@ -1,7 +1,7 @@
 -- Each turn appends one text.
 use Rattle.std.proofs.Common.{ap, ◌∙◌, take_all, string_bytes}
 use Rattle.netset_forms.specs.FormSteps.{text_of_all}
-use Rattle.netset_forms.proofs.PieceLaws.{one_text_more}
+use Rattle.netset_forms.proofs.LayoutLaws.{one_text_more}
 use Rattle.netset_forms.proofs.frame.joined.Goals as goal
 
 pub loop-text-preserved : goal.loop-text-preserved

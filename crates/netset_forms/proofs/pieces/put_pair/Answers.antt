@@ -4,7 +4,7 @@ use Rattle.std.proofs.lemmas.Result.{on_err_weaker}
 use Rattle.ipnet_base.specs.Address.{ip_address}
 use Rattle.ipnet.specs.CanonicalTexts.{address_text}
 use Rattle.ipnet_text.proofs.ListsLaws.{OnOk_then}
-use Rattle.netset_forms.proofs.PieceLaws.{put_then, cut_first, cut_then, if_err}
+use Rattle.ipnet_text.proofs.WritingLaws.{put_then, cut_first, cut_then, if_err}
 use Rattle.netset_forms.proofs.pieces.put_pair.Goals as goal
 
 pub returns-in_err-put_address-clause-cut : goal.returns-in_err-put_address-clause-cut

@@ -7,9 +7,9 @@ use Rattle.ipnet_base.specs.Address.{ip_address}
 use Rattle.ipnet_base.specs.Network.{first_of, last_of}
 use Rattle.ipnet.specs.CanonicalTexts.{address_text}
 use Rattle.ipnet_text.proofs.ListsLaws.{OnOk_then}
-use Rattle.ipnet_text.specs.Pieces.{IsInPieces}
-use Rattle.netset_forms.specs.FormSteps.{IsCut}
-use Rattle.netset_forms.proofs.PieceLaws.{put_then, cut_first, cut_then, if_err, pair_same}
+use Rattle.ipnet_text.specs.Pieces.{IsInPieces, IsCut}
+use Rattle.ipnet_text.proofs.WritingLaws.{put_then, cut_first, cut_then, if_err}
+use Rattle.netset_forms.proofs.LayoutLaws.{pair_same}
 use Rattle.netset_forms.proofs.pieces.put_row.Goals as goal
 
 pub returns-in_err-put_network-clause-cut : goal.returns-in_err-put_network-clause-cut

@@ -2,9 +2,9 @@
 use Rattle.std.proofs.Common.{◌≡◌, ◌∙◌, subst, ℕ, List}
 use Rattle.std.specs.Io.{StartsWith}
 use Rattle.std.specs.Io.KnownBytes.{Appends}
+use Rattle.ipnet_text.proofs.WritingLaws.{if_ok, if_err}
 use Rattle.netset_forms.specs.FormSteps.{PutsSome, CutsSome, IsTextIfSome}
 use Rattle.netset_forms.proofs.WriteLaws.{both_whole, first_cut, second_cut, end_cut, end_front, flushed}
-use Rattle.netset_forms.proofs.PieceLaws.{if_ok, if_err}
 use Rattle.netset_forms.proofs.write.write_parts.Goals as goal
 
 pub returns-in_err-put_if_some-clause-front : goal.returns-in_err-put_if_some-clause-front

@@ -1,18 +1,12 @@
--- Texts that are put one after another: what the writer has received, and what the piece still has.
-use Rattle.std.proofs.Common.{◌≡◌, ℕ, Bool, true, false, List, [], ◌∷◌, ◌++◌, refl, sym, ap, ◌∙◌, Option}
-use Rattle.std.proofs.Common.{append_assoc, append-nil, Result, Ok, Err, OnOk, OnErr, map, codes, take, get_or}
-use Rattle.std.proofs.Common.{length, ◌<◌, ◌+◌}
+-- The texts of items in a layout, of rows, and of texts that are joined.
+use Rattle.std.proofs.Common.{◌≡◌, ℕ, Bool, true, false, List, [], ◌∷◌, ◌++◌, refl, sym, ap, ◌∙◌, append_assoc}
+use Rattle.std.proofs.Common.{append-nil, map, codes, take, get_or, length, ◌<◌, ◌+◌}
 use Rattle.std.specs.Borrow.{Bor}
-use Rattle.std.specs.Io.{StartsWith}
-use Rattle.std.specs.Io.KnownBytes.{Appends}
-use Rattle.std.proofs.KnownBytes.{Appends-nil, Appends-trans}
 use Rattle.std.proofs.lemmas.List.{take_more}
 use Rattle.ipnet_base.specs.Address.{Address}
 use Rattle.ipnet_base.specs.Network.{Network, IsLeastOf, IsGreatestOf, first_of, last_of}
 use Rattle.ipnet.specs.CanonicalTexts.{address_text}
-use Rattle.ipnet_text.specs.Pieces.{IsInPieces}
-use Rattle.ipnet_text.proofs.WritingLaws.{front_written}
-use Rattle.netset_forms.specs.FormSteps.{IsCut, IsPutUpTo, text_of_all, lead_of, end_of, rest_in, front_in, none_after}
+use Rattle.netset_forms.specs.FormSteps.{text_of_all, lead_of, end_of, rest_in, front_in, none_after}
 use Rattle.netset_forms.specs.Layouts.{Layout}
 use Rattle.netset_lib.proofs.RouteLaws.{least_is_first, greatest_is_last}
 
