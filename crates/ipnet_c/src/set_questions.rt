@@ -9,10 +9,9 @@ ghost use Rattle.ipnet_c.specs.SetReplies.{IsAnswerAt, IsCoversAllReply};
 ghost use Rattle.ipnet_c.specs.SetReplies.{IsCheckReply, AreOctetsOf, HasAddressLen, AreCountsOf, IsCountsReply};
 
 use crate::statuses::{
-    NOT_A_SET, OK, OTHER_NOT_A_SET, OUT_OF_MEMORY, PREFIX_TOO_LONG, UNKNOWN_FAMILY, WRONG_LENGTH,
-    status_of,
+    NOT_A_SET, OK, OTHER_NOT_A_SET, OUT_OF_MEMORY, WRONG_LENGTH, status_of,
 };
-use ipnet::{CompactError, IpAddr, IpNet, Ipv4Addr, Ipv6Addr};
+use ipnet::{IpAddr, IpNet, Ipv4Addr, Ipv6Addr};
 use ipnet_sets::{IpSetImage, IpSetRef};
 use std::alloc::{AllocError, Global};
 
@@ -155,9 +154,7 @@ fn cover_answer(image: &IpSetImage<'_>, network: &[u8]) -> u8
 {
     match IpNet::from_bytes(network) {
         Ok(network) => u8::from(image.covers(&network)),
-        Err(CompactError::Length) => WRONG_LENGTH as u8,
-        Err(CompactError::Variant) => UNKNOWN_FAMILY as u8,
-        Err(CompactError::Prefix) => PREFIX_TOO_LONG as u8,
+        Err(error) => status_of(error) as u8,
     }
 }
 

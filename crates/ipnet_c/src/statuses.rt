@@ -1,5 +1,5 @@
 //! The statuses that the calls return. `specs/Statuses` and `include/ipnet.h` say what each means.
-ghost use Rattle.std.specs.Prelude.{◌≡◌};
+ghost use Rattle.std.specs.Prelude.{◌≡◌, ◌<◌};
 ghost use Rattle.ipnet_c.specs.Statuses.{status_of_bytes};
 
 use ipnet::CompactError;
@@ -51,7 +51,8 @@ pub(crate) const BAD_OFFSETS: u32 = 14;
 
 /// Returns the status for bytes that are not a network.
 pub(crate) fn status_of(error: CompactError) -> u32
-    ensures { result ≡ status_of_bytes error }
+    ensures status { result ≡ status_of_bytes error }
+    ensures fits { result < 256 }
 {
     match error {
         CompactError::Length => WRONG_LENGTH,
