@@ -58,15 +58,11 @@ pub extern "C" fn ipnet_set_contains(set: &[u8], address: &[u8]) -> u32
     u32::from(image.contains(&address))
 }
 
-/// Returns whether `size` bytes are `count` addresses of `width` octets each, 4 or 16.
-pub(crate) fn are_addresses(size: usize, width: usize, count: usize) -> bool
-    ensures { IsTrue result ↔ (((width ≡ 4) ⊎ (width ≡ 16)) × (size ≡ count * width)) }
+/// Returns whether `size` bytes are `count` items of `width` bytes each, and the width is one of the two `widths`.
+pub(crate) fn are_items(size: usize, count: usize, width: usize, widths: (usize, usize)) -> bool
+    ensures { IsTrue result ↔ (((width ≡ widths.0) ⊎ (width ≡ widths.1)) × (size ≡ count * width)) }
 {
-    match width {
-        4 => size % 4 == 0 && size / 4 == count,
-        16 => size % 16 == 0 && size / 16 == count,
-        _ => false,
-    }
+    (width == widths.0 || width == widths.1) && count.checked_mul(width) == Some(size)
 }
 
 /// Returns 1 if the set of the image contains the address of these octets, and 0 if it does not.
@@ -100,7 +96,7 @@ pub extern "C" fn ipnet_set_contains_all(
 ) -> u32
     ensures { IsContainsAllReply set.now addresses.now width answers.old answers.new result }
 {
-    if !are_addresses(addresses.len(), width, answers.len()) {
+    if !are_items(addresses.len(), answers.len(), width, (4, 16)) {
         return WRONG_LENGTH;
     }
     let Ok(image) = IpSetImage::from_header(set) else {
@@ -137,17 +133,6 @@ pub extern "C" fn ipnet_set_covers(set: &[u8], network: &[u8]) -> u32
     u32::from(image.covers(&network))
 }
 
-/// Returns whether `size` bytes are `count` networks in byte form of `width` bytes each, 6 or 18.
-fn are_networks(size: usize, width: usize, count: usize) -> bool
-    ensures { IsTrue result ↔ (((width ≡ 6) ⊎ (width ≡ 18)) × (size ≡ count * width)) }
-{
-    match width {
-        6 => size % 6 == 0 && size / 6 == count,
-        18 => size % 18 == 0 && size / 18 == count,
-        _ => false,
-    }
-}
-
 /// Returns what `ipnet_set_covers` returns for the image and the network in these bytes.
 fn cover_answer(image: &IpSetImage<'_>, network: &[u8]) -> u8
     ensures { IsCoversReply image.now.bytes.now network.now result }
@@ -180,7 +165,7 @@ pub extern "C" fn ipnet_set_covers_all(
 ) -> u32
     ensures { IsCoversAllReply set.now networks.now width answers.old answers.new result }
 {
-    if !are_networks(networks.len(), width, answers.len()) {
+    if !are_items(networks.len(), answers.len(), width, (6, 18)) {
         return WRONG_LENGTH;
     }
     let Ok(image) = IpSetImage::from_header(set) else {

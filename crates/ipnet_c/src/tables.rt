@@ -10,7 +10,7 @@ ghost use Rattle.ipnet_c.specs.TableReplies.{IsTableCheckReply, IsMatchReply, Is
 
 use crate::buffers::write_answer;
 use crate::lists::read_networks;
-use crate::set_questions::{are_addresses, read_address};
+use crate::set_questions::{are_items, read_address};
 use crate::statuses::{BAD_LINE, NOT_A_TABLE, NOT_UTF8, OK, OUT_OF_MEMORY, WRONG_LENGTH};
 use ipnet::IpNet;
 use ipnet_sets::{RouteTable, RouteTableImage, RouteTableRef};
@@ -194,7 +194,7 @@ pub extern "C" fn ipnet_table_longest_match_all(
 ) -> u32
     ensures { IsMatchAllReply table.now addresses.now width missing values.old values.new result }
 {
-    if !are_addresses(addresses.len(), width, values.len()) {
+    if !are_items(addresses.len(), values.len(), width, (4, 16)) {
         return WRONG_LENGTH;
     }
     let Ok(image) = RouteTableImage::from_header(table) else {

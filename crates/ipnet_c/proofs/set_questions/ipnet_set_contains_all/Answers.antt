@@ -18,7 +18,7 @@ returns c =
     let same = c.in-Ok.ensures in
     answered_all c.args.set.now c.args.addresses.now c.args.width c.loop-index.index c.args.answers.now
     c.loop-index.answers (subst HasHeader same c.in-Ok.image.header)
-    (c.are_addresses.ensures.0 (c.if-not-are_addresses.false))
+    (c.are_items.ensures.0 (c.if-not-are_items.false))
     (subst (λ z. AreAnsweredTo z c.args.addresses.now c.args.width c.loop-index.index c.args.answers.now
     c.loop-index.answers) same c.loop-index.invariant)
     (omega (arith, c.loop-index-test.false))

@@ -18,7 +18,7 @@ returns c =
     let same = c.in-Ok.ensures in
     covers_all c.args.set.now c.args.networks.now c.args.width c.loop-index.index c.args.answers.now
     c.loop-index.answers (subst HasHeader same c.in-Ok.image.header)
-    (c.are_networks.ensures.0 (c.if-not-are_networks.false))
+    (c.are_items.ensures.0 (c.if-not-are_items.false))
     (subst (λ z. AreCoversOf z c.args.networks.now c.args.width c.loop-index.index c.args.answers.now
     c.loop-index.answers) same c.loop-index.invariant)
     (omega (arith, c.loop-index-test.false))

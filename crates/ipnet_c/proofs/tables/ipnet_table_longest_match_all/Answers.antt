@@ -18,7 +18,7 @@ returns c =
     let same = c.in-Ok.ensures in
     valued_all c.args.table.now c.args.addresses.now c.args.width c.args.missing c.loop-index.index c.args.values.now
     c.loop-index.values (subst HasTableHeader same c.in-Ok.image.header)
-    (c.are_addresses.ensures.0 (c.if-not-are_addresses.false))
+    (c.are_items.ensures.0 (c.if-not-are_items.false))
     (subst (λ z. AreValuesTo z c.args.addresses.now c.args.width c.args.missing c.loop-index.index c.args.values.now
     c.loop-index.values) same c.loop-index.invariant)
     (omega (arith, c.loop-index-test.false))
