@@ -8,9 +8,7 @@ ghost use Rattle.ipnet_c.specs.SetReplies.{IsContainsReply, IsCoversReply, IsCon
 ghost use Rattle.ipnet_c.specs.SetReplies.{IsAnswerAt, IsCoversAllReply};
 ghost use Rattle.ipnet_c.specs.SetReplies.{IsCheckReply, AreOctetsOf, HasAddressLen, AreCountsOf, IsCountsReply};
 
-use crate::statuses::{
-    NOT_A_SET, OK, OTHER_NOT_A_SET, OUT_OF_MEMORY, WRONG_LENGTH, status_of,
-};
+use crate::statuses::{NOT_A_SET, OK, OTHER_NOT_A_SET, OUT_OF_MEMORY, WRONG_LENGTH, status_of};
 use ipnet::{IpAddr, IpNet, Ipv4Addr, Ipv6Addr};
 use ipnet_sets::{IpSetImage, IpSetRef};
 use std::alloc::{AllocError, Global};
