@@ -3,7 +3,7 @@ use Rattle.std.proofs.Common.{◌≡◌, ℕ, List, [], ◌++◌, refl, sym, Opt
 use Rattle.std.specs.Io.{StartsWith}
 use Rattle.std.specs.Io.KnownBytes.{Appends, Keeps}
 use Rattle.std.proofs.KnownBytes.{Appends-kept}
-use Rattle.ipnet_text.specs.Pieces.{IsInPieces, IsCut}
+use Rattle.ipnet_text.specs.Pieces.{IsInPieces}
 use Rattle.ipnet_text.proofs.WritingLaws.{front_written, all_written, whole_front, put_then, cut_first, cut_then}
 use Rattle.ipnet_text.specs.Outputs.{IsWritten, IsFrontWritten}
 use Rattle.netset_forms.specs.declared.parts.Parts.{Parts}
