@@ -182,7 +182,7 @@ pub struct EntryNotes {
 }
 
 impl EntryNotes {
-    /// Returns notes of no list. If a network is given, only entries in it are noted. Fails only if memory runs out.
+    /// Returns notes of no list. If a network is given, only blocks in it are noted. Fails only if memory runs out.
     pub fn new(
         alloc: Global,
         grammar: Grammar,

@@ -13,7 +13,7 @@ use std::alloc::{AllocError, Global};
 use std::io::Write;
 use thiserror::Error;
 
-/// Why there is no bar and no map.
+/// Why a bar or a map cannot be drawn.
 #[derive(Clone, Copy, Debug, PartialEq, Eq, Drop, Error)]
 pub enum PictureFailure {
     /// No network is named, and the lists have no address around which to draw one.

@@ -34,8 +34,8 @@ fn note_of(alloc: Global, set: &IpSet, frame: &IpNet) -> Result<String, AllocErr
 /// Returns the map of the set in the frame, as a document of SVG. Fails only if memory runs out.
 ///
 /// A cell is drawn in one of four shades, by the share of its addresses that are in the set. The title of a square says
-/// how many of its addresses are in the set, and the foot how many are outside the frame. The networks with names are
-/// outlined, and the free blocks if the look says so.
+/// how many of its addresses are in the set, and the foot how many are outside the frame. The entries of the look have
+/// titles. The networks with names are outlined, and the free blocks if the look says so.
 ///
 /// ```text
 /// of 10.20.0.0/20 in 10.20.0.0/16: <svg ..> .. <path class="s4" d="m0 0h256v16h-256z"/> .. </svg>
@@ -68,7 +68,8 @@ pub fn set_map_text(
 /// runs out.
 ///
 /// A change is never hidden, however small it is. The title of a square says how many of its addresses are only in the
-/// first set, only in the second, and in both. The blocks that neither set has are outlined if the look says so.
+/// first set, only in the second, and in both. The entries of the look have titles. The networks with names are
+/// outlined, and the blocks that neither set has if the look says so.
 ///
 /// ```text
 /// from 10.20.0.0/24 to 10.20.0.0/25 in 10.20.0.0/16: <svg ..> .. <path class="old" d="m0 8h16v8h-16z"/> .. </svg>
@@ -165,7 +166,8 @@ fn counted_of<'a>(
 /// Each set has its colour, which is pale if the set does not have all addresses of a cell. A cell is black if two sets
 /// share an address of it, and grey if two have addresses of it and share none. The title of a square says how many of
 /// its addresses are in each set, and the foot how many addresses of the sets are outside the frame. The first
-/// `MOST_LISTS` sets have a colour. The blocks that no set has are outlined if the look says so.
+/// `MOST_LISTS` sets have a colour. The entries of the look have titles. The networks with names are outlined, and the
+/// blocks that no set has if the look says so.
 ///
 /// ```text
 /// of 10.20.0.0/24 and 10.20.1.0/24, named a and b, in 10.20.0.0/16: the title of the first square is
