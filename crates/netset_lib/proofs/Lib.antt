@@ -5,6 +5,7 @@ pub mod BlankTexts
 pub mod EntryTexts
 pub mod RefusalLaws
 pub mod RangeCovers
+pub mod LineEnds
 pub mod ListLines
 pub mod FrontEntries
 pub mod PlainLines

@@ -13,6 +13,7 @@ use Rattle.ipnet_sets.specs.Members.{IsMember}
 use Rattle.ipnet_sets.specs.declared.set.IpSet.{IpSet}
 use Rattle.ipnet.specs.Lines.{lines_of, onto_first_line}
 use Rattle.ipnet_text.proofs.ClosedLines.{IsClosed, closed_append}
+use Rattle.netset_lib.proofs.LineEnds.{ended, ended_closed, only, before_end, no_end, to_end}
 use Rattle.netset_words.specs.declared.line_filter.LineFilter.{LineFilter}
 use Rattle.netset_words.specs.declared.line_filter.Rest.TheVariants as Rests
 use Rattle.netset_words.specs.declared.log_line.LinesRequest.{LinesRequest}
@@ -20,42 +21,6 @@ use Rattle.netset_lib.specs.RefusedLines.{AreRefused}
 use Rattle.netset_words.specs.LogLines.{LogResult, AreLogLines, treated_front}
 use Rattle.netset_words.specs.FilterSteps.{IsFilterUpTo, IsLogUpTo, ReadsUpTo, GoesOn, ReadsEnd}
 use Rattle.netset_words.proofs.LogFilterLaws.{not_kept, or_false}
-
--- ---- the end of a line
-
--- bytes without the end of a line, and the end
-ended : (line more : List ℕ) → All (λ b. b ≢ 10) line → lines_of (line ++ 10 ∷ more) ≡ line ∷ lines_of more
-ended [] more none = refl
-ended (b ∷ line) more none =
-    let other : (b == 10) ≡ false = ne_eqb b 10 (All-head (λ b. b ≢ 10) b line none) in
-    ap (λ t. if t then [] ∷ lines_of (line ++ 10 ∷ more) else onto_first_line b (lines_of (line ++ 10 ∷ more))) other
-    ∙ ap (onto_first_line b) (ended line more (All-tail (λ b. b ≢ 10) b line none))
-
-ended_closed : (line : List ℕ) → All (λ b. b ≢ 10) line → IsClosed (line ++ 10 ∷ [])
-ended_closed line none more =
-    ap lines_of (append_assoc line (10 ∷ []) more) ∙ ended line more none
-    ∙ ap (λ z. z ++ lines_of more) (sym (ended line [] none))
-
--- the bytes before the first end of a line
-pub before_end : (bytes : List ℕ) (i : ℕ) → i ≤ length bytes
-    → NoneBefore (Passes (is_byte 10) bytes) 0 (length bytes) i → All (λ b. b ≢ 10) (take i bytes)
-before_end bytes i within before =
-    All-from_get_or (λ b. b ≢ 10) (take i bytes) 0
-    (λ k less. let below : k < i = omega (arith, length-take-le i bytes within) in
-    λ e. before.before k (omega arith) below (eq-eqb (get_or bytes k 0) 10 (sym (get_or-take i bytes k 0 below) ∙ e)))
-
-pub no_end : (bytes : List ℕ) → Nowhere (Passes (is_byte 10) bytes) 0 (length bytes) → All (λ b. b ≢ 10) bytes
-no_end bytes none =
-    All-from_get_or (λ b. b ≢ 10) bytes 0 (λ k less e. none k (omega arith) less (eq-eqb (get_or bytes k 0) 10 e))
-
--- the bytes up to and with it
-pub to_end : (bytes : List ℕ) (i : ℕ) → i < length bytes → Passes (is_byte 10) bytes i
-    → bytes ≡ (take i bytes ++ 10 ∷ []) ++ take (length bytes - (i + 1)) (drop (i + 1) bytes)
-to_end bytes i within found =
-    let ended : take (i + 1) bytes ≡ take i bytes ++ 10 ∷ [] =
-    take_more bytes i 0 within ∙ ap (λ b. take i bytes ++ b ∷ []) (eqb-true (get_or bytes i 0) 10 found) in
-    sym (take-append-drop (i + 1) bytes) ∙ ap (λ z. z ++ drop (i + 1) bytes) ended
-    ∙ ap (λ z. (take i bytes ++ 10 ∷ []) ++ z) (sym (take_rest bytes (i + 1)))
 
 -- ---- steps
 
@@ -111,15 +76,6 @@ module _ (how : LinesRequest) (chosen : IpSet) (written : List ℕ) (least : ℕ
   one_line_left new some up_to =
       let last : lines_of h.cur ≡ h.cur ∷ [] = only h.cur some h.no_end in
       rw (lines_are, last) up_to
-    where
-      only : (cur : List ℕ) → 0 < length cur → All (λ b. b ≢ 10) cur → lines_of cur ≡ cur ∷ []
-      only [] some none = absurd (omega arith)
-      only (b ∷ []) some none =
-          ap (λ t. if t then [] ∷ [] else onto_first_line b []) (ne_eqb b 10 (All-head (λ b. b ≢ 10) b [] none))
-      only (b ∷ c ∷ cur) some none =
-          ap (λ t. if t then [] ∷ lines_of (c ∷ cur) else onto_first_line b (lines_of (c ∷ cur)))
-          (ne_eqb b 10 (All-head (λ b. b ≢ 10) b (c ∷ cur) none))
-          ∙ ap (onto_first_line b) (only (c ∷ cur) (omega arith) (All-tail (λ b. b ≢ 10) b (c ∷ cur) none))
 
 -- ---- the front of a line, as a filter has it
 
