@@ -46,12 +46,13 @@ fn title_of(alloc: Global, text: &str, comment: &[u8]) -> Result<String, AllocEr
 }
 
 /// Returns the prefix length of the network or address that a line of hexadecimal digits, dots and colons may be, if it
-/// has a length after a slash or none, and whether it is of IPv6. `None` if the line has anything else.
+/// has a length after a slash or no slash, and whether it is of IPv6. `None` if the line has anything else.
 //
 // Most lines of a long list end here, so each byte is tested without a branch.
 fn plain_len(line: &[u8]) -> Option<(usize, bool)> {
     let mut is_plain = !line.is_empty();
     let mut is_ipv6 = false;
+    let mut has_slash = false;
     for byte in line {
         // these are ".", "/", the digits and ":"
         let is_mark_or_digit = (*byte >= b'.') & (*byte <= b':');
@@ -59,6 +60,7 @@ fn plain_len(line: &[u8]) -> Option<(usize, bool)> {
         let is_letter = (small >= b'a') & (small <= b'f');
         is_plain = is_plain & (is_mark_or_digit | is_letter);
         is_ipv6 = is_ipv6 | (*byte == b':');
+        has_slash = has_slash | (*byte == b'/');
     }
     if !is_plain {
         return None;
@@ -68,6 +70,10 @@ fn plain_len(line: &[u8]) -> Option<(usize, bool)> {
             let len = read_length(str::from_utf8(&line[index..]).ok()?)?;
             return Some((usize::from(len), is_ipv6));
         }
+    }
+    // what follows the slash is longer than a length, so it is a netmask
+    if has_slash {
+        return None;
     }
     Some((if is_ipv6 { 128 } else { 32 }, is_ipv6))
 }
