@@ -1,6 +1,6 @@
 -- The entries of lists that are noted: their titles, their blocks, and the lines that they are of.
-use Rattle.std.specs.Prelude.{◌≡◌, ◌≤◌, ℕ, ◌+◌, List, [], ◌∷◌, ◌++◌, codes, drop, take, length, All, AllPairs, Any}
-use Rattle.std.specs.Prelude.{Option, IfSome, string_bytes}
+use Rattle.std.specs.Prelude.{◌≡◌, ◌<◌, ◌≤◌, ℕ, ◌+◌, List, [], ◌∷◌, ◌++◌, codes, drop, take, length, All, AllPairs, Any}
+use Rattle.std.specs.Prelude.{Option, IfSome, IsCharBoundary, string_bytes}
 use Rattle.std.specs.List.{flat_map}
 use Rattle.std.specs.Str.Lossy.{utf8_lossy}
 use Rattle.ipnet_base.specs.Address.{Family, IPv4, IPv6}
@@ -16,18 +16,29 @@ use Rattle.netset_entries.specs.declared.largest.NotedEntry.{NotedEntry}
 use Rattle.netset_lib.specs.Entries.{IsEntryText}
 use Rattle.netset_lib.specs.Lists.{IsCommentAt, IsContents, after_mark, without_blanks}
 
--- The first 100 bytes of the comment of the line, without its sign and blanks around it; none if there is no comment.
+-- The comment of the line, without its sign and blanks around it; it is empty if there is no comment.
 -- Example: `dhcp-246` of `10.20.168.9/22 # dhcp-246`.
 pub record IsCommentOf (line comment : List ℕ) : Type 0 where
   pub start : ℕ
   pub begins : IsCommentAt line start
-  pub is : comment ≡ take 100 (without_blanks (drop (start + 1) line))
+  pub is : comment ≡ without_blanks (drop (start + 1) line)
+
+-- The longest front of the text that has at most 100 bytes and does not end inside a character.
+-- Example: `dhcp-246` of `dhcp-246`; of 99 times `x` and then `ü`, which has two bytes, it is 99 times `x`.
+pub record IsCutText (text front : List ℕ) : Type 0 where
+  pub len : ℕ
+  pub short : len ≤ 100
+  pub whole : IsCharBoundary text len
+  pub longest : (i : ℕ) → len < i → i ≤ 100 → ¬ (IsCharBoundary text i)
+  pub is : front ≡ take len text
 
 -- The title of an entry with this text and this comment. Bytes of the comment that are not UTF-8 are replaced by
--- U+FFFD. Example: `10.20.168.9/22: dhcp-246` of `10.20.168.9/22` and `dhcp-246`; `10.0.0.1` of `10.0.0.1` and nothing.
-abbrev pub title_text : List ℕ → List ℕ → List ℕ
-title_text text [] = text
-title_text text (b ∷ comment) = text ++ codes ": " ++ utf8_lossy (b ∷ comment)
+-- U+FFFD, and then it is cut.
+-- Example: `10.20.168.9/22: dhcp-246` of `10.20.168.9/22` and `dhcp-246`; `10.0.0.1` of `10.0.0.1` and nothing.
+abbrev pub IsTitleOf : List ℕ → List ℕ → List ℕ → Type 0
+IsTitleOf text [] title = title ≡ text
+IsTitleOf text (b ∷ comment) title =
+    (front : List ℕ) × IsCutText (utf8_lossy (b ∷ comment)) front × (title ≡ text ++ codes ": " ++ front)
 
 -- The network is a block of the entry of the line, and this is the title of the entry. The blocks of an entry are the
 -- fewest networks with its addresses.
@@ -40,7 +51,7 @@ pub record IsTitledBlock (grammar : Grammar) (n : Network) (title line : List �
   pub block : IsMaximal (IsInRange range) 0 n
   pub comment : List ℕ
   pub has_comment : IsCommentOf line comment
-  pub titled : title ≡ title_text text comment
+  pub titled : IsTitleOf text comment title
 
 -- What is noted is a block of the entry of one of the lines, with the title of this entry. It is in the frame, if there
 -- is one.

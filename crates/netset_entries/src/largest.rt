@@ -17,7 +17,8 @@ const MOST: usize = 1_500;
 pub struct NotedEntry {
     /// The block: an entry is the fewest networks with its addresses.
     pub network: IpNet,
-    /// The entry as written, and the first 100 bytes of its comment, if there is one.
+    /// The entry as written, and its comment, if there is one. The comment is cut at 100 bytes, at the end of a
+    /// character.
     pub title: String,
 }
 

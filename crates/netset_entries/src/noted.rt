@@ -5,7 +5,7 @@ ghost use Rattle.ipnet_base.specs.Network.{IsSubnetOf};
 ghost use Rattle.ipnet.specs.NetworkOf.{ip_network};
 ghost use Rattle.ipnet.specs.declared.net.IpNet.{IpNet};
 ghost use Rattle.ipnet.specs.declared.parser.Grammar.{Grammar};
-ghost use Rattle.netset_entries.specs.NotedEntries.{AreNoted, IsCommentOf, title_text};
+ghost use Rattle.netset_entries.specs.NotedEntries.{AreNoted, IsCommentOf, IsTitleOf};
 ghost use Rattle.netset_entries.specs.NoteSteps.{AreKept, KeepsBlock, ReadsLine, first_text};
 ghost use Rattle.netset_entries.specs.NoteSteps.{HaveNoted, IsAtEnd, ReadsNext, ReadsBegun, EndsLine};
 
@@ -27,21 +27,24 @@ fn comment_of(line: &[u8]) -> &[u8]
     if start >= line.len() {
         return &[];
     }
-    let comment = line[start + 1..].trim_ascii();
-    &comment[..MOST_BYTES.min(comment.len())]
+    line[start + 1..].trim_ascii()
 }
 
-/// Returns the title of the entry that is written so. Bytes of the comment that are not UTF-8 are replaced by U+FFFD.
+/// Returns the title of the entry that is written so. Bytes of the comment that are not UTF-8 are replaced by U+FFFD,
+/// and then the comment is cut at the end of a character.
 fn title_of(alloc: Global, text: &str, comment: &[u8]) -> Result<String, AllocError>
-    ensures { IfOk result (λ title. string_bytes title ≡ title_text text.now comment.now) }
+    ensures { IfOk result (λ title. IsTitleOf text.now comment.now (string_bytes title)) }
 {
     let mut title = String::from_str(alloc, text)?;
     if comment.is_empty() {
         return Ok(title);
     }
     let comment = String::from_utf8_lossy(alloc, comment)?;
+    let comment = comment.as_str();
+    let end = comment.floor_char_boundary(MOST_BYTES);
+    let (front, _) = comment.split_at(end);
     title.push_str(": ")?;
-    title.push_str(comment.as_str())?;
+    title.push_str(front)?;
     Ok(title)
 }
 

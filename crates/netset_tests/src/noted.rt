@@ -86,6 +86,36 @@ fn most(rt: HostRuntime) -> Result<(), Fail> {
 }
 
 #[test]
+fn long_comments(rt: HostRuntime) -> Result<(), Fail> {
+    // how many "x" a comment begins with, what follows, and the bytes of the comment in the title
+    let rows: [(usize, &[u8], usize); 7] = [
+        (100, b"y", 100),
+        (99, b"yz", 100),
+        (99, b"\xc3\xbc", 99),
+        (98, b"\xc3\xbcy", 100),
+        (97, b"\xff", 100),
+        (98, b"\xff", 98),
+        (0, b"\xf0\x9f\x92\xa1", 4),
+    ];
+    let alloc = rt.alloc();
+    for (count, tail, wanted) in rows {
+        let mut notes = EntryNotes::new(alloc, Grammar::Strict, None)?;
+        notes.take(b"10.0.0.1 # ")?;
+        for _ in 0..count {
+            notes.take(b"x")?;
+        }
+        notes.take(tail)?;
+        notes.end_list()?;
+        let entries = notes.into_entries()?;
+        let title = noted_first(alloc, entries.as_slice())?;
+        // the title is written twice, as that of the first and of the last entry
+        let found = (title.len() - ", ".len()) / 2 - "10.0.0.1: ".len();
+        assert!(&rt; found == wanted, "comment: {count}: {found}, not {wanted}");
+    }
+    Ok(())
+}
+
+#[test]
 fn larger_after_many(rt: HostRuntime) -> Result<(), Fail> {
     // the list after 1,500 addresses, and the titles of the first and of the last entry
     let rows = [

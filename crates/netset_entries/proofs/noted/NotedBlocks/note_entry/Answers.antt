@@ -5,7 +5,7 @@ use Rattle.ipnet.specs.NetworkOf.{ip_network}
 use Rattle.ipnet.specs.SubnetsLeft.{ip_subnets_left}
 use Rattle.ipnet_sets.specs.SetRanges.{IsInRange}
 use Rattle.netset_lib.specs.EntryOf.{entry_range}
-use Rattle.netset_entries.specs.NotedEntries.{IsTitledBlock, title_text}
+use Rattle.netset_entries.specs.NotedEntries.{IsTitledBlock, IsTitleOf}
 use Rattle.netset_entries.proofs.NoteLaws.{kept_more, block_read}
 use Rattle.netset_entries.proofs.noted.NotedBlocks.note_entry.Goals as goal
 
@@ -26,7 +26,8 @@ loop-network-init c =
             (sym c.into_iter-network-iterator.ensures.into_iter_gives) c.walk-network-items.ensures).members n).0 m;
         comment = comment;
         has_comment = c.comment_of.ensures;
-        titled = c.in_ok-title.ensures ∙ ap (λ z. title_text z comment) c.in-Some.ensures.spelled;
+        titled = subst (λ z. IsTitleOf z comment (string_bytes c.in_ok-title.title)) c.in-Some.ensures.spelled
+            c.in_ok-title.ensures;
       };
       reads = λ grammar frame lines h. kept_more grammar frame lines (c.args.line.now ∷ []) c.args.self.now h;
     }
