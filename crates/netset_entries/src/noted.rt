@@ -6,15 +6,16 @@ ghost use Rattle.ipnet.specs.NetworkOf.{ip_network};
 ghost use Rattle.ipnet.specs.declared.net.IpNet.{IpNet};
 ghost use Rattle.ipnet.specs.declared.parser.Grammar.{Grammar};
 ghost use Rattle.netset_entries.specs.NotedEntries.{AreNoted, IsCommentOf, IsTitleOf};
-ghost use Rattle.netset_entries.specs.NoteSteps.{AreKept, KeepsBlock, ReadsLine, first_text};
+ghost use Rattle.netset_entries.specs.NoteSteps.{AreKept, IsSmallLine, KeepsBlock, ReadsLine, first_text};
 ghost use Rattle.netset_entries.specs.NoteSteps.{HaveNoted, IsAtEnd, ReadsNext, ReadsBegun, EndsLine};
 
 use crate::largest::{Largest, NotedEntry};
+use crate::plain::plain_network;
 use ipnet::{Grammar, IpNet};
 use memchr::memchr;
-use netset_lib::{comment_start, contents_of, read_length, read_text, skip_mark};
+use netset_lib::{comment_start, contents_of, read_text, skip_mark};
 use std::alloc::{AllocError, Global};
-use std::{mem, str};
+use std::mem;
 
 /// How many bytes of a comment are noted at most.
 const MOST_BYTES: usize = 100;
@@ -46,39 +47,6 @@ fn title_of(alloc: Global, text: &str, comment: &[u8]) -> Result<String, AllocEr
     title.push_str(": ")?;
     title.push_str(front)?;
     Ok(title)
-}
-
-/// Returns the prefix length of the network or address that a line of hexadecimal digits, dots and colons may be, if it
-/// has a length after a slash or no slash, and whether it is of IPv6. `None` if the line has anything else.
-//
-// Most lines of a long list end here, so each byte is tested without a branch.
-fn plain_len(line: &[u8]) -> Option<(usize, bool)> {
-    let mut is_plain = !line.is_empty();
-    let mut is_ipv6 = false;
-    let mut has_slash = false;
-    for byte in line {
-        // these are ".", "/", the digits and ":"
-        let is_mark_or_digit = (*byte >= b'.') & (*byte <= b':');
-        let small = *byte | 32;
-        let is_letter = (small >= b'a') & (small <= b'f');
-        is_plain = is_plain & (is_mark_or_digit | is_letter);
-        is_ipv6 = is_ipv6 | (*byte == b':');
-        has_slash = has_slash | (*byte == b'/');
-    }
-    if !is_plain {
-        return None;
-    }
-    for index in line.len().saturating_sub(4)..line.len() {
-        if line[index] == b'/' {
-            let len = read_length(str::from_utf8(&line[index..]).ok()?)?;
-            return Some((usize::from(len), is_ipv6));
-        }
-    }
-    // what follows the slash is longer than a length, so it is a netmask
-    if has_slash {
-        return None;
-    }
-    Some((if is_ipv6 { 128 } else { 32 }, is_ipv6))
 }
 
 /// Whether the network lies in the frame, if there is one.
@@ -119,13 +87,17 @@ impl NotedBlocks {
         })
     }
 
-    /// Whether the line is too small an entry to be noted, or none, as far as this is seen at a glance.
-    fn is_small(&self, line: &[u8]) -> bool {
-        match plain_len(line) {
-            Some((len, false)) => len >= self.ipv4.end,
-            Some((len, true)) => len >= self.ipv6.end,
-            None => false,
+    /// Whether the blocks of the line's entry are too small to be noted, as far as this is seen at a glance.
+    fn is_small(&self, line: &[u8]) -> bool
+        ensures { IsTrue result → IsSmallLine self.now line.now }
+    {
+        let Some(network) = plain_network(contents_of(line, self.grammar)) else {
+            return false;
+        };
+        if network.is_ipv6 {
+            return network.len >= self.ipv6.end;
         }
+        network.len >= self.ipv4.end
     }
 
     /// Notes a block of an entry, if it is not outside the network.
@@ -283,8 +255,8 @@ impl EntryNotes {
         self.blocks.count
     }
 
-    /// Returns the blocks that were noted: at most 1,500 of each family, IPv4 first, the larger first, and those of one
-    /// size in the order of the lists. Fails only if memory runs out.
+    /// Returns the blocks that were noted: of each family all blocks of the entries, or the largest 1,500. IPv4 comes
+    /// first, then the larger. Blocks of one size are in the order of the lists. Fails only if memory runs out.
     pub fn into_entries(self) -> Result<Vec<NotedEntry>, AllocError>
         ensures { IfOk result (λ entries. (grammar : Grammar) → (frame : Option IpNet)
             → (lists : List (List ℕ)) → HaveNoted grammar frame lists [] self
