@@ -1,7 +1,7 @@
 //! Aggregates: the shortest list of networks over the addresses of a list, and lists compared by what they cover.
-ghost use Rattle.std.specs.Prelude.{◌≡◌, ◌↔◌, ◌+◌, ◌<◌, ◌≤◌, [], map, take, drop, length, All};
+ghost use Rattle.std.specs.Prelude.{◌≡◌, ◌↔◌, ◌+◌, ◌-◌, ◌<◌, ◌≤◌, [], map, take, drop, length, get_or, All};
 ghost use Rattle.std.specs.Prelude.{IfOk, OnOk, IsOk, IsOkAnd, IsTrue};
-ghost use Rattle.ipnet_base.specs.Network.{IsTruncated};
+ghost use Rattle.ipnet_base.specs.Network.{Network, IsTruncated, IsSubnetOf};
 ghost use Rattle.ipnet_base.specs.Blocks.{HaveSameCover, IsAggregateOf, IsCanonicalAggregateOf};
 ghost use Rattle.ipnet_base.specs.Blocks.{AreAggregatedNeighbours};
 ghost use Rattle.ipnet_base.specs.Stack.{IsBeforeOrEqual, IsInOrder, LiesBefore, AreJoined};
@@ -47,6 +47,32 @@ fn truncated_and_joined<N: Net>(alloc: Global, networks: &Vec<N>) -> Result<Vec<
     Ok(list)
 }
 
+/// Writes a network after the first `kept` networks of the list. While it and the last of these are the two halves of
+/// one supernet, both are replaced by that supernet. Returns how many networks there are then. If the first ones are a
+/// stack, and the topmost does not cover the network, they are a stack after that.
+fn put_or_join<N: Net>(list: &mut [N], kept: usize, network: N) -> usize
+    requires room { kept < length list.old }
+    requires list { All IsTruncated (map N.network (take kept list.old)) }
+    requires network { IsTruncated (N.network network) }
+    ensures at_most { result ≤ kept + 1 }
+    ensures list { IsListWith (map N.network (take kept list.old)) (N.network network)
+        (map N.network (take result list.new)) }
+    ensures stack { let old = map N.network (take kept list.old) in AreJoined old
+        → All (λ m. IsBeforeOrEqual m (N.network network)) old
+        → ((d : Network) → 0 < length old → ¬ (IsSubnetOf (N.network network) (get_or old (length old - 1) d)))
+        → IsStackWith old (N.network network) (map N.network (take result list.new)) }
+    ensures rest { drop (kept + 1) list.new ≡ drop (kept + 1) list.old }
+{
+    let mut front = kept;
+    let mut next = network;
+    while front > 0 && list[front - 1].is_other_half(&next) {
+        next = list[front - 1].joined();
+        front -= 1;
+    }
+    list[front] = next;
+    front + 1
+}
+
 /// Pushes a network on the stack that fills the front of the list; in the order of networks, none of the stack comes
 /// after it. A network that the topmost covers is left out. While it and the topmost are the two halves of one
 /// supernet, both are replaced by that supernet. Returns the number of networks on the stack after that.
@@ -66,14 +92,7 @@ fn push_on_stack<N: Net>(list: &mut [N], stacked: usize, network: N) -> usize
     if stacked > 0 && list[stacked - 1].covers(&network) {
         return stacked;
     }
-    let mut top = stacked;
-    let mut next = network;
-    while top > 0 && list[top - 1].is_other_half(&next) {
-        next = list[top - 1].joined();
-        top -= 1;
-    }
-    list[top] = next;
-    top + 1
+    put_or_join(list, stacked, network)
 }
 
 /// Pushes the networks of a sorted list, one after the other, on a stack at the front of the same list. The stack never
@@ -90,27 +109,6 @@ fn sweep<N: Net>(list: &mut [N]) -> usize
         stacked = push_on_stack(list, stacked, network);
     }
     stacked
-}
-
-/// Writes a network after the first `kept` networks of the list. While it and the last of these are the two halves of
-/// one supernet, both are replaced by that supernet. Returns how many networks there are then.
-fn put_or_join<N: Net>(list: &mut [N], kept: usize, network: N) -> usize
-    requires room { kept < length list.old }
-    requires list { All IsTruncated (map N.network (take kept list.old)) }
-    requires network { IsTruncated (N.network network) }
-    ensures at_most { result ≤ kept + 1 }
-    ensures list { IsListWith (map N.network (take kept list.old)) (N.network network)
-        (map N.network (take result list.new)) }
-    ensures rest { drop (kept + 1) list.new ≡ drop (kept + 1) list.old }
-{
-    let mut front = kept;
-    let mut next = network;
-    while front > 0 && list[front - 1].is_other_half(&next) {
-        next = list[front - 1].joined();
-        front -= 1;
-    }
-    list[front] = next;
-    front + 1
 }
 
 /// Does in the list's own front what [`truncated_and_joined`] does in a new list. Returns how many networks are left.
