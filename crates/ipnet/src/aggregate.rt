@@ -13,40 +13,6 @@ use std::alloc::{AllocError, Global};
 
 pub mod laws;
 
-/// Appends a network. While it and the last one are the two halves of one supernet, both are replaced by that
-/// supernet. The list need not be sorted.
-fn push_or_join<N: Net>(list: &mut Vec<N>, network: N) -> Result<(), AllocError>
-    requires list { All IsTruncated (map N.network list.old.items) }
-    requires network { IsTruncated (N.network network) }
-    ensures { OnOk result
-        (IsListWith (map N.network list.old.items) (N.network network) (map N.network list.new.items)) }
-{
-    let mut next = network;
-    while let Some(last) = list.last()
-        && last.is_other_half(&next)
-    {
-        next = last.joined();
-        list.pop();
-    }
-    list.push(next)?;
-    Ok(())
-}
-
-/// A list over the same addresses, without host bits and in the order of the input. Two halves of one supernet that
-/// follow each other are joined here already, so that less has to be sorted.
-fn truncated_and_joined<N: Net>(alloc: Global, networks: &Vec<N>) -> Result<Vec<N>, AllocError>
-    ensures empty { networks.now.items ≡ [] → IsOk result }
-    ensures truncated { IfOk result (λ list. All IsTruncated (map N.network list.items)) }
-    ensures addresses { IfOk result (λ list.
-        HaveSameCover (map N.network list.items) (map N.network networks.now.items)) }
-{
-    let mut list = Vec::with_capacity(alloc, networks.len())?;
-    for network in networks {
-        push_or_join(&mut list, network.truncated())?;
-    }
-    Ok(list)
-}
-
 /// Writes a network after the first `kept` networks of the list. While it and the last of these are the two halves of
 /// one supernet, both are replaced by that supernet. Returns how many networks there are then. If the first ones are a
 /// stack, and the topmost does not cover the network, they are a stack after that.
@@ -71,6 +37,36 @@ fn put_or_join<N: Net>(list: &mut [N], kept: usize, network: N) -> usize
     }
     list[front] = next;
     front + 1
+}
+
+/// Appends a network. While it and the last one are the two halves of one supernet, both are replaced by that
+/// supernet. The list need not be sorted.
+fn push_or_join<N: Net>(list: &mut Vec<N>, network: N) -> Result<(), AllocError>
+    requires list { All IsTruncated (map N.network list.old.items) }
+    requires network { IsTruncated (N.network network) }
+    ensures { OnOk result
+        (IsListWith (map N.network list.old.items) (N.network network) (map N.network list.new.items)) }
+{
+    let before = list.len();
+    list.push(network)?;
+    let kept = put_or_join(list.as_mut_slice(), before, network);
+    list.truncate(kept);
+    Ok(())
+}
+
+/// A list over the same addresses, without host bits and in the order of the input. Two halves of one supernet that
+/// follow each other are joined here already, so that less has to be sorted.
+fn truncated_and_joined<N: Net>(alloc: Global, networks: &Vec<N>) -> Result<Vec<N>, AllocError>
+    ensures empty { networks.now.items ≡ [] → IsOk result }
+    ensures truncated { IfOk result (λ list. All IsTruncated (map N.network list.items)) }
+    ensures addresses { IfOk result (λ list.
+        HaveSameCover (map N.network list.items) (map N.network networks.now.items)) }
+{
+    let mut list = Vec::with_capacity(alloc, networks.len())?;
+    for network in networks {
+        push_or_join(&mut list, network.truncated())?;
+    }
+    Ok(list)
 }
 
 /// Pushes a network on the stack that fills the front of the list; in the order of networks, none of the stack comes
