@@ -1,5 +1,6 @@
 //! The lines of a list that are not empty, and the lines that are refused.
 ghost use Rattle.std.specs.Prelude.{◌≡◌, ◌≢◌, ◌↔◌, ◌+◌, List, [], IsTrue, IfOk, OnOk, map};
+ghost use Rattle.std.specs.Io.KnownBytes.{Keeps};
 ghost use Rattle.netset_lib.specs.ContentLines as lists;
 ghost use Rattle.netset_lib.specs.ContentLines.{AreContentLines};
 ghost use Rattle.netset_lib.specs.ContentLineOf.{line_of, refused_of, AddsLine, AddsRead};
@@ -138,7 +139,8 @@ pub fn keep_read<T: Drop, C: Drop>(
     }
 }
 
-/// Reports the first refused lines of the list with this name, and the number of the others.
+/// Reports the first refused lines of the list with this name, and the number of the others. If there are none, nothing
+/// is printed.
 ///
 /// ```text
 /// twelve lines: ten lines, and "netset: and 2 more"
@@ -147,7 +149,12 @@ pub fn report_refused<X: Write, C: LineCause>(
     faults: &mut X,
     name: &str,
     lines: &[RefusedText<C>],
-) -> io::Result<()> {
+) -> io::Result<()>
+    ensures { lines.now ≡ [] → Keeps (X.contents faults.old) (X.contents faults.new) }
+{
+    if lines.is_empty() {
+        return Ok(());
+    }
     let shown = lines.len().min(MOST_LINES);
     for line in &lines[..shown] {
         line.cause

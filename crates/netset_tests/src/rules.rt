@@ -1,6 +1,6 @@
 //! Lists of rules: their lines, the answers, the reports, and refused memory.
 use ipnet::{Grammar, IpAddr, Ipv4Addr, Ipv6Addr};
-use ipnet_rules::{Action, Rules};
+use ipnet_rules::Action;
 use netset_lib::{ReadFailure, RuleFailure, RuleList, lines_of_ranges, run_unreached};
 use std::alloc::Global;
 use std::io::ErrorKind;
@@ -194,14 +194,11 @@ fn statuses(rt: HostRuntime) -> Result<(), Fail> {
 fn library(rt: HostRuntime) -> Result<(), Fail> {
     let alloc = rt.alloc();
     let list = RuleList::from_bytes(alloc, LIST.as_bytes(), Grammar::Strict)?;
-    let lines = list.lines.as_slice();
+    let lines = list.lines();
     assert!(&rt; lines.len() == 5, "lines");
     let numbers = [lines[0].number, lines[1].number, lines[4].number];
     assert!(&rt; numbers == [1, 3, 7], "numbers of lines");
-    let rules = Rules {
-        list: list.rules,
-        default: Action::Deny,
-    };
+    let rules = list.into_rules(Action::Deny);
     let denied = IpAddr::V4(Ipv4Addr::new(10, 0, 1, 200));
     assert!(&rt; rules.verdict(&denied) == Action::Deny, "denied");
     let permitted = IpAddr::V6(Ipv6Addr::new(0xfd00, 0, 0, 0, 0, 0, 0, 15));
@@ -238,7 +235,7 @@ fn readers(rt: HostRuntime) -> Result<(), Fail> {
             Ok(list) => {
                 assert!(&rt; failure.is_none(), "{label}: no failure");
                 assert!(&rt;
-                    list.rules.len() == 1 && list.refused.len() == 1,
+                    list.lines().len() == 1 && list.refused().len() == 1,
                     "{label}: lines"
                 );
             }
