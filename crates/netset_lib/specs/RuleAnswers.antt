@@ -10,8 +10,9 @@ use Rattle.ipnet_rules.specs.Rules.{HasRuleVerdict}
 use Rattle.ipnet_sets.specs.declared.set.IpSet.{IpSet}
 use Rattle.ipnet_sets.specs.Members.{IsMember}
 use Rattle.ipnet_rules.specs.UnreachedRules.{IsUnreached, AreUnreached}
-use Rattle.netset_lib.specs.declared.rule_answer.RuleFailure.{RuleFailure}
-use Rattle.netset_lib.specs.declared.rule_answer.RuleFailure.TheVariants as Failures
+use Rattle.netset_lib.specs.declared.content_line.ListFailure.{ListFailure}
+use Rattle.netset_lib.specs.declared.content_line.ListFailure.TheVariants as Failures
+use Rattle.netset_lib.specs.declared.rule_line.RuleCause.{RuleCause}
 use Rattle.netset_lib.specs.RuleContentsOf.{rule_refusal}
 use Rattle.netset_lib.specs.RuleLines.{LineOfRule, RuleContents, IsRuleList}
 
@@ -71,7 +72,7 @@ pub record IsPermittedSet (default : Action) (contents : RuleContents) (set : Ip
 
 -- Why there is no answer. If lines are refused, the failure has all of them. If no line is refused, memory ran out;
 -- when it does is not specified.
-abbrev pub IsRuleFailure : RuleContents → RuleFailure → Type 0
+abbrev pub IsRuleFailure : RuleContents → ListFailure RuleCause → Type 0
 IsRuleFailure contents (Failures.Refused lines) =
     (contents.refused ≢ []) × (map rule_refusal lines.items ≡ contents.refused)
 IsRuleFailure contents Failures.Memory = contents.refused ≡ []

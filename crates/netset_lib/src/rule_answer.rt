@@ -6,31 +6,13 @@ ghost use Rattle.netset_lib.specs.RuleAnswers.{IsPermittedBy, line_text, line_at
 ghost use Rattle.netset_lib.specs.RuleAnswers.{IsUnreachedText, IsRuleFailure, unreached_lines, AreUnreachedLines};
 ghost use Rattle.netset_lib.specs.RuleAnswers.{IsPermittedSet};
 ghost use Rattle.netset_lib.specs.RuleContentsOf.{contents_of, line_of_rule, rule_refusal};
-ghost use Rattle.netset_lib.specs.declared.rule_answer.RuleFailure.TheVariants.{Memory};
 
-use crate::content_line::RefusedText;
+use crate::content_line::{ListFailure, RefusedText};
 use crate::rule_line::RuleCause;
 use crate::rule_list::{RuleLine, RuleList};
 use ipnet_rules::{Action, Rule, Rules, Unreached};
 use ipnet_sets::IpSet;
 use std::alloc::{AllocError, Global};
-
-/// Why there is no answer.
-#[derive(Debug, Drop)]
-pub enum RuleFailure {
-    /// These lines are not rules.
-    Refused(Vec<RefusedText<RuleCause>>),
-    /// Memory ran out.
-    Memory,
-}
-
-impl From<AllocError> for RuleFailure {
-    ghost from_gives = { λ _ result. result ≡ Memory };
-
-    fn from(_: AllocError) -> RuleFailure {
-        RuleFailure::Memory
-    }
-}
 
 /// Returns the set of the addresses that the rules permit.
 fn permitted_set(alloc: Global, rules: Vec<Rule>, default: Action) -> Result<IpSet, AllocError>
@@ -182,7 +164,7 @@ impl RuleList {
     /// ```text
     /// Deny of "deny 10.0.0.0/9\npermit 10.0.0.0/8\n": 10.128.0.0/9
     /// ```
-    pub fn permitted(self, default: Action) -> Result<IpSet, RuleFailure>
+    pub fn permitted(self, default: Action) -> Result<IpSet, ListFailure<RuleCause>>
         ensures set { IfOk result (IsPermittedSet default (contents_of self)) }
         ensures failure { IfErr result (IsRuleFailure (contents_of self)) }
     {
@@ -193,11 +175,11 @@ impl RuleList {
             ..
         } = self;
         if !refused.is_empty() {
-            return Err(RuleFailure::Refused(refused));
+            return Err(ListFailure::Refused(refused));
         }
         match permitted_set(alloc, rules, default) {
             Ok(set) => Ok(set),
-            Err(_) => Err(RuleFailure::Memory),
+            Err(_) => Err(ListFailure::Memory),
         }
     }
 
@@ -211,16 +193,16 @@ impl RuleList {
     /// of "deny 10.0.0.0/9\npermit 10.0.0.0/8\npermit 10.1.0.0/16\n":
     /// "line 3: permit 10.1.0.0/16\n  line 1: deny 10.0.0.0/9\n"
     /// ```
-    pub fn unreached(self) -> Result<Vec<u8>, RuleFailure>
+    pub fn unreached(self) -> Result<Vec<u8>, ListFailure<RuleCause>>
         ensures text { IfOk result (λ text. IsUnreachedText (contents_of self) text.items) }
         ensures failure { IfErr result (IsRuleFailure (contents_of self)) }
     {
         if !self.refused.is_empty() {
-            return Err(RuleFailure::Refused(self.refused));
+            return Err(ListFailure::Refused(self.refused));
         }
         match unreached_text(self) {
             Ok(text) => Ok(text),
-            Err(_) => Err(RuleFailure::Memory),
+            Err(_) => Err(ListFailure::Memory),
         }
     }
 }

@@ -1,7 +1,7 @@
 //! Lists of rules: their lines, the answers, the reports, and refused memory.
 use ipnet::{Grammar, IpAddr, Ipv4Addr, Ipv6Addr};
 use ipnet_rules::Action;
-use netset_lib::{ReadFailure, RuleFailure, RuleList, lines_of_ranges, run_unreached};
+use netset_lib::{ListFailure, ReadFailure, RuleCause, RuleList, lines_of_ranges, run_unreached};
 use std::alloc::Global;
 use std::io::ErrorKind;
 use std::test::Fail;
@@ -13,7 +13,11 @@ const LIST: &str = "\u{feff}deny 10.0.1.128/25 # leased\r\n\npermit 10.0.0.0/23\
     ; IPv6\npermit\tfd00::-fd00::f\npermit 10.0.1.192/26\npermit 10.0.0.9";
 
 /// The ranges that the rules permit, with this default; without one, the lines of the unreached rules.
-fn answer(alloc: Global, list: RuleList, default: Option<Action>) -> Result<Vec<u8>, RuleFailure> {
+fn answer(
+    alloc: Global,
+    list: RuleList,
+    default: Option<Action>,
+) -> Result<Vec<u8>, ListFailure<RuleCause>> {
     match default {
         Some(default) => {
             let set = list.permitted(default)?;
@@ -38,8 +42,8 @@ fn outcome(alloc: Global, list: &str, default: Option<Action>, wanted: &str) -> 
             }
         }
         Err(failure) => match failure {
-            RuleFailure::Memory => Outcome::Refused,
-            RuleFailure::Refused(_lines) => Outcome::Wrong,
+            ListFailure::Memory => Outcome::Refused,
+            ListFailure::Refused(_lines) => Outcome::Wrong,
         },
     }
 }
