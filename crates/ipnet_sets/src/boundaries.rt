@@ -194,7 +194,7 @@ pub(crate) fn contains<T: Number>(boundaries: &[T], number: T) -> bool
 }
 
 /// Whether all numbers from the first to the last are in the set.
-pub(crate) fn covers<T: Number>(boundaries: &[T], first: T, last: T) -> bool
+fn covers<T: Number>(boundaries: &[T], first: T, last: T) -> bool
     requires boundaries { AreBoundaries T.family (map T.number boundaries.now) }
     requires ordered { T.number first ≤ T.number last }
     ensures { IsTrue result ↔ ((x : ℕ) → T.number first ≤ x → x ≤ T.number last

@@ -140,7 +140,7 @@ pub fn read_rules(
         Err(failure) => return Err(input.unread(failure)),
     };
     reports.report_count(rt, name, input.count, input.count);
-    let is_empty = list.rules.is_empty() && list.refused.is_empty();
+    let is_empty = list.lines().is_empty() && list.refused().is_empty();
     if is_empty && !reports.allow_empty(rt, name, "rules") {
         return Ok(None);
     }

@@ -1,6 +1,6 @@
 //! The commands that read a list of rules.
-ghost use Rattle.std.specs.Prelude.{◌≡◌, codes, Some, IfSome};
-ghost use Rattle.netset.specs.Arguments.{IsDefault, IsRuleCommand};
+ghost use Rattle.std.specs.Prelude.{◌≡◌, ◌↔◌, Bool, codes, Some};
+ghost use Rattle.netset.specs.Arguments.{IsDefault, rule_command};
 
 use crate::arguments::{FIRST, command_of, first, flags_of};
 use crate::forms::{form_of, operation_command};
@@ -58,7 +58,7 @@ pub fn with_rules<'a>(alloc: Global, command: Command<'a>) -> Result<Command<'a>
 
 /// Returns whether the command of this name prints what rules permit, or `None` if it reads no list of rules.
 fn prints_permitted(name: &str) -> Option<bool>
-    ensures { IfSome result (IsRuleCommand name.now) }
+    ensures { (permitted : Bool) → (result ≡ Some permitted) ↔ (name.now ≡ rule_command permitted) }
 {
     match name {
         PERMITTED => Some(true),

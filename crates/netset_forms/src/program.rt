@@ -15,7 +15,7 @@ use crate::form::FormRequest;
 use crate::write::write_form;
 use ipnet_rules::Action;
 use ipnet_sets::IpSet;
-use netset_lib::{RuleList, Session, report_failure, report_rule_failure};
+use netset_lib::{RuleList, Session, report_failure};
 use std::alloc::Global;
 use std::io::Write;
 
@@ -121,9 +121,6 @@ pub fn run_permitted<W: Write, X: Write>(
     let alloc = list.alloc();
     match list.permitted(request.default) {
         Ok(set) => run_set(alloc, set, request.form, out, faults),
-        Err(failure) => {
-            let _ = report_rule_failure(faults, name, &failure);
-            2
-        }
+        Err(failure) => failure.report(faults, name),
     }
 }
