@@ -1,6 +1,7 @@
 //! The operations on the sets of lists.
 ghost use Rattle.std.specs.Prelude.{◌≡◌, ◌↔◌, ◌∷◌, [], IfOk, IsTrue, length};
 ghost use Rattle.ipnet_base.specs.Address.{IPv4, IPv6, Address, IsAddress, ip_address};
+ghost use Rattle.ipnet_sets.specs.ManySets.{IsInSome};
 ghost use Rattle.ipnet_sets.specs.Members.{IsMember, IsFromTo};
 ghost use Rattle.netset_lib.specs.Operations.{IsInFirstAlone, IsInComplement, IsInResult, IsChosen};
 
@@ -69,8 +70,13 @@ impl Operation {
 fn difference_of(alloc: Global, first: &IpSet, others: &[IpSet]) -> Result<IpSet, AllocError>
     ensures { IfOk result (λ s. (x : Address) → IsMember s x ↔ IsInFirstAlone IsMember (first.now ∷ others.now) x) }
 {
-    let taken = IpSet::union_all(alloc, others)?;
-    first.difference(alloc, &taken)
+    match others {
+        [second] => first.difference(alloc, second),
+        _ => {
+            let taken = IpSet::union_all(alloc, others)?;
+            first.difference(alloc, &taken)
+        }
+    }
 }
 
 /// Whether IPv4 is one of the families.
@@ -154,5 +160,29 @@ pub(crate) fn combine_sets(
         }
         (Operation::Complement(families), [set]) => complement_of(alloc, families, set),
         _ => Ok(IpSet::new(alloc)),
+    }
+}
+
+/// Returns the union of the sets. The union of one set is that set, and not a copy of it.
+fn union_of_owned(alloc: Global, mut sets: Vec<IpSet>) -> Result<IpSet, AllocError>
+    ensures { IfOk result (λ s. (x : Address) → IsMember s x ↔ IsInSome IsMember sets.items x) }
+{
+    if sets.len() == 1 {
+        return Ok(sets.remove(0));
+    }
+    IpSet::union_all(alloc, sets.as_slice())
+}
+
+/// Returns the same as `combine_sets`, but copies no set if the operation is the union of one set.
+pub(crate) fn combine_owned_sets(
+    alloc: Global,
+    operation: Operation,
+    sets: Vec<IpSet>,
+) -> Result<IpSet, AllocError>
+    ensures { IfOk result (λ s. (x : Address) → IsMember s x ↔ IsInResult IsMember operation sets.items x) }
+{
+    match operation {
+        Operation::Union => union_of_owned(alloc, sets),
+        _ => combine_sets(alloc, operation, sets.as_slice()),
     }
 }
