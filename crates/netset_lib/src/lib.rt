@@ -57,7 +57,7 @@ pub use address_text::ip_addr_text;
 pub use answer::{Answer, Form, Request, lines_of_ranges, network_lines};
 pub use apply::{ChangeFailure, changed_text};
 pub use apply_program::run_apply;
-pub use cause::{Cause, cause_of};
+pub use cause::{Cause, NotEntry, cause_of};
 pub use cause_bytes::has_byte;
 pub use cause_parts::{are_digits, is_entry};
 pub use cause_words::is_netmask;
