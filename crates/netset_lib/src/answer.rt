@@ -5,7 +5,7 @@ ghost use Rattle.ipnet_sets.specs.Members.{IsMember};
 ghost use Rattle.netset_lib.specs.Answers.{range_text, AreNetworkLines, AreRangeLines, IsSetText};
 
 use crate::address_text::ip_addr_text;
-use crate::operation::Operation;
+use crate::operation::ListOperation;
 use ipnet::{Grammar, IpAddrRange};
 use ipnet_sets::IpSet;
 use ipnet_text::push_line;
@@ -28,7 +28,7 @@ pub enum Form {
 #[derive(Clone, Copy, Debug, PartialEq, Eq)]
 pub struct Request {
     /// What is made of them.
-    pub operation: Operation,
+    pub operation: ListOperation,
     /// How their entries are read.
     pub grammar: Grammar,
     /// How the answer is written.

@@ -76,7 +76,7 @@ pub use list_text::{ListText, read_list_text};
 pub use listing_program::{run_hosts, run_split};
 pub use mark::{MOST_READS, begin_input, skip_mark};
 pub use network_entry::NetworkCause;
-pub use operation::{Families, Operation};
+pub use operation::{Families, ListOperation};
 pub use output::{Output, finish, is_unfinished_name, unfinished_name};
 pub use plan::{Plan, PlanFailure, PlanFamily, PlanRequest, plan_networks, plan_text};
 pub use plan_program::run_plan;

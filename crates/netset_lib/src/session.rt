@@ -24,7 +24,7 @@ use crate::command::Work;
 use crate::counts::{comparison_text, counts_text};
 use crate::failure::Failure;
 use crate::list::read_set;
-use crate::operation::{Families, Operation, combine_sets};
+use crate::operation::{Families, ListOperation, combine_sets};
 use crate::query::Query;
 use crate::reading::{ReadFailure, Reading};
 use ipnet::Grammar;
@@ -74,7 +74,7 @@ fn is_named_complement(work: Work) -> bool
 {
     match work {
         Work::Combine(request) => match request.operation {
-            Operation::Complement(Families::Named) => true,
+            ListOperation::Complement(Families::Named) => true,
             _ => false,
         },
         Work::Ask(_, _) => false,
