@@ -5,7 +5,7 @@ ghost use Rattle.ipnet_c.specs.SetReplies.{IsCompileReply, IsCombineReply, IsIma
 ghost use Rattle.ipnet_c.specs.SetReplies.{IsComplementOfImage, IsTextOfImage, IsRangesOfImage, IsMadeOfImages};
 ghost use Rattle.ipnet_sets.specs.declared.operation.Operation.TheVariants as Of;
 
-use crate::buffers::write_answer;
+use crate::buffers::write_to_buffer;
 use crate::lists::set_of_text;
 use crate::statuses::{NOT_A_SET, OTHER_NOT_A_SET, OUT_OF_MEMORY};
 use ipnet::Grammar;
@@ -30,7 +30,7 @@ fn compile(
     let Ok(image) = set.to_bytes(alloc) else {
         return OUT_OF_MEMORY;
     };
-    write_answer(image.as_slice(), buffer, count)
+    write_to_buffer(image.as_slice(), buffer, count)
 }
 
 /// Writes the image of the addresses of a list into the buffer, and its length in bytes into `count`.
@@ -112,7 +112,7 @@ fn combine(
     let Ok(image) = combined_image(alloc, operation, set, other) else {
         return OUT_OF_MEMORY;
     };
-    write_answer(image.as_slice(), buffer, count)
+    write_to_buffer(image.as_slice(), buffer, count)
 }
 
 /// Writes the image of the union of two sets, given by their images, into the buffer, and its length into `count`.
@@ -231,7 +231,7 @@ pub extern "C" fn ipnet_set_complement(
     let Ok(image) = complement_image(alloc, set) else {
         return OUT_OF_MEMORY;
     };
-    write_answer(image.as_slice(), buffer, count)
+    write_to_buffer(image.as_slice(), buffer, count)
 }
 
 /// Returns the text of the fewest networks of the set of an image.
@@ -267,7 +267,7 @@ pub extern "C" fn ipnet_set_to_text(
     let Ok(text) = image_text(alloc, set) else {
         return OUT_OF_MEMORY;
     };
-    write_answer(text.as_bytes(), buffer, count)
+    write_to_buffer(text.as_bytes(), buffer, count)
 }
 
 /// Returns the text of the fewest ranges of the set of an image.
@@ -304,5 +304,5 @@ pub extern "C" fn ipnet_set_to_ranges(
     let Ok(ranges) = image_ranges(alloc, set) else {
         return OUT_OF_MEMORY;
     };
-    write_answer(ranges.as_bytes(), buffer, count)
+    write_to_buffer(ranges.as_bytes(), buffer, count)
 }

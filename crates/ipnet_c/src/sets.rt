@@ -6,7 +6,7 @@ ghost use Rattle.ipnet_sets.specs.Members.{IsMember, IsResultOf};
 ghost use Rattle.netset_lib.specs.Answers.{AreNetworkLines};
 ghost use Rattle.ipnet_c.specs.Replies.{IsSetReply};
 
-use crate::buffers::write_answer;
+use crate::buffers::write_to_buffer;
 use crate::lists::sets_of_texts;
 use crate::statuses::OUT_OF_MEMORY;
 use ipnet_sets::{IpSet, Operation};
@@ -44,12 +44,12 @@ fn combine(
     };
     // Nothing is made of nothing, and needs no memory.
     if set.is_empty() && other.is_empty() {
-        return write_answer(&[], buffer, count);
+        return write_to_buffer(&[], buffer, count);
     }
     let Ok(answer) = combined_text(alloc, operation, &set, &other) else {
         return OUT_OF_MEMORY;
     };
-    write_answer(answer.as_bytes(), buffer, count)
+    write_to_buffer(answer.as_bytes(), buffer, count)
 }
 
 /// Writes the shortest list of networks with exactly the addresses of either list into the buffer, as canonical text

@@ -250,7 +250,7 @@ fn ipv6_line(bytes: &[u8]) -> Option<(Ipv6Net, usize)>
 /// "10.0.0.0/8\n" and no more, or "::/0\n" and more, or "010.0.0.0/8\n" and more: None
 /// ```
 #[inline]
-pub fn network_line(bytes: &[u8]) -> Option<FrontLine>
+pub fn front_network(bytes: &[u8]) -> Option<FrontLine>
     ensures network { IfSome result (λ line. IsNetworkText Strict (take line.len bytes.now) (ip_network line.network)) }
     ensures newline { IfSome result (λ line. slice_index bytes.now line.len ≡ 10) }
     ensures within { IfSome result (λ line. line.len < length bytes.now) }

@@ -5,12 +5,12 @@ ghost use Rattle.ipnet.specs.NetworkOf.{ip_network};
 ghost use Rattle.ipnet.specs.NetworkTexts.{IsNetworkText};
 ghost use Rattle.ipnet.specs.declared.parser.Grammar.TheVariants.{Strict};
 
-use crate::front::{FrontLine, network_line};
+use crate::front::{FrontLine, front_network};
 
 /// The most lines that are left out at once.
 const LONGEST_PAUSE: u8 = 63;
 
-/// Reads lines by [`network_line`]. After lines that it cannot read, it leaves out more and more of the lines that
+/// Reads lines by [`front_network`]. After lines that it cannot read, it leaves out more and more of the lines that
 /// follow: similar lines often follow each other, and a vain try costs time.
 #[derive(Clone, Copy)]
 pub(crate) struct FrontReader {
@@ -41,7 +41,7 @@ impl FrontReader {
             self.pause -= 1;
             return None;
         }
-        let line = network_line(bytes);
+        let line = front_network(bytes);
         if line.is_some() {
             self.next_pause = 0;
         } else {

@@ -141,7 +141,7 @@ fn marks_of(rt: &HostRuntime, matches: &ArgMatches, streams: &Streams<'_>) -> Re
 }
 
 /// Reads the form of a bar. If memory runs out, it is reported, and the error is the exit status.
-pub fn form_of(
+pub fn bar_form_of(
     rt: &HostRuntime,
     matches: &ArgMatches,
     streams: &Streams<'_>,
@@ -172,7 +172,7 @@ fn request_of(
     streams: &Streams<'_>,
 ) -> Result<BarRequest, u8> {
     let frame = frame_of(rt, matches)?;
-    let form = form_of(rt, matches, streams)?;
+    let form = bar_form_of(rt, matches, streams)?;
     Ok(BarRequest { frame, form })
 }
 

@@ -1,6 +1,6 @@
 //! The command `plan`: its arguments, and its run.
 use crate::arguments::{ArgumentFailure, FIRST, command_of, first, flag, refused};
-use crate::bar::{BAR, form_of, with_plan_bar};
+use crate::bar::{BAR, bar_form_of, with_plan_bar};
 use crate::output::Streams;
 use crate::reading::{reading_work, session_of};
 use clap::{Arg, ArgAction, ArgMatches, Command};
@@ -69,7 +69,7 @@ fn bar_of(
     if !matches.get_flag(BAR) {
         return Ok(None);
     }
-    Ok(Some(form_of(rt, matches, streams)?))
+    Ok(Some(bar_form_of(rt, matches, streams)?))
 }
 
 /// Reads the arguments and the list, prints the plan or its bar, and returns the exit status.

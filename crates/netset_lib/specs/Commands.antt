@@ -14,8 +14,8 @@ use Rattle.netset_lib.specs.declared.filter.Side.{Side}
 use Rattle.netset_lib.specs.declared.filter.Side.TheVariants.{Inside, Outside}
 use Rattle.netset_lib.specs.declared.operation.Families.{Families}
 use Rattle.netset_lib.specs.declared.operation.Families.TheVariants.{Named, Ipv4, Ipv6, Both}
-use Rattle.netset_lib.specs.declared.operation.Operation.{Operation}
-use Rattle.netset_lib.specs.declared.operation.Operation.TheVariants as Operations
+use Rattle.netset_lib.specs.declared.operation.ListOperation.{ListOperation}
+use Rattle.netset_lib.specs.declared.operation.ListOperation.TheVariants as Operations
 use Rattle.netset_lib.specs.declared.query.Query.TheVariants as Queries
 
 -- The name of the command on the command line.
@@ -53,7 +53,7 @@ side_of true = Outside
 side_of false = Inside
 
 -- An operation under these flags.
-abbrev pub combine : Operation → Flags → Work
+abbrev pub combine : ListOperation → Flags → Work
 combine operation flags =
     Combine (record { operation = operation; grammar = grammar_of flags.legacy; form = form_of flags.ranges })
 

@@ -4,7 +4,7 @@ ghost use Rattle.netset_lib.specs.Commands.{families_of, combine};
 
 use crate::answer::{Form, Request};
 use crate::filter::Side;
-use crate::operation::{Families, Operation};
+use crate::operation::{Families, ListOperation};
 use crate::query::Query;
 use ipnet::Grammar;
 
@@ -106,7 +106,7 @@ impl Flags {
 }
 
 /// The operation under these flags.
-fn combined(operation: Operation, flags: Flags) -> Work
+fn combined(operation: ListOperation, flags: Flags) -> Work
     ensures { result ≡ combine operation flags }
 {
     let form = if flags.ranges {
@@ -156,13 +156,13 @@ impl Command {
         ensures { result ≡ work_of self flags }
     {
         match self {
-            Command::Union => combined(Operation::Union, flags),
-            Command::Intersection => combined(Operation::Intersection, flags),
-            Command::Difference => combined(Operation::Difference, flags),
-            Command::SymmetricDifference => combined(Operation::SymmetricDifference, flags),
+            Command::Union => combined(ListOperation::Union, flags),
+            Command::Intersection => combined(ListOperation::Intersection, flags),
+            Command::Difference => combined(ListOperation::Difference, flags),
+            Command::SymmetricDifference => combined(ListOperation::SymmetricDifference, flags),
             Command::Complement => {
                 let families = families(flags.ipv4, flags.ipv6);
-                combined(Operation::Complement(families), flags)
+                combined(ListOperation::Complement(families), flags)
             }
             Command::Count => Work::Ask(Query::Count, flags.grammar()),
             Command::Compare => Work::Ask(Query::Compare, flags.grammar()),
