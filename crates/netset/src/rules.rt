@@ -6,7 +6,7 @@ use crate::arguments::{FIRST, command_of, first, flags_of};
 use crate::forms::{form_of, operation_command};
 use crate::input::{STANDARD_INPUT, report_unread};
 use crate::lists::read_rules;
-use crate::output::Streams;
+use crate::output::Writers;
 use clap::{Arg, ArgMatches, Command};
 use ipnet_rules::Action;
 use netset_forms::{PermittedRequest, run_permitted};
@@ -84,9 +84,9 @@ fn file_of<'a>(matches: &ArgMatches<'a>) -> &'a str {
 }
 
 /// Reads the list of rules. If that fails, it is reported, and the error is the exit status.
-fn rules_of(rt: &HostRuntime, matches: &ArgMatches, streams: &Streams<'_>) -> Result<RuleList, u8> {
+fn rules_of(rt: &HostRuntime, matches: &ArgMatches, writers: &Writers<'_>) -> Result<RuleList, u8> {
     let file = file_of(matches);
-    match read_rules(rt, file, flags_of(matches).grammar(), streams.reports) {
+    match read_rules(rt, file, flags_of(matches).grammar(), writers.reports) {
         Ok(Some(list)) => Ok(list),
         Ok(None) => Err(2),
         Err(unread) => {
@@ -97,26 +97,26 @@ fn rules_of(rt: &HostRuntime, matches: &ArgMatches, streams: &Streams<'_>) -> Re
 }
 
 /// Reads the arguments and the rules, prints what they permit, and returns the status.
-fn permitted(rt: &HostRuntime, matches: &ArgMatches, streams: &mut Streams<'_>) -> u8 {
+fn permitted(rt: &HostRuntime, matches: &ArgMatches, writers: &mut Writers<'_>) -> u8 {
     let form = match form_of(rt, matches) {
         Ok(form) => form,
         Err(status) => return status,
     };
-    let list = match rules_of(rt, matches, streams) {
+    let list = match rules_of(rt, matches, writers) {
         Ok(list) => list,
         Err(status) => return status,
     };
     let default = default_of(matches);
     let request = PermittedRequest { default, form };
-    let (out, faults) = (&mut streams.answer, &mut streams.faults);
+    let (out, faults) = (&mut writers.answer, &mut writers.faults);
     run_permitted(list, request, file_of(matches), out, faults)
 }
 
 /// Reads the rules, prints those that decide on no address, and returns the status.
-fn unreached(rt: &HostRuntime, matches: &ArgMatches, streams: &mut Streams<'_>) -> u8 {
-    match rules_of(rt, matches, streams) {
+fn unreached(rt: &HostRuntime, matches: &ArgMatches, writers: &mut Writers<'_>) -> u8 {
+    match rules_of(rt, matches, writers) {
         Ok(list) => {
-            let (out, faults) = (&mut streams.answer, &mut streams.faults);
+            let (out, faults) = (&mut writers.answer, &mut writers.faults);
             run_unreached(list, file_of(matches), out, faults)
         }
         Err(status) => status,
@@ -128,11 +128,11 @@ pub fn run_if_rules(
     rt: &HostRuntime,
     name: &str,
     matches: &ArgMatches,
-    streams: &mut Streams<'_>,
+    writers: &mut Writers<'_>,
 ) -> Option<u8> {
     if prints_permitted(name)? {
-        Some(permitted(rt, matches, streams))
+        Some(permitted(rt, matches, writers))
     } else {
-        Some(unreached(rt, matches, streams))
+        Some(unreached(rt, matches, writers))
     }
 }
