@@ -11,11 +11,11 @@ use netset_entries::{run_overlaps, run_overlaps_of_two, run_redundant, run_super
 use std::alloc::{AllocError, Global};
 
 /// The names of the commands.
-const SUPERNET: &str = "supernet";
+pub const SUPERNET: &str = "supernet";
 
-const REDUNDANT: &str = "redundant";
+pub const REDUNDANT: &str = "redundant";
 
-const OVERLAPS: &str = "overlaps";
+pub const OVERLAPS: &str = "overlaps";
 
 /// The command `overlaps`.
 fn overlaps_command<'a>(alloc: Global) -> Result<Command<'a>, AllocError> {
@@ -49,7 +49,7 @@ pub fn with_entries<'a>(alloc: Global, command: Command<'a>) -> Result<Command<'
 }
 
 /// Reads the list, and prints the smallest networks around its addresses.
-fn supernet(rt: &HostRuntime, matches: &ArgMatches, writers: &mut Writers<'_>) -> u8 {
+pub fn supernet(rt: &HostRuntime, matches: &ArgMatches, writers: &mut Writers<'_>) -> u8 {
     let names = [matches.get_str(FIRST).unwrap_or(STANDARD_INPUT)];
     match session_of(rt, reading_work(matches), &names, writers) {
         Ok(session) => run_supernet(session, &names, &mut writers.answer, &mut writers.faults),
@@ -58,7 +58,7 @@ fn supernet(rt: &HostRuntime, matches: &ArgMatches, writers: &mut Writers<'_>) -
 }
 
 /// Reads the list, and prints the entries that the others make unnecessary.
-fn redundant(rt: &HostRuntime, matches: &ArgMatches, writers: &mut Writers<'_>) -> u8 {
+pub fn redundant(rt: &HostRuntime, matches: &ArgMatches, writers: &mut Writers<'_>) -> u8 {
     let name = matches.get_str(FIRST).unwrap_or(STANDARD_INPUT);
     match bytes_of(rt, name, "entries", writers) {
         Ok(bytes) => run_redundant(
@@ -100,7 +100,7 @@ fn overlaps_of_two(
 }
 
 /// Reads the list, or two lists, and prints the pairs of entries that share addresses.
-fn overlaps(rt: &HostRuntime, matches: &ArgMatches, writers: &mut Writers<'_>) -> u8 {
+pub fn overlaps(rt: &HostRuntime, matches: &ArgMatches, writers: &mut Writers<'_>) -> u8 {
     let name = matches.get_str(FIRST).unwrap_or(STANDARD_INPUT);
     if let Some(other) = matches.get_str(OTHERS) {
         return overlaps_of_two(rt, matches, (name, other), writers);
@@ -114,20 +114,5 @@ fn overlaps(rt: &HostRuntime, matches: &ArgMatches, writers: &mut Writers<'_>) -
             &mut writers.faults,
         ),
         Err(status) => status,
-    }
-}
-
-/// Runs the command if it is about entries, and returns the status. `None` if it is not.
-pub fn run_if_entries(
-    rt: &HostRuntime,
-    name: &str,
-    matches: &ArgMatches,
-    writers: &mut Writers<'_>,
-) -> Option<u8> {
-    match name {
-        SUPERNET => Some(supernet(rt, matches, writers)),
-        REDUNDANT => Some(redundant(rt, matches, writers)),
-        OVERLAPS => Some(overlaps(rt, matches, writers)),
-        _ => None,
     }
 }

@@ -30,20 +30,23 @@ use crate::apply::{APPLY, applied};
 use crate::arguments::{ArgumentFailure, Call, OUTPUT, call_of, refused, reports_of, words};
 use crate::bar::{BAR, drawn};
 use crate::changes::{CHANGES, changed};
-use crate::commands::matches_of;
-use crate::entries::run_if_entries;
+use crate::commands::{
+    COMPARE, COMPLEMENT, COUNT, DIFFERENCE, FILTER, INTERSECTION, ROUTE, SYMMETRIC_DIFFERENCE,
+    UNION, matches_of,
+};
+use crate::entries::{OVERLAPS, REDUNDANT, SUPERNET, overlaps, redundant, supernet};
 use crate::extract::{EXTRACT, extracted};
 use crate::forms::form_of;
 use crate::lines::{LINES, filtered};
-use crate::listing::run_if_listing;
+use crate::listing::{HOSTS, SPLIT, hosts, split};
 use crate::map::{MAP, mapped};
 use crate::output::{CLOSED, Writers};
 use crate::plan::{PLAN, planned};
 use crate::prefixes::{PREFIX_LIST, matched};
 use crate::reading::session_of;
-use crate::rules::run_if_rules;
+use crate::rules::{PERMITTED, UNREACHED, permitted, unreached};
 use crate::stream::stream_list;
-use crate::texts::{ROUTE, has_text_flag, routed};
+use crate::texts::{has_text_flag, routed};
 use clap::ArgMatches;
 use netset_forms::run_form;
 use netset_lib::{Work, run};
@@ -109,26 +112,46 @@ fn run_command(
     matches: &ArgMatches,
     writers: &mut Writers<'_>,
 ) -> u8 {
-    if let Some(status) = run_if_rules(rt, name, matches, writers) {
-        return status;
-    }
-    if let Some(status) = run_if_listing(rt, name, matches, writers) {
-        return status;
-    }
-    if let Some(status) = run_if_entries(rt, name, matches, writers) {
-        return status;
-    }
     match name {
+        UNION | INTERSECTION | DIFFERENCE | SYMMETRIC_DIFFERENCE | COMPLEMENT => {
+            run_call(rt, name, matches, writers)
+        }
+        COUNT | COMPARE => run_call(rt, name, matches, writers),
+        CHANGES => changed(rt, matches, writers),
+        APPLY => applied(rt, matches, writers),
+        EXTRACT => extracted(rt, matches, writers),
+        FILTER => run_filter(rt, matches, writers),
+        ROUTE => run_route(rt, matches, writers),
         PLAN => planned(rt, matches, writers),
         BAR => drawn(rt, matches, writers),
         MAP => mapped(rt, matches, writers),
-        CHANGES => changed(rt, matches, writers),
-        APPLY => applied(rt, matches, writers),
+        SUPERNET => supernet(rt, matches, writers),
+        REDUNDANT => redundant(rt, matches, writers),
+        OVERLAPS => overlaps(rt, matches, writers),
+        SPLIT => split(rt, matches, writers),
+        HOSTS => hosts(rt, matches, writers),
+        PERMITTED => permitted(rt, matches, writers),
+        UNREACHED => unreached(rt, matches, writers),
         PREFIX_LIST => matched(rt, matches, writers),
-        EXTRACT => extracted(rt, matches, writers),
-        _ if matches.get_flag(LINES) => filtered(rt, matches, writers),
-        ROUTE if has_text_flag(matches) => routed(rt, matches, writers),
-        _ => run_call(rt, name, matches, writers),
+        _ => refused(rt, ArgumentFailure::NoCommand),
+    }
+}
+
+/// Prints the lines of a text or the entries of a list, and returns the status.
+fn run_filter(rt: &HostRuntime, matches: &ArgMatches, writers: &mut Writers<'_>) -> u8 {
+    if matches.get_flag(LINES) {
+        filtered(rt, matches, writers)
+    } else {
+        run_call(rt, FILTER, matches, writers)
+    }
+}
+
+/// Prints the routes of entries, with the texts of the table if they are asked for, and returns the status.
+fn run_route(rt: &HostRuntime, matches: &ArgMatches, writers: &mut Writers<'_>) -> u8 {
+    if has_text_flag(matches) {
+        routed(rt, matches, writers)
+    } else {
+        run_call(rt, ROUTE, matches, writers)
     }
 }
 

@@ -1,6 +1,5 @@
 //! The commands that read a list of rules.
-ghost use Rattle.std.specs.Prelude.{◌≡◌, codes, Some, IfSome};
-ghost use Rattle.netset.specs.Arguments.{IsDefault, IsRuleCommand};
+ghost use Rattle.netset.specs.Arguments.{IsDefault};
 
 use crate::arguments::{FIRST, command_of, first, flags_of};
 use crate::forms::{form_of, operation_command};
@@ -14,9 +13,9 @@ use netset_lib::{RuleList, run_unreached};
 use std::alloc::{AllocError, Global};
 
 /// The names of the two commands.
-const PERMITTED: &str = "permitted";
+pub const PERMITTED: &str = "permitted";
 
-const UNREACHED: &str = "unreached";
+pub const UNREACHED: &str = "unreached";
 
 /// The option for the action of the addresses that no rule matches, and its values.
 const DEFAULT: &str = "default";
@@ -56,17 +55,6 @@ pub fn with_rules<'a>(alloc: Global, command: Command<'a>) -> Result<Command<'a>
         .subcommand(unreached)
 }
 
-/// Returns whether the command of this name prints what rules permit, or `None` if it reads no list of rules.
-fn prints_permitted(name: &str) -> Option<bool>
-    ensures { IfSome result (IsRuleCommand name.now) }
-{
-    match name {
-        PERMITTED => Some(true),
-        UNREACHED => Some(false),
-        _ => None,
-    }
-}
-
 /// Returns what happens to the addresses that no rule matches.
 fn default_of(matches: &ArgMatches) -> Action
     ensures { IsDefault matches.now result }
@@ -97,7 +85,7 @@ fn rules_of(rt: &HostRuntime, matches: &ArgMatches, writers: &Writers<'_>) -> Re
 }
 
 /// Reads the arguments and the rules, prints what they permit, and returns the status.
-fn permitted(rt: &HostRuntime, matches: &ArgMatches, writers: &mut Writers<'_>) -> u8 {
+pub fn permitted(rt: &HostRuntime, matches: &ArgMatches, writers: &mut Writers<'_>) -> u8 {
     let form = match form_of(rt, matches) {
         Ok(form) => form,
         Err(status) => return status,
@@ -113,26 +101,12 @@ fn permitted(rt: &HostRuntime, matches: &ArgMatches, writers: &mut Writers<'_>) 
 }
 
 /// Reads the rules, prints those that decide on no address, and returns the status.
-fn unreached(rt: &HostRuntime, matches: &ArgMatches, writers: &mut Writers<'_>) -> u8 {
+pub fn unreached(rt: &HostRuntime, matches: &ArgMatches, writers: &mut Writers<'_>) -> u8 {
     match rules_of(rt, matches, writers) {
         Ok(list) => {
             let (out, faults) = (&mut writers.answer, &mut writers.faults);
             run_unreached(list, file_of(matches), out, faults)
         }
         Err(status) => status,
-    }
-}
-
-/// Runs the command if it reads a list of rules, and returns the status. `None` if it does not.
-pub fn run_if_rules(
-    rt: &HostRuntime,
-    name: &str,
-    matches: &ArgMatches,
-    writers: &mut Writers<'_>,
-) -> Option<u8> {
-    if prints_permitted(name)? {
-        Some(permitted(rt, matches, writers))
-    } else {
-        Some(unreached(rt, matches, writers))
     }
 }

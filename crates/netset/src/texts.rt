@@ -12,9 +12,6 @@ use clap::{Arg, ArgMatches};
 use netset_lib::{TextRequest, run_text_routes};
 use std::alloc::{AllocError, Global};
 
-/// The name of the command.
-pub const ROUTE: &str = "route";
-
 /// The flag by which the texts of the table are read and printed.
 pub fn text_flag<'a>(alloc: Global) -> Result<Arg<'a>, AllocError> {
     let help =
