@@ -44,9 +44,3 @@ AreListNames work given names =
 abbrev pub IsDefault : ArgMatches → Action → Type 0
 IsDefault matches action =
     (action ≡ Permit) ↔ (first_value (found_of matches) (codes "default") ≡ Some (codes "permit"))
-
--- The name of the command that prints the addresses that rules permit; or of the command that prints the rules that
--- decide on no address.
-abbrev pub rule_command : Bool → List ℕ
-rule_command true = codes "permitted"
-rule_command false = codes "unreached"

@@ -1,4 +1,5 @@
--- The commands of the program netset: their names, and what each asks of lists under some flags.
+-- The commands of the program netset that are an operation or a query: their names, and what each asks of lists under
+-- some flags.
 use Rattle.std.specs.Prelude.{ℕ, Bool, true, false, List, codes}
 use Rattle.ipnet.specs.declared.parser.Grammar.{Grammar}
 use Rattle.ipnet.specs.declared.parser.Grammar.TheVariants.{Strict, Legacy}

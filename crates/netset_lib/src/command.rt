@@ -1,4 +1,4 @@
-//! The commands of the program netset: their names, and what each asks of lists.
+//! The commands of the program netset that are an operation or a query: their names, and what each asks of lists.
 ghost use Rattle.std.specs.Prelude.{◌≡◌, ◌↔◌, Some};
 ghost use Rattle.netset_lib.specs.Commands.{families_of, combine};
 
@@ -8,7 +8,8 @@ use crate::operation::{Families, ListOperation};
 use crate::query::Query;
 use ipnet::Grammar;
 
-/// A command of the program. Each has a name of its own, as `symmetric-difference`.
+/// A command of the program that is an operation or a query on lists. Each has a name of its own, as
+/// `symmetric-difference`. `netset` has the other commands.
 #[derive(Clone, Copy, Debug, PartialEq, Eq)]
 pub enum Command {
     /// The addresses of all lists.
@@ -124,10 +125,10 @@ fn combined(operation: ListOperation, flags: Flags) -> Work
 impl Command {
     ghost use Rattle.netset_lib.specs.Commands.{name_of, work_of};
 
-    /// Returns the command of this name, or `None` if there is none.
+    /// Returns the operation or query of this name, or `None` if there is none.
     ///
     /// ```text
-    /// "symmetric-difference" is SymmetricDifference; "Union" and "" are None
+    /// "symmetric-difference" is SymmetricDifference; "Union", "plan" and "" are None
     /// ```
     pub fn from_name(name: &str) -> Option<Command>
         ensures { (command : Command) → (result ≡ Some command) ↔ (name.now ≡ name_of command) }
