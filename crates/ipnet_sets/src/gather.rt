@@ -28,7 +28,7 @@ fn ends_before<T: Number>(boundaries: &[T], first: T) -> bool
 }
 
 /// Adds the numbers from the first to the last. They come after the numbers of the set, and do not touch them.
-fn push_range<T: Number>(boundaries: &mut Vec<T>, first: T, last: T) -> Result<(), AllocError>
+fn append_range<T: Number>(boundaries: &mut Vec<T>, first: T, last: T) -> Result<(), AllocError>
     requires boundaries { AreBoundaries T.family (map T.number boundaries.old.items) }
     requires even { length boundaries.old.items % 2 ≡ 0 }
     requires after { All (λ t. t < T.number first) (map T.number boundaries.old.items) }
@@ -91,7 +91,7 @@ pub(crate) fn join_range<T: Number>(
         return Ok(());
     }
     if ends_before(boundaries.as_slice(), first) {
-        return push_range(boundaries, first, last);
+        return append_range(boundaries, first, last);
     }
     extend_last(boundaries, first, last);
     Ok(())
