@@ -130,18 +130,7 @@ fn boundaries_up_to<T: Number>(boundaries: &[T], number: T) -> usize
     requires { AreBoundaries T.family (map T.number boundaries.now) }
     ensures { IsSplitAt (map T.number boundaries.now) (T.number number) result }
 {
-    let mut low = 0;
-    let mut high = boundaries.len();
-    while low < high {
-        let middle = low + (high - low) / 2;
-        let boundary = boundaries[middle];
-        if number.is_below(boundary) {
-            high = middle;
-        } else {
-            low = middle + 1;
-        }
-    }
-    low
+    boundaries.partition_point(|boundary| boundary.is_at_most(number))
 }
 
 /// Returns the boundaries from the place on, after the first number if that is inside: if the place is odd.
