@@ -11,7 +11,7 @@ ghost use Rattle.ipnet.specs.declared.parser.Grammar.TheVariants.{Strict};
 ghost use Rattle.ipnet_text.specs.Fronts.{IsHead};
 
 use ipnet::{IpNet, Ipv4Net, Ipv6Net};
-use ipnet_base::digits::hex_value;
+use ipnet_base::digits::hex_digit;
 use std::net::{Ipv4Addr, Ipv6Addr};
 
 /// The length of the longest IPv4 line with its "\n", and one byte more: the prefix length is read like an octet, which
@@ -132,20 +132,6 @@ fn ipv4_line(bytes: &[u8]) -> Option<(Ipv4Net, usize)>
     }
     let network = Ipv4Net::new_assert(address, prefix_len);
     Some((network, len + 1 + digits))
-}
-
-/// The value of the byte as a hexadecimal digit, if it is one.
-#[inline]
-fn hex_digit(byte: u8) -> Option<u16>
-    ensures value { IfSome result (λ digit. digit ≡ digit_value byte) }
-    ensures digit { IfSome result (λ digit. digit < 16) }
-{
-    let value = hex_value(byte);
-    if value < 16 {
-        Some(u16::from(value))
-    } else {
-        None
-    }
 }
 
 /// The group at the front that ends before a ":", and how many digits it has.
