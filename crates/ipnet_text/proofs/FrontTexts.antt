@@ -14,6 +14,7 @@ use Rattle.std.specs.Str.Parse.{AllDigits}
 use Rattle.ipnet_base.specs.Address.{ipv4_address}
 use Rattle.ipnet.specs.AddressTexts.{IsIpv4AddressText, IsJoined}
 use Rattle.ipnet.specs.Lines.{lines_of}
+use Rattle.ipnet.specs.Network.{Network}
 use Rattle.ipnet.specs.NetworkParts.{network_at}
 use Rattle.ipnet.specs.NetworkTexts.{IsIpv4NetworkText}
 use Rattle.ipnet.specs.Numerals.{IsDecimal, IsOctet}
@@ -130,13 +131,21 @@ unbroken_octets text (n ∷ m ∷ octets) (first, rest, spelled, octet, later) =
     (unbroken_append first (46 ∷ rest) (unbroken_digits 10 first (omega arith) octet.digits.1)
     (λ e. omega (arith, e), unbroken_octets rest (m ∷ octets) later))
 
+-- no byte of a network's text ends a line
+unbroken_network : (text : List ℕ) (n : Network) → IsIpv4NetworkText Strict text n → IsUnbroken text
+unbroken_network text n h =
+    subst IsUnbroken (sym (h.spelled ∙ append_assoc h.address_text (47 ∷ []) h.length_text))
+    (unbroken_append h.address_text (47 ∷ h.length_text)
+    (unbroken_octets h.address_text h.octets h.writes_address.0)
+    (λ e. omega (arith, e), unbroken_digits 10 h.length_text (omega arith) h.writes_length.digits.1))
+
 -- the address, "/" and the prefix length, by the places of the bytes that end them
-pub front_at : (bytes : List ℕ) (len digits : ℕ) (a : Ipv4Addr) (p : ℕ) → 20 ≤ length bytes → len ≤ 15 → digits ≤ 3
-    → IsIpv4AddressText Strict (take len bytes) (ipv4_octets a) → get_or bytes len 0 ≡ 47
-    → IsOctet Strict (take digits (rest_from (len + 1) bytes)) p → get_or (rest_from (len + 1) bytes) digits 0 ≡ 10
-    → p ≤ 32
-    → IsFirstLine (λ text. IsIpv4NetworkText Strict text (network_at (ipv4_address a) p)) bytes (len + 1 + digits)
-front_at bytes len digits a p long few few_digits is slash octet newline small =
+pub front_at : (bytes : List ℕ) (len digits : ℕ) (n : Network) → 20 ≤ length bytes → len ≤ 15 → digits ≤ 3
+    → get_or bytes len 0 ≡ 47
+    → IsIpv4NetworkText Strict (take len bytes ++ 47 ∷ take digits (rest_from (len + 1) bytes)) n
+    → get_or (rest_from (len + 1) bytes) digits 0 ≡ 10
+    → IsFirstLine (λ text. IsIpv4NetworkText Strict text n) bytes (len + 1 + digits)
+front_at bytes len digits n long few few_digits slash is newline =
     let text = take len bytes in
     let rest = rest_from (len + 1) bytes in
     let number = take digits rest in
@@ -153,11 +162,8 @@ front_at bytes len digits a p long few few_digits is slash octet newline small =
       length-take-le len bytes (omega (arith, long, few)),
       length-take-le digits rest (omega (arith, long, few, few_digits, size)),
     ) in
-    let whole : IsUnbroken (text ++ 47 ∷ number) =
-    unbroken_append text (47 ∷ number) (unbroken_octets text (ipv4_octets a) is.0)
-    (λ e. omega (arith, e), unbroken_digits 10 number (omega arith) octet.digits.1) in
-    first_line_of (λ t. IsIpv4NetworkText Strict t (network_at (ipv4_address a) p)) bytes (text ++ 47 ∷ number) after
-    (len + 1 + digits) spelled count whole (network_text text number a p is octet small)
+    first_line_of (λ t. IsIpv4NetworkText Strict t n) bytes (text ++ 47 ∷ number) after (len + 1 + digits) spelled count
+    (unbroken_network (text ++ 47 ∷ number) n is) is
 
 -- ---- an IPv4 address at the front
 

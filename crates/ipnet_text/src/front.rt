@@ -1,5 +1,6 @@
 //! The network of a line at the front of bytes, read before the end of the line is known.
-ghost use Rattle.std.specs.Prelude.{◌≡◌, ◌+◌, ◌<◌, ◌≤◌, [], ◌∷◌, length, take, drop, slice_index, IfSome};
+ghost use Rattle.std.specs.Prelude.{◌≡◌, ◌+◌, ◌<◌, ◌≤◌, ℕ, List, [], ◌∷◌, ◌++◌, length, take, drop, slice_index};
+ghost use Rattle.std.specs.Prelude.{IfSome};
 ghost use Rattle.std.specs.Char.{digit_value};
 ghost use Rattle.std.specs.Net.Addr.{ipv4_octets};
 ghost use Rattle.ipnet.specs.AddressTexts.{IsIpv4AddressText};
@@ -65,13 +66,8 @@ fn octet_at(bytes: &[u8]) -> Option<(u8, usize)>
 }
 
 /// The octet at the front that ends before the byte `end`, and how many digits it has. No octet has a leading zero.
-///
-/// ```text
-/// "10.0.0.1" and ".": 10, and 2
-/// "010.0.0.1" and ".", "256.1" and ".", "10.0.0.1" and "/": None
-/// ```
 #[inline]
-pub fn octet_before(bytes: &[u8], end: u8) -> Option<(u8, usize)>
+fn octet_before(bytes: &[u8], end: u8) -> Option<(u8, usize)>
     requires { 4 ≤ length bytes.now }
     ensures octet { IfSome result (λ octet. IsOctet Strict (take octet.1 bytes.now) octet.0) }
     ensures few { IfSome result (λ octet. octet.1 ≤ 3) }
@@ -110,6 +106,29 @@ pub fn ipv4_addr_at(bytes: &[u8]) -> Option<(Ipv4Addr, usize)>
     Some((address, first + second + third + fourth + 3))
 }
 
+/// Returns the IPv4 network of the address and of the prefix length at the front of the bytes, which ends the line, and
+/// the number of digits of the prefix length.
+///
+/// ```text
+/// 10.0.0.9 and "8\n" and more: 10.0.0.9/8, and 1
+/// 10.0.0.9 and "33\n" and more, "08\n" and more, "8 \n" and more: None
+/// ```
+#[inline]
+pub fn ipv4_network_after(address: Ipv4Addr, bytes: &[u8]) -> Option<(Ipv4Net, usize)>
+    requires { 4 ≤ length bytes.now }
+    ensures network { IfSome result (λ line. (text : List ℕ) → IsIpv4AddressText Strict text (ipv4_octets address)
+        → IsIpv4NetworkText Strict (text ++ 47 ∷ take line.1 bytes.now) (ipv4_network line.0)) }
+    ensures newline { IfSome result (λ line. slice_index bytes.now line.1 ≡ 10) }
+    ensures few { IfSome result (λ line. line.1 ≤ 3) }
+{
+    let (prefix_len, digits) = octet_before(bytes, b'\n')?;
+    if prefix_len > 32 {
+        return None;
+    }
+    let network = Ipv4Net::new_assert(address, prefix_len);
+    Some((network, digits))
+}
+
 /// The IPv4 network of the first line, and the length of the line without its "\n".
 #[inline]
 fn ipv4_line(bytes: &[u8]) -> Option<(Ipv4Net, usize)>
@@ -126,11 +145,7 @@ fn ipv4_line(bytes: &[u8]) -> Option<(Ipv4Net, usize)>
     if bytes[len] != b'/' {
         return None;
     }
-    let (prefix_len, digits) = octet_before(&bytes[len + 1..], b'\n')?;
-    if prefix_len > 32 {
-        return None;
-    }
-    let network = Ipv4Net::new_assert(address, prefix_len);
+    let (network, digits) = ipv4_network_after(address, &bytes[len + 1..])?;
     Some((network, len + 1 + digits))
 }
 
