@@ -1,15 +1,13 @@
 //! The network of a line at the front of bytes, read before the end of the line is known.
-ghost use Rattle.std.specs.Prelude.{◌≡◌, ◌+◌, ◌<◌, ◌≤◌, ℕ, List, [], ◌∷◌, ◌++◌, length, take, drop, slice_index};
-ghost use Rattle.std.specs.Prelude.{IfSome};
+ghost use Rattle.std.specs.Prelude.{◌≡◌, ◌<◌, ◌≤◌, ℕ, List, [], ◌∷◌, ◌++◌, length, take, slice_index, IfSome};
 ghost use Rattle.std.specs.Char.{digit_value};
 ghost use Rattle.std.specs.Net.Addr.{ipv4_octets};
 ghost use Rattle.ipnet.specs.AddressTexts.{IsIpv4AddressText};
-ghost use Rattle.ipnet.specs.Lines.{lines_of};
 ghost use Rattle.ipnet.specs.Numerals.{IsOctet, IsGroup};
 ghost use Rattle.ipnet.specs.NetworkOf.{ipv4_network, ipv6_network, ip_network};
 ghost use Rattle.ipnet.specs.NetworkTexts.{IsIpv4NetworkText, IsIpv6NetworkText, IsNetworkText};
 ghost use Rattle.ipnet.specs.declared.parser.Grammar.TheVariants.{Strict};
-ghost use Rattle.ipnet_text.specs.Fronts.{IsHead};
+ghost use Rattle.ipnet_text.specs.Fronts.{IsFirstLine, IsHead};
 
 use ipnet::{IpNet, Ipv4Net, Ipv6Net};
 use ipnet_base::digits::hex_digit;
@@ -132,11 +130,7 @@ pub fn ipv4_network_after(address: Ipv4Addr, bytes: &[u8]) -> Option<(Ipv4Net, u
 /// The IPv4 network of the first line, and the length of the line without its "\n".
 #[inline]
 fn ipv4_line(bytes: &[u8]) -> Option<(Ipv4Net, usize)>
-    ensures network { IfSome result (λ line. IsIpv4NetworkText Strict (take line.1 bytes.now) (ipv4_network line.0)) }
-    ensures newline { IfSome result (λ line. slice_index bytes.now line.1 ≡ 10) }
-    ensures within { IfSome result (λ line. line.1 < length bytes.now) }
-    ensures lines { IfSome result (λ line. lines_of bytes.now
-        ≡ take line.1 bytes.now ∷ lines_of (drop (line.1 + 1) bytes.now)) }
+    ensures { IfSome result (λ line. IsFirstLine (IsIpv4NetworkText Strict) bytes.now line.1 (ipv4_network line.0)) }
 {
     if bytes.len() < LONGEST_IPV4 {
         return None;
@@ -219,11 +213,7 @@ fn head_before(bytes: &[u8]) -> Option<(u16, u16, u16, u16, usize)>
 /// groups, "::", "/" and a prefix length: other lines are not read here.
 #[inline]
 fn ipv6_line(bytes: &[u8]) -> Option<(Ipv6Net, usize)>
-    ensures network { IfSome result (λ line. IsIpv6NetworkText Strict (take line.1 bytes.now) (ipv6_network line.0)) }
-    ensures newline { IfSome result (λ line. slice_index bytes.now line.1 ≡ 10) }
-    ensures within { IfSome result (λ line. line.1 < length bytes.now) }
-    ensures lines { IfSome result (λ line. lines_of bytes.now
-        ≡ take line.1 bytes.now ∷ lines_of (drop (line.1 + 1) bytes.now)) }
+    ensures { IfSome result (λ line. IsFirstLine (IsIpv6NetworkText Strict) bytes.now line.1 (ipv6_network line.0)) }
 {
     if bytes.len() < LONGEST_IPV6 {
         return None;
@@ -252,11 +242,7 @@ fn ipv6_line(bytes: &[u8]) -> Option<(Ipv6Net, usize)>
 /// ```
 #[inline]
 pub fn network_line(bytes: &[u8]) -> Option<FrontLine>
-    ensures network { IfSome result (λ line. IsNetworkText Strict (take line.len bytes.now) (ip_network line.network)) }
-    ensures newline { IfSome result (λ line. slice_index bytes.now line.len ≡ 10) }
-    ensures within { IfSome result (λ line. line.len < length bytes.now) }
-    ensures lines { IfSome result (λ line. lines_of bytes.now
-        ≡ take line.len bytes.now ∷ lines_of (drop (line.len + 1) bytes.now)) }
+    ensures { IfSome result (λ line. IsFirstLine (IsNetworkText Strict) bytes.now line.len (ip_network line.network)) }
 {
     if let Some((network, len)) = ipv4_line(bytes) {
         return Some(FrontLine {
