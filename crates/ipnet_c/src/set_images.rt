@@ -93,7 +93,7 @@ fn combined_image(
 }
 
 /// Writes the image of the result of the operation on the sets of two images into the buffer.
-fn combine(
+fn write_combined_image(
     alloc: Global,
     operation: Operation,
     images: (&[u8], &[u8]),
@@ -134,7 +134,7 @@ pub extern "C" fn ipnet_set_union(
 ) -> u32
     ensures { IsCombineReply Of.Union set.now other.now buffer.old buffer.new count.old count.new result }
 {
-    combine(alloc, Operation::Union, (set, other), buffer, count)
+    write_combined_image(alloc, Operation::Union, (set, other), buffer, count)
 }
 
 /// Writes the image of the intersection of two sets, as `ipnet_set_union` does with the union.
@@ -152,7 +152,7 @@ pub extern "C" fn ipnet_set_intersection(
 ) -> u32
     ensures { IsCombineReply Of.Intersection set.now other.now buffer.old buffer.new count.old count.new result }
 {
-    combine(alloc, Operation::Intersection, (set, other), buffer, count)
+    write_combined_image(alloc, Operation::Intersection, (set, other), buffer, count)
 }
 
 /// Writes the image of the first set without the second, as `ipnet_set_union` does with the union.
@@ -170,7 +170,7 @@ pub extern "C" fn ipnet_set_difference(
 ) -> u32
     ensures { IsCombineReply Of.Difference set.now other.now buffer.old buffer.new count.old count.new result }
 {
-    combine(alloc, Operation::Difference, (set, other), buffer, count)
+    write_combined_image(alloc, Operation::Difference, (set, other), buffer, count)
 }
 
 /// Writes the image of the addresses that are in exactly one of two sets, as `ipnet_set_union` does with the union.
@@ -189,7 +189,7 @@ pub extern "C" fn ipnet_set_symmetric_difference(
     ensures { IsCombineReply Of.SymmetricDifference set.now other.now buffer.old buffer.new count.old count.new
         result }
 {
-    combine(
+    write_combined_image(
         alloc,
         Operation::SymmetricDifference,
         (set, other),

@@ -28,7 +28,7 @@ fn combined_text(
 }
 
 /// Writes the networks of the result of the operation on the two texts into the buffer, as text.
-fn combine(
+fn write_combined_text(
     alloc: Global,
     operation: Operation,
     texts: (&[u8], &[u8]),
@@ -78,7 +78,7 @@ pub extern "C" fn ipnet_union_text(
 ) -> u32
     ensures { IsSetReply Union text.now other.now buffer.old buffer.new count.old count.new result }
 {
-    combine(alloc, Operation::Union, (text, other), buffer, count)
+    write_combined_text(alloc, Operation::Union, (text, other), buffer, count)
 }
 
 /// Like `ipnet_union_text`, for exactly the addresses that are in both lists.
@@ -96,7 +96,7 @@ pub extern "C" fn ipnet_intersection_text(
 ) -> u32
     ensures { IsSetReply Intersection text.now other.now buffer.old buffer.new count.old count.new result }
 {
-    combine(alloc, Operation::Intersection, (text, other), buffer, count)
+    write_combined_text(alloc, Operation::Intersection, (text, other), buffer, count)
 }
 
 /// Like `ipnet_union_text`, for exactly the addresses of the first list that are not in the second.
@@ -114,5 +114,5 @@ pub extern "C" fn ipnet_difference_text(
 ) -> u32
     ensures { IsSetReply Difference text.now other.now buffer.old buffer.new count.old count.new result }
 {
-    combine(alloc, Operation::Difference, (text, other), buffer, count)
+    write_combined_text(alloc, Operation::Difference, (text, other), buffer, count)
 }

@@ -10,9 +10,9 @@ use Rattle.ipnet_c.proofs.BadTexts.{later_no_memory}
 use Rattle.ipnet_c.proofs.ListReplies.{good_at_once}
 use Rattle.ipnet_c.proofs.SetReplies.{combined, not_read, empty_of_empty, text_of_both}
 use Rattle.ipnet_c.proofs.TakenLaws.{empty_set}
-use Rattle.ipnet_c.proofs.sets.combine.Goals as goal
-use Rattle.ipnet_c.proofs.sets.combine.Goals.{else-is_empty-via-else-is_empty}
-use Rattle.ipnet_c.proofs.sets.combine.Goals.{else-is_empty-via-then-is_empty+else-is_empty-2}
+use Rattle.ipnet_c.proofs.sets.write_combined_text.Goals as goal
+use Rattle.ipnet_c.proofs.sets.write_combined_text.Goals.{else-is_empty-via-else-is_empty}
+use Rattle.ipnet_c.proofs.sets.write_combined_text.Goals.{else-is_empty-via-then-is_empty+else-is_empty-2}
 
 pub returns-in-Err : goal.returns-in-Err
 returns-in-Err c =
