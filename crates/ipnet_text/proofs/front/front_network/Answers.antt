@@ -1,6 +1,6 @@
 -- A line with a network of one family is a line with a network.
 use Rattle.std.proofs.Common.{inl, inr}
-use Rattle.ipnet_text.proofs.front.network_line.Goals as goal
+use Rattle.ipnet_text.proofs.front.front_network.Goals as goal
 
 pub returns-in-Some : goal.returns-in-Some
 returns-in-Some c =
