@@ -1,7 +1,7 @@
 //! Aggregates: the shortest list of networks over the addresses of a list, and lists compared by what they cover.
-ghost use Rattle.std.specs.Prelude.{◌≡◌, ◌↔◌, ◌+◌, ◌<◌, ◌≤◌, [], map, take, drop, length, All};
+ghost use Rattle.std.specs.Prelude.{◌≡◌, ◌↔◌, ◌+◌, ◌-◌, ◌<◌, ◌≤◌, [], map, take, drop, length, get_or, All};
 ghost use Rattle.std.specs.Prelude.{IfOk, OnOk, IsOk, IsOkAnd, IsTrue};
-ghost use Rattle.ipnet_base.specs.Network.{IsTruncated};
+ghost use Rattle.ipnet_base.specs.Network.{Network, IsTruncated, IsSubnetOf};
 ghost use Rattle.ipnet_base.specs.Blocks.{HaveSameCover, IsAggregateOf, IsCanonicalAggregateOf};
 ghost use Rattle.ipnet_base.specs.Blocks.{AreAggregatedNeighbours};
 ghost use Rattle.ipnet_base.specs.Stack.{IsBeforeOrEqual, IsInOrder, LiesBefore, AreJoined};
@@ -13,6 +13,32 @@ use std::alloc::{AllocError, Global};
 
 pub mod laws;
 
+/// Writes a network after the first `kept` networks of the list. While it and the last of these are the two halves of
+/// one supernet, both are replaced by that supernet. Returns how many networks there are then. If the first ones are a
+/// stack, and the topmost does not cover the network, they are a stack after that.
+fn put_or_join<N: Net>(list: &mut [N], kept: usize, network: N) -> usize
+    requires room { kept < length list.old }
+    requires list { All IsTruncated (map N.network (take kept list.old)) }
+    requires network { IsTruncated (N.network network) }
+    ensures at_most { result ≤ kept + 1 }
+    ensures list { IsListWith (map N.network (take kept list.old)) (N.network network)
+        (map N.network (take result list.new)) }
+    ensures stack { let old = map N.network (take kept list.old) in AreJoined old
+        → All (λ m. IsBeforeOrEqual m (N.network network)) old
+        → ((d : Network) → 0 < length old → ¬ (IsSubnetOf (N.network network) (get_or old (length old - 1) d)))
+        → IsStackWith old (N.network network) (map N.network (take result list.new)) }
+    ensures rest { drop (kept + 1) list.new ≡ drop (kept + 1) list.old }
+{
+    let mut front = kept;
+    let mut next = network;
+    while front > 0 && list[front - 1].is_other_half(&next) {
+        next = list[front - 1].joined();
+        front -= 1;
+    }
+    list[front] = next;
+    front + 1
+}
+
 /// Appends a network. While it and the last one are the two halves of one supernet, both are replaced by that
 /// supernet. The list need not be sorted.
 fn push_or_join<N: Net>(list: &mut Vec<N>, network: N) -> Result<(), AllocError>
@@ -21,14 +47,10 @@ fn push_or_join<N: Net>(list: &mut Vec<N>, network: N) -> Result<(), AllocError>
     ensures { OnOk result
         (IsListWith (map N.network list.old.items) (N.network network) (map N.network list.new.items)) }
 {
-    let mut next = network;
-    while let Some(last) = list.last()
-        && last.is_other_half(&next)
-    {
-        next = last.joined();
-        list.pop();
-    }
-    list.push(next)?;
+    let before = list.len();
+    list.push(network)?;
+    let kept = put_or_join(list.as_mut_slice(), before, network);
+    list.truncate(kept);
     Ok(())
 }
 
@@ -66,14 +88,7 @@ fn push_on_stack<N: Net>(list: &mut [N], stacked: usize, network: N) -> usize
     if stacked > 0 && list[stacked - 1].covers(&network) {
         return stacked;
     }
-    let mut top = stacked;
-    let mut next = network;
-    while top > 0 && list[top - 1].is_other_half(&next) {
-        next = list[top - 1].joined();
-        top -= 1;
-    }
-    list[top] = next;
-    top + 1
+    put_or_join(list, stacked, network)
 }
 
 /// Pushes the networks of a sorted list, one after the other, on a stack at the front of the same list. The stack never
@@ -90,27 +105,6 @@ fn sweep<N: Net>(list: &mut [N]) -> usize
         stacked = push_on_stack(list, stacked, network);
     }
     stacked
-}
-
-/// Writes a network after the first `kept` networks of the list. While it and the last of these are the two halves of
-/// one supernet, both are replaced by that supernet. Returns how many networks there are then.
-fn put_or_join<N: Net>(list: &mut [N], kept: usize, network: N) -> usize
-    requires room { kept < length list.old }
-    requires list { All IsTruncated (map N.network (take kept list.old)) }
-    requires network { IsTruncated (N.network network) }
-    ensures at_most { result ≤ kept + 1 }
-    ensures list { IsListWith (map N.network (take kept list.old)) (N.network network)
-        (map N.network (take result list.new)) }
-    ensures rest { drop (kept + 1) list.new ≡ drop (kept + 1) list.old }
-{
-    let mut front = kept;
-    let mut next = network;
-    while front > 0 && list[front - 1].is_other_half(&next) {
-        next = list[front - 1].joined();
-        front -= 1;
-    }
-    list[front] = next;
-    front + 1
 }
 
 /// Does in the list's own front what [`truncated_and_joined`] does in a new list. Returns how many networks are left.

@@ -2,7 +2,7 @@
 ghost use Rattle.ipnet.specs.declared.parser.Grammar.TheVariants.{Strict, Legacy};
 ghost use Rattle.ipnet_c.specs.Replies.{IsAggregateReply};
 
-use crate::buffers::write_answer;
+use crate::buffers::write_to_buffer;
 use crate::statuses::{BAD_LINE, NOT_UTF8, OUT_OF_MEMORY};
 use ipnet::Grammar;
 use ipnet_text::ToolError;
@@ -24,7 +24,7 @@ fn aggregate(
         return NOT_UTF8;
     };
     match aggregate_text_as(alloc, text, grammar) {
-        Ok(answer) => write_answer(answer.as_bytes(), buffer, count),
+        Ok(answer) => write_to_buffer(answer.as_bytes(), buffer, count),
         Err(ToolError::Line(number)) => {
             *count = number;
             BAD_LINE

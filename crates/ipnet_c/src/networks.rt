@@ -5,7 +5,7 @@
 ghost use Rattle.ipnet.specs.declared.parser.Grammar.TheVariants.{Strict, Legacy};
 ghost use Rattle.ipnet_c.specs.Replies.{IsParseReply, IsPrintReply};
 
-use crate::buffers::write_answer;
+use crate::buffers::write_to_buffer;
 use crate::statuses::{NOT_A_NETWORK, NOT_UTF8, status_of};
 use ipnet::{Grammar, IpNet};
 use std::str;
@@ -20,7 +20,7 @@ fn parse(text: &[u8], grammar: Grammar, buffer: &mut [u8], count: &mut usize) ->
     let Ok(network) = IpNet::parse_as(text, grammar) else {
         return NOT_A_NETWORK;
     };
-    write_answer(&network.to_bytes(), buffer, count)
+    write_to_buffer(&network.to_bytes(), buffer, count)
 }
 
 /// Writes the bytes of the network of a text in the strict grammar into the buffer, and their number, 6 or 18, into
@@ -74,7 +74,7 @@ pub extern "C" fn ipnet_print(network: &[u8], buffer: &mut [u8], count: &mut usi
     ensures { IsPrintReply network.now buffer.old buffer.new count.old count.new result }
 {
     match IpNet::from_bytes(network) {
-        Ok(network) => write_answer(network.to_text().as_bytes(), buffer, count),
+        Ok(network) => write_to_buffer(network.to_text().as_bytes(), buffer, count),
         Err(error) => status_of(error),
     }
 }

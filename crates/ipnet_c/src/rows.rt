@@ -8,11 +8,11 @@ ghost use Rattle.netset_lib.specs.Entries.{IsAddressText, ReadsAs};
 ghost use Rattle.ipnet_c.specs.Rows.{AreRows, row_bytes, written_family, written_octets};
 ghost use Rattle.ipnet_c.specs.TextRows.{column, IsEnded, HasLines, IsLinesReply, AreOffsets, offset_at, AreAscending};
 ghost use Rattle.ipnet_c.specs.TextRows.{IsOffsetsReply};
-ghost use Rattle.ipnet_sets.specs.Images.{number_from};
 
 use crate::row_form::{are_rows, padded_octets, write_octets};
 use crate::statuses::{BAD_OFFSETS, OK, WRONG_LENGTH};
 use ipnet::{Grammar, IpAddr};
+use ipnet_sets::{read_u32, read_u64};
 use ipnet_text::ipv4_addr_at;
 use memchr::memchr;
 use netset_lib::parse_address;
@@ -168,18 +168,6 @@ fn offset_width(offsets: &[u8], count: usize) -> Option<usize>
     None
 }
 
-/// Returns the number in the four bytes from byte `at` on, the least significant first.
-fn four_bytes(bytes: &[u8], at: usize) -> u64
-    requires { at + 4 ≤ length bytes.now }
-    ensures value { result ≡ number_from 4 bytes.now at }
-    ensures small { result < 2 ^ 32 }
-{
-    u64::from(bytes[at])
-        + u64::from(bytes[at + 1]) * 0x100
-        + u64::from(bytes[at + 2]) * 0x1_0000
-        + u64::from(bytes[at + 3]) * 0x100_0000
-}
-
 /// Returns the offset with this index.
 fn read_offset(offsets: &[u8], width: usize, index: usize) -> usize
     requires width { (width ≡ 4) ⊎ (width ≡ 8) }
@@ -187,11 +175,10 @@ fn read_offset(offsets: &[u8], width: usize, index: usize) -> usize
     ensures { result ≡ offset_at width offsets.now index }
 {
     let at = index * width;
-    let low = four_bytes(offsets, at);
     if width == 4 {
-        return low as usize;
+        return read_u32(offsets, at) as usize;
     }
-    (low + four_bytes(offsets, at + 4) * 0x1_0000_0000) as usize
+    read_u64(offsets, at) as usize
 }
 
 /// Returns whether none of the offsets is less than the one before it, or greater than `size`.

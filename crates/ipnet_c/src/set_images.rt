@@ -5,7 +5,7 @@ ghost use Rattle.ipnet_c.specs.SetReplies.{IsCompileReply, IsCombineReply, IsIma
 ghost use Rattle.ipnet_c.specs.SetReplies.{IsComplementOfImage, IsTextOfImage, IsRangesOfImage, IsMadeOfImages};
 ghost use Rattle.ipnet_sets.specs.declared.operation.Operation.TheVariants as Of;
 
-use crate::buffers::write_answer;
+use crate::buffers::write_to_buffer;
 use crate::lists::set_of_text;
 use crate::statuses::{NOT_A_SET, OTHER_NOT_A_SET, OUT_OF_MEMORY};
 use ipnet::Grammar;
@@ -30,7 +30,7 @@ fn compile(
     let Ok(image) = set.to_bytes(alloc) else {
         return OUT_OF_MEMORY;
     };
-    write_answer(image.as_slice(), buffer, count)
+    write_to_buffer(image.as_slice(), buffer, count)
 }
 
 /// Writes the image of the addresses of a list into the buffer, and its length in bytes into `count`.
@@ -93,7 +93,7 @@ fn combined_image(
 }
 
 /// Writes the image of the result of the operation on the sets of two images into the buffer.
-fn combine(
+fn write_combined_image(
     alloc: Global,
     operation: Operation,
     images: (&[u8], &[u8]),
@@ -112,7 +112,7 @@ fn combine(
     let Ok(image) = combined_image(alloc, operation, set, other) else {
         return OUT_OF_MEMORY;
     };
-    write_answer(image.as_slice(), buffer, count)
+    write_to_buffer(image.as_slice(), buffer, count)
 }
 
 /// Writes the image of the union of two sets, given by their images, into the buffer, and its length into `count`.
@@ -134,7 +134,7 @@ pub extern "C" fn ipnet_set_union(
 ) -> u32
     ensures { IsCombineReply Of.Union set.now other.now buffer.old buffer.new count.old count.new result }
 {
-    combine(alloc, Operation::Union, (set, other), buffer, count)
+    write_combined_image(alloc, Operation::Union, (set, other), buffer, count)
 }
 
 /// Writes the image of the intersection of two sets, as `ipnet_set_union` does with the union.
@@ -152,7 +152,7 @@ pub extern "C" fn ipnet_set_intersection(
 ) -> u32
     ensures { IsCombineReply Of.Intersection set.now other.now buffer.old buffer.new count.old count.new result }
 {
-    combine(alloc, Operation::Intersection, (set, other), buffer, count)
+    write_combined_image(alloc, Operation::Intersection, (set, other), buffer, count)
 }
 
 /// Writes the image of the first set without the second, as `ipnet_set_union` does with the union.
@@ -170,7 +170,7 @@ pub extern "C" fn ipnet_set_difference(
 ) -> u32
     ensures { IsCombineReply Of.Difference set.now other.now buffer.old buffer.new count.old count.new result }
 {
-    combine(alloc, Operation::Difference, (set, other), buffer, count)
+    write_combined_image(alloc, Operation::Difference, (set, other), buffer, count)
 }
 
 /// Writes the image of the addresses that are in exactly one of two sets, as `ipnet_set_union` does with the union.
@@ -189,7 +189,7 @@ pub extern "C" fn ipnet_set_symmetric_difference(
     ensures { IsCombineReply Of.SymmetricDifference set.now other.now buffer.old buffer.new count.old count.new
         result }
 {
-    combine(
+    write_combined_image(
         alloc,
         Operation::SymmetricDifference,
         (set, other),
@@ -231,7 +231,7 @@ pub extern "C" fn ipnet_set_complement(
     let Ok(image) = complement_image(alloc, set) else {
         return OUT_OF_MEMORY;
     };
-    write_answer(image.as_slice(), buffer, count)
+    write_to_buffer(image.as_slice(), buffer, count)
 }
 
 /// Returns the text of the fewest networks of the set of an image.
@@ -267,7 +267,7 @@ pub extern "C" fn ipnet_set_to_text(
     let Ok(text) = image_text(alloc, set) else {
         return OUT_OF_MEMORY;
     };
-    write_answer(text.as_bytes(), buffer, count)
+    write_to_buffer(text.as_bytes(), buffer, count)
 }
 
 /// Returns the text of the fewest ranges of the set of an image.
@@ -304,5 +304,5 @@ pub extern "C" fn ipnet_set_to_ranges(
     let Ok(ranges) = image_ranges(alloc, set) else {
         return OUT_OF_MEMORY;
     };
-    write_answer(ranges.as_bytes(), buffer, count)
+    write_to_buffer(ranges.as_bytes(), buffer, count)
 }

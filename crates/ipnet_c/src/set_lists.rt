@@ -2,7 +2,7 @@
 ghost use Rattle.ipnet.specs.declared.parser.Grammar.TheVariants.{Strict, Legacy};
 ghost use Rattle.ipnet_c.specs.ListReplies.{IsListReply};
 
-use crate::buffers::write_answer;
+use crate::buffers::write_to_buffer;
 use crate::statuses::{BAD_LINE, OUT_OF_MEMORY};
 use ipnet::Grammar;
 use netset_lib::read_list_text;
@@ -30,7 +30,7 @@ fn compile_list(
     let Ok(image) = list.set.to_bytes(alloc) else {
         return OUT_OF_MEMORY;
     };
-    write_answer(image.as_slice(), buffer, count)
+    write_to_buffer(image.as_slice(), buffer, count)
 }
 
 /// Writes the image of the addresses of a list as people keep it into the buffer, and its length in bytes into `count`.

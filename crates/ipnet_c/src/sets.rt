@@ -6,7 +6,7 @@ ghost use Rattle.ipnet_sets.specs.Members.{IsMember, IsResultOf};
 ghost use Rattle.netset_lib.specs.Answers.{AreNetworkLines};
 ghost use Rattle.ipnet_c.specs.Replies.{IsSetReply};
 
-use crate::buffers::write_answer;
+use crate::buffers::write_to_buffer;
 use crate::lists::sets_of_texts;
 use crate::statuses::OUT_OF_MEMORY;
 use ipnet_sets::{IpSet, Operation};
@@ -28,7 +28,7 @@ fn combined_text(
 }
 
 /// Writes the networks of the result of the operation on the two texts into the buffer, as text.
-fn combine(
+fn write_combined_text(
     alloc: Global,
     operation: Operation,
     texts: (&[u8], &[u8]),
@@ -44,12 +44,12 @@ fn combine(
     };
     // Nothing is made of nothing, and needs no memory.
     if set.is_empty() && other.is_empty() {
-        return write_answer(&[], buffer, count);
+        return write_to_buffer(&[], buffer, count);
     }
     let Ok(answer) = combined_text(alloc, operation, &set, &other) else {
         return OUT_OF_MEMORY;
     };
-    write_answer(answer.as_bytes(), buffer, count)
+    write_to_buffer(answer.as_bytes(), buffer, count)
 }
 
 /// Writes the shortest list of networks with exactly the addresses of either list into the buffer, as canonical text
@@ -78,7 +78,7 @@ pub extern "C" fn ipnet_union_text(
 ) -> u32
     ensures { IsSetReply Union text.now other.now buffer.old buffer.new count.old count.new result }
 {
-    combine(alloc, Operation::Union, (text, other), buffer, count)
+    write_combined_text(alloc, Operation::Union, (text, other), buffer, count)
 }
 
 /// Like `ipnet_union_text`, for exactly the addresses that are in both lists.
@@ -96,7 +96,7 @@ pub extern "C" fn ipnet_intersection_text(
 ) -> u32
     ensures { IsSetReply Intersection text.now other.now buffer.old buffer.new count.old count.new result }
 {
-    combine(alloc, Operation::Intersection, (text, other), buffer, count)
+    write_combined_text(alloc, Operation::Intersection, (text, other), buffer, count)
 }
 
 /// Like `ipnet_union_text`, for exactly the addresses of the first list that are not in the second.
@@ -114,5 +114,5 @@ pub extern "C" fn ipnet_difference_text(
 ) -> u32
     ensures { IsSetReply Difference text.now other.now buffer.old buffer.new count.old count.new result }
 {
-    combine(alloc, Operation::Difference, (text, other), buffer, count)
+    write_combined_text(alloc, Operation::Difference, (text, other), buffer, count)
 }

@@ -8,7 +8,7 @@ ghost use Rattle.ipnet_c.specs.SetReplies.{AreOctetsOf};
 ghost use Rattle.ipnet_c.specs.TableReplies.{ArePairs, IsTableWith, IsValueFor, IsTableReply, IsTableCountReply};
 ghost use Rattle.ipnet_c.specs.TableReplies.{IsTableCheckReply, IsMatchReply, IsMatchAllReply};
 
-use crate::buffers::write_answer;
+use crate::buffers::write_to_buffer;
 use crate::lists::read_networks;
 use crate::set_questions::{are_items, read_address};
 use crate::statuses::{BAD_LINE, NOT_A_TABLE, NOT_UTF8, OK, OUT_OF_MEMORY, WRONG_LENGTH};
@@ -86,7 +86,7 @@ pub extern "C" fn ipnet_table_from_text(
     let Ok(image) = table_image(alloc, networks.as_slice(), values) else {
         return OUT_OF_MEMORY;
     };
-    write_answer(image.as_slice(), buffer, count)
+    write_to_buffer(image.as_slice(), buffer, count)
 }
 
 /// Writes the number of routes of the table, given by its image, into `count`.

@@ -3,13 +3,12 @@ use Rattle.std.proofs.Common.{◌≡◌, ℕ, ◌+◌, ◌*◌, ◌≤◌, ◌�
 use Rattle.std.proofs.Common.{sym, ap, ap₂, ◌∙◌, subst, arith, append_assoc}
 use Rattle.std.proofs.lemmas.List.{length-append, append-nil}
 use Rattle.ipnet_base.specs.Address.{Family, IPv4, IPv6, Address, greatest_number}
-use Rattle.ipnet_base.specs.Network.{Network, IsNetwork, InBlock, IsLeastOf, IsGreatestOf}
 use Rattle.ipnet_sets.specs.declared.set.IpSet.{IpSet}
 use Rattle.ipnet_sets.specs.Boundaries.{is_inside, AreBoundaries}
 use Rattle.ipnet_sets.specs.Members.{boundaries_of, IsMember, IsFromTo}
 use Rattle.ipnet_sets.specs.Images.{number_from, numbers_from, stated_count, stored_boundaries, image_magic}
 use Rattle.ipnet_sets.specs.Images.{HasHeader, IsImage, IsImageOf, IsAppended, AreAppended}
-use Rattle.ipnet_sets.proofs.MemberLaws.{covers_block, covers_from_to}
+use Rattle.ipnet_sets.proofs.MemberLaws.{covers_from_to}
 use Rattle.ipnet_sets.proofs.SetEqualLaws.{words_are_numbers}
 use Rattle.ipnet_sets.proofs.ImageLaws.{number_front, number_later, numbers_front, numbers_later}
 
@@ -25,16 +24,6 @@ reported : (f : Family) (ns boundaries : List ℕ) (first last : ℕ) (answer : 
 reported f ns boundaries first last answer same good h =
     subst (λ ts. IsTrue answer ↔ ((x : ℕ) → first ≤ x → x ≤ last → is_inside ts x ≡ true))
     (same ∙ sym (words_are_numbers boundaries)) (h (subst (AreBoundaries f) (sym same) good))
-
-pub covers_image : (s : IpSet) (n : Network) (low high : Address) (ns : List ℕ) (first last : ℕ) (answer : Bool)
-    → IsNetwork n → IsLeastOf n low → IsGreatestOf n high → first ≡ low.number → last ≡ high.number
-    → ns ≡ boundaries_of s n.family
-    → (AreBoundaries n.family ns → IsTrue answer ↔ ((x : ℕ) → first ≤ x → x ≤ last → is_inside ns x ≡ true))
-    → IsTrue answer ↔ ((x : Address) → InBlock n x → IsMember s x)
-covers_image s n low high ns first last answer valid least greatest e f same h =
-    covers_block s n low high (boundaries_of s n.family) first last answer valid least greatest e f
-    (words_are_numbers (boundaries_of s n.family))
-    (reported n.family ns (boundaries_of s n.family) first last answer same (boundaries_are s n.family) h)
 
 pub covers_range_image : (s : IpSet) (f : Family) (start end : Address) (ns : List ℕ) (first last : ℕ) (answer : Bool)
     → start.family ≡ f → end.family ≡ f → last ≤ greatest_number f → first ≡ start.number → last ≡ end.number

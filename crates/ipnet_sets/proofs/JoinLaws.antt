@@ -1,8 +1,8 @@
 -- Sets of numbers put together from ranges: one range more, which does not begin before the last range of the set.
-use Rattle.std.proofs.Common.{◌≡◌, ℕ, ◌+◌, ◌-◌, ◌*◌, ◌/◌, ◌%◌, ◌<◌, ◌≤◌, ◌⊎◌, ◌↔◌, true, false, not}
-use Rattle.std.proofs.Common.{List, [], ◌∷◌, ◌++◌, length, take, get_or, All, Any}
+use Rattle.std.proofs.Common.{◌≡◌, ℕ, ◌+◌, ◌-◌, ◌*◌, ◌/◌, ◌%◌, ◌<◌, ◌≤◌, ◌⊎◌, ◌↔◌, true, false, not, ◌||◌}
+use Rattle.std.proofs.Common.{List, [], ◌∷◌, ◌++◌, length, map, take, get_or, All, Any}
 use Rattle.std.proofs.Common.{refl, sym, ap, ◌∙◌, subst, arith, inl, inr, eq-eqb}
-use Rattle.std.proofs.lemmas.Bool.{cases_lt, ne_eqb}
+use Rattle.std.proofs.lemmas.Bool.{cases_lt, ne_eqb, false≢true, or_cases, or_left, or_right}
 use Rattle.std.proofs.lemmas.List.{take_more, take_all, take-set, length-set, get_or-set_same, length_push, get_or_push}
 use Rattle.std.proofs.lemmas.List.{get_or_append_left}
 use Rattle.std.proofs.Math.ListN.{set}
@@ -12,9 +12,9 @@ use Rattle.std.specs.List.Sorted.{IsNonDecreasingBy, IsPermutation}
 use Rattle.ipnet_base.specs.Address.{Family, greatest_number}
 use Rattle.ipnet_base.proofs.ListLaws.{any_from_contains, at_place}
 use Rattle.ipnet_sets.specs.declared.number.NumberRange.{NumberRange}
-use Rattle.ipnet_sets.specs.Gather.{IsHeld, BeginsBy, IsJoined}
-use Rattle.ipnet_sets.specs.Boundaries.{is_inside, AreBoundaries}
-use Rattle.ipnet_sets.proofs.EndLaws.{front_boundaries, front_below, boundaries_push, split_last}
+use Rattle.ipnet_sets.specs.Gather.{IsInSomeRange, IsHeld, BeginsBy, IsJoined}
+use Rattle.ipnet_sets.specs.Boundaries.{is_inside, AreBoundaries, IsLeastInside}
+use Rattle.ipnet_sets.proofs.EndLaws.{front_boundaries, front_below, boundaries_push, split_last, least_inside_at}
 use Rattle.ipnet_sets.proofs.InsideLaws.{not_twice, inside_push_at, inside_push_before, inside_from}
 use Rattle.ipnet_sets.proofs.SetRangeLaws.{any_cases, any_here, any_there}
 
@@ -352,4 +352,51 @@ held_push number boundaries waiting new r e x =
         | inl held ↦ elim held [ inl inside ↦ inl inside | inr old ↦ inr (one.1 (inl old)) ]
         | inr b ↦ inr (one.1 (inr b))
       ],
+    )
+
+-- ---- the ranges that wait, as a set
+
+-- if the set of the ranges that wait is empty, the set in order has all numbers
+pub held_in_order : {T : Type 0} (number : T → ℕ) (family : Family) (boundaries late : List T)
+    (waiting : List (NumberRange T)) → length late ≡ 0
+    → ((x : ℕ) → x ≤ greatest_number family → (is_inside (map number late) x ≡ true) ↔ IsInSomeRange number waiting x)
+    → (x : ℕ) → x ≤ greatest_number family
+    → (is_inside (map number boundaries) x ≡ true) ↔ IsHeld number boundaries waiting x
+held_in_order number family boundaries [] waiting e h x le = (
+  λ inside. inl inside,
+  λ held. elim held [ inl inside ↦ inside | inr some ↦ absurd (false≢true ((h x le).1 some)) ],
+)
+held_in_order number family boundaries (t ∷ late) waiting e h x le = absurd (omega (arith, e))
+
+-- if it is not empty, a range that waits has its least number
+pub some_number_waits : {T : Type 0} (number : T → ℕ) (family : Family) (late : List T) (waiting : List (NumberRange T))
+    → 0 < length late → AreBoundaries family (map number late)
+    → ((x : ℕ) → x ≤ greatest_number family → (is_inside (map number late) x ≡ true) ↔ IsInSomeRange number waiting x)
+    → ((x : ℕ) → x ≤ greatest_number family → ¬ (IsInSomeRange number waiting x)) → ⊥
+some_number_waits number family [] waiting some are h none = absurd (omega (arith, some))
+some_number_waits number family (t ∷ late) waiting some are h none =
+    let least : IsLeastInside family (number t ∷ map number late) (number t)
+    = least_inside_at family (number t ∷ map number late) (number t) are (omega arith) (λ d. refl) in
+    none (number t) least.fits ((h (number t) least.fits).0 least.inside)
+
+-- the union of the set in order and of the ranges that wait
+pub held_in_union : {T : Type 0} (number : T → ℕ) (family : Family) (boundaries late all : List T)
+    (waiting : List (NumberRange T))
+    → ((x : ℕ) → x ≤ greatest_number family → (is_inside (map number late) x ≡ true) ↔ IsInSomeRange number waiting x)
+    → ((x : ℕ) → is_inside (map number all) x
+    ≡ (is_inside (map number boundaries) x || is_inside (map number late) x))
+    → (x : ℕ) → x ≤ greatest_number family
+    → (is_inside (map number all) x ≡ true) ↔ IsHeld number boundaries waiting x
+held_in_union number family boundaries late all waiting h either x le =
+    let first = is_inside (map number boundaries) x in
+    let second = is_inside (map number late) x in (
+      λ inside. elim (or_cases first second (sym (either x) ∙ inside)) [
+        | inl one ↦ inl one
+        | inr two ↦ inr ((h x le).0 two)
+      ],
+      λ held.
+          let in_one : (first || second) ≡ true = elim held [
+            | inl one ↦ or_left first second one
+            | inr some ↦ or_right first second ((h x le).1 some)
+          ] in either x ∙ in_one,
     )

@@ -2,9 +2,9 @@
 use Rattle.std.proofs.Common.{◌+◌, ◌≡◌, ℕ, ◌^◌, ◌<◌, ◌≤◌, ◌↔◌, Bool, true, false, IsTrue, List, length, map}
 use Rattle.std.proofs.Common.{refl, sym, ap, ◌∙◌, subst, subst₂, arith}
 use Rattle.std.proofs.lemmas.List.{length-map}
-use Rattle.ipnet_base.specs.Address.{Family, IPv4, IPv6, Address, IsAddress, IsBetween, width, greatest_number}
-use Rattle.ipnet_base.specs.Network.{Network, IsNetwork, InBlock, IsLeastOf, IsGreatestOf}
-use Rattle.ipnet_base.proofs.BlockLaws.{block_is_between, between_from_block, last_fits}
+use Rattle.ipnet_base.specs.Address.{Family, IPv4, IPv6, Address, IsAddress, width, greatest_number}
+use Rattle.ipnet_base.specs.Network.{Network, InBlock, IsLeastOf, IsGreatestOf}
+use Rattle.ipnet_base.proofs.BlockLaws.{block_is_between}
 use Rattle.ipnet_sets.specs.declared.set.IpSet.{IpSet}
 use Rattle.ipnet_sets.specs.declared.operation.Operation.{Operation}
 use Rattle.ipnet_sets.specs.Boundaries.{is_inside, combined, IsLeastInside, IsGreatestInside, by_family}
@@ -17,11 +17,6 @@ fits_below IPv6 x le = omega arith
 pub fits_to : (f : Family) (x : ℕ) → x < 2 ^ width f → x ≤ greatest_number f
 fits_to IPv4 x lt = omega arith
 fits_to IPv6 x lt = omega arith
-
--- each address of a network's block is one of its family
-block_fits : (n : Network) → IsNetwork n → (x : Address) → InBlock n x → IsAddress x
-block_fits n valid x a =
-    omega (arith, (between_from_block n x a).to_end, last_fits n valid, ap (λ f. 2 ^ width f) a.same_family)
 
 -- a block is the addresses from its least to its greatest
 pub block_from_to : (n : Network) (low high : Address) → IsLeastOf n low → IsGreatestOf n high → (x : Address)
@@ -64,27 +59,6 @@ pub some_from_greatest : (s : IpSet) (f : Family) (slice : List ℕ) (n : ℕ) �
 some_from_greatest s f slice n e h none =
     none (record { family = f; number = n }) (member_at s f slice n e h.fits h.inside)
 
--- a block lies in the set if its numbers are inside
-pub covers_block : (s : IpSet) (n : Network) (low high : Address) (slice : List ℕ) (first last : ℕ) (answer : Bool)
-    → IsNetwork n → IsLeastOf n low → IsGreatestOf n high → first ≡ low.number → last ≡ high.number
-    → HasBoundaries s n.family slice
-    → (IsTrue answer ↔ ((x : ℕ) → first ≤ x → x ≤ last → is_inside (map (λ n. n) slice) x ≡ true))
-    → IsTrue answer ↔ ((x : Address) → InBlock n x → IsMember s x)
-covers_block s n low high slice first last answer valid least greatest e f boundaries h = (
-  λ t x a.
-      let between : IsBetween n.family low.number high.number x = (block_is_between n low high x least greatest).0 a in
-      let inside : is_inside (boundaries_of s n.family) x.number ≡ true
-      = subst (λ z. is_inside z x.number ≡ true) boundaries
-      (h.0 t x.number (omega (arith, e, between.from_start)) (omega (arith, f, between.to_end))) in
-      record {
-        fits = block_fits n valid x a;
-        inside = ap (λ g. is_inside (boundaries_of s g) x.number) a.same_family ∙ inside;
-      },
-  λ all. h.1 (λ x le lf. ap (λ z. is_inside z x) boundaries ∙ (all (record { family = n.family; number = x })
-      ((block_is_between n low high (record { family = n.family; number = x }) least greatest).1
-      (record { of_family = refl; from_start = omega (arith, e, le); to_end = omega (arith, f, lf) }))).inside),
-)
-
 -- the addresses from one to another are in the set if the numbers between are inside
 pub covers_from_to : (s : IpSet) (f : Family) (start end : Address) (slice : List ℕ) (first last : ℕ) (answer : Bool)
     → start.family ≡ f → end.family ≡ f → last ≤ greatest_number f → first ≡ start.number → last ≡ end.number
@@ -108,6 +82,15 @@ covers_from_to s f start end slice first last answer d e fits g h boundaries ins
     from_start = omega (arith, g, le);
     to_end = omega (arith, h, lf);
   })).inside),
+)
+
+-- a block lies in the set if the addresses from its least to its greatest do
+pub covers_block : (InSet : Address → Type 0) (n : Network) (low high : Address) (answer : Bool) → IsLeastOf n low
+    → IsGreatestOf n high → (IsTrue answer ↔ ((x : Address) → IsFromTo low high x → InSet x))
+    → IsTrue answer ↔ ((x : Address) → InBlock n x → InSet x)
+covers_block InSet n low high answer least greatest h = (
+  λ t x a. h.0 t x ((block_from_to n low high least greatest x).0 a),
+  λ all. h.1 (λ x a. all x ((block_from_to n low high least greatest x).1 a)),
 )
 
 -- the result of an operation on two sets is empty if it has no number of either family

@@ -1,8 +1,9 @@
 -- The search for a number in a list of boundaries, by halving.
-use Rattle.std.proofs.Common.{◌≡◌, ℕ, ◌+◌, ◌%◌, ◌<◌, ◌≤◌, List, length, take, get_or}
-use Rattle.std.proofs.Common.{sym, ap, ◌∙◌, subst, true, false, not, arith, inl, inr, eq-eqb}
-use Rattle.std.proofs.lemmas.Bool.{cases_lt, eqb-true}
-use Rattle.std.proofs.lemmas.List.{get_or-take, length-take-le}
+use Rattle.std.proofs.Common.{◌≡◌, ℕ, ◌+◌, ◌%◌, ◌<◌, ◌≤◌, List, length, map, take, get_or}
+use Rattle.std.proofs.Common.{sym, ap, ◌∙◌, subst, true, false, not, leb, arith, inl, inr, eq-eqb}
+use Rattle.std.proofs.lemmas.Bool.{cases_lt, eqb-true, leb-true, leb-false}
+use Rattle.std.proofs.lemmas.List.{get_or-map, get_or-take, length-map, length-take-le}
+use Rattle.std.specs.List.Sorted.{IsNonDecreasingBy, IsPartitionPoint}
 use Rattle.ipnet_sets.specs.Boundaries.{is_inside, IsSplitAt}
 use Rattle.ipnet_sets.proofs.InsideLaws.{AreAscending, is_odd, odd_more, inside_front, inside_from}
 
@@ -57,6 +58,41 @@ split_end boundaries number low high le h = record {
   up_to = h.up_to;
   above = λ k d l m. h.above k d (omega (arith, l, le)) m;
 }
+
+-- words whose numbers ascend do not decrease
+pub words_rise : {X : Type 0} (number : X → ℕ) (words : List X) → AreAscending (map number words)
+    → IsNonDecreasingBy number words
+words_rise number words asc i j d le l = elim (cases_lt i j) [
+  | inl lt ↦ omega (
+    arith,
+    asc i j 0 lt (omega (arith, l, length-map words number)),
+    get_or-map number words i d 0 (omega (arith, lt, l)),
+    get_or-map number words j d 0 l,
+  )
+  | inr ge ↦ let same : i ≡ j = omega (arith, le, ge) in
+      subst (λ k. number (get_or words i d) ≤ number (get_or words k d)) same (omega arith)
+]
+
+-- the place after the words that are at most the word
+pub split_from_point : {X : Type 0} (number : X → ℕ) (words : List X) (word : X) (place : ℕ) → place ≤ length words
+    → IsPartitionPoint (λ w. leb (number w) (number word) ≡ true) (λ w. leb (number w) (number word) ≡ false) words
+    place
+    → IsSplitAt (map number words) (number word) place
+split_from_point number words word place within point =
+    let size = length-map words number in
+    record {
+      within = omega (arith, within, size);
+      up_to = λ k d l. omega (
+        arith,
+        get_or-map number words k word d (omega (arith, l, within)),
+        leb-true (number (get_or words k word)) (number word) (point.0 k word (omega arith) l),
+      );
+      above = λ k d l m. omega (
+        arith,
+        get_or-map number words k word d (omega (arith, m, size)),
+        leb-false (number (get_or words k word)) (number word) (point.1 k word l (omega (arith, m, size))),
+      );
+    }
 
 -- a number is inside if an odd number of boundaries are at most it
 pub inside_from_split : (boundaries : List ℕ) (number place : ℕ) → IsSplitAt boundaries number place

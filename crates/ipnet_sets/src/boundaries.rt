@@ -130,18 +130,7 @@ fn boundaries_up_to<T: Number>(boundaries: &[T], number: T) -> usize
     requires { AreBoundaries T.family (map T.number boundaries.now) }
     ensures { IsSplitAt (map T.number boundaries.now) (T.number number) result }
 {
-    let mut low = 0;
-    let mut high = boundaries.len();
-    while low < high {
-        let middle = low + (high - low) / 2;
-        let boundary = boundaries[middle];
-        if number.is_below(boundary) {
-            high = middle;
-        } else {
-            low = middle + 1;
-        }
-    }
-    low
+    boundaries.partition_point(|boundary| boundary.is_at_most(number))
 }
 
 /// Returns the boundaries from the place on, after the first number if that is inside: if the place is odd.
@@ -194,7 +183,7 @@ pub(crate) fn contains<T: Number>(boundaries: &[T], number: T) -> bool
 }
 
 /// Whether all numbers from the first to the last are in the set.
-pub(crate) fn covers<T: Number>(boundaries: &[T], first: T, last: T) -> bool
+fn covers<T: Number>(boundaries: &[T], first: T, last: T) -> bool
     requires boundaries { AreBoundaries T.family (map T.number boundaries.now) }
     requires ordered { T.number first ≤ T.number last }
     ensures { IsTrue result ↔ ((x : ℕ) → T.number first ≤ x → x ≤ T.number last

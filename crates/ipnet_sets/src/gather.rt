@@ -6,7 +6,9 @@ ghost use Rattle.ipnet_base.specs.Address.{greatest_number};
 ghost use Rattle.ipnet_sets.specs.Gather.{IsInSomeRange, IsHeld, BeginsBy, IsJoined};
 ghost use Rattle.ipnet_sets.specs.Boundaries.{is_inside, AreBoundaries};
 
+use crate::boundaries;
 use crate::number::{Number, NumberRange};
+use crate::operation::Operation;
 use std::alloc::{AllocError, Global};
 
 /// Returns whether no range of the set begins after the number.
@@ -28,7 +30,7 @@ fn ends_before<T: Number>(boundaries: &[T], first: T) -> bool
 }
 
 /// Adds the numbers from the first to the last. They come after the numbers of the set, and do not touch them.
-fn push_range<T: Number>(boundaries: &mut Vec<T>, first: T, last: T) -> Result<(), AllocError>
+fn append_range<T: Number>(boundaries: &mut Vec<T>, first: T, last: T) -> Result<(), AllocError>
     requires boundaries { AreBoundaries T.family (map T.number boundaries.old.items) }
     requires even { length boundaries.old.items % 2 ≡ 0 }
     requires after { All (λ t. t < T.number first) (map T.number boundaries.old.items) }
@@ -91,7 +93,7 @@ pub(crate) fn join_range<T: Number>(
         return Ok(());
     }
     if ends_before(boundaries.as_slice(), first) {
-        return push_range(boundaries, first, last);
+        return append_range(boundaries, first, last);
     }
     extend_last(boundaries, first, last);
     Ok(())
@@ -150,6 +152,32 @@ pub(crate) fn join_all<T: Number>(
     let mut ranges = ranges;
     T::sort(&mut ranges);
     join_sorted(alloc, ranges.as_slice())
+}
+
+/// Returns the set of the numbers of the set in order and of the ranges that wait. It is the set in order itself if no
+/// range that waits has a number.
+pub(crate) fn united<T: Number>(
+    alloc: Global,
+    in_order: Vec<T>,
+    waiting: Vec<NumberRange<T>>,
+) -> Result<Vec<T>, AllocError>
+    requires { AreBoundaries T.family (map T.number in_order.items) }
+    ensures empty { ((x : ℕ) → x ≤ greatest_number T.family → ¬ (IsInSomeRange T.number waiting.items x))
+        → IsOk result }
+    ensures boundaries { IfOk result (λ boundaries. AreBoundaries T.family (map T.number boundaries.items)) }
+    ensures members { IfOk result (λ boundaries. (x : ℕ) → x ≤ greatest_number T.family
+        → (is_inside (map T.number boundaries.items) x ≡ true) ↔ IsHeld T.number in_order.items waiting.items x) }
+{
+    let late = join_all(alloc, waiting)?;
+    if late.as_slice().is_empty() {
+        return Ok(in_order);
+    }
+    boundaries::combine(
+        alloc,
+        Operation::Union,
+        in_order.as_slice(),
+        late.as_slice(),
+    )
 }
 
 /// The set of the numbers from the first to the last; it is empty if the first is above the last.

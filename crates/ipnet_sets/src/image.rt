@@ -161,20 +161,7 @@ impl<'a> IpSetImage<'a> {
         ensures { (s : IpSet) → IsImageOf self.now.bytes.now s
             → IsTrue result ↔ ((x : Address) → InBlock (ip_network network.now) x → IsMember s x) }
     {
-        match network {
-            IpNet::V4(network) => stored::covers(
-                self.bytes,
-                self.ipv4_place(),
-                network.network().to_bits(),
-                network.broadcast().to_bits(),
-            ),
-            IpNet::V6(network) => stored::covers(
-                self.bytes,
-                self.ipv6_place(),
-                network.network().to_bits(),
-                network.broadcast().to_bits(),
-            ),
-        }
+        self.covers_range(network.network(), network.broadcast())
     }
 
     /// Returns whether every address from the first to the last, both included, is in the set. Allocates nothing; the

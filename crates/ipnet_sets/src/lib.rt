@@ -13,6 +13,7 @@ pub mod set;
 pub mod set_networks;
 pub mod set_ranges;
 
+pub use image::stored::{read_u32, read_u64};
 pub use image::{ImageError, IpSetImage, IpSetRef};
 pub use operation::Operation;
 pub use route_map::RouteMap;

@@ -1,5 +1,5 @@
 //! The numbers of addresses, as machine words of the width of their family.
-ghost use Rattle.std.specs.Prelude.{◌≡◌, ℕ, ◌+◌, ◌<◌, ◌≤◌, ◌↔◌, IsTrue, IsPermutation};
+ghost use Rattle.std.specs.Prelude.{◌≡◌, ℕ, ◌+◌, ◌<◌, ◌≤◌, ◌↔◌, leb, IsTrue, IsPermutation};
 ghost use Rattle.std.specs.List.Sorted.{IsNonDecreasingBy};
 ghost use Rattle.ipnet_base.specs.Address.{Family, IPv4, IPv6, greatest_number, ip_address};
 ghost use Rattle.ipnet_base.specs.RangeOf.{ip_range};
@@ -48,6 +48,10 @@ pub(crate) trait Number: Copy {
     fn is_below(self, other: Self) -> bool
         ensures { IsTrue result ↔ (number self < number other) };
 
+    /// Whether this number is at most the other.
+    fn is_at_most(self, other: Self) -> bool
+        ensures { result ≡ leb (number self) (number other) };
+
     /// Returns the distance from this number to the last one, which must not be below it.
     fn distance_to(self, last: Self) -> u128
         requires { number self ≤ number last }
@@ -94,6 +98,10 @@ impl Number for u32 {
         self < other
     }
 
+    fn is_at_most(self, other: u32) -> bool {
+        self <= other
+    }
+
     fn distance_to(self, last: u32) -> u128 {
         u128::from(last - self)
     }
@@ -138,6 +146,10 @@ impl Number for u128 {
 
     fn is_below(self, other: u128) -> bool {
         self < other
+    }
+
+    fn is_at_most(self, other: u128) -> bool {
+        self <= other
     }
 
     fn distance_to(self, last: u128) -> u128 {

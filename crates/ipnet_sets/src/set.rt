@@ -185,18 +185,7 @@ impl IpSet {
     pub fn covers(&self, network: &IpNet) -> bool
         ensures { IsTrue result ↔ ((x : Address) → InBlock (ip_network network.now) x → IsMember self.now x) }
     {
-        match network {
-            IpNet::V4(network) => boundaries::covers(
-                self.ipv4.as_slice(),
-                network.network().to_bits(),
-                network.broadcast().to_bits(),
-            ),
-            IpNet::V6(network) => boundaries::covers(
-                self.ipv6.as_slice(),
-                network.network().to_bits(),
-                network.broadcast().to_bits(),
-            ),
-        }
+        self.covers_range(network.network(), network.broadcast())
     }
 
     /// Returns whether every address from `start` to `end`, both included, is in the set. Allocates nothing, and takes

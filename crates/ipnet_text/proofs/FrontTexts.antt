@@ -3,7 +3,7 @@ use Rattle.std.proofs.Common.{◌≡◌, ◌≢◌, ℕ, suc, ◌+◌, ◌<◌, 
 use Rattle.std.proofs.Common.{inl, inr, take_all, ◌-◌, refl, sym, ap, ◌∙◌, subst, arith, append_assoc, ne_eqb}
 use Rattle.std.proofs.Common.{length-append, add-one, codes, take-add, take-suc}
 use Rattle.std.proofs.lemmas.List.{length-take-le, length-drop}
-use Rattle.std.proofs.Math.Seq.{split_at, take-append_seam, drop-append-add}
+use Rattle.std.proofs.Math.Seq.{split_at, take-append_seam, drop-append-add, get_or-append_seam}
 use Rattle.std.proofs.lemmas.Bool.{cases_lt}
 use Rattle.std.proofs.lemmas.Str.{digit_value_digit}
 use Rattle.std.proofs.lemmas.Str.Parse.{digit_from_value}
@@ -14,10 +14,12 @@ use Rattle.std.specs.Str.Parse.{AllDigits}
 use Rattle.ipnet_base.specs.Address.{ipv4_address}
 use Rattle.ipnet.specs.AddressTexts.{IsIpv4AddressText, IsJoined}
 use Rattle.ipnet.specs.Lines.{lines_of}
+use Rattle.ipnet.specs.Network.{Network}
 use Rattle.ipnet.specs.NetworkParts.{network_at}
 use Rattle.ipnet.specs.NetworkTexts.{IsIpv4NetworkText}
 use Rattle.ipnet.specs.Numerals.{IsDecimal, IsOctet}
 use Rattle.ipnet.specs.declared.parser.Grammar.TheVariants.{Strict}
+use Rattle.ipnet_text.specs.Fronts.{IsFirstLine}
 
 -- the bytes from a place on, as a slice has them
 abbrev pub rest_from : ℕ → List ℕ → List ℕ
@@ -60,21 +62,19 @@ unbroken_line (b ∷ line) rest h = rw (ne_eqb b 10 h.0, unbroken_line line rest
 
 -- ---- the first line
 
--- the first line of the bytes has this length, and is a text of this kind
-pub record IsFirstLine (Writes : List ℕ → Type 0) (bytes : List ℕ) (len : ℕ) : Type 0 where
-  pub network : Writes (take len bytes)
-  pub lines : lines_of bytes ≡ take len bytes ∷ lines_of (drop (len + 1) bytes)
-
-pub first_line_of : (Writes : List ℕ → Type 0) (bytes line rest : List ℕ) (len : ℕ) → bytes ≡ line ++ 10 ∷ rest
-    → length line ≡ len → IsUnbroken line → Writes line → IsFirstLine Writes bytes len
-first_line_of Writes bytes line rest len spelled size unbroken is =
+pub first_line_of : (Writes : List ℕ → Network → Type 0) (bytes line rest : List ℕ) (len : ℕ) (n : Network)
+    → bytes ≡ line ++ 10 ∷ rest → length line ≡ len → IsUnbroken line → Writes line n → IsFirstLine Writes bytes len n
+first_line_of Writes bytes line rest len n spelled size unbroken is =
     let front : take len bytes ≡ line =
     ap (take len) spelled ∙ ap (λ k. take k (line ++ 10 ∷ rest)) (sym size) ∙ take-append_seam line (10 ∷ rest) in
     let after : drop (len + 1) bytes ≡ rest =
     ap (drop (len + 1)) spelled ∙ ap (λ k. drop (k + 1) (line ++ 10 ∷ rest)) (sym size)
     ∙ drop-append-add line (10 ∷ rest) 1 in
     record {
-      network = subst Writes (sym front) is;
+      network = subst (λ text. Writes text n) (sym front) is;
+      newline = ap (λ z. get_or z len 0) spelled ∙ ap (λ k. get_or (line ++ 10 ∷ rest) k 0) (sym size)
+          ∙ get_or-append_seam line 10 rest 0;
+      within = omega (arith, ap length spelled, length-append line (10 ∷ rest), size);
       lines = ap lines_of spelled ∙ unbroken_line line rest unbroken
           ∙ ap (λ t. t ∷ lines_of rest) (sym front) ∙ ap (λ t. take len bytes ∷ lines_of t) (sym after);
     }
@@ -130,13 +130,21 @@ unbroken_octets text (n ∷ m ∷ octets) (first, rest, spelled, octet, later) =
     (unbroken_append first (46 ∷ rest) (unbroken_digits 10 first (omega arith) octet.digits.1)
     (λ e. omega (arith, e), unbroken_octets rest (m ∷ octets) later))
 
+-- no byte of a network's text ends a line
+unbroken_network : (text : List ℕ) (n : Network) → IsIpv4NetworkText Strict text n → IsUnbroken text
+unbroken_network text n h =
+    subst IsUnbroken (sym (h.spelled ∙ append_assoc h.address_text (47 ∷ []) h.length_text))
+    (unbroken_append h.address_text (47 ∷ h.length_text)
+    (unbroken_octets h.address_text h.octets h.writes_address.0)
+    (λ e. omega (arith, e), unbroken_digits 10 h.length_text (omega arith) h.writes_length.digits.1))
+
 -- the address, "/" and the prefix length, by the places of the bytes that end them
-pub front_at : (bytes : List ℕ) (len digits : ℕ) (a : Ipv4Addr) (p : ℕ) → 20 ≤ length bytes → len ≤ 15 → digits ≤ 3
-    → IsIpv4AddressText Strict (take len bytes) (ipv4_octets a) → get_or bytes len 0 ≡ 47
-    → IsOctet Strict (take digits (rest_from (len + 1) bytes)) p → get_or (rest_from (len + 1) bytes) digits 0 ≡ 10
-    → p ≤ 32
-    → IsFirstLine (λ text. IsIpv4NetworkText Strict text (network_at (ipv4_address a) p)) bytes (len + 1 + digits)
-front_at bytes len digits a p long few few_digits is slash octet newline small =
+pub front_at : (bytes : List ℕ) (len digits : ℕ) (n : Network) → 20 ≤ length bytes → len ≤ 15 → digits ≤ 3
+    → get_or bytes len 0 ≡ 47
+    → IsIpv4NetworkText Strict (take len bytes ++ 47 ∷ take digits (rest_from (len + 1) bytes)) n
+    → get_or (rest_from (len + 1) bytes) digits 0 ≡ 10
+    → IsFirstLine (IsIpv4NetworkText Strict) bytes (len + 1 + digits) n
+front_at bytes len digits n long few few_digits slash is newline =
     let text = take len bytes in
     let rest = rest_from (len + 1) bytes in
     let number = take digits rest in
@@ -153,11 +161,8 @@ front_at bytes len digits a p long few few_digits is slash octet newline small =
       length-take-le len bytes (omega (arith, long, few)),
       length-take-le digits rest (omega (arith, long, few, few_digits, size)),
     ) in
-    let whole : IsUnbroken (text ++ 47 ∷ number) =
-    unbroken_append text (47 ∷ number) (unbroken_octets text (ipv4_octets a) is.0)
-    (λ e. omega (arith, e), unbroken_digits 10 number (omega arith) octet.digits.1) in
-    first_line_of (λ t. IsIpv4NetworkText Strict t (network_at (ipv4_address a) p)) bytes (text ++ 47 ∷ number) after
-    (len + 1 + digits) spelled count whole (network_text text number a p is octet small)
+    first_line_of (IsIpv4NetworkText Strict) bytes (text ++ 47 ∷ number) after (len + 1 + digits) n spelled count
+    (unbroken_network (text ++ 47 ∷ number) n is) is
 
 -- ---- an IPv4 address at the front
 

@@ -12,7 +12,7 @@ use Rattle.ipnet.specs.Numerals.{IsGroup, IsOctet}
 use Rattle.ipnet.specs.declared.parser.Grammar.TheVariants.{Strict}
 use Rattle.ipnet_text.specs.Fronts.{IsHead}
 use Rattle.ipnet_text.proofs.FrontTexts.{cut_byte, rest_from, rest_is, IsUnbroken, unbroken_append, unbroken_digits}
-use Rattle.ipnet_text.proofs.FrontTexts.{IsFirstLine, first_line_of, length_rest}
+use Rattle.ipnet_text.proofs.FrontTexts.{first_line_of, length_rest}
 
 -- ---- the groups before "::"
 
@@ -178,8 +178,8 @@ pub line_at : (bytes eight : List ℕ) (len count n : ℕ) → IsHead bytes eigh
     → get_or (rest_from (len + 2) bytes) 0 0 ≡ 47
     → IsOctet Strict (take count (rest_from 1 (rest_from (len + 2) bytes))) n → count ≤ 3
     → get_or (rest_from 1 (rest_from (len + 2) bytes)) count 0 ≡ 10 → n ≤ 128
-    → IsFirstLine (λ t. IsIpv6NetworkText Strict t (ipv6_network_of (from_be_bytes w128 (octets_of eight)) n))
-    bytes (len + count + 3)
+    → IsFirstLine (IsIpv6NetworkText Strict) bytes (len + count + 3)
+    (ipv6_network_of (from_be_bytes w128 (octets_of eight)) n)
 line_at bytes eight len count n h short long slash octet few end small =
     let third = rest_from (len + 2) bytes in
     let digits_on = rest_from 1 third in
@@ -190,8 +190,8 @@ line_at bytes eight len count n h short long slash octet few end small =
     let spelled : bytes ≡ head_text ++ 58 ∷ 58 ∷ 47 ∷ (digits ++ 10 ∷ rest) =
     head_spelled bytes len (omega arith) h.first_colon h.second_colon slash
     ∙ ap (λ z. head_text ++ 58 ∷ 58 ∷ 47 ∷ z) (cut_byte digits_on count 10 (omega arith) end) in
-    first_line_of (λ t. IsIpv6NetworkText Strict t (ipv6_network_of (from_be_bytes w128 (octets_of eight)) n))
-    bytes (line_text head_text digits) rest (len + count + 3)
+    first_line_of (IsIpv6NetworkText Strict) bytes (line_text head_text digits) rest (len + count + 3)
+    (ipv6_network_of (from_be_bytes w128 (octets_of eight)) n)
     (line_spelled bytes head_text digits rest spelled)
     (line_length head_text digits len count (length-take-le len bytes (omega arith))
     (length-take-le count digits_on (omega arith)))

@@ -1,17 +1,16 @@
 //! The network of a line at the front of bytes, read before the end of the line is known.
-ghost use Rattle.std.specs.Prelude.{◌≡◌, ◌+◌, ◌<◌, ◌≤◌, [], ◌∷◌, length, take, drop, slice_index, IfSome};
+ghost use Rattle.std.specs.Prelude.{◌≡◌, ◌<◌, ◌≤◌, ℕ, List, [], ◌∷◌, ◌++◌, length, take, slice_index, IfSome};
 ghost use Rattle.std.specs.Char.{digit_value};
 ghost use Rattle.std.specs.Net.Addr.{ipv4_octets};
 ghost use Rattle.ipnet.specs.AddressTexts.{IsIpv4AddressText};
-ghost use Rattle.ipnet.specs.Lines.{lines_of};
 ghost use Rattle.ipnet.specs.Numerals.{IsOctet, IsGroup};
 ghost use Rattle.ipnet.specs.NetworkOf.{ipv4_network, ipv6_network, ip_network};
 ghost use Rattle.ipnet.specs.NetworkTexts.{IsIpv4NetworkText, IsIpv6NetworkText, IsNetworkText};
 ghost use Rattle.ipnet.specs.declared.parser.Grammar.TheVariants.{Strict};
-ghost use Rattle.ipnet_text.specs.Fronts.{IsHead};
+ghost use Rattle.ipnet_text.specs.Fronts.{IsFirstLine, IsHead};
 
 use ipnet::{IpNet, Ipv4Net, Ipv6Net};
-use ipnet_base::digits::hex_value;
+use ipnet_base::digits::hex_digit;
 use std::net::{Ipv4Addr, Ipv6Addr};
 
 /// The length of the longest IPv4 line with its "\n", and one byte more: the prefix length is read like an octet, which
@@ -65,13 +64,8 @@ fn octet_at(bytes: &[u8]) -> Option<(u8, usize)>
 }
 
 /// The octet at the front that ends before the byte `end`, and how many digits it has. No octet has a leading zero.
-///
-/// ```text
-/// "10.0.0.1" and ".": 10, and 2
-/// "010.0.0.1" and ".", "256.1" and ".", "10.0.0.1" and "/": None
-/// ```
 #[inline]
-pub fn octet_before(bytes: &[u8], end: u8) -> Option<(u8, usize)>
+fn octet_before(bytes: &[u8], end: u8) -> Option<(u8, usize)>
     requires { 4 ≤ length bytes.now }
     ensures octet { IfSome result (λ octet. IsOctet Strict (take octet.1 bytes.now) octet.0) }
     ensures few { IfSome result (λ octet. octet.1 ≤ 3) }
@@ -110,14 +104,33 @@ pub fn ipv4_addr_at(bytes: &[u8]) -> Option<(Ipv4Addr, usize)>
     Some((address, first + second + third + fourth + 3))
 }
 
+/// Returns the IPv4 network of the address and of the prefix length at the front of the bytes, which ends the line, and
+/// the number of digits of the prefix length.
+///
+/// ```text
+/// 10.0.0.9 and "8\n" and more: 10.0.0.9/8, and 1
+/// 10.0.0.9 and "33\n" and more, "08\n" and more, "8 \n" and more: None
+/// ```
+#[inline]
+pub fn ipv4_network_after(address: Ipv4Addr, bytes: &[u8]) -> Option<(Ipv4Net, usize)>
+    requires { 4 ≤ length bytes.now }
+    ensures network { IfSome result (λ line. (text : List ℕ) → IsIpv4AddressText Strict text (ipv4_octets address)
+        → IsIpv4NetworkText Strict (text ++ 47 ∷ take line.1 bytes.now) (ipv4_network line.0)) }
+    ensures newline { IfSome result (λ line. slice_index bytes.now line.1 ≡ 10) }
+    ensures few { IfSome result (λ line. line.1 ≤ 3) }
+{
+    let (prefix_len, digits) = octet_before(bytes, b'\n')?;
+    if prefix_len > 32 {
+        return None;
+    }
+    let network = Ipv4Net::new_assert(address, prefix_len);
+    Some((network, digits))
+}
+
 /// The IPv4 network of the first line, and the length of the line without its "\n".
 #[inline]
 fn ipv4_line(bytes: &[u8]) -> Option<(Ipv4Net, usize)>
-    ensures network { IfSome result (λ line. IsIpv4NetworkText Strict (take line.1 bytes.now) (ipv4_network line.0)) }
-    ensures newline { IfSome result (λ line. slice_index bytes.now line.1 ≡ 10) }
-    ensures within { IfSome result (λ line. line.1 < length bytes.now) }
-    ensures lines { IfSome result (λ line. lines_of bytes.now
-        ≡ take line.1 bytes.now ∷ lines_of (drop (line.1 + 1) bytes.now)) }
+    ensures { IfSome result (λ line. IsFirstLine (IsIpv4NetworkText Strict) bytes.now line.1 (ipv4_network line.0)) }
 {
     if bytes.len() < LONGEST_IPV4 {
         return None;
@@ -126,26 +139,8 @@ fn ipv4_line(bytes: &[u8]) -> Option<(Ipv4Net, usize)>
     if bytes[len] != b'/' {
         return None;
     }
-    let (prefix_len, digits) = octet_before(&bytes[len + 1..], b'\n')?;
-    if prefix_len > 32 {
-        return None;
-    }
-    let network = Ipv4Net::new_assert(address, prefix_len);
+    let (network, digits) = ipv4_network_after(address, &bytes[len + 1..])?;
     Some((network, len + 1 + digits))
-}
-
-/// The value of the byte as a hexadecimal digit, if it is one.
-#[inline]
-fn hex_digit(byte: u8) -> Option<u16>
-    ensures value { IfSome result (λ digit. digit ≡ digit_value byte) }
-    ensures digit { IfSome result (λ digit. digit < 16) }
-{
-    let value = hex_value(byte);
-    if value < 16 {
-        Some(u16::from(value))
-    } else {
-        None
-    }
 }
 
 /// The group at the front that ends before a ":", and how many digits it has.
@@ -218,11 +213,7 @@ fn head_before(bytes: &[u8]) -> Option<(u16, u16, u16, u16, usize)>
 /// groups, "::", "/" and a prefix length: other lines are not read here.
 #[inline]
 fn ipv6_line(bytes: &[u8]) -> Option<(Ipv6Net, usize)>
-    ensures network { IfSome result (λ line. IsIpv6NetworkText Strict (take line.1 bytes.now) (ipv6_network line.0)) }
-    ensures newline { IfSome result (λ line. slice_index bytes.now line.1 ≡ 10) }
-    ensures within { IfSome result (λ line. line.1 < length bytes.now) }
-    ensures lines { IfSome result (λ line. lines_of bytes.now
-        ≡ take line.1 bytes.now ∷ lines_of (drop (line.1 + 1) bytes.now)) }
+    ensures { IfSome result (λ line. IsFirstLine (IsIpv6NetworkText Strict) bytes.now line.1 (ipv6_network line.0)) }
 {
     if bytes.len() < LONGEST_IPV6 {
         return None;
@@ -250,12 +241,8 @@ fn ipv6_line(bytes: &[u8]) -> Option<(Ipv6Net, usize)>
 /// "10.0.0.0/8\n" and no more, or "::/0\n" and more, or "010.0.0.0/8\n" and more: None
 /// ```
 #[inline]
-pub fn network_line(bytes: &[u8]) -> Option<FrontLine>
-    ensures network { IfSome result (λ line. IsNetworkText Strict (take line.len bytes.now) (ip_network line.network)) }
-    ensures newline { IfSome result (λ line. slice_index bytes.now line.len ≡ 10) }
-    ensures within { IfSome result (λ line. line.len < length bytes.now) }
-    ensures lines { IfSome result (λ line. lines_of bytes.now
-        ≡ take line.len bytes.now ∷ lines_of (drop (line.len + 1) bytes.now)) }
+pub fn front_network(bytes: &[u8]) -> Option<FrontLine>
+    ensures { IfSome result (λ line. IsFirstLine (IsNetworkText Strict) bytes.now line.len (ip_network line.network)) }
 {
     if let Some((network, len)) = ipv4_line(bytes) {
         return Some(FrontLine {

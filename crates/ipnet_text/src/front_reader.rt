@@ -1,16 +1,16 @@
 //! Lines that are read at the front of the text, or left to the reader of texts.
-ghost use Rattle.std.specs.Prelude.{◌≡◌, ◌+◌, ◌<◌, ◌∷◌, length, take, drop, slice_index, IfSome};
-ghost use Rattle.ipnet.specs.Lines.{lines_of};
+ghost use Rattle.std.specs.Prelude.{IfSome};
 ghost use Rattle.ipnet.specs.NetworkOf.{ip_network};
 ghost use Rattle.ipnet.specs.NetworkTexts.{IsNetworkText};
 ghost use Rattle.ipnet.specs.declared.parser.Grammar.TheVariants.{Strict};
+ghost use Rattle.ipnet_text.specs.Fronts.{IsFirstLine};
 
-use crate::front::{FrontLine, network_line};
+use crate::front::{FrontLine, front_network};
 
 /// The most lines that are left out at once.
 const LONGEST_PAUSE: u8 = 63;
 
-/// Reads lines by [`network_line`]. After lines that it cannot read, it leaves out more and more of the lines that
+/// Reads lines by [`front_network`]. After lines that it cannot read, it leaves out more and more of the lines that
 /// follow: similar lines often follow each other, and a vain try costs time.
 #[derive(Clone, Copy)]
 pub(crate) struct FrontReader {
@@ -30,18 +30,14 @@ impl FrontReader {
     /// The network of the first line, and the length of the line without its "\n". `None` says nothing about the line.
     #[inline]
     pub(crate) fn read(&mut self, bytes: &[u8]) -> Option<FrontLine>
-        ensures network { IfSome result (λ line. IsNetworkText Strict (take line.len bytes.now)
-            (ip_network line.network)) }
-        ensures newline { IfSome result (λ line. slice_index bytes.now line.len ≡ 10) }
-        ensures within { IfSome result (λ line. line.len < length bytes.now) }
-        ensures lines { IfSome result (λ line. lines_of bytes.now
-            ≡ take line.len bytes.now ∷ lines_of (drop (line.len + 1) bytes.now)) }
+        ensures { IfSome result (λ line.
+            IsFirstLine (IsNetworkText Strict) bytes.now line.len (ip_network line.network)) }
     {
         if self.pause > 0 {
             self.pause -= 1;
             return None;
         }
-        let line = network_line(bytes);
+        let line = front_network(bytes);
         if line.is_some() {
             self.next_pause = 0;
         } else {

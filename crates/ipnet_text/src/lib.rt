@@ -10,7 +10,7 @@ pub mod output;
 pub mod pieces;
 pub mod window;
 
-pub use front::{FrontLine, ipv4_addr_at, network_line, octet_before};
+pub use front::{FrontLine, front_network, ipv4_addr_at, ipv4_network_after};
 pub use lines::{first_line, lines_len, lines_of_networks, push_line};
 pub use net_lists::{NetLists, NetworkSink};
 pub use networks::{ToolError, push_lines};

@@ -57,7 +57,17 @@ pub fn put_text<W: Write>(out: &mut W, piece: &mut ArrayString<PIECE>, text: &st
 }
 
 /// Writes the piece, unless it has room for `more` bytes.
-fn make_room<W: Write>(out: &mut W, piece: &mut ArrayString<PIECE>, more: usize) -> io::Result<()>
+///
+/// Fails if that write fails; then the writer received a front of the piece.
+///
+/// ```text
+/// a piece of 8,000 bytes: for 192 bytes more nothing is written, for 193 bytes more the piece is written
+/// ```
+pub fn make_room<W: Write>(
+    out: &mut W,
+    piece: &mut ArrayString<PIECE>,
+    more: usize,
+) -> io::Result<()>
     requires { more ≤ 8192 }
     ensures room { OnOk result (array_string_len piece.new + more ≤ 8192) }
     ensures ok { OnOk result

@@ -14,7 +14,7 @@ use std::io::Write;
 
 /// Writes the canonical texts of the networks, one per line, IPv4 first, and flushes the writer. If a write or the
 /// flush fails, a front of the lines has been written.
-pub(crate) fn write_answer<W: Write>(out: &mut W, families: &NetLists) -> io::Result<()>
+pub(crate) fn write_networks<W: Write>(out: &mut W, families: &NetLists) -> io::Result<()>
     ensures whole { OnOk result
         (Appends (W.contents out.old) (W.contents out.new) (text_of_lines (networks_of families.now))) }
     ensures front { (front : List ℕ) × StartsWith (text_of_lines (networks_of families.now)) front

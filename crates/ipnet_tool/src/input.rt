@@ -20,7 +20,7 @@ use std::io::Read;
 use std::str;
 
 /// Bounds the loop, so that it provably ends. Even if every read were full, the count of lines would not overflow.
-const MOST_READS: u64 = 0x0000_ffff_ffff_ffff;
+const MOST_COUNTED_READS: u64 = 0x0000_ffff_ffff_ffff;
 
 /// The longest front of a character that is not whole.
 const LONGEST_FRONT: usize = 3;
@@ -43,7 +43,7 @@ pub(crate) fn read_networks<R: Read>(
     let mut window = Window::new(alloc)?;
     let mut families = NetLists::new(alloc);
     let mut number = 0;
-    for _ in 0..MOST_READS {
+    for _ in 0..MOST_COUNTED_READS {
         let more = window.fill(input)?;
         let held = window.held();
         let count = lines_len(held, more);

@@ -7,7 +7,7 @@ ghost use Rattle.ipnet_tool.specs.Runs.{IsChosenBy, IsAnswered, IsCutShort, HasB
 ghost use Rattle.ipnet_tool.specs.Statuses.{status_of};
 ghost use Rattle.ipnet_tool.specs.declared.failure.Failure.TheVariants.{Arguments, Memory};
 
-use crate::answer::write_answer;
+use crate::answer::write_networks;
 use crate::failure::Failure;
 use crate::input::read_networks;
 use ipnet::Grammar;
@@ -63,7 +63,7 @@ pub fn run<R: Read, W: Write, X: Write>(
         Err(failure) => return report(faults, failure),
     };
     families.aggregate();
-    let Ok(()) = write_answer(out, &families) else {
+    let Ok(()) = write_networks(out, &families) else {
         return report(faults, Failure::Unwritable);
     };
     0

@@ -44,8 +44,3 @@ AreListNames work given names =
 abbrev pub IsDefault : ArgMatches → Action → Type 0
 IsDefault matches action =
     (action ≡ Permit) ↔ (first_value (found_of matches) (codes "default") ≡ Some (codes "permit"))
-
--- The command with this name prints the addresses that rules permit; otherwise the rules that decide on no address.
-abbrev pub IsRuleCommand : List ℕ → Bool → Type 0
-IsRuleCommand name true = name ≡ codes "permitted"
-IsRuleCommand name false = name ≡ codes "unreached"

@@ -3,7 +3,7 @@ use crate::arguments::{
     ArgumentFailure, FIRST, OTHERS, command_of, first, flag, other, reads_input_twice, refused,
 };
 use crate::input::STANDARD_INPUT;
-use crate::output::Streams;
+use crate::output::Writers;
 use crate::reading::{reading_work, session_of, whole_of};
 use clap::{ArgMatches, Command};
 use netset_lib::run_apply;
@@ -26,7 +26,7 @@ pub fn apply_command<'a>(alloc: Global) -> Result<Command<'a>, AllocError> {
 }
 
 /// Reads the arguments, the list and the changes, prints the answer, and returns the exit status.
-pub fn applied(rt: &HostRuntime, matches: &ArgMatches, streams: &mut Streams<'_>) -> u8 {
+pub fn applied(rt: &HostRuntime, matches: &ArgMatches, writers: &mut Writers<'_>) -> u8 {
     let Some(old) = matches.get_str(FIRST) else {
         return refused(rt, ArgumentFailure::NoCommand);
     };
@@ -35,17 +35,17 @@ pub fn applied(rt: &HostRuntime, matches: &ArgMatches, streams: &mut Streams<'_>
         return refused(rt, ArgumentFailure::InputTwice);
     }
     let names = [old];
-    let session = match session_of(rt, reading_work(matches), &names, streams) {
+    let session = match session_of(rt, reading_work(matches), &names, writers) {
         Ok(session) => session,
         Err(status) => return status,
     };
-    match whole_of(rt, changes, streams) {
+    match whole_of(rt, changes, writers) {
         Ok(bytes) => run_apply(
             session,
             (changes, bytes.as_slice()),
             &names,
-            &mut streams.answer,
-            &mut streams.faults,
+            &mut writers.answer,
+            &mut writers.faults,
         ),
         Err(status) => status,
     }

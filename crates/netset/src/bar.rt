@@ -4,7 +4,7 @@ use crate::arguments::{
 };
 use crate::input::STANDARD_INPUT;
 use crate::listing::read_network;
-use crate::output::Streams;
+use crate::output::Writers;
 use crate::reading::{reading_work, session_of};
 use clap::{Arg, ArgMatches, Command};
 use ipnet_pictures::{BarForm, Frame, Marks, RowWidth};
@@ -114,12 +114,12 @@ fn variable(rt: &HostRuntime, name: &str) -> Result<String, u8> {
 }
 
 /// The flag or the output that decides on the marks.
-fn choice_of(matches: &ArgMatches, streams: &Streams<'_>) -> MarkChoice {
+fn choice_of(matches: &ArgMatches, writers: &Writers<'_>) -> MarkChoice {
     if matches.get_flag(ASCII) {
         MarkChoice::Ascii
     } else if matches.get_flag(UTF8) {
         MarkChoice::Utf8
-    } else if streams.answer.is_terminal() {
+    } else if writers.answer.is_terminal() {
         MarkChoice::Terminal
     } else {
         MarkChoice::File
@@ -128,7 +128,7 @@ fn choice_of(matches: &ArgMatches, streams: &Streams<'_>) -> MarkChoice {
 
 /// The characters of the marks: as the flags say, or as the terminal and the locale do. If memory runs out, it is
 /// reported, and the error is the exit status.
-fn marks_of(rt: &HostRuntime, matches: &ArgMatches, streams: &Streams<'_>) -> Result<Marks, u8> {
+fn marks_of(rt: &HostRuntime, matches: &ArgMatches, writers: &Writers<'_>) -> Result<Marks, u8> {
     let lc_all = variable(rt, "LC_ALL")?;
     let lc_ctype = variable(rt, "LC_CTYPE")?;
     let lang = variable(rt, "LANG")?;
@@ -137,19 +137,19 @@ fn marks_of(rt: &HostRuntime, matches: &ArgMatches, streams: &Streams<'_>) -> Re
         lc_ctype: lc_ctype.as_str(),
         lang: lang.as_str(),
     };
-    Ok(chosen_marks(choice_of(matches, streams), values))
+    Ok(chosen_marks(choice_of(matches, writers), values))
 }
 
 /// Reads the form of a bar. If memory runs out, it is reported, and the error is the exit status.
-pub fn form_of(
+pub fn bar_form_of(
     rt: &HostRuntime,
     matches: &ArgMatches,
-    streams: &Streams<'_>,
+    writers: &Writers<'_>,
 ) -> Result<BarForm, u8> {
     // the value is one of WIDTHS, if there is one
     let width = matches.get_str(WIDTH).and_then(read_row_width);
     let row_width = width.unwrap_or(RowWidth::ThirtyTwo);
-    let marks = marks_of(rt, matches, streams)?;
+    let marks = marks_of(rt, matches, writers)?;
     Ok(BarForm { row_width, marks })
 }
 
@@ -169,10 +169,10 @@ pub fn frame_of(rt: &HostRuntime, matches: &ArgMatches) -> Result<Frame, u8> {
 fn request_of(
     rt: &HostRuntime,
     matches: &ArgMatches,
-    streams: &Streams<'_>,
+    writers: &Writers<'_>,
 ) -> Result<BarRequest, u8> {
     let frame = frame_of(rt, matches)?;
-    let form = form_of(rt, matches, streams)?;
+    let form = bar_form_of(rt, matches, writers)?;
     Ok(BarRequest { frame, form })
 }
 
@@ -193,25 +193,25 @@ fn read_pictured(
     rt: &HostRuntime,
     matches: &ArgMatches,
     names: &[&str],
-    streams: &Streams<'_>,
+    writers: &Writers<'_>,
 ) -> Result<Session, u8> {
     let work = pictured_work(rt, matches, names)?;
-    session_of(rt, work, names, streams)
+    session_of(rt, work, names, writers)
 }
 
 /// Reads the arguments and the lists, prints the bar, and returns the exit status.
-pub fn drawn(rt: &HostRuntime, matches: &ArgMatches, streams: &mut Streams<'_>) -> u8 {
-    let request = match request_of(rt, matches, streams) {
+pub fn drawn(rt: &HostRuntime, matches: &ArgMatches, writers: &mut Writers<'_>) -> u8 {
+    let request = match request_of(rt, matches, writers) {
         Ok(request) => request,
         Err(status) => return status,
     };
     let names = matches.get_strs(FIRST).unwrap_or(&[STANDARD_INPUT]);
-    let session = match read_pictured(rt, matches, names, streams) {
+    let session = match read_pictured(rt, matches, names, writers) {
         Ok(session) => session,
         Err(status) => return status,
     };
-    let out = &mut streams.answer;
-    let faults = &mut streams.faults;
+    let out = &mut writers.answer;
+    let faults = &mut writers.faults;
     if matches.get_flag(COMPARE) {
         run_comparison_bar(session, request, names, out, faults)
     } else {

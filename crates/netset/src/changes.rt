@@ -2,7 +2,7 @@
 use crate::arguments::{
     ArgumentFailure, FIRST, OTHERS, command_of, first, flags_of, other, reads_input_twice, refused,
 };
-use crate::output::Streams;
+use crate::output::Writers;
 use crate::reading::session_of;
 use clap::{ArgMatches, Command};
 use netset_lib::run_changes;
@@ -21,7 +21,7 @@ pub fn changes_command<'a>(alloc: Global) -> Result<Command<'a>, AllocError> {
 }
 
 /// Reads the arguments and the lists, prints the changes, and returns the exit status.
-pub fn changed(rt: &HostRuntime, matches: &ArgMatches, streams: &mut Streams<'_>) -> u8 {
+pub fn changed(rt: &HostRuntime, matches: &ArgMatches, writers: &mut Writers<'_>) -> u8 {
     let (Some(old), Some(new)) = (matches.get_str(FIRST), matches.get_str(OTHERS)) else {
         return refused(rt, ArgumentFailure::NoCommand);
     };
@@ -30,8 +30,8 @@ pub fn changed(rt: &HostRuntime, matches: &ArgMatches, streams: &mut Streams<'_>
         return refused(rt, ArgumentFailure::InputTwice);
     }
     let work = netset_lib::Command::Compare.work(flags_of(matches));
-    match session_of(rt, work, &names, streams) {
-        Ok(session) => run_changes(session, &names, &mut streams.answer, &mut streams.faults),
+    match session_of(rt, work, &names, writers) {
+        Ok(session) => run_changes(session, &names, &mut writers.answer, &mut writers.faults),
         Err(status) => status,
     }
 }

@@ -13,10 +13,29 @@ use crate::map::with_map;
 use crate::plan::plan_command;
 use crate::prefixes::prefix_command;
 use crate::rules::with_rules;
-use crate::texts::{ROUTE, text_flag};
+use crate::texts::text_flag;
 use crate::version::VERSION;
 use clap::{Arg, ArgAction, ArgMatches, Command, Error};
 use std::alloc::{AllocError, Global};
+
+/// The names of the operations and queries.
+pub const UNION: &str = "union";
+
+pub const INTERSECTION: &str = "intersection";
+
+pub const DIFFERENCE: &str = "difference";
+
+pub const SYMMETRIC_DIFFERENCE: &str = "symmetric-difference";
+
+pub const COMPLEMENT: &str = "complement";
+
+pub const COUNT: &str = "count";
+
+pub const COMPARE: &str = "compare";
+
+pub const FILTER: &str = "filter";
+
+pub const ROUTE: &str = "route";
 
 /// The first of several lists.
 //
@@ -48,7 +67,7 @@ fn complement_command<'a>(alloc: Global) -> Result<Command<'a>, AllocError> {
     let about = "The addresses that are not in the list, for each address family that occurs in it";
     let ipv4 = "The complement in IPv4, whatever families the list has";
     let ipv6 = "The complement in IPv6, whatever families the list has";
-    operation_command(alloc, "complement", about)?
+    operation_command(alloc, COMPLEMENT, about)?
         .arg(flag(alloc, "ipv4", ipv4))?
         .arg(flag(alloc, "ipv6", ipv6))?
         .arg(one_file(alloc))
@@ -56,13 +75,13 @@ fn complement_command<'a>(alloc: Global) -> Result<Command<'a>, AllocError> {
 
 /// The command `union`.
 fn union_command<'a>(alloc: Global) -> Result<Command<'a>, AllocError> {
-    operation_command(alloc, "union", "The addresses of all lists")?.arg(any_files(alloc))
+    operation_command(alloc, UNION, "The addresses of all lists")?.arg(any_files(alloc))
 }
 
 /// The command `symmetric-difference`.
 fn symmetric_command<'a>(alloc: Global) -> Result<Command<'a>, AllocError> {
     let about = "The addresses that are in exactly one of two lists";
-    operation_command(alloc, "symmetric-difference", about)?
+    operation_command(alloc, SYMMETRIC_DIFFERENCE, about)?
         .arg(first_file(alloc))?
         .arg(other(alloc, "The other list"))
 }
@@ -71,11 +90,11 @@ fn symmetric_command<'a>(alloc: Global) -> Result<Command<'a>, AllocError> {
 fn with_many<'a>(alloc: Global, command: Command<'a>) -> Result<Command<'a>, AllocError> {
     let intersection = "The addresses that are in every list";
     let difference = "The addresses of the first list that are in none of the others";
-    let intersection = on_two_and_more(alloc, "intersection", intersection)?;
+    let intersection = on_two_and_more(alloc, INTERSECTION, intersection)?;
     let command = command
         .subcommand(union_command(alloc)?)?
         .subcommand(intersection)?;
-    command.subcommand(on_two_and_more(alloc, "difference", difference)?)
+    command.subcommand(on_two_and_more(alloc, DIFFERENCE, difference)?)
 }
 
 /// Adds the commands whose result is a list of addresses, of one list or of two.
@@ -97,7 +116,7 @@ fn filter_command<'a>(alloc: Global) -> Result<Command<'a>, AllocError> {
     let about =
         "The entries of FILE that lie entirely inside SET, as written; status 1 if there are none";
     let outside = "Choose by entries that lie entirely outside SET instead";
-    let command = with_lines(alloc, command_of(alloc, "filter", about)?)?;
+    let command = with_lines(alloc, command_of(alloc, FILTER, about)?)?;
     with_set(alloc, command.arg(flag(alloc, "outside", outside))?)
 }
 
@@ -113,14 +132,14 @@ fn with_set<'a>(alloc: Global, command: Command<'a>) -> Result<Command<'a>, Allo
 fn count_command<'a>(alloc: Global) -> Result<Command<'a>, AllocError> {
     let about =
         "For each list its name, and how many IPv4 and IPv6 addresses it has, with tabs between; then the total";
-    command_of(alloc, "count", about)?.arg(any_files(alloc))
+    command_of(alloc, COUNT, about)?.arg(any_files(alloc))
 }
 
 /// The command `compare`.
 fn compare_command<'a>(alloc: Global) -> Result<Command<'a>, AllocError> {
     let about =
         "The number of addresses that are in only one of two lists; status 1 if there are any";
-    command_of(alloc, "compare", about)?
+    command_of(alloc, COMPARE, about)?
         .arg(first_file(alloc))?
         .arg(other(alloc, "The other list"))
 }

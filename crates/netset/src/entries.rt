@@ -4,18 +4,18 @@ use crate::arguments::{
     refused,
 };
 use crate::input::STANDARD_INPUT;
-use crate::output::Streams;
+use crate::output::Writers;
 use crate::reading::{bytes_of, reading_work, session_of};
 use clap::{ArgMatches, Command};
 use netset_entries::{run_overlaps, run_overlaps_of_two, run_redundant, run_supernet};
 use std::alloc::{AllocError, Global};
 
 /// The names of the commands.
-const SUPERNET: &str = "supernet";
+pub const SUPERNET: &str = "supernet";
 
-const REDUNDANT: &str = "redundant";
+pub const REDUNDANT: &str = "redundant";
 
-const OVERLAPS: &str = "overlaps";
+pub const OVERLAPS: &str = "overlaps";
 
 /// The command `overlaps`.
 fn overlaps_command<'a>(alloc: Global) -> Result<Command<'a>, AllocError> {
@@ -49,24 +49,24 @@ pub fn with_entries<'a>(alloc: Global, command: Command<'a>) -> Result<Command<'
 }
 
 /// Reads the list, and prints the smallest networks around its addresses.
-fn supernet(rt: &HostRuntime, matches: &ArgMatches, streams: &mut Streams<'_>) -> u8 {
+pub fn supernet(rt: &HostRuntime, matches: &ArgMatches, writers: &mut Writers<'_>) -> u8 {
     let names = [matches.get_str(FIRST).unwrap_or(STANDARD_INPUT)];
-    match session_of(rt, reading_work(matches), &names, streams) {
-        Ok(session) => run_supernet(session, &names, &mut streams.answer, &mut streams.faults),
+    match session_of(rt, reading_work(matches), &names, writers) {
+        Ok(session) => run_supernet(session, &names, &mut writers.answer, &mut writers.faults),
         Err(status) => status,
     }
 }
 
 /// Reads the list, and prints the entries that the others make unnecessary.
-fn redundant(rt: &HostRuntime, matches: &ArgMatches, streams: &mut Streams<'_>) -> u8 {
+pub fn redundant(rt: &HostRuntime, matches: &ArgMatches, writers: &mut Writers<'_>) -> u8 {
     let name = matches.get_str(FIRST).unwrap_or(STANDARD_INPUT);
-    match bytes_of(rt, name, "entries", streams) {
+    match bytes_of(rt, name, "entries", writers) {
         Ok(bytes) => run_redundant(
             rt.alloc(),
             (name, bytes.as_slice()),
             flags_of(matches).grammar(),
-            &mut streams.answer,
-            &mut streams.faults,
+            &mut writers.answer,
+            &mut writers.faults,
         ),
         Err(status) => status,
     }
@@ -77,16 +77,16 @@ fn overlaps_of_two(
     rt: &HostRuntime,
     matches: &ArgMatches,
     (name, other): (&str, &str),
-    streams: &mut Streams<'_>,
+    writers: &mut Writers<'_>,
 ) -> u8 {
     if reads_input_twice(&[name, other]) {
         return refused(rt, ArgumentFailure::InputTwice);
     }
-    let bytes = match bytes_of(rt, name, "entries", streams) {
+    let bytes = match bytes_of(rt, name, "entries", writers) {
         Ok(bytes) => bytes,
         Err(status) => return status,
     };
-    let others = match bytes_of(rt, other, "entries", streams) {
+    let others = match bytes_of(rt, other, "entries", writers) {
         Ok(bytes) => bytes,
         Err(status) => return status,
     };
@@ -94,40 +94,25 @@ fn overlaps_of_two(
         rt.alloc(),
         ((name, bytes.as_slice()), (other, others.as_slice())),
         flags_of(matches).grammar(),
-        &mut streams.answer,
-        &mut streams.faults,
+        &mut writers.answer,
+        &mut writers.faults,
     )
 }
 
 /// Reads the list, or two lists, and prints the pairs of entries that share addresses.
-fn overlaps(rt: &HostRuntime, matches: &ArgMatches, streams: &mut Streams<'_>) -> u8 {
+pub fn overlaps(rt: &HostRuntime, matches: &ArgMatches, writers: &mut Writers<'_>) -> u8 {
     let name = matches.get_str(FIRST).unwrap_or(STANDARD_INPUT);
     if let Some(other) = matches.get_str(OTHERS) {
-        return overlaps_of_two(rt, matches, (name, other), streams);
+        return overlaps_of_two(rt, matches, (name, other), writers);
     }
-    match bytes_of(rt, name, "entries", streams) {
+    match bytes_of(rt, name, "entries", writers) {
         Ok(bytes) => run_overlaps(
             rt.alloc(),
             (name, bytes.as_slice()),
             flags_of(matches).grammar(),
-            &mut streams.answer,
-            &mut streams.faults,
+            &mut writers.answer,
+            &mut writers.faults,
         ),
         Err(status) => status,
-    }
-}
-
-/// Runs the command if it is about entries, and returns the status. `None` if it is not.
-pub fn run_if_entries(
-    rt: &HostRuntime,
-    name: &str,
-    matches: &ArgMatches,
-    streams: &mut Streams<'_>,
-) -> Option<u8> {
-    match name {
-        SUPERNET => Some(supernet(rt, matches, streams)),
-        REDUNDANT => Some(redundant(rt, matches, streams)),
-        OVERLAPS => Some(overlaps(rt, matches, streams)),
-        _ => None,
     }
 }

@@ -4,7 +4,7 @@ use crate::arguments::{
 };
 use crate::input::{STANDARD_INPUT, report_unread};
 use crate::lists::read_lists;
-use crate::output::Streams;
+use crate::output::Writers;
 use clap::{Arg, ArgAction, ArgMatches, Command};
 use netset_words::{ExtractRequest, Extraction, run_extract};
 use std::alloc::{AllocError, Global};
@@ -36,7 +36,7 @@ pub fn extract_command<'a>(alloc: Global) -> Result<Command<'a>, AllocError> {
 }
 
 /// Reads the arguments and the texts, prints the entries, and returns the exit status.
-pub fn extracted(rt: &HostRuntime, matches: &ArgMatches, streams: &mut Streams<'_>) -> u8 {
+pub fn extracted(rt: &HostRuntime, matches: &ArgMatches, writers: &mut Writers<'_>) -> u8 {
     let names = matches.get_strs(FIRST).unwrap_or(&[STANDARD_INPUT]);
     if reads_input_twice(names) {
         return refused(rt, ArgumentFailure::InputTwice);
@@ -49,8 +49,8 @@ pub fn extracted(rt: &HostRuntime, matches: &ArgMatches, streams: &mut Streams<'
     let Ok(mut extraction) = Extraction::new(rt.alloc(), request) else {
         return refused(rt, ArgumentFailure::Memory);
     };
-    match read_lists(rt, &mut extraction, names, streams.reports) {
-        Ok(true) => run_extract(extraction, names, &mut streams.answer, &mut streams.faults),
+    match read_lists(rt, &mut extraction, names, writers.reports) {
+        Ok(true) => run_extract(extraction, names, &mut writers.answer, &mut writers.faults),
         Ok(false) => 2,
         Err((name, unread)) => {
             report_unread(rt, name, &unread);

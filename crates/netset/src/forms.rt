@@ -95,78 +95,78 @@ pub fn operation_command<'a>(
     with_forms(alloc, command_of(alloc, name, about)?)
 }
 
-/// Refuses options that the form does not have.
-fn check<'a>(form: &str, matches: &ArgMatches<'a>) -> Result<(), FormFault<'a>> {
-    let prefix = matches.get_str(PREFIX);
-    let has_sets = matches.get_str(IPV4_SET).is_some() || matches.get_str(IPV6_SET).is_some();
-    match form {
-        "plain" | "ranges" => {
-            if prefix.unwrap_or("").contains('\n') {
-                return Err(FormFault::LineBreak);
-            }
-        }
-        _ if prefix.is_some() => return Err(FormFault::Prefix),
-        _ => {}
-    }
-    match form {
-        "nft" | "ipset" if !has_sets => return Err(FormFault::NoSet),
-        "nft" | "ipset" => {}
-        _ if has_sets => return Err(FormFault::Sets),
-        _ => {}
-    }
-    if form == "ranges" && matches.get_str(MIN_LENGTH).is_some() {
-        return Err(FormFault::Ranges);
-    }
-    Ok(())
-}
-
-/// The names of the sets, if each of them may be one.
-fn names_of<'a>(form: &str, matches: &ArgMatches<'a>) -> Result<SetNames<'a>, FormFault<'a>> {
-    let names = SetNames {
-        ipv4: matches.get_str(IPV4_SET),
-        ipv6: matches.get_str(IPV6_SET),
-    };
-    for name in [names.ipv4, names.ipv6] {
-        if let Some(name) = name {
-            if form == "nft" && !is_nft_name(name) {
-                return Err(FormFault::NftName(name));
-            }
-            if form == "ipset" && !is_ipset_name(name) {
-                return Err(FormFault::IpsetName(name));
-            }
-        }
-    }
-    Ok(names)
-}
-
-/// The request of the options.
-fn request_of<'a>(matches: &ArgMatches<'a>) -> Result<FormRequest<'a>, FormFault<'a>> {
-    let ranges = if matches.get_flag(RANGES) {
-        "ranges"
-    } else {
-        "plain"
-    };
-    let form = matches.get_str(FORMAT).unwrap_or(ranges);
-    check(form, matches)?;
-    let prefix = matches.get_str(PREFIX).unwrap_or("");
-    let word = matches.get_str(MIN_LENGTH).unwrap_or("0");
-    let Some(min_length) = read_length(word) else {
-        return Err(FormFault::Length(word));
-    };
-    let names = names_of(form, matches)?;
-    let form = match form {
+/// The form that the options name, with this text before each line or these names of sets.
+fn form_named<'a>(
+    matches: &ArgMatches<'a>,
+    prefix: &'a str,
+    names: SetNames<'a>,
+) -> AnswerForm<'a> {
+    match matches.get_str(FORMAT).unwrap_or("plain") {
         "ranges" => AnswerForm::Ranges(prefix),
         "json" => AnswerForm::Json,
         "csv" => AnswerForm::Csv,
         "nft" => AnswerForm::Nft(names),
         "ipset" => AnswerForm::Ipset(names),
+        _ if matches.get_flag(RANGES) => AnswerForm::Ranges(prefix),
         _ => AnswerForm::Networks(prefix),
+    }
+}
+
+/// Refuses options that the form does not have, a text with a line break, and sets without a name.
+fn check<'a>(
+    form: AnswerForm<'a>,
+    prefix: Option<&'a str>,
+    min_length: Option<&'a str>,
+    names: SetNames<'a>,
+) -> Result<(), FormFault<'a>> {
+    let has_sets = names.ipv4.is_some() || names.ipv6.is_some();
+    match form {
+        AnswerForm::Networks(text) | AnswerForm::Ranges(text) if text.contains('\n') => {
+            Err(FormFault::LineBreak)
+        }
+        AnswerForm::Networks(_) | AnswerForm::Ranges(_) if has_sets => Err(FormFault::Sets),
+        AnswerForm::Ranges(_) if min_length.is_some() => Err(FormFault::Ranges),
+        AnswerForm::Networks(_) | AnswerForm::Ranges(_) => Ok(()),
+        _ if prefix.is_some() => Err(FormFault::Prefix),
+        AnswerForm::Json | AnswerForm::Csv if has_sets => Err(FormFault::Sets),
+        AnswerForm::Nft(_) | AnswerForm::Ipset(_) if !has_sets => Err(FormFault::NoSet),
+        _ => Ok(()),
+    }
+}
+
+/// Refuses a name that no set of the form has.
+fn check_name<'a>(form: AnswerForm<'a>, name: &'a str) -> Result<(), FormFault<'a>> {
+    match form {
+        AnswerForm::Nft(_) if !is_nft_name(name) => Err(FormFault::NftName(name)),
+        AnswerForm::Ipset(_) if !is_ipset_name(name) => Err(FormFault::IpsetName(name)),
+        _ => Ok(()),
+    }
+}
+
+/// The request of the options.
+fn request_of<'a>(matches: &ArgMatches<'a>) -> Result<FormRequest<'a>, FormFault<'a>> {
+    let prefix = matches.get_str(PREFIX);
+    let word = matches.get_str(MIN_LENGTH);
+    let names = SetNames {
+        ipv4: matches.get_str(IPV4_SET),
+        ipv6: matches.get_str(IPV6_SET),
     };
+    let form = form_named(matches, prefix.unwrap_or(""), names);
+    check(form, prefix, word, names)?;
+    let min_length = match word {
+        Some(word) => read_length(word).ok_or(FormFault::Length(word))?,
+        None => 0,
+    };
+    for name in [names.ipv4, names.ipv6] {
+        if let Some(name) = name {
+            check_name(form, name)?;
+        }
+    }
     Ok(FormRequest { form, min_length })
 }
 
-/// Returns the form that the options of the command ask for, or `None` if its result is not a set. If the options
-/// cannot be used, that is reported, and the error is the exit status.
+/// Returns the form that the options of the command ask for. If they cannot be used, that is reported, and the error is
+/// the exit status.
 pub fn form_of<'a>(rt: &HostRuntime, matches: &ArgMatches<'a>) -> Result<FormRequest<'a>, u8> {
     match request_of(matches) {
         Ok(request) => Ok(request),

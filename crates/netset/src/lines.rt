@@ -3,7 +3,7 @@ use crate::arguments::{
     ArgumentFailure, FIRST, OTHERS, flag, flags_of, reads_input_twice, refused,
 };
 use crate::input::{STANDARD_INPUT, open_list, report_unread};
-use crate::output::Streams;
+use crate::output::Writers;
 use crate::reading::{reading_work, session_of};
 use clap::{Arg, ArgAction, ArgMatches, Command};
 use netset_lib::report_failure;
@@ -38,7 +38,7 @@ pub fn with_lines<'a>(alloc: Global, command: Command<'a>) -> Result<Command<'a>
 }
 
 /// Reads the set and the arguments, and prints the lines of the log while it is read. Returns the exit status.
-pub fn filtered(rt: &HostRuntime, matches: &ArgMatches, streams: &mut Streams<'_>) -> u8 {
+pub fn filtered(rt: &HostRuntime, matches: &ArgMatches, writers: &mut Writers<'_>) -> u8 {
     let Some(set) = matches.get_str(FIRST) else {
         return refused(rt, ArgumentFailure::NoCommand);
     };
@@ -54,14 +54,14 @@ pub fn filtered(rt: &HostRuntime, matches: &ArgMatches, streams: &mut Streams<'_
         any: matches.get_flag(ANY),
         others: matches.get_flag(OTHER_LINES),
     };
-    let session = match session_of(rt, reading_work(matches), &names[..1], streams) {
+    let session = match session_of(rt, reading_work(matches), &names[..1], writers) {
         Ok(session) => session,
         Err(status) => return status,
     };
     match LineFilter::from_session(rt.alloc(), session, how) {
-        Ok(filter) => filter_named(rt, filter, &names, log, streams),
+        Ok(filter) => filter_named(rt, filter, &names, log, writers),
         Err(failure) => {
-            let _ = report_failure(&mut streams.faults, &names, &failure);
+            let _ = report_failure(&mut writers.faults, &names, &failure);
             2
         }
     }
@@ -73,9 +73,9 @@ fn filter_named(
     filter: LineFilter,
     names: &[&str],
     log: &str,
-    streams: &mut Streams<'_>,
+    writers: &mut Writers<'_>,
 ) -> u8 {
-    let (out, faults) = (&mut streams.answer, &mut streams.faults);
+    let (out, faults) = (&mut writers.answer, &mut writers.faults);
     match open_list(rt, log) {
         Ok(mut input) => run_lines(filter, names, &mut input, out, faults),
         Err(unread) => {

@@ -1,6 +1,6 @@
 //! The commands `split` and `hosts`: their arguments, and their runs.
 use crate::arguments::{FIRST, OTHERS, first, flag, flags_of, output_option};
-use crate::output::Streams;
+use crate::output::Writers;
 use clap::{Arg, ArgMatches, Command};
 use ipnet::{Grammar, IpNet};
 use netset_lib::{read_length, run_hosts, run_split};
@@ -8,9 +8,9 @@ use std::alloc::{AllocError, Global};
 use std::io::Write;
 
 /// The names of the two commands.
-const SPLIT: &str = "split";
+pub const SPLIT: &str = "split";
 
-const HOSTS: &str = "hosts";
+pub const HOSTS: &str = "hosts";
 
 /// The network that is listed.
 fn network<'a>(alloc: Global) -> Arg<'a> {
@@ -71,7 +71,7 @@ fn network_of(rt: &HostRuntime, matches: &ArgMatches) -> Option<IpNet> {
 }
 
 /// Reads the arguments of `split`, and prints the subnets.
-fn split(rt: &HostRuntime, matches: &ArgMatches, streams: &mut Streams<'_>) -> u8 {
+pub fn split(rt: &HostRuntime, matches: &ArgMatches, writers: &mut Writers<'_>) -> u8 {
     let Some(network) = network_of(rt, matches) else {
         return 2;
     };
@@ -81,27 +81,13 @@ fn split(rt: &HostRuntime, matches: &ArgMatches, streams: &mut Streams<'_>) -> u
         let _ = writeln!(rt.stderr(), "netset: not a prefix length: {word}");
         return 2;
     };
-    run_split(&network, length, &mut streams.answer, &mut streams.faults)
+    run_split(&network, length, &mut writers.answer, &mut writers.faults)
 }
 
 /// Reads the argument of `hosts`, and prints the hosts.
-fn hosts(rt: &HostRuntime, matches: &ArgMatches, streams: &mut Streams<'_>) -> u8 {
+pub fn hosts(rt: &HostRuntime, matches: &ArgMatches, writers: &mut Writers<'_>) -> u8 {
     match network_of(rt, matches) {
-        Some(network) => run_hosts(&network, &mut streams.answer, &mut streams.faults),
+        Some(network) => run_hosts(&network, &mut writers.answer, &mut writers.faults),
         None => 2,
-    }
-}
-
-/// Runs the command if it lists what a network contains, and returns the status. `None` if it does not.
-pub fn run_if_listing(
-    rt: &HostRuntime,
-    name: &str,
-    matches: &ArgMatches,
-    streams: &mut Streams<'_>,
-) -> Option<u8> {
-    match name {
-        SPLIT => Some(split(rt, matches, streams)),
-        HOSTS => Some(hosts(rt, matches, streams)),
-        _ => None,
     }
 }

@@ -8,50 +8,50 @@ use std::io::{IsTerminal, Read, Write};
 /// From this number of bytes on, a terminal gets a report of the reading.
 const MUCH: usize = 16_777_216;
 
-/// What reads lists one after another.
+/// A reader of lists one after another, by methods that `Session` and `Extraction` have.
 pub trait ListReader {
     /// Reads the next list up to its end.
-    fn read_next<R: Read>(&mut self, input: &mut R) -> Result<(), ReadFailure>;
+    fn read<R: Read>(&mut self, input: &mut R) -> Result<(), ReadFailure>;
 
     /// The number of refused lines of all lists that were read.
-    fn count_refused(&self) -> usize;
+    fn refused_count(&self) -> usize;
 
     /// Whether the list that was read last has an entry.
-    fn has_entries(&self) -> bool;
+    fn has_entry(&self) -> bool;
 }
 
 impl ListReader for Session {
-    fn read_next<R: Read>(&mut self, input: &mut R) -> Result<(), ReadFailure> {
-        self.read(input)
+    fn read<R: Read>(&mut self, input: &mut R) -> Result<(), ReadFailure> {
+        Session::read(self, input)
     }
 
-    fn count_refused(&self) -> usize {
-        self.refused_count()
+    fn refused_count(&self) -> usize {
+        Session::refused_count(self)
     }
 
-    fn has_entries(&self) -> bool {
-        self.has_entry()
+    fn has_entry(&self) -> bool {
+        Session::has_entry(self)
     }
 }
 
 impl ListReader for Extraction {
-    fn read_next<R: Read>(&mut self, input: &mut R) -> Result<(), ReadFailure> {
-        self.read(input)
+    fn read<R: Read>(&mut self, input: &mut R) -> Result<(), ReadFailure> {
+        Extraction::read(self, input)
     }
 
-    fn count_refused(&self) -> usize {
-        self.refused_count()
+    fn refused_count(&self) -> usize {
+        Extraction::refused_count(self)
     }
 
-    fn has_entries(&self) -> bool {
-        self.has_entry()
+    fn has_entry(&self) -> bool {
+        Extraction::has_entry(self)
     }
 }
 
 /// Reads the list of this name, and returns the number of its bytes.
 fn read_list<L: ListReader>(rt: &HostRuntime, lists: &mut L, name: &str) -> Result<usize, Unread> {
     let mut input = open_list(rt, name)?;
-    match lists.read_next(&mut input) {
+    match lists.read(&mut input) {
         Ok(()) => Ok(input.count),
         Err(failure) => Err(input.unread(failure)),
     }
@@ -114,11 +114,11 @@ pub fn read_lists<'a, L: ListReader>(
     let mut total: usize = 0;
     let mut allowed = true;
     for name in names {
-        let refused = lists.count_refused();
+        let refused = lists.refused_count();
         let count = read_list(rt, lists, name).map_err(|unread| (*name, unread))?;
         total = total.saturating_add(count);
         reports.report_count(rt, name, count, total);
-        let is_empty = !lists.has_entries() && lists.count_refused() == refused;
+        let is_empty = !lists.has_entry() && lists.refused_count() == refused;
         if is_empty && !reports.allow_empty(rt, name, "entries") {
             allowed = false;
         }
@@ -140,7 +140,7 @@ pub fn read_rules(
         Err(failure) => return Err(input.unread(failure)),
     };
     reports.report_count(rt, name, input.count, input.count);
-    let is_empty = list.rules.is_empty() && list.refused.is_empty();
+    let is_empty = list.lines().is_empty() && list.refused().is_empty();
     if is_empty && !reports.allow_empty(rt, name, "rules") {
         return Ok(None);
     }

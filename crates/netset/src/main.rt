@@ -30,20 +30,23 @@ use crate::apply::{APPLY, applied};
 use crate::arguments::{ArgumentFailure, Call, OUTPUT, call_of, refused, reports_of, words};
 use crate::bar::{BAR, drawn};
 use crate::changes::{CHANGES, changed};
-use crate::commands::matches_of;
-use crate::entries::run_if_entries;
+use crate::commands::{
+    COMPARE, COMPLEMENT, COUNT, DIFFERENCE, FILTER, INTERSECTION, ROUTE, SYMMETRIC_DIFFERENCE,
+    UNION, matches_of,
+};
+use crate::entries::{OVERLAPS, REDUNDANT, SUPERNET, overlaps, redundant, supernet};
 use crate::extract::{EXTRACT, extracted};
 use crate::forms::form_of;
 use crate::lines::{LINES, filtered};
-use crate::listing::run_if_listing;
+use crate::listing::{HOSTS, SPLIT, hosts, split};
 use crate::map::{MAP, mapped};
-use crate::output::{CLOSED, Streams};
+use crate::output::{CLOSED, Writers};
 use crate::plan::{PLAN, planned};
 use crate::prefixes::{PREFIX_LIST, matched};
 use crate::reading::session_of;
-use crate::rules::run_if_rules;
+use crate::rules::{PERMITTED, UNREACHED, permitted, unreached};
 use crate::stream::stream_list;
-use crate::texts::{ROUTE, has_text_flag, routed};
+use crate::texts::{has_text_flag, routed};
 use clap::ArgMatches;
 use netset_forms::run_form;
 use netset_lib::{Work, run};
@@ -90,16 +93,16 @@ fn print_usage(rt: &HostRuntime, error: &clap::Error) -> u8 {
 fn open_and_run(rt: &HostRuntime, name: &str, matches: &ArgMatches) -> u8 {
     let file = matches.get_str(OUTPUT);
     let is_closed = Cell::new(false);
-    let mut streams = match Streams::open(rt, file, reports_of(matches), &is_closed) {
-        Ok(streams) => streams,
+    let mut writers = match Writers::open(rt, file, reports_of(matches), &is_closed) {
+        Ok(writers) => writers,
         Err(failure) => {
             let file = file.unwrap_or_default().as_bytes().escape_ascii();
             let _ = writeln!(rt.stderr(), "netset: {file}: {failure}");
             return 2;
         }
     };
-    let status = run_command(rt, name, matches, &mut streams);
-    streams.end(status)
+    let status = run_command(rt, name, matches, &mut writers);
+    writers.end(status)
 }
 
 /// Runs the command of this name, and returns its status.
@@ -107,40 +110,60 @@ fn run_command(
     rt: &HostRuntime,
     name: &str,
     matches: &ArgMatches,
-    streams: &mut Streams<'_>,
+    writers: &mut Writers<'_>,
 ) -> u8 {
-    if let Some(status) = run_if_rules(rt, name, matches, streams) {
-        return status;
-    }
-    if let Some(status) = run_if_listing(rt, name, matches, streams) {
-        return status;
-    }
-    if let Some(status) = run_if_entries(rt, name, matches, streams) {
-        return status;
-    }
     match name {
-        PLAN => planned(rt, matches, streams),
-        BAR => drawn(rt, matches, streams),
-        MAP => mapped(rt, matches, streams),
-        CHANGES => changed(rt, matches, streams),
-        APPLY => applied(rt, matches, streams),
-        PREFIX_LIST => matched(rt, matches, streams),
-        EXTRACT => extracted(rt, matches, streams),
-        _ if matches.get_flag(LINES) => filtered(rt, matches, streams),
-        ROUTE if has_text_flag(matches) => routed(rt, matches, streams),
-        _ => run_call(rt, name, matches, streams),
+        UNION | INTERSECTION | DIFFERENCE | SYMMETRIC_DIFFERENCE | COMPLEMENT => {
+            run_call(rt, name, matches, writers)
+        }
+        COUNT | COMPARE => run_call(rt, name, matches, writers),
+        CHANGES => changed(rt, matches, writers),
+        APPLY => applied(rt, matches, writers),
+        EXTRACT => extracted(rt, matches, writers),
+        FILTER => run_filter(rt, matches, writers),
+        ROUTE => run_route(rt, matches, writers),
+        PLAN => planned(rt, matches, writers),
+        BAR => drawn(rt, matches, writers),
+        MAP => mapped(rt, matches, writers),
+        SUPERNET => supernet(rt, matches, writers),
+        REDUNDANT => redundant(rt, matches, writers),
+        OVERLAPS => overlaps(rt, matches, writers),
+        SPLIT => split(rt, matches, writers),
+        HOSTS => hosts(rt, matches, writers),
+        PERMITTED => permitted(rt, matches, writers),
+        UNREACHED => unreached(rt, matches, writers),
+        PREFIX_LIST => matched(rt, matches, writers),
+        _ => refused(rt, ArgumentFailure::NoCommand),
+    }
+}
+
+/// Prints the lines of a text or the entries of a list, and returns the status.
+fn run_filter(rt: &HostRuntime, matches: &ArgMatches, writers: &mut Writers<'_>) -> u8 {
+    if matches.get_flag(LINES) {
+        filtered(rt, matches, writers)
+    } else {
+        run_call(rt, FILTER, matches, writers)
+    }
+}
+
+/// Prints the routes of entries, with the texts of the table if they are asked for, and returns the status.
+fn run_route(rt: &HostRuntime, matches: &ArgMatches, writers: &mut Writers<'_>) -> u8 {
+    if has_text_flag(matches) {
+        routed(rt, matches, writers)
+    } else {
+        run_call(rt, ROUTE, matches, writers)
     }
 }
 
 /// Reads the arguments and the lists, and runs the operation or the query.
-fn run_call(rt: &HostRuntime, name: &str, matches: &ArgMatches, streams: &mut Streams<'_>) -> u8 {
+fn run_call(rt: &HostRuntime, name: &str, matches: &ArgMatches, writers: &mut Writers<'_>) -> u8 {
     let call = match call_of(rt.alloc(), name, matches) {
         Ok(call) => call,
         Err(failure) => return refused(rt, failure),
     };
     match call.work {
-        Work::Combine(_) => run_operation(rt, matches, call, streams),
-        Work::Ask(_, _) => run_query(rt, call, streams),
+        Work::Combine(_) => run_operation(rt, matches, call, writers),
+        Work::Ask(_, _) => run_query(rt, call, writers),
     }
 }
 
@@ -149,16 +172,16 @@ fn run_operation(
     rt: &HostRuntime,
     matches: &ArgMatches,
     call: Call<'_>,
-    streams: &mut Streams<'_>,
+    writers: &mut Writers<'_>,
 ) -> u8 {
     let form = match form_of(rt, matches) {
         Ok(form) => form,
         Err(status) => return status,
     };
     let names = call.names.as_slice();
-    match session_of(rt, call.work, names, streams) {
+    match session_of(rt, call.work, names, writers) {
         Ok(session) => {
-            let (out, faults) = (&mut streams.answer, &mut streams.faults);
+            let (out, faults) = (&mut writers.answer, &mut writers.faults);
             run_form(session, form, names, out, faults)
         }
         Err(status) => status,
@@ -166,16 +189,16 @@ fn run_operation(
 }
 
 /// Reads the lists, prints the answer to the query, and returns the status.
-fn run_query(rt: &HostRuntime, call: Call<'_>, streams: &mut Streams<'_>) -> u8 {
+fn run_query(rt: &HostRuntime, call: Call<'_>, writers: &mut Writers<'_>) -> u8 {
     let work = call.work;
     let names = call.names.as_slice();
     match names {
-        [_, name] if call.is_streamed => match session_of(rt, work, &names[..1], streams) {
-            Ok(session) => stream_list(rt, session, names, name, streams),
+        [_, name] if call.is_streamed => match session_of(rt, work, &names[..1], writers) {
+            Ok(session) => stream_list(rt, session, names, name, writers),
             Err(status) => status,
         },
-        _ => match session_of(rt, work, names, streams) {
-            Ok(session) => run(session, names, &mut streams.answer, &mut streams.faults),
+        _ => match session_of(rt, work, names, writers) {
+            Ok(session) => run(session, names, &mut writers.answer, &mut writers.faults),
             Err(status) => status,
         },
     }

@@ -5,7 +5,7 @@ use crate::arguments::{
 use crate::bar::{COMPARE, frame_of, pictured_work, with_frame};
 use crate::input::STANDARD_INPUT;
 use crate::noted::NotedSession;
-use crate::output::Streams;
+use crate::output::Writers;
 use crate::reading::{bytes_of, fill};
 use clap::{Arg, ArgMatches, Command};
 use ipnet_pictures::Frame;
@@ -86,7 +86,7 @@ fn name_bytes(
     rt: &HostRuntime,
     matches: &ArgMatches,
     names: &[&str],
-    streams: &Streams<'_>,
+    writers: &Writers<'_>,
 ) -> Result<Vec<u8>, u8> {
     let Some(file) = matches.get_str(NAMES) else {
         return Ok(Vec::new(rt.alloc()));
@@ -94,7 +94,7 @@ fn name_bytes(
     if reads_input_again(file, names) {
         return Err(refused(rt, ArgumentFailure::InputTwice));
     }
-    bytes_of(rt, file, "names", streams)
+    bytes_of(rt, file, "names", writers)
 }
 
 /// The colours that the arguments name.
@@ -111,7 +111,7 @@ fn read_noted(
     matches: &ArgMatches,
     names: &[&str],
     frame: Frame,
-    streams: &Streams<'_>,
+    writers: &Writers<'_>,
 ) -> Result<(Session, EntryNotes), u8> {
     let work = pictured_work(rt, matches, names)?;
     let network = match frame {
@@ -128,7 +128,7 @@ fn read_noted(
         session,
         notes: Some(notes),
     };
-    fill(rt, &mut noted, names, streams)?;
+    fill(rt, &mut noted, names, writers)?;
     let NotedSession { session, notes } = noted;
     match notes {
         Some(notes) => Ok((session, notes)),
@@ -152,10 +152,10 @@ fn draw(
     request: MapRequest<'_>,
     names: &[&str],
     compares: bool,
-    streams: &mut Streams<'_>,
+    writers: &mut Writers<'_>,
 ) -> u8 {
-    let out = &mut streams.answer;
-    let faults = &mut streams.faults;
+    let out = &mut writers.answer;
+    let faults = &mut writers.faults;
     if compares {
         run_change_map(session, request, names, out, faults)
     } else if names.len() == 1 {
@@ -171,9 +171,9 @@ fn draw_lists(
     matches: &ArgMatches,
     names: &[&str],
     request: MapRequest<'_>,
-    streams: &mut Streams<'_>,
+    writers: &mut Writers<'_>,
 ) -> u8 {
-    let (session, notes) = match read_noted(rt, matches, names, request.frame, streams) {
+    let (session, notes) = match read_noted(rt, matches, names, request.frame, writers) {
         Ok(noted) => noted,
         Err(status) => return status,
     };
@@ -190,7 +190,7 @@ fn draw_lists(
         entries: MapEntries { titled, count },
     };
     let request = MapRequest { frame, look };
-    draw(session, request, names, matches.get_flag(COMPARE), streams)
+    draw(session, request, names, matches.get_flag(COMPARE), writers)
 }
 
 /// Reads the lists, prints the map with these names of networks, and returns the exit status.
@@ -199,7 +199,7 @@ fn draw_table(
     matches: &ArgMatches,
     frame: Frame,
     table: &RouteTable<&str>,
-    streams: &mut Streams<'_>,
+    writers: &mut Writers<'_>,
 ) -> u8 {
     let look = Look {
         theme: theme_of(matches),
@@ -211,7 +211,7 @@ fn draw_table(
         },
     };
     let names = matches.get_strs(FIRST).unwrap_or(&[STANDARD_INPUT]);
-    draw_lists(rt, matches, names, MapRequest { frame, look }, streams)
+    draw_lists(rt, matches, names, MapRequest { frame, look }, writers)
 }
 
 /// Reads the names of networks from these bytes, and the lists, prints the map, and returns the exit status.
@@ -222,18 +222,18 @@ fn draw_named(
     matches: &ArgMatches,
     frame: Frame,
     bytes: &[u8],
-    streams: &mut Streams<'_>,
+    writers: &mut Writers<'_>,
 ) -> u8 {
     let file = matches.get_str(NAMES).unwrap_or(STANDARD_INPUT);
     let grammar = flags_of(matches).grammar();
-    match table_or_report(rt.alloc(), bytes, grammar, file, &mut streams.faults) {
-        Some(table) => draw_table(rt, matches, frame, &table, streams),
+    match table_or_report(rt.alloc(), bytes, grammar, file, &mut writers.faults) {
+        Some(table) => draw_table(rt, matches, frame, &table, writers),
         None => 2,
     }
 }
 
 /// Reads the arguments and the lists, prints the map, and returns the exit status.
-pub fn mapped(rt: &HostRuntime, matches: &ArgMatches, streams: &mut Streams<'_>) -> u8 {
+pub fn mapped(rt: &HostRuntime, matches: &ArgMatches, writers: &mut Writers<'_>) -> u8 {
     let frame = match frame_of(rt, matches) {
         Ok(frame) => frame,
         Err(status) => return status,
@@ -242,9 +242,9 @@ pub fn mapped(rt: &HostRuntime, matches: &ArgMatches, streams: &mut Streams<'_>)
     if are_too_many(rt, matches, names) {
         return 2;
     }
-    let bytes = match name_bytes(rt, matches, names, streams) {
+    let bytes = match name_bytes(rt, matches, names, writers) {
         Ok(bytes) => bytes,
         Err(status) => return status,
     };
-    draw_named(rt, matches, frame, bytes.as_slice(), streams)
+    draw_named(rt, matches, frame, bytes.as_slice(), writers)
 }

@@ -33,7 +33,7 @@ impl<R: Read> Read for NotedInput<'_, R> {
 }
 
 impl ListReader for NotedSession {
-    fn read_next<R: Read>(&mut self, input: &mut R) -> Result<(), ReadFailure> {
+    fn read<R: Read>(&mut self, input: &mut R) -> Result<(), ReadFailure> {
         let Some(notes) = self.notes.take() else {
             return Err(ReadFailure::Memory);
         };
@@ -52,11 +52,11 @@ impl ListReader for NotedSession {
         Ok(())
     }
 
-    fn count_refused(&self) -> usize {
+    fn refused_count(&self) -> usize {
         self.session.refused_count()
     }
 
-    fn has_entries(&self) -> bool {
+    fn has_entry(&self) -> bool {
         self.session.has_entry()
     }
 }

@@ -99,13 +99,13 @@ impl Write for Faults<'_> {
 
 /// The writers of a command, and the reports that it makes about its lists.
 #[derive(Drop)]
-pub struct Streams<'a> {
+pub struct Writers<'a> {
     pub answer: Answer<'a>,
     pub faults: Faults<'a>,
     pub reports: Reports,
 }
 
-impl<'a> Streams<'a> {
+impl<'a> Writers<'a> {
     /// Opens the output of this name: standard output if there is no name or it is "-", and otherwise a file.
     /// `is_closed` is set when the reader of standard output has closed it.
     pub fn open(
@@ -113,7 +113,7 @@ impl<'a> Streams<'a> {
         name: Option<&str>,
         reports: Reports,
         is_closed: &'a Cell<bool>,
-    ) -> Result<Streams<'a>, OutputFailure> {
+    ) -> Result<Writers<'a>, OutputFailure> {
         let place = match name {
             Some(name) if name != STANDARD_OUTPUT => Place::File(Replacement::open(rt, name)?),
             _ => Place::Standard(rt.stdout()),
@@ -124,7 +124,7 @@ impl<'a> Streams<'a> {
             is_closed,
         };
         let err = rt.stderr();
-        Ok(Streams {
+        Ok(Writers {
             answer,
             faults: Faults { err, is_closed },
             reports,
@@ -134,7 +134,7 @@ impl<'a> Streams<'a> {
     /// Ends a command with this status, and returns the exit status of the program. The file is replaced at status 0
     /// or 1; otherwise it stays as it is.
     pub fn end(self, status: u8) -> u8 {
-        let Streams {
+        let Writers {
             mut answer,
             mut faults,
             ..

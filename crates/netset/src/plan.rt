@@ -1,7 +1,7 @@
 //! The command `plan`: its arguments, and its run.
 use crate::arguments::{ArgumentFailure, FIRST, command_of, first, flag, refused};
-use crate::bar::{BAR, form_of, with_plan_bar};
-use crate::output::Streams;
+use crate::bar::{BAR, bar_form_of, with_plan_bar};
+use crate::output::Writers;
 use crate::reading::{reading_work, session_of};
 use clap::{Arg, ArgAction, ArgMatches, Command};
 use ipnet_pictures::BarForm;
@@ -64,27 +64,27 @@ fn lengths_of(rt: &HostRuntime, words: &[&str]) -> Result<Vec<u8>, u8> {
 fn bar_of(
     rt: &HostRuntime,
     matches: &ArgMatches,
-    streams: &Streams<'_>,
+    writers: &Writers<'_>,
 ) -> Result<Option<BarForm>, u8> {
     if !matches.get_flag(BAR) {
         return Ok(None);
     }
-    Ok(Some(form_of(rt, matches, streams)?))
+    Ok(Some(bar_form_of(rt, matches, writers)?))
 }
 
 /// Reads the arguments and the list, prints the plan or its bar, and returns the exit status.
-pub fn planned(rt: &HostRuntime, matches: &ArgMatches, streams: &mut Streams<'_>) -> u8 {
+pub fn planned(rt: &HostRuntime, matches: &ArgMatches, writers: &mut Writers<'_>) -> u8 {
     let words = matches.get_strs(LENGTHS).unwrap_or(&[]);
     let lengths = match lengths_of(rt, words) {
         Ok(lengths) => lengths,
         Err(status) => return status,
     };
-    let bar = match bar_of(rt, matches, streams) {
+    let bar = match bar_of(rt, matches, writers) {
         Ok(bar) => bar,
         Err(status) => return status,
     };
     let names = matches.get_strs(FIRST).unwrap_or(&[]);
-    let session = match session_of(rt, reading_work(matches), names, streams) {
+    let session = match session_of(rt, reading_work(matches), names, writers) {
         Ok(session) => session,
         Err(status) => return status,
     };
@@ -92,8 +92,8 @@ pub fn planned(rt: &HostRuntime, matches: &ArgMatches, streams: &mut Streams<'_>
         families: families(matches.get_flag("ipv4"), matches.get_flag("ipv6")),
         lengths: lengths.as_slice(),
     };
-    let out = &mut streams.answer;
-    let faults = &mut streams.faults;
+    let out = &mut writers.answer;
+    let faults = &mut writers.faults;
     match bar {
         None => run_plan(session, request, names, out, faults),
         Some(form) => {

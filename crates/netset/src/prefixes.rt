@@ -3,7 +3,7 @@ use crate::arguments::{
     ArgumentFailure, FIRST, OTHERS, command_of, first, flags_of, other, reads_input_twice, refused,
 };
 use crate::input::STANDARD_INPUT;
-use crate::output::Streams;
+use crate::output::Writers;
 use crate::reading::bytes_of;
 use clap::{ArgMatches, Command};
 use netset_lib::{PrefixRequest, run_prefix_list};
@@ -24,7 +24,7 @@ pub fn prefix_command<'a>(alloc: Global) -> Result<Command<'a>, AllocError> {
 }
 
 /// Reads the arguments and both lists, prints the verdicts, and returns the exit status.
-pub fn matched(rt: &HostRuntime, matches: &ArgMatches, streams: &mut Streams<'_>) -> u8 {
+pub fn matched(rt: &HostRuntime, matches: &ArgMatches, writers: &mut Writers<'_>) -> u8 {
     let Some(list) = matches.get_str(FIRST) else {
         return refused(rt, ArgumentFailure::NoCommand);
     };
@@ -32,11 +32,11 @@ pub fn matched(rt: &HostRuntime, matches: &ArgMatches, streams: &mut Streams<'_>
     if reads_input_twice(&[list, file]) {
         return refused(rt, ArgumentFailure::InputTwice);
     }
-    let prefixes = match bytes_of(rt, list, "rules", streams) {
+    let prefixes = match bytes_of(rt, list, "rules", writers) {
         Ok(bytes) => bytes,
         Err(status) => return status,
     };
-    let networks = match bytes_of(rt, file, "entries", streams) {
+    let networks = match bytes_of(rt, file, "entries", writers) {
         Ok(bytes) => bytes,
         Err(status) => return status,
     };
@@ -49,7 +49,7 @@ pub fn matched(rt: &HostRuntime, matches: &ArgMatches, streams: &mut Streams<'_>
         rt.alloc(),
         request,
         (list, file),
-        &mut streams.answer,
-        &mut streams.faults,
+        &mut writers.answer,
+        &mut writers.faults,
     )
 }

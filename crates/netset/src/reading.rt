@@ -3,7 +3,7 @@
 use crate::arguments::{ArgumentFailure, flags_of, refused};
 use crate::input::report_unread;
 use crate::lists::{ListReader, read_lists, read_whole};
-use crate::output::Streams;
+use crate::output::Writers;
 use clap::ArgMatches;
 use ipnet::Grammar;
 use netset_lib::{Session, Work, has_lines};
@@ -18,12 +18,12 @@ pub fn session_of(
     rt: &HostRuntime,
     work: Work,
     names: &[&str],
-    streams: &Streams<'_>,
+    writers: &Writers<'_>,
 ) -> Result<Session, u8> {
     let Ok(mut session) = Session::new(rt.alloc(), work) else {
         return Err(refused(rt, ArgumentFailure::Memory));
     };
-    fill(rt, &mut session, names, streams)?;
+    fill(rt, &mut session, names, writers)?;
     Ok(session)
 }
 
@@ -33,9 +33,9 @@ pub fn fill<L: ListReader>(
     rt: &HostRuntime,
     lists: &mut L,
     names: &[&str],
-    streams: &Streams<'_>,
+    writers: &Writers<'_>,
 ) -> Result<(), u8> {
-    match read_lists(rt, lists, names, streams.reports) {
+    match read_lists(rt, lists, names, writers.reports) {
         Ok(true) => Ok(()),
         Ok(false) => Err(2),
         Err((name, unread)) => {
@@ -47,8 +47,8 @@ pub fn fill<L: ListReader>(
 
 /// Reads the bytes of the list of this name, which may have no line. If that fails, it is reported, and the error is
 /// the exit status.
-pub fn whole_of(rt: &HostRuntime, name: &str, streams: &Streams<'_>) -> Result<Vec<u8>, u8> {
-    match read_whole(rt, name, streams.reports) {
+pub fn whole_of(rt: &HostRuntime, name: &str, writers: &Writers<'_>) -> Result<Vec<u8>, u8> {
+    match read_whole(rt, name, writers.reports) {
         Ok(bytes) => Ok(bytes),
         Err(unread) => {
             report_unread(rt, name, &unread);
@@ -63,12 +63,12 @@ pub fn bytes_of(
     rt: &HostRuntime,
     name: &str,
     what: &str,
-    streams: &Streams<'_>,
+    writers: &Writers<'_>,
 ) -> Result<Vec<u8>, u8> {
-    let bytes = whole_of(rt, name, streams)?;
+    let bytes = whole_of(rt, name, writers)?;
     // A line that is empty in one grammar is empty in the other.
     let has = has_lines(rt.alloc(), bytes.as_slice(), Grammar::Strict);
-    if matches!(has, Ok(false)) && !streams.reports.allow_empty(rt, name, what) {
+    if matches!(has, Ok(false)) && !writers.reports.allow_empty(rt, name, what) {
         return Err(2);
     }
     Ok(bytes)

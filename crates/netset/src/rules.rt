@@ -1,12 +1,11 @@
 //! The commands that read a list of rules.
-ghost use Rattle.std.specs.Prelude.{◌≡◌, codes, Some, IfSome};
-ghost use Rattle.netset.specs.Arguments.{IsDefault, IsRuleCommand};
+ghost use Rattle.netset.specs.Arguments.{IsDefault};
 
 use crate::arguments::{FIRST, command_of, first, flags_of};
 use crate::forms::{form_of, operation_command};
 use crate::input::{STANDARD_INPUT, report_unread};
 use crate::lists::read_rules;
-use crate::output::Streams;
+use crate::output::Writers;
 use clap::{Arg, ArgMatches, Command};
 use ipnet_rules::Action;
 use netset_forms::{PermittedRequest, run_permitted};
@@ -14,9 +13,9 @@ use netset_lib::{RuleList, run_unreached};
 use std::alloc::{AllocError, Global};
 
 /// The names of the two commands.
-const PERMITTED: &str = "permitted";
+pub const PERMITTED: &str = "permitted";
 
-const UNREACHED: &str = "unreached";
+pub const UNREACHED: &str = "unreached";
 
 /// The option for the action of the addresses that no rule matches, and its values.
 const DEFAULT: &str = "default";
@@ -56,17 +55,6 @@ pub fn with_rules<'a>(alloc: Global, command: Command<'a>) -> Result<Command<'a>
         .subcommand(unreached)
 }
 
-/// Returns whether the command of this name prints what rules permit, or `None` if it reads no list of rules.
-fn prints_permitted(name: &str) -> Option<bool>
-    ensures { IfSome result (IsRuleCommand name.now) }
-{
-    match name {
-        PERMITTED => Some(true),
-        UNREACHED => Some(false),
-        _ => None,
-    }
-}
-
 /// Returns what happens to the addresses that no rule matches.
 fn default_of(matches: &ArgMatches) -> Action
     ensures { IsDefault matches.now result }
@@ -84,9 +72,9 @@ fn file_of<'a>(matches: &ArgMatches<'a>) -> &'a str {
 }
 
 /// Reads the list of rules. If that fails, it is reported, and the error is the exit status.
-fn rules_of(rt: &HostRuntime, matches: &ArgMatches, streams: &Streams<'_>) -> Result<RuleList, u8> {
+fn rules_of(rt: &HostRuntime, matches: &ArgMatches, writers: &Writers<'_>) -> Result<RuleList, u8> {
     let file = file_of(matches);
-    match read_rules(rt, file, flags_of(matches).grammar(), streams.reports) {
+    match read_rules(rt, file, flags_of(matches).grammar(), writers.reports) {
         Ok(Some(list)) => Ok(list),
         Ok(None) => Err(2),
         Err(unread) => {
@@ -97,42 +85,28 @@ fn rules_of(rt: &HostRuntime, matches: &ArgMatches, streams: &Streams<'_>) -> Re
 }
 
 /// Reads the arguments and the rules, prints what they permit, and returns the status.
-fn permitted(rt: &HostRuntime, matches: &ArgMatches, streams: &mut Streams<'_>) -> u8 {
+pub fn permitted(rt: &HostRuntime, matches: &ArgMatches, writers: &mut Writers<'_>) -> u8 {
     let form = match form_of(rt, matches) {
         Ok(form) => form,
         Err(status) => return status,
     };
-    let list = match rules_of(rt, matches, streams) {
+    let list = match rules_of(rt, matches, writers) {
         Ok(list) => list,
         Err(status) => return status,
     };
     let default = default_of(matches);
     let request = PermittedRequest { default, form };
-    let (out, faults) = (&mut streams.answer, &mut streams.faults);
+    let (out, faults) = (&mut writers.answer, &mut writers.faults);
     run_permitted(list, request, file_of(matches), out, faults)
 }
 
 /// Reads the rules, prints those that decide on no address, and returns the status.
-fn unreached(rt: &HostRuntime, matches: &ArgMatches, streams: &mut Streams<'_>) -> u8 {
-    match rules_of(rt, matches, streams) {
+pub fn unreached(rt: &HostRuntime, matches: &ArgMatches, writers: &mut Writers<'_>) -> u8 {
+    match rules_of(rt, matches, writers) {
         Ok(list) => {
-            let (out, faults) = (&mut streams.answer, &mut streams.faults);
+            let (out, faults) = (&mut writers.answer, &mut writers.faults);
             run_unreached(list, file_of(matches), out, faults)
         }
         Err(status) => status,
-    }
-}
-
-/// Runs the command if it reads a list of rules, and returns the status. `None` if it does not.
-pub fn run_if_rules(
-    rt: &HostRuntime,
-    name: &str,
-    matches: &ArgMatches,
-    streams: &mut Streams<'_>,
-) -> Option<u8> {
-    if prints_permitted(name)? {
-        Some(permitted(rt, matches, streams))
-    } else {
-        Some(unreached(rt, matches, streams))
     }
 }

@@ -6,14 +6,11 @@ use crate::arguments::{
     ArgumentFailure, FIRST, OTHERS, flag, flags_of, reads_input_twice, refused,
 };
 use crate::input::STANDARD_INPUT;
-use crate::output::Streams;
+use crate::output::Writers;
 use crate::reading::bytes_of;
 use clap::{Arg, ArgMatches};
 use netset_lib::{TextRequest, run_text_routes};
 use std::alloc::{AllocError, Global};
-
-/// The name of the command.
-pub const ROUTE: &str = "route";
 
 /// The flag by which the texts of the table are read and printed.
 pub fn text_flag<'a>(alloc: Global) -> Result<Arg<'a>, AllocError> {
@@ -30,7 +27,7 @@ pub fn has_text_flag(matches: &ArgMatches) -> bool
 }
 
 /// Reads the arguments, the table and the list, prints the answers, and returns the exit status.
-pub fn routed(rt: &HostRuntime, matches: &ArgMatches, streams: &mut Streams<'_>) -> u8 {
+pub fn routed(rt: &HostRuntime, matches: &ArgMatches, writers: &mut Writers<'_>) -> u8 {
     let Some(table) = matches.get_str(FIRST) else {
         return refused(rt, ArgumentFailure::NoCommand);
     };
@@ -38,11 +35,11 @@ pub fn routed(rt: &HostRuntime, matches: &ArgMatches, streams: &mut Streams<'_>)
     if reads_input_twice(&[table, file]) {
         return refused(rt, ArgumentFailure::InputTwice);
     }
-    let bytes = match bytes_of(rt, table, "entries", streams) {
+    let bytes = match bytes_of(rt, table, "entries", writers) {
         Ok(bytes) => bytes,
         Err(status) => return status,
     };
-    let list = match bytes_of(rt, file, "entries", streams) {
+    let list = match bytes_of(rt, file, "entries", writers) {
         Ok(list) => list,
         Err(status) => return status,
     };
@@ -55,7 +52,7 @@ pub fn routed(rt: &HostRuntime, matches: &ArgMatches, streams: &mut Streams<'_>)
         rt.alloc(),
         request,
         (table, file),
-        &mut streams.answer,
-        &mut streams.faults,
+        &mut writers.answer,
+        &mut writers.faults,
     )
 }

@@ -15,6 +15,7 @@ use Rattle.netset_lib.specs.Operations.{IsInResult}
 use Rattle.netset_lib.specs.PlanAnswers.{IsResultSet}
 use Rattle.ipnet_text.specs.Outputs.{IsWritten, IsFrontWritten}
 use Rattle.netset_lib.specs.RuleAnswers.{IsPermittedBy, IsPermittedSet}
+use Rattle.netset_lib.specs.RuleLines.{RuleContents, IsRuleList}
 use Rattle.netset_forms.specs.declared.form.AnswerForm.{AnswerForm}
 use Rattle.netset_forms.specs.declared.form.AnswerForm.TheVariants as Forms
 use Rattle.netset_forms.specs.declared.form.FormRequest.{FormRequest}
@@ -106,15 +107,15 @@ module _ (r : Request) (form : FormRequest) (lists : List (List ℕ)) (set : IpS
 
 -- ---- the set that a list of rules permits
 
-module _ (default : Action) (form : FormRequest) (grammar : Grammar) (bytes : List ℕ) (set : IpSet)
-    (of : IsPermittedSet default grammar bytes set) where
+module _ (default : Action) (form : FormRequest) (grammar : Grammar) (bytes : List ℕ) (contents : RuleContents)
+    (read : IsRuleList grammar bytes contents) (set : IpSet) (of : IsPermittedSet default contents set) where
   text_of_rules : (text : List ℕ) → IsAskedText form (IsMember set) text
       → IsPermittedForm default form grammar bytes text
   text_of_rules text right = record {
-    contents = of.contents;
-    read = of.read;
+    contents = contents;
+    read = read;
     none = of.none;
-    right = form_same (IsMember set) (IsPermittedBy of.contents.rules default) of.right form.form form.min_length text
+    right = form_same (IsMember set) (IsPermittedBy contents.rules default) of.right form.form form.min_length text
         right;
   }
 

@@ -1,7 +1,7 @@
 -- Texts that are put one after another: what the writer has received, and what the piece still has.
 use Rattle.std.proofs.Common.{◌≡◌, ℕ, Bool, true, false, List, [], ◌∷◌, ◌++◌, refl, sym, ap, ◌∙◌, Option}
 use Rattle.std.proofs.Common.{append_assoc, append-nil, Result, Ok, Err, OnOk, OnErr, map, codes, take, get_or}
-use Rattle.std.proofs.Common.{length, ◌<◌, ◌+◌}
+use Rattle.std.proofs.Common.{length, ◌<◌, ◌+◌, subst}
 use Rattle.std.specs.Borrow.{Bor}
 use Rattle.std.specs.Io.{StartsWith}
 use Rattle.std.specs.Io.KnownBytes.{Appends}
@@ -46,6 +46,12 @@ cut_then a b c piece middle text more h cut =
       is = sym (append_assoc h.done middle more) ∙ ap (λ z. z ++ more) h.is ∙ append_assoc piece text more;
     })
     (sym (append-nil (piece ++ (text ++ more)))) cut
+
+-- a piece that is empty now was written
+pub piece_written : (a b : Option (List ℕ)) (piece left : List ℕ) → IsInPieces a b left piece → left ≡ []
+    → Appends a b piece
+piece_written a b piece left h empty =
+    subst (Appends a b) (sym (append-nil h.done) ∙ ap (λ z. h.done ++ z) (sym empty) ∙ h.is) h.written
 
 -- a text that has no room in a piece is written after the piece
 pub both_written : (a b c : Option (List ℕ)) (piece text new : List ℕ) → Appends a b piece → Appends b c text

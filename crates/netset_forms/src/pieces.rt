@@ -9,7 +9,7 @@ ghost use Rattle.netset_forms.specs.FormSteps.{IsCut};
 
 use arrayvec::ArrayString;
 use ipnet::{IpAddr, IpNet};
-use ipnet_text::pieces::PIECE;
+use ipnet_text::pieces::{PIECE, make_room};
 use ipnet_text::write_whole;
 use netset_lib::ip_addr_text;
 use std::io;
@@ -25,12 +25,7 @@ pub(crate) fn put<W: Write>(
         (piece.old.bytes ++ text.now)) }
     ensures cut { OnErr result (IsCut (W.contents out.old) (W.contents out.new) piece.old.bytes text.now) }
 {
-    if text.len() <= piece.remaining_capacity() {
-        piece.push_str(text);
-        return Ok(());
-    }
-    write_whole(out, piece.as_str().as_bytes())?;
-    piece.clear();
+    make_room(out, piece, text.len().min(PIECE))?;
     if text.len() <= PIECE {
         piece.push_str(text);
         return Ok(());

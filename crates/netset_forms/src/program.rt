@@ -15,7 +15,7 @@ use crate::form::FormRequest;
 use crate::write::write_form;
 use ipnet_rules::Action;
 use ipnet_sets::IpSet;
-use netset_lib::{RuleList, Session, report_failure, report_rule_failure};
+use netset_lib::{RuleList, Session, set_or_report};
 use std::alloc::Global;
 use std::io::Write;
 
@@ -84,14 +84,10 @@ pub fn run_form<W: Write, X: Write>(
         ⊎ IsFrontWritten (IsFormAnswer r form.entry lists) (W.contents out.old) (W.contents out.new) }
     ensures faultless { result ≡ 0 → Keeps (X.contents faults.old) (X.contents faults.new) }
 {
-    let alloc = session.alloc();
-    match session.into_set() {
-        Ok(set) => run_set(alloc, set, form, out, faults),
-        Err(failure) => {
-            let _ = report_failure(faults, names, &failure);
-            2
-        }
-    }
+    let Some((alloc, set)) = set_or_report(session, names, faults) else {
+        return 2;
+    };
+    run_set(alloc, set, form, out, faults)
 }
 
 /// Writes the addresses that the rules permit to `out`, in the form that is asked for, and returns the exit status.
@@ -121,9 +117,6 @@ pub fn run_permitted<W: Write, X: Write>(
     let alloc = list.alloc();
     match list.permitted(request.default) {
         Ok(set) => run_set(alloc, set, request.form, out, faults),
-        Err(failure) => {
-            let _ = report_rule_failure(faults, name, &failure);
-            2
-        }
+        Err(failure) => failure.report(faults, name),
     }
 }

@@ -9,7 +9,7 @@ use Rattle.ipnet_sets.proofs.SetRangeLaws.{any_cases, any_here}
 use Rattle.netset_lib.specs.declared.answer.Form.{Form}
 use Rattle.netset_lib.specs.declared.answer.Request.{Request}
 use Rattle.netset_lib.specs.declared.change_line.ChangeCause.{ChangeCause}
-use Rattle.netset_lib.specs.declared.operation.Operation.TheVariants as Operations
+use Rattle.netset_lib.specs.declared.operation.ListOperation.TheVariants as Operations
 use Rattle.netset_lib.specs.Answers.{AreListsRead, IsAnswer, IsSetText}
 use Rattle.netset_lib.specs.Changes.{ListChange, Added, Removed, AreChanges, IsChangesAnswer}
 use Rattle.netset_lib.specs.ChangeLists.{IsAnswerNetwork, IsChangeList, IsKeptOrAdded, IsInChanged}

@@ -1,18 +1,15 @@
 -- The texts of IPv4 networks, addresses and ranges, as entries.
-use Rattle.std.proofs.Common.{◌≡◌, ℕ, ◌≤◌, List, [], ◌∷◌, ◌++◌, refl, sym, subst, inl, inr, append_assoc}
+use Rattle.std.proofs.Common.{ℕ, ◌≤◌, List, [], ◌∷◌, ◌++◌, refl, sym, inl, inr, append_assoc}
 use Rattle.std.specs.Net.Addr.{ipv4_octets, ipv4_bits}
 use Rattle.std.specs.declared.net.ipv4_addr.Ipv4Addr.{Ipv4Addr}
 use Rattle.std.specs.declared.net.ip_addr.IpAddr.TheVariants as Ip
 use Rattle.ipnet_base.specs.Address.{ipv4_address}
 use Rattle.ipnet.specs.AddressTexts.{IsIpv4AddressText}
 use Rattle.ipnet.specs.NetworkOf.{ipv4_network}
-use Rattle.ipnet.specs.NetworkParts.{network_at}
 use Rattle.ipnet.specs.NetworkTexts.{IsIpv4NetworkText}
-use Rattle.ipnet.specs.Numerals.{IsOctet}
 use Rattle.ipnet.specs.declared.net.IpNet.TheVariants as Nets
 use Rattle.ipnet.specs.declared.net.ipv4_net.Ipv4Net.{Ipv4Net}
 use Rattle.ipnet.specs.declared.parser.Grammar.TheVariants.{Strict}
-use Rattle.ipnet_text.proofs.FrontTexts.{network_text}
 use Rattle.netset_lib.specs.declared.entry.Entry.TheVariants as Entries
 use Rattle.netset_lib.specs.Entries.{IsAddressText, IsEntryWord}
 use Rattle.netset_lib.specs.EntryOf.{entry_range}
@@ -27,18 +24,9 @@ pub address_entry : (text : List ℕ) (a : Ipv4Addr) → IsIpv4AddressText Stric
 address_entry text a h =
     inl (inr record { address = ipv4_address a; writes = address_text text a h; is = refl })
 
-pub network_entry : (text digits : List ℕ) (a : Ipv4Addr) (p : ℕ) (n : Ipv4Net)
-    → IsIpv4AddressText Strict text (ipv4_octets a) → IsOctet Strict digits p → p ≤ 32
-    → ipv4_network n ≡ network_at (ipv4_address a) p
-    → IsEntryWord Strict (text ++ 47 ∷ digits) (entry_range (Entries.Network (Nets.V4 n)))
-unfolding ipv4_bits
-network_entry text digits a p n h octet small is =
-    let writes = network_text text digits a p h octet small in
-    inl (inl record {
-      network = ipv4_network n;
-      writes = inl (inl (subst (IsIpv4NetworkText Strict (text ++ 47 ∷ digits)) (sym is) writes));
-      is = refl;
-    })
+pub network_entry : (text : List ℕ) (n : Ipv4Net) → IsIpv4NetworkText Strict text (ipv4_network n)
+    → IsEntryWord Strict text (entry_range (Entries.Network (Nets.V4 n)))
+network_entry text n h = inl (inl record { network = ipv4_network n; writes = inl (inl h); is = refl })
 
 pub range_entry : (text last : List ℕ) (a b : Ipv4Addr) → IsIpv4AddressText Strict text (ipv4_octets a)
     → IsIpv4AddressText Strict last (ipv4_octets b) → ipv4_bits a ≤ ipv4_bits b

@@ -1,15 +1,13 @@
 -- A list that is read line by line.
 use Rattle.std.proofs.Common.{◌≡◌, ◌≢◌, ◌⊎◌, ℕ, ◌+◌, ◌<◌, Bool, true, List, [], ◌∷◌, ◌++◌}
 use Rattle.std.proofs.Common.{length}
-use Rattle.std.proofs.Common.{refl, sym, ap, ◌∙◌, arith, inl, inr, subst, append_assoc, append-nil, Option}
+use Rattle.std.proofs.Common.{refl, sym, ap, ◌∙◌, arith, inl, inr, subst, append_assoc, append-nil}
 use Rattle.ipnet_base.specs.Ranges.{AddressRange}
 use Rattle.ipnet.specs.declared.parser.Grammar.{Grammar}
 use Rattle.ipnet.specs.Lines.{lines_of}
-use Rattle.netset_lib.specs.declared.cause.Cause.{Cause}
 use Rattle.netset_lib.specs.declared.reader.LineReader.{LineReader}
-use Rattle.netset_lib.specs.Causes.{IsReportedCause}
 use Rattle.netset_lib.specs.Entries.{IsEntryText, IsNoEntry}
-use Rattle.netset_lib.specs.Lists.{ListEntry, Refusal, AreRead, AreContents, IsContents}
+use Rattle.netset_lib.specs.Lists.{ListEntry, Refusal, refusal_at, AreRead, AreContents, IsContents}
 use Rattle.netset_lib.specs.RefusedLines.{HasMore}
 use Rattle.netset_lib.specs.Reading.{Adds, AreTexts, AddsLines, ReadsLines, NotesEntries}
 use Rattle.netset_lib.proofs.RefusalLaws.{HasMore-nil, HasMore-trans}
@@ -26,10 +24,6 @@ empty_line grammar list line (b ∷ text) texts entries refusals none h = absurd
 abbrev pub entry_at : List ℕ → AddressRange → ListEntry
 entry_at text range = record { text = text; range = range }
 
--- the line refused
-abbrev pub refusal_at : ℕ → ℕ → List ℕ → Option Cause → Refusal
-refusal_at list line text cause = record { list = list; line = line; text = text; cause = cause }
-
 entry_line : (grammar : Grammar) (list line : ℕ) (text : List ℕ) (texts : List (List ℕ)) (range : AddressRange)
     (more : List ListEntry) (refusals : List Refusal) → 0 < length text → IsEntryText grammar text range
     → AreRead grammar list (line + 1) texts more refusals
@@ -39,12 +33,12 @@ entry_line grammar list line (b ∷ text) texts range more refusals some is h =
     inl (more, record { range = range; next = refl; writes = is }, h)
 
 refused_line : (grammar : Grammar) (list line : ℕ) (text : List ℕ) (texts : List (List ℕ)) (entries : List ListEntry)
-    (more : List Refusal) → 0 < length text → IsNoEntry grammar text → (cause : Option Cause)
-    → IsReportedCause grammar text cause → AreRead grammar list (line + 1) texts entries more
-    → AreRead grammar list line (text ∷ texts) entries (refusal_at list line text cause ∷ more)
-refused_line grammar list line [] texts entries more some none cause reported h = absurd (omega arith)
-refused_line grammar list line (b ∷ text) texts entries more some none cause reported h =
-    inr (more, record { cause = cause; next = refl; no_entry = none; reported = reported }, h)
+    (more : List Refusal) → 0 < length text → IsNoEntry grammar text
+    → AreRead grammar list (line + 1) texts entries more
+    → AreRead grammar list line (text ∷ texts) entries (refusal_at grammar list line text ∷ more)
+refused_line grammar list line [] texts entries more some none h = absurd (omega arith)
+refused_line grammar list line (b ∷ text) texts entries more some none h =
+    inr (more, record { next = refl; no_entry = none }, h)
 
 -- ---- lines, one after the other
 
@@ -164,17 +158,16 @@ module _ (old new : LineReader) (text : List ℕ) (same_grammar : new.grammar �
     notes = one_noted old.has_entry new.has_entry (entry_at text range) noted;
   }
 
-  pub adds_refusal : (IsMade : List ListEntry → Type 0) (cause : Option Cause) → 0 < length text
-      → IsNoEntry old.grammar text → IsReportedCause old.grammar text cause
-      → HasMore old.refused new.refused (refusal_at old.list (old.line + 1) text cause ∷ [])
+  pub adds_refusal : (IsMade : List ListEntry → Type 0) → 0 < length text → IsNoEntry old.grammar text
+      → HasMore old.refused new.refused (refusal_at old.grammar old.list (old.line + 1) text ∷ [])
       → new.has_entry ≡ old.has_entry → AddsLines old new (text ∷ []) IsMade IsMade
-  adds_refusal IsMade cause some none reported one noted = record {
+  adds_refusal IsMade some none one noted = record {
     same_grammar = same_grammar;
     same_list = same_list;
     entries = [];
-    refusals = refusal_at old.list (old.line + 1) text cause ∷ [];
+    refusals = refusal_at old.grammar old.list (old.line + 1) text ∷ [];
     read = λ later more refused h. refused_line old.grammar old.list (old.line + 1) text later more refused some none
-        cause reported (subst (λ n. AreRead old.grammar old.list (n + 1) later more refused) next h);
+        (subst (λ n. AreRead old.grammar old.list (n + 1) later more refused) next h);
     added = one;
     made = λ before h. subst IsMade (sym (append-nil before)) h;
     notes = none_noted old.has_entry new.has_entry noted;

@@ -23,7 +23,7 @@ use Rattle.netset_lib.specs.Causes.{causes, IsFirstOf, IsReportedCause}
 use Rattle.netset_lib.specs.Entries.{IsAddressText, IsMaskedBy, IsMaskedText, IsNetworkOrMasked}
 use Rattle.netset_lib.specs.Entries.{IsPlainEntry, IsEntryText, IsRangeEntry, IsRangeFrom, before_blanks}
 use Rattle.netset_lib.specs.Entries.{after_blanks, block_range}
-use Rattle.netset_lib.specs.Lists.{IsCommentAt, IsContents, AreContents, ListEntry, Refusal, AreRead}
+use Rattle.netset_lib.specs.Lists.{IsCommentAt, IsContents, AreContents, ListEntry, Refusal, refusal_at, AreRead}
 use Rattle.netset_lib.specs.Lists.{IsListRead}
 use Rattle.netset_lib.specs.Lists.{without_blanks, HidesEntry, after_mark}
 use Rattle.netset_lib.proofs.AddressBytes.{IsAddressByte, ipv4_bytes, ipv6_bytes, middle, one_front}
@@ -207,7 +207,7 @@ all_contents grammar (line ∷ lines) texts others (text, more, is, one, h) (oth
     ∙ ap₂ (λ z zs. z ∷ zs) (one_contents grammar line text other one two) (all_contents grammar lines more rest h k)
     ∙ sym was
 
--- ---- the entries and the refused lines
+-- ---- the cause of a text
 
 first_cause : (order : List Cause) (text : List ℕ) (reported other : Option Cause) → IsFirstOf order text reported
     → IsFirstOf order text other → reported ≡ other
@@ -217,12 +217,14 @@ first_cause (cause ∷ order) text reported other (inl h) (inr k) = absurd (k.0 
 first_cause (cause ∷ order) text reported other (inr h) (inl k) = absurd (h.0 k.0)
 first_cause (cause ∷ order) text reported other (inr h) (inr k) = first_cause order text reported other h.1 k.1
 
-one_cause : (grammar : Grammar) (text : List ℕ) (reported other : Option Cause) → IsReportedCause grammar text reported
-    → IsReportedCause grammar text other → reported ≡ other
+pub one_cause : (grammar : Grammar) (text : List ℕ) (reported other : Option Cause)
+    → IsReportedCause grammar text reported → IsReportedCause grammar text other → reported ≡ other
 one_cause grammar text reported other (inl (e, h)) (inl (d, k)) = h ∙ sym k
 one_cause grammar text reported other (inl ((range, e), h)) (inr (none, k)) = absurd (none range e)
 one_cause grammar text reported other (inr (none, h)) (inl ((range, d), k)) = absurd (none range d)
 one_cause grammar text reported other (inr (none, h)) (inr (nor, k)) = first_cause causes text reported other h k
+
+-- ---- the entries and the refused lines
 
 one_list : (grammar : Grammar) (list line : ℕ) (texts : List (List ℕ)) (entries others : List ListEntry)
     (refusals more : List Refusal) → AreRead grammar list line texts entries refusals
@@ -243,12 +245,9 @@ one_list grammar list line ((b ∷ text) ∷ texts) entries others refusals more
 one_list grammar list line ((b ∷ text) ∷ texts) entries others refusals more (inr (e, next, h)) (inl (d, also, k)) =
     absurd (next.no_entry also.range also.writes)
 one_list grammar list line ((b ∷ text) ∷ texts) entries others refusals more (inr (e, next, h)) (inr (d, also, k)) =
-    let rest = one_list grammar list (line + 1) texts entries others e d h k in
-    let cause = one_cause grammar (b ∷ text) next.cause also.cause next.reported also.reported in (
+    let rest = one_list grammar list (line + 1) texts entries others e d h k in (
       rest.0,
-      next.next
-          ∙ ap₂ (λ z zs. record { list = list; line = line; text = b ∷ text; cause = z } ∷ zs) cause rest.1
-          ∙ sym also.next,
+      next.next ∙ ap (λ zs. refusal_at grammar list line (b ∷ text) ∷ zs) rest.1 ∙ sym also.next,
     )
 
 pub one_reading : (grammar : Grammar) (list : ℕ) (bytes : List ℕ) (entries others : List ListEntry)

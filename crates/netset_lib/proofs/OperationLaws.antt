@@ -1,9 +1,11 @@
--- The addresses of the families of a complement.
-use Rattle.std.proofs.Common.{◌≡◌, ℕ, Bool, ◌^◌, ◌<◌, ◌⊎◌, ◌↔◌}
+-- The addresses of the families of a complement, and of the difference of two sets.
+use Rattle.std.proofs.Common.{◌≡◌, ℕ, Bool, ◌^◌, ◌<◌, ◌⊎◌, ◌↔◌, [], ◌∷◌}
 use Rattle.std.proofs.Common.{refl, sym, arith, inl, inr, subst, IsTrue}
+use Rattle.std.proofs.lemmas.List.Elements.{All-nil, All-cons, All-head}
 use Rattle.ipnet_base.specs.Address.{Family, IPv4, IPv6, Address, IsAddress, address_at, width}
 use Rattle.ipnet_base.specs.Address.{greatest_number}
 use Rattle.ipnet_sets.specs.Members.{IsFromTo}
+use Rattle.netset_lib.specs.Operations.{IsInFirstAlone}
 
 -- the addresses from the family's first to its last
 whole_family : (f : Family) (start end n : ℕ) → start ≡ 0 → end ≡ greatest_number f → n < 2 ^ width f
@@ -40,3 +42,11 @@ in_families Chosen has4 has6 start4 end4 start6 end6 s4 e4 s6 e6 four six x fits
         ⊎ (IsTrue has6 × IsFromTo (address_at IPv6 start6) (address_at IPv6 end6) (address_at f n))
     from IPv4 n low h = inl (four.1 h, whole_family IPv4 start4 end4 n s4 e4 low)
     from IPv6 n low h = inr (six.1 h, whole_family IPv6 start6 end6 n s6 e6 low)
+
+-- the difference of two sets
+pub first_alone_of_two : {L : Type 0} (In : L → Address → Type 0) (first second : L) (x : Address)
+    → (In first x × ¬ (In second x)) ↔ IsInFirstAlone In (first ∷ second ∷ []) x
+first_alone_of_two In first second x = (
+  λ h. (h.0, All-cons (λ l. ¬ (In l x)) second [] h.1 (All-nil (λ l. ¬ (In l x)))),
+  λ h. (h.0, All-head (λ l. ¬ (In l x)) second [] h.1),
+)

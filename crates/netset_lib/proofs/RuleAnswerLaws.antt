@@ -63,16 +63,16 @@ line_some (l ∷ lines) (suc i) less = line_some lines i (omega (arith, less))
 -- a text with a line is of an unreached rule
 pub one_unreached : (grammar : Grammar) (bytes text : List ℕ) → IsUnreachedAnswer grammar bytes text
     → text ≢ [] → IsOneUnreached grammar bytes
-one_unreached grammar bytes text h some = of h.right.found refl
+one_unreached grammar bytes text h some = of h.answer.right.found refl
   where
-    of : (found : List Unreached) → h.right.found ≡ found → IsOneUnreached grammar bytes
-    of [] e = absurd (some (h.right.spelled ∙ ap (unreached_lines h.contents.lines) e))
+    of : (found : List Unreached) → h.answer.right.found ≡ found → IsOneUnreached grammar bytes
+    of [] e = absurd (some (h.answer.right.spelled ∙ ap (unreached_lines h.contents.lines) e))
     of (u ∷ found) e = record {
       contents = h.contents;
       read = h.read;
-      none = h.none;
+      none = h.answer.none;
       index = u.rule;
-      unreached = (h.right.unreached.members u.rule).0
+      unreached = (h.answer.right.unreached.members u.rule).0
           (subst (λ z. Any (λ v. v.rule ≡ u.rule) z) (sym e)
           ((any_cons (λ v. v.rule ≡ u.rule) u found).1 (inl refl)));
     }
@@ -80,18 +80,18 @@ one_unreached grammar bytes text h some = of h.right.found refl
 -- an empty text is of a list whose rules all decide on some address
 pub all_reached : (grammar : Grammar) (bytes text : List ℕ) → IsUnreachedAnswer grammar bytes text
     → text ≡ [] → AreAllReached grammar bytes
-all_reached grammar bytes text h none = of h.right.found refl
+all_reached grammar bytes text h none = of h.answer.right.found refl
   where
-    of : (found : List Unreached) → h.right.found ≡ found → AreAllReached grammar bytes
+    of : (found : List Unreached) → h.answer.right.found ≡ found → AreAllReached grammar bytes
     of [] e = record {
       contents = h.contents;
       read = h.read;
-      none = h.none;
+      none = h.answer.none;
       reached = λ index is. any_nil (λ v. v.rule ≡ index)
-          (subst (λ z. Any (λ v. v.rule ≡ index) z) e ((h.right.unreached.members index).1 is));
+          (subst (λ z. Any (λ v. v.rule ≡ index) z) e ((h.answer.right.unreached.members index).1 is));
     }
     of (u ∷ found) e =
-        let is = (h.right.unreached.members u.rule).0
+        let is = (h.answer.right.unreached.members u.rule).0
         (subst (λ z. Any (λ v. v.rule ≡ u.rule) z) (sym e)
         ((any_cons (λ v. v.rule ≡ u.rule) u found).1 (inl refl))) in
         let (texts, are, read) = h.read in
@@ -104,7 +104,7 @@ all_reached grammar bytes text h none = of h.right.found refl
           line_some h.contents.lines u.rule within,
           length-append line covering,
           length-append (line ++ covering) (unreached_lines h.contents.lines found),
-          ap length (sym none ∙ h.right.spelled ∙ ap (unreached_lines h.contents.lines) e),
+          ap length (sym none ∙ h.answer.right.spelled ∙ ap (unreached_lines h.contents.lines) e),
         ))
 
 -- ---- lines, one after the other

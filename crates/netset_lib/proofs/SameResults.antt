@@ -7,10 +7,10 @@ use Rattle.ipnet_sets.specs.Members.{IsMember}
 use Rattle.ipnet_sets.proofs.SetRangeLaws.{any_cases, any_here, any_there}
 use Rattle.netset_lib.specs.declared.operation.Families.{Families}
 use Rattle.netset_lib.specs.declared.operation.Families.TheVariants.{Named, Ipv4, Ipv6, Both}
-use Rattle.netset_lib.specs.declared.operation.Operation.{Operation}
-use Rattle.netset_lib.specs.declared.operation.Operation.TheVariants.{Union, Intersection, Difference}
-use Rattle.netset_lib.specs.declared.operation.Operation.TheVariants.{SymmetricDifference}
-use Rattle.netset_lib.specs.declared.operation.Operation.TheVariants.{Complement}
+use Rattle.netset_lib.specs.declared.operation.ListOperation.{ListOperation}
+use Rattle.netset_lib.specs.declared.operation.ListOperation.TheVariants.{Union, Intersection, Difference}
+use Rattle.netset_lib.specs.declared.operation.ListOperation.TheVariants.{SymmetricDifference}
+use Rattle.netset_lib.specs.declared.operation.ListOperation.TheVariants.{Complement}
 use Rattle.netset_lib.specs.Lists.{ListEntry, IsInEntries}
 use Rattle.netset_lib.specs.ListSets.{HaveMembers}
 use Rattle.ipnet_sets.specs.ManySets.{IsInSome, IsInEach}
@@ -114,7 +114,7 @@ module _ (x : Address) where
   complement_same families (s ∷ t ∷ sets) (l ∷ []) h = absurd h.1
   complement_same families (s ∷ t ∷ sets) (l ∷ m ∷ lists) h = (λ k. k, λ k. k)
 
-  pub result_same : (operation : Operation) (sets : List IpSet) (lists : List (List ListEntry))
+  pub result_same : (operation : ListOperation) (sets : List IpSet) (lists : List (List ListEntry))
       → HaveMembers sets lists → IsInResult IsMember operation sets x ↔ IsInResult IsInEntries operation lists x
   result_same Union sets lists h = some_same sets lists h
   result_same Intersection sets lists h = each_same sets lists h

@@ -15,8 +15,8 @@ use Rattle.netset_lib.specs.declared.answer.Form.{Form}
 use Rattle.netset_lib.specs.declared.answer.Form.TheVariants.{Networks, Ranges}
 use Rattle.netset_lib.specs.declared.operation.Families.{Families}
 use Rattle.netset_lib.specs.declared.operation.Families.TheVariants.{Named, Ipv4, Ipv6, Both}
-use Rattle.netset_lib.specs.declared.operation.Operation.{Operation}
-use Rattle.netset_lib.specs.declared.operation.Operation.TheVariants as Operations
+use Rattle.netset_lib.specs.declared.operation.ListOperation.{ListOperation}
+use Rattle.netset_lib.specs.declared.operation.ListOperation.TheVariants as Operations
 use Rattle.netset_lib.specs.Answers.{AreListsRead, text_of_ranges, IsSetText}
 use Rattle.netset_lib.specs.Entries.{IsAddressText, IsNetworkOrMasked, IsEntryText, after_blanks}
 use Rattle.netset_lib.specs.Lists.{ListEntry, Refusal, AreRead, IsListRead, IsInEntries, HaveAddresses}
@@ -213,7 +213,7 @@ module _ (grammar : Grammar) (form : Form) (A : Address → Type 0) (bytes : Lis
 module _ (grammar : Grammar) (form : Form) (A B : Address → Type 0) (one other : List ℕ)
     (have : HaveOnly grammar A one) (also : HaveOnly grammar B other) (text : List ℕ) where
   -- a text of the result on two lists is a text of a set with the same addresses
-  two_text : (operation : Operation) (C : Address → Type 0)
+  two_text : (operation : ListOperation) (C : Address → Type 0)
       → ((first second : List ListEntry) (x : Address) → (IsInEntries first x ↔ A x) → (IsInEntries second x ↔ B x)
       → IsInResult IsInEntries operation (first ∷ second ∷ []) x ↔ C x)
       → IsAnswerOf operation grammar form (one ∷ other ∷ []) text → IsSetText form C text

@@ -27,7 +27,7 @@ use Rattle.netset_lib.specs.Operations.{IsInResult, IsCountFor}
 use Rattle.netset_lib.specs.PairSets.{ArePairSets}
 use Rattle.netset_lib.specs.PlanAnswers.{IsResultSet}
 use Rattle.netset_lib.specs.declared.operation.Families.TheVariants.{Named}
-use Rattle.netset_lib.specs.declared.operation.Operation.TheVariants.{Complement}
+use Rattle.netset_lib.specs.declared.operation.ListOperation.TheVariants.{Complement}
 use Rattle.netset_lib.specs.Replies.{work_grammar, TakesCount, IsWorkAnswer, AreReplies, IsFoundFor, IsKept}
 use Rattle.netset_lib.specs.Replies.{HasNoRoute, IsOutcome}
 use Rattle.netset_lib.specs.Sessions.{WereRead, IsGood, IsState, IsAskState, IsReplyOf}

@@ -14,8 +14,8 @@ use Rattle.netset_lib.specs.declared.answer.Request.{Request}
 use Rattle.netset_lib.specs.declared.command.Work.{Work}
 use Rattle.netset_lib.specs.declared.command.Work.TheVariants.{Combine, Ask}
 use Rattle.netset_lib.specs.declared.operation.Families.TheVariants.{Named}
-use Rattle.netset_lib.specs.declared.operation.Operation.{Operation}
-use Rattle.netset_lib.specs.declared.operation.Operation.TheVariants.{Complement}
+use Rattle.netset_lib.specs.declared.operation.ListOperation.{ListOperation}
+use Rattle.netset_lib.specs.declared.operation.ListOperation.TheVariants.{Complement}
 use Rattle.netset_lib.specs.Lists.{ListEntry, Refusal, IsListRead, IsInEntries}
 use Rattle.netset_lib.specs.Operations.{IsCountFor, IsInResult}
 use Rattle.netset_lib.specs.RefusedLines.{RefusedLines, AreRefused}
@@ -55,7 +55,7 @@ IsSetText Networks = AreNetworkLines
 IsSetText Ranges = AreRangeLines
 
 -- The operation is a complement for the families of the list.
-abbrev pub IsNamedOperation : Operation → Type 0
+abbrev pub IsNamedOperation : ListOperation → Type 0
 IsNamedOperation operation = operation ≡ Complement Named
 
 -- The work is such a complement.

@@ -5,14 +5,14 @@ use Rattle.ipnet_base.specs.Address.{Address}
 use Rattle.ipnet_base.specs.Network.{Network}
 use Rattle.ipnet.specs.NetworkOf.{ip_network}
 use Rattle.ipnet.specs.declared.parser.Grammar.{Grammar}
-use Rattle.netset_lib.specs.declared.apply.ChangeFailure.{ChangeFailure}
-use Rattle.netset_lib.specs.declared.apply.ChangeFailure.TheVariants as Failures
 use Rattle.netset_lib.specs.declared.apply.ChangeList.{ChangeList}
 use Rattle.netset_lib.specs.declared.apply.Parts.{Parts}
 use Rattle.netset_lib.specs.declared.change_line.ChangeCause.{ChangeCause}
 use Rattle.netset_lib.specs.declared.change_line.ChangeCause.TheVariants as Causes
 use Rattle.netset_lib.specs.declared.change_line.Sign.{Sign}
 use Rattle.netset_lib.specs.declared.change_line.Sign.TheVariants.{Plus, Minus}
+use Rattle.netset_lib.specs.declared.content_line.ListFailure.{ListFailure}
+use Rattle.netset_lib.specs.declared.content_line.ListFailure.TheVariants as Failures
 use Rattle.netset_lib.specs.Changes.{ListChange, Added, Removed}
 use Rattle.netset_lib.specs.ChangeLists.{IsChangeList, HasRefusedChanges}
 use Rattle.netset_lib.specs.ChangeSteps.{change_of}
@@ -54,7 +54,7 @@ AreChangesRead grammar Has bytes list =
     IsChangeList grammar Has bytes (map change_of list.changes.items) (map refused_of list.refused.items)
 
 -- Why a set cannot be changed: refused lines, or out of memory. When memory runs out is not specified.
-abbrev pub IsChangeFailure : Grammar → (Address → Type 0) → List ℕ → ChangeFailure → Type 0
+abbrev pub IsChangeFailure : Grammar → (Address → Type 0) → List ℕ → ListFailure ChangeCause → Type 0
 IsChangeFailure grammar InSet bytes (Failures.Refused lines) =
     HasRefusedChanges grammar InSet bytes (map refused_of lines.items)
 IsChangeFailure grammar InSet bytes Failures.Memory = Unit {0}

@@ -1,4 +1,5 @@
--- The commands of the program netset: their names, and what each asks of lists under some flags.
+-- The commands of the program netset that are an operation or a query: their names, and what each asks of lists under
+-- some flags.
 use Rattle.std.specs.Prelude.{ℕ, Bool, true, false, List, codes}
 use Rattle.ipnet.specs.declared.parser.Grammar.{Grammar}
 use Rattle.ipnet.specs.declared.parser.Grammar.TheVariants.{Strict, Legacy}
@@ -14,8 +15,8 @@ use Rattle.netset_lib.specs.declared.filter.Side.{Side}
 use Rattle.netset_lib.specs.declared.filter.Side.TheVariants.{Inside, Outside}
 use Rattle.netset_lib.specs.declared.operation.Families.{Families}
 use Rattle.netset_lib.specs.declared.operation.Families.TheVariants.{Named, Ipv4, Ipv6, Both}
-use Rattle.netset_lib.specs.declared.operation.Operation.{Operation}
-use Rattle.netset_lib.specs.declared.operation.Operation.TheVariants as Operations
+use Rattle.netset_lib.specs.declared.operation.ListOperation.{ListOperation}
+use Rattle.netset_lib.specs.declared.operation.ListOperation.TheVariants as Operations
 use Rattle.netset_lib.specs.declared.query.Query.TheVariants as Queries
 
 -- The name of the command on the command line.
@@ -53,7 +54,7 @@ side_of true = Outside
 side_of false = Inside
 
 -- An operation under these flags.
-abbrev pub combine : Operation → Flags → Work
+abbrev pub combine : ListOperation → Flags → Work
 combine operation flags =
     Combine (record { operation = operation; grammar = grammar_of flags.legacy; form = form_of flags.ranges })
 

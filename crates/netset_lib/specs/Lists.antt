@@ -1,6 +1,6 @@
 -- Lists as people keep them: the contents of their lines, the entries, and the lines that are refused.
 use Rattle.std.specs.Prelude.{◌≡◌, ◌≢◌, ◌⊎◌, ◌↔◌, ◌<◌, ◌≤◌, ℕ, ◌+◌, ◌-◌, true, if◌then◌else◌}
-use Rattle.std.specs.Prelude.{nat_eq, List, [], ◌∷◌, length, take, drop, Any, Option, slice_index}
+use Rattle.std.specs.Prelude.{nat_eq, List, [], ◌∷◌, length, take, drop, Any, slice_index}
 use Rattle.std.specs.Char.{is_ascii_whitespace}
 use Rattle.std.specs.List.{starts_with}
 use Rattle.ipnet_base.specs.Address.{Address}
@@ -8,8 +8,7 @@ use Rattle.ipnet_base.specs.Ranges.{AddressRange}
 use Rattle.ipnet.specs.declared.parser.Grammar.{Grammar}
 use Rattle.ipnet.specs.Lines.{lines_of}
 use Rattle.ipnet_sets.specs.SetRanges.{IsInRange}
-use Rattle.netset_lib.specs.declared.cause.Cause.{Cause}
-use Rattle.netset_lib.specs.Causes.{IsReportedCause}
+use Rattle.netset_lib.specs.declared.cause.NotEntry.{NotEntry}
 use Rattle.netset_lib.specs.Entries.{IsEntryText, IsNoEntry, after_blanks, before_blanks}
 use Rattle.netset_lib.specs.Words.{leading}
 
@@ -78,9 +77,15 @@ pub record RefusalFor (C : Type 0) : Type 0 where
   pub text : List ℕ
   pub cause : C
 
--- A line that is not an entry: its contents are refused, and the cause is there if one can be named.
+-- A line that is not an entry of a grammar: its contents are refused. The contents and the grammar decide which cause
+-- can be named (`IsReportedCause`).
 abbrev pub Refusal : Type 0
-Refusal = RefusalFor (Option Cause)
+Refusal = RefusalFor NotEntry
+
+-- The line with this number of the list with this index, whose contents are not an entry of the grammar.
+abbrev pub refusal_at : Grammar → ℕ → ℕ → List ℕ → Refusal
+refusal_at grammar list line text =
+    record { list = list; line = line; text = text; cause = record { grammar = grammar } }
 
 -- The first of the entries has this text, and `more` are the others.
 pub record IsNextEntry (grammar : Grammar) (text : List ℕ) (entries more : List ListEntry) : Type 0 where
@@ -88,13 +93,11 @@ pub record IsNextEntry (grammar : Grammar) (text : List ℕ) (entries more : Lis
   pub next : entries ≡ record { text = text; range = range } ∷ more
   pub writes : IsEntryText grammar text range
 
--- The first of the refused lines has this text, which is not an entry, and its cause; `more` are the others.
+-- The first of the refused lines has this text, which is not an entry; `more` are the others.
 pub record IsNextRefusal (grammar : Grammar) (list line : ℕ) (text : List ℕ) (refusals more : List Refusal) : Type
     0 where
-  pub cause : Option Cause
-  pub next : refusals ≡ record { list = list; line = line; text = text; cause = cause } ∷ more
+  pub next : refusals ≡ refusal_at grammar list line text ∷ more
   pub no_entry : IsNoEntry grammar text
-  pub reported : IsReportedCause grammar text cause
 
 -- Lines with these contents, the first with number `line`, have these entries and refused lines, in order. Empty ones
 -- are skipped.
@@ -108,7 +111,7 @@ AreRead grammar list line ((b ∷ text) ∷ texts) entries refusals =
     × AreRead grammar list (line + 1) texts entries more)
 
 -- The bytes of the list with this index have these entries and refused lines. A list can be read in only one way.
--- Example: `10.0.0.1\n\nx # y\n` has one entry, and line 3, `x`, is refused without a cause.
+-- Example: `10.0.0.1\n\nx # y\n` has one entry, and line 3, `x`, is refused.
 abbrev pub IsListRead : Grammar → ℕ → List ℕ → List ListEntry → List Refusal → Type 0
 IsListRead grammar list bytes entries refusals = (texts : List (List ℕ))
     × AreContents grammar (lines_of (after_mark bytes)) texts × AreRead grammar list 1 texts entries refusals

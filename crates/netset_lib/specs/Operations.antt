@@ -5,13 +5,13 @@ use Rattle.ipnet_base.specs.Address.{Family, IPv4, IPv6, Address, IsAddress}
 use Rattle.ipnet_sets.specs.ManySets.{IsInSome, IsInEach}
 use Rattle.netset_lib.specs.declared.operation.Families.{Families}
 use Rattle.netset_lib.specs.declared.operation.Families.TheVariants.{Named, Ipv4, Ipv6, Both}
-use Rattle.netset_lib.specs.declared.operation.Operation.{Operation}
-use Rattle.netset_lib.specs.declared.operation.Operation.TheVariants.{Union, Intersection, Difference}
-use Rattle.netset_lib.specs.declared.operation.Operation.TheVariants.{SymmetricDifference}
-use Rattle.netset_lib.specs.declared.operation.Operation.TheVariants.{Complement}
+use Rattle.netset_lib.specs.declared.operation.ListOperation.{ListOperation}
+use Rattle.netset_lib.specs.declared.operation.ListOperation.TheVariants.{Union, Intersection, Difference}
+use Rattle.netset_lib.specs.declared.operation.ListOperation.TheVariants.{SymmetricDifference}
+use Rattle.netset_lib.specs.declared.operation.ListOperation.TheVariants.{Complement}
 
 -- The number of lists that the operation takes.
-abbrev pub IsCountFor : Operation → ℕ → Type 0
+abbrev pub IsCountFor : ListOperation → ℕ → Type 0
 IsCountFor Union n = 1 ≤ n
 IsCountFor Intersection n = 2 ≤ n
 IsCountFor Difference n = 2 ≤ n
@@ -44,7 +44,7 @@ IsInComplement In families (list ∷ []) x = IsAddress x × IsChosen In families
 IsInComplement In families (list ∷ second ∷ others) x = ⊥
 
 -- The addresses of the operation's result.
-abbrev pub IsInResult : {L : Type 0} → (L → Address → Type 0) → Operation → List L → Address → Type 0
+abbrev pub IsInResult : {L : Type 0} → (L → Address → Type 0) → ListOperation → List L → Address → Type 0
 IsInResult In Union lists = IsInSome In lists
 IsInResult In Intersection lists = IsInEach In lists
 IsInResult In Difference lists = IsInFirstAlone In lists

@@ -1,17 +1,17 @@
 -- The refused lines as contracts see them.
-use Rattle.std.specs.Prelude.{◌≡◌, ◌+◌, ℕ, List, ◌++◌, length, map, take, Option}
-use Rattle.netset_lib.specs.declared.cause.Cause.{Cause}
+use Rattle.std.specs.Prelude.{◌≡◌, ◌+◌, ℕ, List, ◌++◌, length, map, take}
+use Rattle.netset_lib.specs.declared.cause.NotEntry.{NotEntry}
 use Rattle.netset_lib.specs.declared.refused.Refused.{Refused}
 use Rattle.netset_lib.specs.declared.refused.Refusals.{Refusals}
 use Rattle.netset_lib.specs.Lists.{RefusalFor}
 
 -- A line that is not an entry.
 abbrev pub RefusedLine : Type 0
-RefusedLine = Refused (Option Cause)
+RefusedLine = Refused NotEntry
 
 -- The lines of all lists that are not entries.
 abbrev pub RefusedLines : Type 0
-RefusedLines = Refusals (Option Cause)
+RefusedLines = Refusals NotEntry
 
 -- At most this number of refused lines are kept. The others are only counted.
 abbrev pub most_shown : ℕ

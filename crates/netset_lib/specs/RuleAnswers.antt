@@ -10,9 +10,8 @@ use Rattle.ipnet_rules.specs.Rules.{HasRuleVerdict}
 use Rattle.ipnet_sets.specs.declared.set.IpSet.{IpSet}
 use Rattle.ipnet_sets.specs.Members.{IsMember}
 use Rattle.ipnet_rules.specs.UnreachedRules.{IsUnreached, AreUnreached}
-use Rattle.netset_lib.specs.declared.rule_answer.RuleFailure.{RuleFailure}
-use Rattle.netset_lib.specs.declared.rule_answer.RuleFailure.TheVariants as Failures
-use Rattle.netset_lib.specs.declared.content_line.RefusedText.{RefusedText}
+use Rattle.netset_lib.specs.declared.content_line.ListFailure.{ListFailure}
+use Rattle.netset_lib.specs.declared.content_line.ListFailure.TheVariants as Failures
 use Rattle.netset_lib.specs.declared.rule_line.RuleCause.{RuleCause}
 use Rattle.netset_lib.specs.RuleContentsOf.{rule_refusal}
 use Rattle.netset_lib.specs.RuleLines.{LineOfRule, RuleContents, IsRuleList}
@@ -55,31 +54,28 @@ pub record AreUnreachedLines (contents : RuleContents) (text : List ℕ) : Type 
   pub unreached : AreUnreached contents.rules found
   pub spelled : text ≡ unreached_lines contents.lines found
 
--- No line of the list is refused, and the text has the lines of the rules that decide on no address.
-pub record IsUnreachedAnswer (grammar : Grammar) (bytes text : List ℕ) : Type 0 where
-  pub contents : RuleContents
-  pub read : IsRuleList grammar bytes contents
+-- No line is refused, and the text has the lines of the rules that decide on no address.
+pub record IsUnreachedText (contents : RuleContents) (text : List ℕ) : Type 0 where
   pub none : contents.refused ≡ []
   pub right : AreUnreachedLines contents text
 
--- No line of the list is refused, and the set has the addresses that the rules permit.
-pub record IsPermittedSet (default : Action) (grammar : Grammar) (bytes : List ℕ) (set : IpSet) : Type 0 where
+-- The text is the lines of the unreached rules of the list with these bytes. No line of the list is refused.
+pub record IsUnreachedAnswer (grammar : Grammar) (bytes text : List ℕ) : Type 0 where
   pub contents : RuleContents
   pub read : IsRuleList grammar bytes contents
+  pub answer : IsUnreachedText contents text
+
+-- No line is refused, and the set has the addresses that the rules permit.
+pub record IsPermittedSet (default : Action) (contents : RuleContents) (set : IpSet) : Type 0 where
   pub none : contents.refused ≡ []
   pub right : (x : Address) → IsMember set x ↔ IsPermittedBy contents.rules default x
 
--- Some lines are refused, and these are all of them.
-pub record HasRefusedRules (grammar : Grammar) (bytes : List ℕ) (lines : List (RefusedText RuleCause)) : Type 0 where
-  pub contents : RuleContents
-  pub read : IsRuleList grammar bytes contents
-  pub some : contents.refused ≢ []
-  pub kept : map rule_refusal lines ≡ contents.refused
-
--- Why there is no answer: refused lines, or out of memory. When memory runs out is not specified.
-abbrev pub IsRuleFailure : Grammar → List ℕ → RuleFailure → Type 0
-IsRuleFailure grammar bytes (Failures.Refused lines) = HasRefusedRules grammar bytes lines.items
-IsRuleFailure grammar bytes Failures.Memory = Unit {0}
+-- Why there is no answer. If lines are refused, the failure has all of them. If no line is refused, memory ran out;
+-- when it does is not specified.
+abbrev pub IsRuleFailure : RuleContents → ListFailure RuleCause → Type 0
+IsRuleFailure contents (Failures.Refused lines) =
+    (contents.refused ≢ []) × (map rule_refusal lines.items ≡ contents.refused)
+IsRuleFailure contents Failures.Memory = contents.refused ≡ []
 
 -- No line of the list is refused, and each of its rules decides on some address.
 pub record AreAllReached (grammar : Grammar) (bytes : List ℕ) : Type 0 where

@@ -5,8 +5,8 @@ use Rattle.ipnet.specs.declared.parser.Grammar.{Grammar}
 use Rattle.netset_lib.specs.declared.answer.Form.{Form}
 use Rattle.netset_lib.specs.declared.operation.Families.{Families}
 use Rattle.netset_lib.specs.declared.operation.Families.TheVariants.{Named, Ipv4, Ipv6, Both}
-use Rattle.netset_lib.specs.declared.operation.Operation.{Operation}
-use Rattle.netset_lib.specs.declared.operation.Operation.TheVariants as Operations
+use Rattle.netset_lib.specs.declared.operation.ListOperation.{ListOperation}
+use Rattle.netset_lib.specs.declared.operation.ListOperation.TheVariants as Operations
 use Rattle.netset_lib.specs.Answers.{IsAnswer}
 use Rattle.netset_lib.specs.Lists.{ListEntry, IsListRead, IsInEntries, HaveAddresses}
 
@@ -58,7 +58,7 @@ IsInScript grammar (Complement families only) x =
     IsAddress x × IsChosenFor families (IsInScript grammar only) x.family × ¬ (IsInScript grammar only x)
 
 -- The answer of the operation on these lists.
-abbrev pub IsAnswerOf : Operation → Grammar → Form → List (List ℕ) → List ℕ → Type 0
+abbrev pub IsAnswerOf : ListOperation → Grammar → Form → List (List ℕ) → List ℕ → Type 0
 IsAnswerOf operation grammar form =
     IsAnswer (record { operation = operation; grammar = grammar; form = form })
 

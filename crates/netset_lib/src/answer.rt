@@ -5,10 +5,10 @@ ghost use Rattle.ipnet_sets.specs.Members.{IsMember};
 ghost use Rattle.netset_lib.specs.Answers.{range_text, AreNetworkLines, AreRangeLines, IsSetText};
 
 use crate::address_text::ip_addr_text;
-use crate::operation::Operation;
+use crate::operation::ListOperation;
 use ipnet::{Grammar, IpAddrRange};
 use ipnet_sets::IpSet;
-use ipnet_text::lines_of_networks;
+use ipnet_text::push_line;
 use std::alloc::{AllocError, Global};
 
 /// How a set is written.
@@ -28,7 +28,7 @@ pub enum Form {
 #[derive(Clone, Copy, Debug, PartialEq, Eq)]
 pub struct Request {
     /// What is made of them.
-    pub operation: Operation,
+    pub operation: ListOperation,
     /// How their entries are read.
     pub grammar: Grammar,
     /// How the answer is written.
@@ -68,8 +68,11 @@ fn push_range(text: &mut String, range: IpAddrRange) -> Result<(), AllocError>
 pub fn network_lines(alloc: Global, set: &IpSet) -> Result<String, AllocError>
     ensures { IfOk result (λ text. AreNetworkLines (IsMember set.now) (string_bytes text)) }
 {
-    let networks = set.networks(alloc)?;
-    lines_of_networks(alloc, networks.as_slice())
+    let mut text = String::new(alloc);
+    for network in set.iter_networks() {
+        push_line(&mut text, network)?;
+    }
+    Ok(text)
 }
 
 /// Returns the text of the fewest ranges of the set, one a line: the first and the last address, joined by "-". IPv4

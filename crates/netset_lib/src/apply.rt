@@ -4,7 +4,6 @@ ghost use Rattle.ipnet_base.specs.Address.{Address};
 ghost use Rattle.ipnet_sets.specs.Members.{IsMember};
 ghost use Rattle.netset_lib.specs.ApplySteps.{AreChangesRead, AreParts, AddsPart, parts_of};
 ghost use Rattle.netset_lib.specs.ApplySteps.{IsChangeFailure};
-ghost use Rattle.netset_lib.specs.declared.apply.ChangeFailure.TheVariants.{Memory};
 ghost use Rattle.netset_lib.specs.ChangeLists.{IsAnswerNetwork, Fits, IsInChanged, IsChangedText};
 ghost use Rattle.netset_lib.specs.ChangeSteps.{change_of};
 
@@ -13,27 +12,10 @@ pub mod laws;
 use crate::answer::{Form, set_text};
 use crate::change_line::{ChangeCause, read_change};
 use crate::changes::Change;
-use crate::content_line::{RefusedText, content_lines, keep_read};
+use crate::content_line::{ListFailure, RefusedText, content_lines, keep_read};
 use ipnet::{Grammar, IpNet};
 use ipnet_sets::IpSet;
 use std::alloc::{AllocError, Global};
-
-/// Why a set cannot be changed.
-#[derive(Debug, Drop)]
-pub enum ChangeFailure {
-    /// These lines are not changes of its networks.
-    Refused(Vec<RefusedText<ChangeCause>>),
-    /// Memory ran out.
-    Memory,
-}
-
-impl From<AllocError> for ChangeFailure {
-    ghost from_gives = { λ _ result. result ≡ Memory };
-
-    fn from(_: AllocError) -> ChangeFailure {
-        ChangeFailure::Memory
-    }
-}
 
 /// The changes of a set's networks that were read, and the refused lines.
 #[derive(Drop)]
@@ -128,14 +110,14 @@ pub fn changed_text(
     set: &IpSet,
     bytes: &[u8],
     grammar: Grammar,
-) -> Result<String, ChangeFailure>
+) -> Result<String, ListFailure<ChangeCause>>
     ensures text { IfOk result (λ text.
         IsChangedText form grammar (IsMember set.now) bytes.now (string_bytes text)) }
     ensures failure { IfErr result (IsChangeFailure grammar (IsMember set.now) bytes.now) }
 {
     let list = read_changes(alloc, set, bytes, grammar)?;
     if !list.refused.is_empty() {
-        return Err(ChangeFailure::Refused(list.refused));
+        return Err(ListFailure::Refused(list.refused));
     }
     let changed = changed_set(alloc, set, list.changes.as_slice())?;
     Ok(set_text(alloc, form, &changed)?)

@@ -4,9 +4,8 @@ ghost use Rattle.std.specs.Io.KnownBytes.{Keeps};
 ghost use Rattle.netset_lib.specs.ChangeLists.{IsChangedAnswer};
 ghost use Rattle.netset_lib.specs.Runs.{WritesAnswer, WritesFront};
 
-use crate::apply::{ChangeFailure, changed_text};
+use crate::apply::changed_text;
 use crate::change_line::ChangeCause;
-use crate::content_line::report_refused;
 use crate::failure::Failure;
 use crate::network_entry::NetworkCause;
 use crate::program::{NO_ENTRY, report_failure, report_text, set_or_report};
@@ -26,7 +25,7 @@ use std::io::Write;
 /// | Status | On `faults` | When |
 /// |---|---|---|
 /// | 2 | as `run` reports it | the lists have no result |
-/// | 2 | `NAME:LINE: not a change of the list: TEXT (CAUSE)`, ten at most | as `ChangeFailure::Refused` says |
+/// | 2 | `NAME:LINE: not a change of the list: TEXT (CAUSE)`, ten at most | as `changed_text` refuses them |
 /// | 2 | `netset: out of memory` | memory runs out |
 /// | 2 | `netset: output cannot be written` | a write fails, or the flush after it; the answer may be out in part |
 /// | 0 | nothing | otherwise |
@@ -60,20 +59,9 @@ pub fn run_apply<W: Write, X: Write>(
     };
     let text = match changed_text(alloc, request.form, &set, bytes, request.grammar) {
         Ok(text) => text,
-        Err(failure) => {
-            let _ = report_changes(faults, name, &failure);
-            return 2;
-        }
+        Err(failure) => return failure.report(faults, name),
     };
     write_answer(out, faults, text.as_bytes())
-}
-
-/// Reports the failure.
-fn report_changes<X: Write>(faults: &mut X, name: &str, failure: &ChangeFailure) -> io::Result<()> {
-    match failure {
-        ChangeFailure::Memory => writeln!(faults, "netset: out of memory"),
-        ChangeFailure::Refused(lines) => report_refused(faults, name, lines.as_slice()),
-    }
 }
 
 impl LineCause for ChangeCause {

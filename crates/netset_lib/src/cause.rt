@@ -209,3 +209,24 @@ pub fn cause_of(text: &[u8], grammar: Grammar) -> Option<Cause>
         Err(_) => Some(cause_in_bytes(text)),
     }
 }
+
+/// Says that a line is refused because its text is not an entry of a grammar. The cause is found only if it is asked
+/// for, so a line that is only counted costs no search for it.
+#[derive(Clone, Copy, Debug, PartialEq, Eq, Drop)]
+pub struct NotEntry {
+    /// The grammar.
+    pub grammar: Grammar,
+}
+
+impl NotEntry {
+    /// Returns why this text is not an entry of the grammar, as `cause_of` does. Allocates nothing.
+    ///
+    /// ```text
+    /// strict grammar, "10.0.0.0/33": Some(LengthAbove32)
+    /// ```
+    pub fn cause(&self, text: &[u8]) -> Option<Cause>
+        ensures { IsReportedCause self.now.grammar text.now result }
+    {
+        cause_of(text, self.grammar)
+    }
+}

@@ -1,14 +1,15 @@
-//! The commands of the program netset: their names, and what each asks of lists.
+//! The commands of the program netset that are an operation or a query: their names, and what each asks of lists.
 ghost use Rattle.std.specs.Prelude.{◌≡◌, ◌↔◌, Some};
 ghost use Rattle.netset_lib.specs.Commands.{families_of, combine};
 
 use crate::answer::{Form, Request};
 use crate::filter::Side;
-use crate::operation::{Families, Operation};
+use crate::operation::{Families, ListOperation};
 use crate::query::Query;
 use ipnet::Grammar;
 
-/// A command of the program. Each has a name of its own, as `symmetric-difference`.
+/// A command of the program that is an operation or a query on lists. Each has a name of its own, as
+/// `symmetric-difference`. `netset` has the other commands.
 #[derive(Clone, Copy, Debug, PartialEq, Eq)]
 pub enum Command {
     /// The addresses of all lists.
@@ -106,7 +107,7 @@ impl Flags {
 }
 
 /// The operation under these flags.
-fn combined(operation: Operation, flags: Flags) -> Work
+fn combined(operation: ListOperation, flags: Flags) -> Work
     ensures { result ≡ combine operation flags }
 {
     let form = if flags.ranges {
@@ -124,10 +125,10 @@ fn combined(operation: Operation, flags: Flags) -> Work
 impl Command {
     ghost use Rattle.netset_lib.specs.Commands.{name_of, work_of};
 
-    /// Returns the command of this name, or `None` if there is none.
+    /// Returns the operation or query of this name, or `None` if there is none.
     ///
     /// ```text
-    /// "symmetric-difference" is SymmetricDifference; "Union" and "" are None
+    /// "symmetric-difference" is SymmetricDifference; "Union", "plan" and "" are None
     /// ```
     pub fn from_name(name: &str) -> Option<Command>
         ensures { (command : Command) → (result ≡ Some command) ↔ (name.now ≡ name_of command) }
@@ -156,13 +157,13 @@ impl Command {
         ensures { result ≡ work_of self flags }
     {
         match self {
-            Command::Union => combined(Operation::Union, flags),
-            Command::Intersection => combined(Operation::Intersection, flags),
-            Command::Difference => combined(Operation::Difference, flags),
-            Command::SymmetricDifference => combined(Operation::SymmetricDifference, flags),
+            Command::Union => combined(ListOperation::Union, flags),
+            Command::Intersection => combined(ListOperation::Intersection, flags),
+            Command::Difference => combined(ListOperation::Difference, flags),
+            Command::SymmetricDifference => combined(ListOperation::SymmetricDifference, flags),
             Command::Complement => {
                 let families = families(flags.ipv4, flags.ipv6);
-                combined(Operation::Complement(families), flags)
+                combined(ListOperation::Complement(families), flags)
             }
             Command::Count => Work::Ask(Query::Count, flags.grammar()),
             Command::Compare => Work::Ask(Query::Compare, flags.grammar()),

@@ -1,8 +1,10 @@
 //! The lines of a list that are not empty, and the lines that are refused.
 ghost use Rattle.std.specs.Prelude.{◌≡◌, ◌≢◌, ◌↔◌, ◌+◌, List, [], IsTrue, IfOk, OnOk, map};
+ghost use Rattle.std.specs.Io.KnownBytes.{Keeps};
 ghost use Rattle.netset_lib.specs.ContentLines as lists;
 ghost use Rattle.netset_lib.specs.ContentLines.{AreContentLines};
 ghost use Rattle.netset_lib.specs.ContentLineOf.{line_of, refused_of, AddsLine, AddsRead};
+ghost use Rattle.netset_lib.specs.declared.content_line.ListFailure.TheVariants.{Memory};
 
 use crate::mark::skip_mark;
 use crate::reader::{contents_of, first_line};
@@ -38,6 +40,40 @@ pub struct RefusedText<C> {
     pub text: Vec<u8>,
     /// Why it is refused.
     pub cause: C,
+}
+
+/// Why a list has no answer.
+#[derive(Debug, Drop)]
+pub enum ListFailure<C> {
+    /// These lines are refused.
+    Refused(Vec<RefusedText<C>>),
+    /// Memory ran out.
+    Memory,
+}
+
+impl<C: Drop> From<AllocError> for ListFailure<C> {
+    ghost from_gives = { λ _ result. result ≡ Memory };
+
+    fn from(_: AllocError) -> ListFailure<C> {
+        ListFailure::Memory
+    }
+}
+
+impl<C: LineCause> ListFailure<C> {
+    /// Reports the failure on `faults`, and returns the exit status. `name` is the name of the list.
+    ///
+    /// ```text
+    /// Memory: 2, and faults gets "netset: out of memory\n"
+    /// ```
+    pub fn report<X: Write>(self, faults: &mut X, name: &str) -> u8
+        ensures { result ≡ 2 }
+    {
+        let _ = match self {
+            ListFailure::Refused(lines) => report_refused(faults, name, lines.as_slice()),
+            ListFailure::Memory => writeln!(faults, "netset: out of memory"),
+        };
+        2
+    }
 }
 
 /// Returns the next number. Fails if a `usize` cannot count so far.
@@ -138,7 +174,8 @@ pub fn keep_read<T: Drop, C: Drop>(
     }
 }
 
-/// Reports the first refused lines of the list with this name, and the number of the others.
+/// Reports the first refused lines of the list with this name, and the number of the others. If there are none, nothing
+/// is printed.
 ///
 /// ```text
 /// twelve lines: ten lines, and "netset: and 2 more"
@@ -147,7 +184,12 @@ pub fn report_refused<X: Write, C: LineCause>(
     faults: &mut X,
     name: &str,
     lines: &[RefusedText<C>],
-) -> io::Result<()> {
+) -> io::Result<()>
+    ensures { lines.now ≡ [] → Keeps (X.contents faults.old) (X.contents faults.new) }
+{
+    if lines.is_empty() {
+        return Ok(());
+    }
     let shown = lines.len().min(MOST_LINES);
     for line in &lines[..shown] {
         line.cause

@@ -7,29 +7,11 @@ ghost use Rattle.netset_lib.specs.Entries.{IsEntryWord};
 ghost use Rattle.netset_lib.specs.EntryOf.{entry_range};
 
 use crate::entry::Entry;
-use ipnet::{IpAddr, IpNet, Ipv4Addr, Ipv4Net};
-use ipnet_text::{ipv4_addr_at, octet_before};
+use ipnet::{IpAddr, IpNet, Ipv4Addr};
+use ipnet_text::{ipv4_addr_at, ipv4_network_after};
 
 /// The length of the longest line that is read here, with its "\n".
 const LONGEST: usize = "255.255.255.255-255.255.255.255\n".len();
-
-/// The network of the address and the prefix length at the front of the bytes, which ends the line; and the number of
-/// its digits.
-#[inline]
-fn network_after(first: Ipv4Addr, bytes: &[u8]) -> Option<(Entry, usize)>
-    requires { 16 ≤ length bytes.now }
-    ensures entry { IfSome result (λ line. (text : List ℕ) → IsIpv4AddressText Strict text (ipv4_octets first)
-        → IsEntryWord Strict (text ++ 47 ∷ take line.1 bytes.now) (entry_range line.0)) }
-    ensures newline { IfSome result (λ line. slice_index bytes.now line.1 ≡ 10) }
-    ensures few { IfSome result (λ line. line.1 ≤ 3) }
-{
-    let (prefix_len, digits) = octet_before(bytes, b'\n')?;
-    if prefix_len > 32 {
-        return None;
-    }
-    let network = Ipv4Net::new_assert(first, prefix_len);
-    Some((Entry::Network(IpNet::V4(network)), digits))
-}
 
 /// The range from the address to the address at the front of the bytes, which ends the line; and the length of its
 /// text.
@@ -72,8 +54,8 @@ pub(crate) fn front_entry(bytes: &[u8]) -> Option<(Entry, usize)>
     match bytes[len] {
         b'\n' => Some((Entry::Address(IpAddr::V4(first)), len)),
         b'/' => {
-            let (entry, more) = network_after(first, after)?;
-            Some((entry, len + 1 + more))
+            let (network, digits) = ipv4_network_after(first, after)?;
+            Some((Entry::Network(IpNet::V4(network)), len + 1 + digits))
         }
         b'-' => {
             let (entry, more) = range_after(first, after)?;

@@ -55,9 +55,9 @@ pub mod write;
 
 pub use address_text::ip_addr_text;
 pub use answer::{Answer, Form, Request, lines_of_ranges, network_lines};
-pub use apply::{ChangeFailure, changed_text};
+pub use apply::changed_text;
 pub use apply_program::run_apply;
-pub use cause::{Cause, cause_of};
+pub use cause::{Cause, NotEntry, cause_of};
 pub use cause_bytes::has_byte;
 pub use cause_parts::{are_digits, is_entry};
 pub use cause_words::is_netmask;
@@ -66,7 +66,7 @@ pub use changes::changes_text;
 pub use changes_program::run_changes;
 pub use command::{Command, Flags, Work, families};
 pub use content_line::{
-    ContentLine, RefusedText, content_lines, has_lines, keep_read, report_refused,
+    ContentLine, ListFailure, RefusedText, content_lines, has_lines, keep_read, report_refused,
 };
 pub use entry::{Entry, parse_address, read_entry};
 pub use failure::Failure;
@@ -76,7 +76,7 @@ pub use list_text::{ListText, read_list_text};
 pub use listing_program::{run_hosts, run_split};
 pub use mark::{MOST_READS, begin_input, skip_mark};
 pub use network_entry::NetworkCause;
-pub use operation::{Families, Operation};
+pub use operation::{Families, ListOperation};
 pub use output::{Output, finish, is_unfinished_name, unfinished_name};
 pub use plan::{Plan, PlanFailure, PlanFamily, PlanRequest, plan_networks, plan_text};
 pub use plan_program::run_plan;
@@ -90,10 +90,9 @@ pub use reading::{ReadFailure, read_bytes};
 pub use refused::{
     LineCause, Refusals, Refused, RefusedLine, RefusedLines, RefusedPart, report_since,
 };
-pub use rule_answer::RuleFailure;
 pub use rule_line::{RuleCause, rule_for};
 pub use rule_list::{RuleLine, RuleList};
-pub use rule_program::{report_rule_failure, run_unreached};
+pub use rule_program::run_unreached;
 pub use session::Session;
 pub use session::stream::{StreamFailure, Streamed};
 pub use text_program::{TextRequest, run_text_routes, table_or_report};

@@ -1,6 +1,7 @@
 //! The operations on the sets of lists.
 ghost use Rattle.std.specs.Prelude.{◌≡◌, ◌↔◌, ◌∷◌, [], IfOk, IsTrue, length};
 ghost use Rattle.ipnet_base.specs.Address.{IPv4, IPv6, Address, IsAddress, ip_address};
+ghost use Rattle.ipnet_sets.specs.ManySets.{IsInSome};
 ghost use Rattle.ipnet_sets.specs.Members.{IsMember, IsFromTo};
 ghost use Rattle.netset_lib.specs.Operations.{IsInFirstAlone, IsInComplement, IsInResult, IsChosen};
 
@@ -32,7 +33,7 @@ pub enum Families {
 /// Complement(Named), of the first alone: 0.0.0.0-9.255.255.255, 10.0.0.6-255.255.255.255
 /// ```
 #[derive(Clone, Copy, Debug, PartialEq, Eq)]
-pub enum Operation {
+pub enum ListOperation {
     /// The addresses of all lists.
     Union,
     /// The addresses that are in every list.
@@ -45,7 +46,7 @@ pub enum Operation {
     Complement(Families),
 }
 
-impl Operation {
+impl ListOperation {
     ghost use Rattle.netset_lib.specs.Operations.{IsCountFor};
 
     /// Whether the operation takes this number of lists.
@@ -57,10 +58,10 @@ impl Operation {
         ensures { IsTrue result ↔ IsCountFor self count }
     {
         match self {
-            Operation::Union => count >= 1,
-            Operation::Intersection | Operation::Difference => count >= 2,
-            Operation::SymmetricDifference => count == 2,
-            Operation::Complement(_) => count == 1,
+            ListOperation::Union => count >= 1,
+            ListOperation::Intersection | ListOperation::Difference => count >= 2,
+            ListOperation::SymmetricDifference => count == 2,
+            ListOperation::Complement(_) => count == 1,
         }
     }
 }
@@ -69,8 +70,13 @@ impl Operation {
 fn difference_of(alloc: Global, first: &IpSet, others: &[IpSet]) -> Result<IpSet, AllocError>
     ensures { IfOk result (λ s. (x : Address) → IsMember s x ↔ IsInFirstAlone IsMember (first.now ∷ others.now) x) }
 {
-    let taken = IpSet::union_all(alloc, others)?;
-    first.difference(alloc, &taken)
+    match others {
+        [second] => first.difference(alloc, second),
+        _ => {
+            let taken = IpSet::union_all(alloc, others)?;
+            first.difference(alloc, &taken)
+        }
+    }
 }
 
 /// Whether IPv4 is one of the families.
@@ -140,19 +146,43 @@ fn complement_of(alloc: Global, families: Families, set: &IpSet) -> Result<IpSet
 /// memory runs out.
 pub(crate) fn combine_sets(
     alloc: Global,
-    operation: Operation,
+    operation: ListOperation,
     sets: &[IpSet],
 ) -> Result<IpSet, AllocError>
     ensures { IfOk result (λ s. (x : Address) → IsMember s x ↔ IsInResult IsMember operation sets.now x) }
 {
     match (operation, sets) {
-        (Operation::Union, sets) => IpSet::union_all(alloc, sets),
-        (Operation::Intersection, sets) => IpSet::intersection_all(alloc, sets),
-        (Operation::Difference, [first, others @ ..]) => difference_of(alloc, first, others),
-        (Operation::SymmetricDifference, [first, second]) => {
+        (ListOperation::Union, sets) => IpSet::union_all(alloc, sets),
+        (ListOperation::Intersection, sets) => IpSet::intersection_all(alloc, sets),
+        (ListOperation::Difference, [first, others @ ..]) => difference_of(alloc, first, others),
+        (ListOperation::SymmetricDifference, [first, second]) => {
             first.symmetric_difference(alloc, second)
         }
-        (Operation::Complement(families), [set]) => complement_of(alloc, families, set),
+        (ListOperation::Complement(families), [set]) => complement_of(alloc, families, set),
         _ => Ok(IpSet::new(alloc)),
+    }
+}
+
+/// Returns the union of the sets. The union of one set is that set, and not a copy of it.
+fn union_of_owned(alloc: Global, mut sets: Vec<IpSet>) -> Result<IpSet, AllocError>
+    ensures { IfOk result (λ s. (x : Address) → IsMember s x ↔ IsInSome IsMember sets.items x) }
+{
+    if sets.len() == 1 {
+        return Ok(sets.remove(0));
+    }
+    IpSet::union_all(alloc, sets.as_slice())
+}
+
+/// Returns the same as `combine_sets`, but copies no set if the operation is the union of one set.
+pub(crate) fn combine_owned_sets(
+    alloc: Global,
+    operation: ListOperation,
+    sets: Vec<IpSet>,
+) -> Result<IpSet, AllocError>
+    ensures { IfOk result (λ s. (x : Address) → IsMember s x ↔ IsInResult IsMember operation sets.items x) }
+{
+    match operation {
+        ListOperation::Union => union_of_owned(alloc, sets),
+        _ => combine_sets(alloc, operation, sets.as_slice()),
     }
 }

@@ -10,7 +10,7 @@ ghost use Rattle.netset_lib.specs.declared.answer.Request.{Request};
 ghost use Rattle.netset_lib.specs.declared.command.Work.{Work};
 
 use crate::answer::Answer;
-use crate::cause::Cause;
+use crate::cause::{Cause, NotEntry};
 use crate::failure::Failure;
 use crate::refused::{LineCause, report_since};
 use crate::session::Session;
@@ -230,5 +230,17 @@ impl LineCause for Option<Cause> {
             Some(cause) => writeln!(faults, " ({cause})"),
             None => writeln!(faults),
         }
+    }
+}
+
+impl LineCause for NotEntry {
+    fn report<X: Write>(
+        &self,
+        faults: &mut X,
+        name: &str,
+        number: usize,
+        text: &[u8],
+    ) -> io::Result<()> {
+        self.cause(text).report(faults, name, number, text)
     }
 }

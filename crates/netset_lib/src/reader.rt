@@ -9,7 +9,7 @@ ghost use Rattle.netset_lib.specs.Lists.{IsContents};
 ghost use Rattle.netset_lib.specs.FoundEntry.{entry_of, found_range};
 ghost use Rattle.netset_lib.specs.Reading.{Adds};
 
-use crate::cause::cause_of;
+use crate::cause::NotEntry;
 use crate::entry::{Entry, read_entry};
 use crate::front::front_entry;
 use crate::refused::{RefusedLines, RefusedPart};
@@ -237,12 +237,13 @@ impl LineReader {
                 collector.push(made, found.text, found.entry)
             }
             None => {
-                let cause = cause_of(text, self.grammar);
                 let part = RefusedPart {
                     list: self.list,
                     line: number,
                     text,
-                    cause,
+                    cause: NotEntry {
+                        grammar: self.grammar,
+                    },
                 };
                 self.refused.push(self.alloc, part)
             }

@@ -2,7 +2,7 @@
 ghost use Rattle.std.specs.Prelude.{◌≡◌, ◌≤◌, [], ◌∷◌, ◌++◌, length, take, OnOk};
 ghost use Rattle.std.specs.Io.KnownBytes.{Keeps};
 
-use crate::cause::Cause;
+use crate::cause::NotEntry;
 use std::alloc::{AllocError, Global};
 use std::io;
 use std::io::Write;
@@ -25,7 +25,7 @@ pub trait LineCause: Drop {
 /// A line that is refused, or the part of it that is.
 ///
 /// ```text
-/// of the list "10.0.0.0/8\nx # y\n", the second one named: list 1, line 2, text "x", cause None
+/// of the list "10.0.0.0/8\nx # y\n", the second one named: list 1, line 2, text "x"
 /// ```
 #[derive(Debug, Drop)]
 pub struct Refused<C> {
@@ -62,11 +62,11 @@ pub struct Refusals<C> {
     ghost few: { length shown.items ≤ 10 },
 }
 
-/// A line that is not an entry. The cause is `None` if none can be named.
-pub type RefusedLine = Refused<Option<Cause>>;
+/// A line that is not an entry. `line.cause.cause(line.text.as_slice())` is why, if a cause can be named.
+pub type RefusedLine = Refused<NotEntry>;
 
 /// The lines of lists that are not entries.
-pub type RefusedLines = Refusals<Option<Cause>>;
+pub type RefusedLines = Refusals<NotEntry>;
 
 impl<C: Drop> Refusals<C> {
     ghost use Rattle.netset_lib.specs.RefusedLines.{AreRefused, HasMore, shown_refusals, most_shown};

@@ -1,38 +1,18 @@
 //! The queries on a list of rules: the addresses that it permits, and the rules that decide on no address.
-ghost use Rattle.std.specs.Prelude.{◌≡◌, ◌↔◌, ◌++◌, List, ℕ, IfOk, IfErr, OnOk, map, codes, decimal};
+ghost use Rattle.std.specs.Prelude.{◌≡◌, ◌↔◌, ◌++◌, IfOk, IfErr, OnOk, map, codes, decimal};
 ghost use Rattle.ipnet_base.specs.Address.{Address};
-ghost use Rattle.ipnet.specs.declared.parser.Grammar.{Grammar};
 ghost use Rattle.ipnet_sets.specs.Members.{IsMember};
 ghost use Rattle.netset_lib.specs.RuleAnswers.{IsPermittedBy, line_text, line_at, covering_lines};
-ghost use Rattle.netset_lib.specs.RuleAnswers.{IsUnreachedAnswer, IsRuleFailure, unreached_lines, AreUnreachedLines};
+ghost use Rattle.netset_lib.specs.RuleAnswers.{IsUnreachedText, IsRuleFailure, unreached_lines, AreUnreachedLines};
 ghost use Rattle.netset_lib.specs.RuleAnswers.{IsPermittedSet};
-ghost use Rattle.netset_lib.specs.RuleContentsOf.{contents_of, line_of_rule};
-ghost use Rattle.netset_lib.specs.RuleLines.{IsRuleList};
-ghost use Rattle.netset_lib.specs.declared.rule_answer.RuleFailure.TheVariants.{Memory};
+ghost use Rattle.netset_lib.specs.RuleContentsOf.{contents_of, line_of_rule, rule_refusal};
 
-use crate::content_line::RefusedText;
+use crate::content_line::{ListFailure, RefusedText};
 use crate::rule_line::RuleCause;
 use crate::rule_list::{RuleLine, RuleList};
 use ipnet_rules::{Action, Rule, Rules, Unreached};
 use ipnet_sets::IpSet;
 use std::alloc::{AllocError, Global};
-
-/// Why there is no answer.
-#[derive(Debug, Drop)]
-pub enum RuleFailure {
-    /// These lines are not rules.
-    Refused(Vec<RefusedText<RuleCause>>),
-    /// Memory ran out.
-    Memory,
-}
-
-impl From<AllocError> for RuleFailure {
-    ghost from_gives = { λ _ result. result ≡ Memory };
-
-    fn from(_: AllocError) -> RuleFailure {
-        RuleFailure::Memory
-    }
-}
 
 /// Returns the set of the addresses that the rules permit.
 fn permitted_set(alloc: Global, rules: Vec<Rule>, default: Action) -> Result<IpSet, AllocError>
@@ -132,22 +112,61 @@ fn unreached_text(list: RuleList) -> Result<Vec<u8>, AllocError>
 
 impl RuleList {
     /// The allocator of the list.
-    pub fn alloc(&self) -> Global {
+    pub fn alloc(&self) -> Global
+        ensures { result ≡ self.now.alloc }
+    {
         self.alloc
+    }
+
+    /// The lines of the rules, in order.
+    ///
+    /// ```text
+    /// of "permit 10.0.0.0/8\n\nallow ::1\ndeny ::1\n": line 1, "permit 10.0.0.0/8", and line 4, "deny ::1"
+    /// ```
+    pub fn lines(&self) -> &[RuleLine]
+        ensures { map line_of_rule result.now ≡ (contents_of self.now).lines }
+    {
+        self.lines.as_slice()
+    }
+
+    /// The lines that are not rules, in order.
+    ///
+    /// ```text
+    /// of "permit 10.0.0.0/8\n\nallow ::1\n": line 3, "allow ::1", with the cause UnknownWord
+    /// ```
+    pub fn refused(&self) -> &[RefusedText<RuleCause>]
+        ensures { map rule_refusal result.now ≡ (contents_of self.now).refused }
+    {
+        self.refused.as_slice()
+    }
+
+    /// Returns the rules, in order, with this action for the addresses that no rule matches. Refused lines are left
+    /// out.
+    ///
+    /// ```text
+    /// Deny of "permit 10.0.0.0/8\nallow ::1\n": permit 10.0.0.0/8, and deny by default
+    /// ```
+    pub fn into_rules(self, default: Action) -> Rules
+        ensures rules { result.list.items ≡ (contents_of self).rules }
+        ensures default { result.default ≡ default }
+    {
+        Rules {
+            list: self.rules,
+            default,
+        }
     }
 
     /// Returns the set of the addresses that the rules permit. `default` is for the addresses that no rule matches.
     ///
-    /// The error is `Refused` if lines are not rules, with all of them; and `Memory` if memory runs out.
+    /// If lines are not rules, the error is `Refused`, with all of them. Otherwise it is `Memory`, only if memory runs
+    /// out.
     ///
     /// ```text
     /// Deny of "deny 10.0.0.0/9\npermit 10.0.0.0/8\n": 10.128.0.0/9
     /// ```
-    pub fn permitted(self, default: Action) -> Result<IpSet, RuleFailure>
-        ensures set { IfOk result (λ set. (grammar : Grammar) → (bytes : List ℕ)
-            → IsRuleList grammar bytes (contents_of self) → IsPermittedSet default grammar bytes set) }
-        ensures failure { IfErr result (λ failure. (grammar : Grammar) → (bytes : List ℕ)
-            → IsRuleList grammar bytes (contents_of self) → IsRuleFailure grammar bytes failure) }
+    pub fn permitted(self, default: Action) -> Result<IpSet, ListFailure<RuleCause>>
+        ensures set { IfOk result (IsPermittedSet default (contents_of self)) }
+        ensures failure { IfErr result (IsRuleFailure (contents_of self)) }
     {
         let RuleList {
             alloc,
@@ -156,29 +175,34 @@ impl RuleList {
             ..
         } = self;
         if !refused.is_empty() {
-            return Err(RuleFailure::Refused(refused));
+            return Err(ListFailure::Refused(refused));
         }
-        Ok(permitted_set(alloc, rules, default)?)
+        match permitted_set(alloc, rules, default) {
+            Ok(set) => Ok(set),
+            Err(_) => Err(ListFailure::Memory),
+        }
     }
 
     /// Returns the lines of the rules that decide on no address. After each are the lines of the earlier rules that
     /// decide on its addresses.
     ///
-    /// The error is `Refused` if lines are not rules, with all of them; and `Memory` if memory runs out.
+    /// If lines are not rules, the error is `Refused`, with all of them. Otherwise it is `Memory`, only if memory runs
+    /// out.
     ///
     /// ```text
     /// of "deny 10.0.0.0/9\npermit 10.0.0.0/8\npermit 10.1.0.0/16\n":
     /// "line 3: permit 10.1.0.0/16\n  line 1: deny 10.0.0.0/9\n"
     /// ```
-    pub fn unreached(self) -> Result<Vec<u8>, RuleFailure>
-        ensures answer { IfOk result (λ text. (grammar : Grammar) → (bytes : List ℕ)
-            → IsRuleList grammar bytes (contents_of self) → IsUnreachedAnswer grammar bytes text.items) }
-        ensures failure { IfErr result (λ failure. (grammar : Grammar) → (bytes : List ℕ)
-            → IsRuleList grammar bytes (contents_of self) → IsRuleFailure grammar bytes failure) }
+    pub fn unreached(self) -> Result<Vec<u8>, ListFailure<RuleCause>>
+        ensures text { IfOk result (λ text. IsUnreachedText (contents_of self) text.items) }
+        ensures failure { IfErr result (IsRuleFailure (contents_of self)) }
     {
         if !self.refused.is_empty() {
-            return Err(RuleFailure::Refused(self.refused));
+            return Err(ListFailure::Refused(self.refused));
         }
-        Ok(unreached_text(self)?)
+        match unreached_text(self) {
+            Ok(text) => Ok(text),
+            Err(_) => Err(ListFailure::Memory),
+        }
     }
 }

@@ -30,11 +30,11 @@ pub struct RuleLine {
 pub struct RuleList {
     pub(crate) alloc: Global,
     /// The rules, in order.
-    pub rules: Vec<Rule>,
+    pub(crate) rules: Vec<Rule>,
     /// The line of each rule.
-    pub lines: Vec<RuleLine>,
+    pub(crate) lines: Vec<RuleLine>,
     /// The lines that are not rules, in order.
-    pub refused: Vec<RefusedText<RuleCause>>,
+    pub(crate) refused: Vec<RefusedText<RuleCause>>,
 }
 
 impl RuleList {

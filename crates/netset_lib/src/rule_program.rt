@@ -7,10 +7,8 @@ ghost use Rattle.netset_lib.specs.RuleAnswers.{IsUnreachedAnswer, IsOneUnreached
 ghost use Rattle.netset_lib.specs.RuleContentsOf.{contents_of};
 ghost use Rattle.netset_lib.specs.RuleLines.{IsRuleList};
 
-use crate::content_line::report_refused;
 use crate::program::{NO_ENTRY, report_text};
 use crate::refused::LineCause;
-use crate::rule_answer::RuleFailure;
 use crate::rule_line::RuleCause;
 use crate::rule_list::RuleList;
 use crate::write::write_or_report;
@@ -56,10 +54,7 @@ pub fn run_unreached<W: Write, X: Write>(
 {
     let text = match list.unreached() {
         Ok(text) => text,
-        Err(failure) => {
-            let _ = report_rule_failure(faults, name, &failure);
-            return 2;
-        }
+        Err(failure) => return failure.report(faults, name),
     };
     if !write_or_report(out, faults, text.as_slice()) {
         return 2;
@@ -73,18 +68,6 @@ fn status_of(text: &[u8]) -> u8
     ensures unreached { (result ≡ 1) ↔ (text.now ≢ []) }
 {
     if text.is_empty() { 0 } else { 1 }
-}
-
-/// Reports why a list of rules has no answer, as `run_unreached` does.
-pub fn report_rule_failure<X: Write>(
-    faults: &mut X,
-    name: &str,
-    failure: &RuleFailure,
-) -> io::Result<()> {
-    match failure {
-        RuleFailure::Memory => writeln!(faults, "netset: out of memory"),
-        RuleFailure::Refused(lines) => report_refused(faults, name, lines.as_slice()),
-    }
 }
 
 impl LineCause for RuleCause {

@@ -2,10 +2,12 @@
 //!
 //! An answer is a key of its addresses: two answers are the same bytes if and only if they have the same addresses. So
 //! each identity of set algebra is an identity of bytes, for scripts of any depth.
-ghost use Rattle.std.specs.Prelude.{◌≡◌, ◌↔◌, List, ℕ};
+ghost use Rattle.std.specs.Prelude.{◌≡◌, ◌↔◌, List, ℕ, Option};
 ghost use Rattle.ipnet_base.specs.Address.{Address, IsAddress};
 ghost use Rattle.ipnet_sets.specs.Members.{IsMember, HaveSameAddresses};
+ghost use Rattle.netset_lib.specs.declared.cause.Cause.{Cause};
 ghost use Rattle.netset_lib.specs.Answers.{IsSetText};
+ghost use Rattle.netset_lib.specs.Causes.{IsReportedCause};
 ghost use Rattle.netset_lib.specs.Lists.{ListEntry, Refusal, IsListRead};
 ghost use Rattle.netset_lib.specs.Scripts.{Script, IsCall, IsInScript, Gives, IsListOf};
 
@@ -13,7 +15,8 @@ use crate::answer::Form;
 use ipnet::Grammar;
 use ipnet_sets::IpSet;
 
-/// Bytes are read as a list in only one way: they have one list of entries, and one list of refused lines.
+/// Bytes are read as a list in only one way: they have one list of entries, and one list of refused lines. A refused
+/// line has one cause, or none.
 pub fn a_list_is_read_in_one_way(grammar: Grammar, list: &[u8])
     ensures entries { (index : ℕ) → (entries others : List ListEntry) → (refusals more : List Refusal)
         → IsListRead grammar index list.now entries refusals → IsListRead grammar index list.now others more
@@ -21,6 +24,8 @@ pub fn a_list_is_read_in_one_way(grammar: Grammar, list: &[u8])
     ensures refusals { (index : ℕ) → (entries others : List ListEntry) → (refusals more : List Refusal)
         → IsListRead grammar index list.now entries refusals → IsListRead grammar index list.now others more
         → refusals ≡ more }
+    ensures causes { (text : List ℕ) → (cause other : Option Cause) → IsReportedCause grammar text cause
+        → IsReportedCause grammar text other → cause ≡ other }
 {}
 
 /// The texts of two sets in one form are the same bytes if and only if the sets have the same addresses.

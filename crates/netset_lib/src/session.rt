@@ -24,7 +24,7 @@ use crate::command::Work;
 use crate::counts::{comparison_text, counts_text};
 use crate::failure::Failure;
 use crate::list::read_set;
-use crate::operation::{Families, Operation, combine_sets};
+use crate::operation::{Families, ListOperation, combine_sets};
 use crate::query::Query;
 use crate::reading::{ReadFailure, Reading};
 use ipnet::Grammar;
@@ -74,7 +74,7 @@ fn is_named_complement(work: Work) -> bool
 {
     match work {
         Work::Combine(request) => match request.operation {
-            Operation::Complement(Families::Named) => true,
+            ListOperation::Complement(Families::Named) => true,
             _ => false,
         },
         Work::Ask(_, _) => false,
@@ -201,7 +201,7 @@ impl Session {
     }
 
     /// Reads the next list as the work asks.
-    fn read_next<R: Read>(&mut self, input: &mut R) -> Result<(), ReadFailure>
+    fn read_for_work<R: Read>(&mut self, input: &mut R) -> Result<(), ReadFailure>
         ensures { OnOk result (ReadsNext (IsState self.old.work)
             (R.remaining input.old) (R.remaining input.new) self.old self.new) }
     {
@@ -226,7 +226,7 @@ impl Session {
             × WereRead work (lists ++ bytes ∷ []) self.new
             × IsNoted (work_grammar work) (length lists) bytes (has_entry self.new))) }
     {
-        self.read_next(input)
+        self.read_for_work(input)
     }
 
     /// How many lines of the lists are not entries.

@@ -3,7 +3,7 @@
 use crate::support::{NAMES, WINDOW, session_of};
 use ipnet::Grammar;
 use netset_lib::{
-    Form, Operation, PrefixRequest, Request, TextRequest, Work, run_apply, run_prefix_list,
+    Form, ListOperation, PrefixRequest, Request, TextRequest, Work, run_apply, run_prefix_list,
     run_text_routes,
 };
 use std::alloc::Global;
@@ -16,7 +16,7 @@ const UNWRITABLE: &[u8] = b"netset: output cannot be written\n";
 
 /// The work of a session for changes that are applied.
 const UNION: Work = Work::Combine(Request {
-    operation: Operation::Union,
+    operation: ListOperation::Union,
     grammar: Grammar::Strict,
     form: Form::Networks,
 });

@@ -2,7 +2,7 @@
 use crate::support::{NAMES, WINDOW, session_of};
 use ipnet::{Grammar, IpNet};
 use ipnet_pictures::{BarForm, Frame, Marks, RowWidth};
-use netset_lib::{Families, Form, Operation, PlanRequest, Query, Request, Work};
+use netset_lib::{Families, Form, ListOperation, PlanRequest, Query, Request, Work};
 use netset_pictures::{
     BarRequest, LocaleValues, MarkChoice, PlanBarRequest, chosen_marks, is_utf8_locale,
     read_row_width, run_bar, run_comparison_bar, run_plan_bar,
@@ -26,7 +26,7 @@ const NO_PLACE: &str = "netset: no placement: the list has no room for these net
 
 /// The work of the session of a bar.
 const UNION: Work = Work::Combine(Request {
-    operation: Operation::Union,
+    operation: ListOperation::Union,
     grammar: Grammar::Strict,
     form: Form::Networks,
 });

@@ -2,7 +2,7 @@
 //! limited run fails, and each other run fails or returns the right result.
 use crate::support::{WINDOW, answer, run_lists};
 use ipnet::Grammar;
-use netset_lib::{Failure, Families, Form, Operation, Query, Request, Side, Work};
+use netset_lib::{Failure, Families, Form, ListOperation, Query, Request, Side, Work};
 use std::alloc::{AllocError, Global};
 use std::test::Fail;
 use test_support::devices::ArrayWriter;
@@ -33,33 +33,33 @@ fn answers(rt: HostRuntime) -> Result<(), Fail> {
     grow_stack(rt.alloc())?;
     let alloc = rt.alloc();
     let networks = Form::Networks;
-    let complement = Operation::Complement(Families::Named);
+    let complement = ListOperation::Complement(Families::Named);
     // label, the operation and its form, the lists, the answer
     let rows = [
         (
             "union",
-            Operation::Union,
+            ListOperation::Union,
             networks,
             "10.0.0.1\n+10.0.0.0\n",
             "10.0.0.0/31\n",
         ),
         (
             "intersection",
-            Operation::Intersection,
+            ListOperation::Intersection,
             networks,
             "10.0.0.0/30\n+10.0.0.2\n",
             "10.0.0.2/32\n",
         ),
         (
             "difference",
-            Operation::Difference,
+            ListOperation::Difference,
             networks,
             "fd00::/127\n+fd00::\n",
             "fd00::1/128\n",
         ),
         (
             "symmetric-difference",
-            Operation::SymmetricDifference,
+            ListOperation::SymmetricDifference,
             networks,
             "10.0.0.0/31\n+10.0.0.1\n",
             "10.0.0.0/32\n",
@@ -73,7 +73,7 @@ fn answers(rt: HostRuntime) -> Result<(), Fail> {
         ),
         (
             "ranges",
-            Operation::Union,
+            ListOperation::Union,
             Form::Ranges,
             "10.0.0.0/30\n+10.0.0.4/31\n",
             "10.0.0.0-10.0.0.5\n",
@@ -123,7 +123,7 @@ fn runs(rt: HostRuntime) -> Result<(), Fail> {
     for (label, given, status, wanted, report) in rows {
         let lists = lists_of(alloc, given)?;
         let request = Request {
-            operation: Operation::Union,
+            operation: ListOperation::Union,
             grammar: Grammar::Strict,
             form: Form::Networks,
         };

@@ -2,8 +2,8 @@
 use crate::support::{NAMES, WINDOW, session_of};
 use ipnet::Grammar;
 use netset_lib::{
-    Failure, Families, Form, Operation, PlanRequest, Query, Request, Work, families, read_length,
-    run_plan,
+    Failure, Families, Form, ListOperation, PlanRequest, Query, Request, Work, families,
+    read_length, run_plan,
 };
 use std::alloc::Global;
 use std::test::Fail;
@@ -21,7 +21,7 @@ type Ends = (u8, &'static [u8], &'static [u8]);
 
 /// The work of the session of a plan.
 const UNION: Work = Work::Combine(Request {
-    operation: Operation::Union,
+    operation: ListOperation::Union,
     grammar: Grammar::Strict,
     form: Form::Networks,
 });
@@ -198,7 +198,7 @@ fn set_count(alloc: Global, work: Work) -> Result<Option<u64>, Failure> {
 }
 
 /// The work of an operation.
-fn work_of(operation: Operation) -> Work {
+fn work_of(operation: ListOperation) -> Work {
     Work::Combine(Request {
         operation,
         grammar: Grammar::Strict,
@@ -208,12 +208,16 @@ fn work_of(operation: Operation) -> Work {
 
 #[test]
 fn sets(rt: HostRuntime) -> Result<(), Fail> {
-    let complement = Operation::Complement(Families::Ipv4);
+    let complement = ListOperation::Complement(Families::Ipv4);
     // label, the work, the number of IPv4 addresses of the set, or whether the error is `Count`
     let rows = [
-        ("union", work_of(Operation::Union), Some(4)),
-        ("intersection", work_of(Operation::Intersection), Some(1)),
-        ("difference", work_of(Operation::Difference), Some(3)),
+        ("union", work_of(ListOperation::Union), Some(4)),
+        (
+            "intersection",
+            work_of(ListOperation::Intersection),
+            Some(1),
+        ),
+        ("difference", work_of(ListOperation::Difference), Some(3)),
         ("complement of two", work_of(complement), None),
         ("a query", Work::Ask(Query::Compare, Grammar::Strict), None),
     ];

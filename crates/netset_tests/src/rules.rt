@@ -1,7 +1,7 @@
 //! Lists of rules: their lines, the answers, the reports, and refused memory.
 use ipnet::{Grammar, IpAddr, Ipv4Addr, Ipv6Addr};
-use ipnet_rules::{Action, Rules};
-use netset_lib::{ReadFailure, RuleFailure, RuleList, lines_of_ranges, run_unreached};
+use ipnet_rules::Action;
+use netset_lib::{ListFailure, ReadFailure, RuleCause, RuleList, lines_of_ranges, run_unreached};
 use std::alloc::Global;
 use std::io::ErrorKind;
 use std::test::Fail;
@@ -13,7 +13,11 @@ const LIST: &str = "\u{feff}deny 10.0.1.128/25 # leased\r\n\npermit 10.0.0.0/23\
     ; IPv6\npermit\tfd00::-fd00::f\npermit 10.0.1.192/26\npermit 10.0.0.9";
 
 /// The ranges that the rules permit, with this default; without one, the lines of the unreached rules.
-fn answer(alloc: Global, list: RuleList, default: Option<Action>) -> Result<Vec<u8>, RuleFailure> {
+fn answer(
+    alloc: Global,
+    list: RuleList,
+    default: Option<Action>,
+) -> Result<Vec<u8>, ListFailure<RuleCause>> {
     match default {
         Some(default) => {
             let set = list.permitted(default)?;
@@ -38,8 +42,8 @@ fn outcome(alloc: Global, list: &str, default: Option<Action>, wanted: &str) -> 
             }
         }
         Err(failure) => match failure {
-            RuleFailure::Memory => Outcome::Refused,
-            RuleFailure::Refused(_lines) => Outcome::Wrong,
+            ListFailure::Memory => Outcome::Refused,
+            ListFailure::Refused(_lines) => Outcome::Wrong,
         },
     }
 }
@@ -194,14 +198,11 @@ fn statuses(rt: HostRuntime) -> Result<(), Fail> {
 fn library(rt: HostRuntime) -> Result<(), Fail> {
     let alloc = rt.alloc();
     let list = RuleList::from_bytes(alloc, LIST.as_bytes(), Grammar::Strict)?;
-    let lines = list.lines.as_slice();
+    let lines = list.lines();
     assert!(&rt; lines.len() == 5, "lines");
     let numbers = [lines[0].number, lines[1].number, lines[4].number];
     assert!(&rt; numbers == [1, 3, 7], "numbers of lines");
-    let rules = Rules {
-        list: list.rules,
-        default: Action::Deny,
-    };
+    let rules = list.into_rules(Action::Deny);
     let denied = IpAddr::V4(Ipv4Addr::new(10, 0, 1, 200));
     assert!(&rt; rules.verdict(&denied) == Action::Deny, "denied");
     let permitted = IpAddr::V6(Ipv6Addr::new(0xfd00, 0, 0, 0, 0, 0, 0, 15));
@@ -238,7 +239,7 @@ fn readers(rt: HostRuntime) -> Result<(), Fail> {
             Ok(list) => {
                 assert!(&rt; failure.is_none(), "{label}: no failure");
                 assert!(&rt;
-                    list.rules.len() == 1 && list.refused.len() == 1,
+                    list.lines().len() == 1 && list.refused().len() == 1,
                     "{label}: lines"
                 );
             }

@@ -3,7 +3,7 @@
 use crate::support::{NAMES, answer, run_lists};
 use ipnet::Grammar;
 use netset_lib::{
-    Failure, Families, Form, Operation, Query, ReadFailure, Request, Session, Side, Work,
+    Failure, Families, Form, ListOperation, Query, ReadFailure, Request, Session, Side, Work,
 };
 use std::alloc::{AllocError, Global};
 use std::io::ErrorKind;
@@ -22,7 +22,7 @@ type Ends = (&'static [u8], &'static [u8], u8);
 
 /// The request for the networks of all lists.
 const UNION: Request = Request {
-    operation: Operation::Union,
+    operation: ListOperation::Union,
     grammar: Grammar::Strict,
     form: Form::Networks,
 };
@@ -32,25 +32,29 @@ fn counts_of_operations(rt: HostRuntime) -> Result<(), Fail> {
     let alloc = rt.alloc();
     // label, operation, whether it takes none, one, two, three and four lists
     let rows = [
-        ("union", Operation::Union, [false, true, true, true, true]),
+        (
+            "union",
+            ListOperation::Union,
+            [false, true, true, true, true],
+        ),
         (
             "intersection",
-            Operation::Intersection,
+            ListOperation::Intersection,
             [false, false, true, true, true],
         ),
         (
             "difference",
-            Operation::Difference,
+            ListOperation::Difference,
             [false, false, true, true, true],
         ),
         (
             "symmetric-difference",
-            Operation::SymmetricDifference,
+            ListOperation::SymmetricDifference,
             [false, false, true, false, false],
         ),
         (
             "complement",
-            Operation::Complement(Families::Named),
+            ListOperation::Complement(Families::Named),
             [false, true, false, false, false],
         ),
     ];
@@ -85,7 +89,7 @@ fn counts_of_operations(rt: HostRuntime) -> Result<(), Fail> {
         Vec::from_slice(alloc, b"10.0.0.1")?,
         Vec::from_slice(alloc, b"x")?,
     ];
-    let operation = Operation::Complement(Families::Named);
+    let operation = ListOperation::Complement(Families::Named);
     let found = answer(alloc, Work::Combine(Request { operation, ..UNION }), &lists);
     assert!(&rt;
         matches!(found, Err(Failure::Count)),

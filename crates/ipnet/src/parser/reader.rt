@@ -16,7 +16,7 @@ ghost use Rattle.ipnet.specs.ReaderSteps.{read_groups, read_compressed, read_ipv
 use crate::net::{IpNet, Ipv4Net, Ipv6Net};
 use crate::parser::Grammar;
 use arrayvec::ArrayVec;
-use ipnet_base::digits::hex_value;
+use ipnet_base::digits::hex_digit;
 use std::net::{Ipv4Addr, Ipv6Addr};
 
 /// Up to three decimal digits: their count and their number.
@@ -125,18 +125,14 @@ struct Run<'a> {
 }
 
 /// The hexadecimal digit at this place, if there is one.
-fn hex_digit(text: &[u8], index: usize) -> Option<u16>
+fn hex_digit_at(text: &[u8], index: usize) -> Option<u16>
     ensures none { IfNone result (16 ≤ digit_value (slice_index text.now index)) }
     ensures value { IfSome result (λ d. d ≡ digit_value (slice_index text.now index)) }
     ensures digit { IfSome result (λ d. d < 16) }
     ensures within { IfSome result (λ _. index < length text.now) }
 {
-    let digit = hex_value(*text.get(index)?);
-    if digit < 16 {
-        Some(u16::from(digit))
-    } else {
-        None
-    }
+    let digit = hex_digit(*text.get(index)?)?;
+    Some(digit)
 }
 
 /// The hexadecimal digits at the front, at most four.
@@ -147,7 +143,7 @@ fn first_run(rest: &[u8]) -> Run<'_>
     let mut count = 0;
     let mut number = 0u16;
     while count < 4 {
-        let Some(digit) = hex_digit(rest, count) else {
+        let Some(digit) = hex_digit_at(rest, count) else {
             break;
         };
         number = number * 16 + digit;

@@ -23,9 +23,13 @@ pub(crate) trait StoredNumber: Number {
         ensures { OnOk result (IsAppended width (Self.number self) bytes.old.items bytes.new.items) };
 }
 
-/// Returns the number in the eight bytes from byte `at` on.
+/// Returns the number in the eight bytes from byte `at` on, the least significant first.
+///
+/// ```text
+/// the bytes 0, 1, 2, 0, 0, 0, 0, 0, 0, from byte 1 on    513
+/// ```
 #[inline(always)]
-pub(crate) fn read_u64(bytes: &[u8], at: usize) -> u64
+pub fn read_u64(bytes: &[u8], at: usize) -> u64
     requires { at + 8 ≤ length bytes.now }
     ensures { result ≡ number_from 8 bytes.now at }
 {
@@ -34,9 +38,13 @@ pub(crate) fn read_u64(bytes: &[u8], at: usize) -> u64
     low + high * 0x1_0000_0000
 }
 
-/// Returns the number in the four bytes from byte `at` on.
+/// Returns the number in the four bytes from byte `at` on, the least significant first.
+///
+/// ```text
+/// the bytes 0, 1, 2, 0, 0, from byte 1 on    513
+/// ```
 #[inline(always)]
-pub(crate) fn read_u32(bytes: &[u8], at: usize) -> u32
+pub fn read_u32(bytes: &[u8], at: usize) -> u32
     requires { at + 4 ≤ length bytes.now }
     ensures { result ≡ number_from 4 bytes.now at }
 {

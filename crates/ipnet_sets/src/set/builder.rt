@@ -109,8 +109,8 @@ impl IpSetBuilder {
 
     /// Returns the set of the addresses. Fails only when memory runs out; a builder without an address needs none.
     ///
-    /// The time grows with the number of ranges that came out of order and its logarithm, and linearly with the size of
-    /// the set.
+    /// The time grows with the number of ranges that came out of order and its logarithm, and linearly with the ranges
+    /// of each family that has such a range. A family without one is not copied.
     ///
     /// ```text
     /// after push_address(10.0.0.1), push_address(10.0.0.0): the set of 10.0.0.0-10.0.0.1
@@ -125,13 +125,8 @@ impl IpSetBuilder {
             ipv4_waiting,
             ipv6_waiting,
         } = self;
-        let in_order = IpSet { ipv4, ipv6 };
-        let ipv4 = gather::join_all(alloc, ipv4_waiting)?;
-        let ipv6 = gather::join_all(alloc, ipv6_waiting)?;
-        let others = IpSet { ipv4, ipv6 };
-        if others.is_empty() {
-            return Ok(in_order);
-        }
-        in_order.union(alloc, &others)
+        let ipv4 = gather::united(alloc, ipv4, ipv4_waiting)?;
+        let ipv6 = gather::united(alloc, ipv6, ipv6_waiting)?;
+        Ok(IpSet { ipv4, ipv6 })
     }
 }

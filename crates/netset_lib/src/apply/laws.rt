@@ -3,7 +3,7 @@ ghost use Rattle.std.specs.Prelude.{◌≡◌, ◌∷◌, List, [], ℕ};
 ghost use Rattle.netset_lib.specs.Answers.{IsAnswer};
 ghost use Rattle.netset_lib.specs.Changes.{IsChangesAnswer};
 ghost use Rattle.netset_lib.specs.ChangeLists.{IsChangedAnswer, HaveRefusedChanges};
-ghost use Rattle.netset_lib.specs.declared.operation.Operation.TheVariants.{Union};
+ghost use Rattle.netset_lib.specs.declared.operation.ListOperation.TheVariants.{Union};
 
 use crate::answer::Request;
 

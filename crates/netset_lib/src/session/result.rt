@@ -11,7 +11,7 @@ use super::Session;
 use crate::answer::Request;
 use crate::command::Work;
 use crate::failure::Failure;
-use crate::operation::combine_sets;
+use crate::operation::combine_owned_sets;
 use ipnet_sets::IpSet;
 use std::alloc::Global;
 
@@ -55,6 +55,6 @@ impl Session {
         };
         let alloc = self.alloc();
         let Session { sets, .. } = self.into_good()?;
-        Ok(combine_sets(alloc, request.operation, sets.as_slice())?)
+        Ok(combine_owned_sets(alloc, request.operation, sets)?)
     }
 }

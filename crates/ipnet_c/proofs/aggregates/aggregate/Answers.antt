@@ -8,7 +8,7 @@ use Rattle.ipnet_c.proofs.aggregates.aggregate.Goals as goal
 pub returns-in-Ok-aggregate_text_as : goal.returns-in-Ok-aggregate_text_as
 returns-in-Ok-aggregate_text_as c =
     let (same, utf8) = c.in-Ok.ensures.cases in
-    let made = c.write_answer in
+    let made = c.write_to_buffer in
     subst (λ t. IsAggregateReply c.args.grammar t c.args.buffer.now made.new.buffer c.args.count.now made.new.count
     made.result) same
     (aggregated c.args.grammar c.in-Ok.text.now c.as_bytes.result.now c.args.buffer.now made.new.buffer c.args.count.now

@@ -17,7 +17,7 @@ pub returns : goal.returns
 returns c =
     let (same, utf8) = c.in-Ok.ensures.cases in
     let net = c.in-Ok-parse_as.network in
-    let made = c.write_answer in
+    let made = c.write_to_buffer in
     subst (λ t. IsParseReply c.args.grammar t c.args.buffer.now made.new.buffer c.args.count.now made.new.count
     made.result) same
     (parsed c.args.grammar c.in-Ok.text.now c.deref.result.now c.args.buffer.now made.new.buffer c.args.count.now

@@ -12,7 +12,7 @@ returns-in-Err c =
 pub returns : goal.returns
 returns c =
     let (utf8, addresses, kept) = c.in-Ok.ensures.set in
-    let made = c.write_answer in
+    let made = c.write_to_buffer in
     let set = c.in-Ok.set in
     compiled c.args.grammar c.args.text.now c.as_slice.result.now c.args.buffer.now made.new.buffer c.args.count.now
     made.new.count made.result utf8

@@ -23,7 +23,7 @@ returns-then-not-is_empty c =
 pub returns : goal.returns
 returns c =
     let list = c.in-Ok.list in
-    let made = c.write_answer in
+    let made = c.write_to_buffer in
     let shown = c.as_slice-refused.ensures.value in
     list_compiled c.args.grammar c.args.text.now c.as_slice.result.now c.args.buffer.now made.new.buffer
     c.args.count.now made.new.count made.result list.set list.refused c.in-Ok.ensures

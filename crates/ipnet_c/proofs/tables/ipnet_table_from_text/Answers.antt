@@ -8,7 +8,7 @@ use Rattle.ipnet_c.proofs.tables.ipnet_table_from_text.Goals as goal
 pub returns : goal.returns
 returns c =
     let (same, utf8) = c.in-Ok.ensures.cases in
-    let made = c.write_answer in
+    let made = c.write_to_buffer in
     let networks = c.in-Ok-read_networks.networks.items in
     table_compiled c.args.text.now c.args.values.now c.as_slice-2.result.now c.args.buffer.now made.new.buffer
     c.args.count.now made.new.count made.result utf8

@@ -1,31 +1,22 @@
 -- The groups, "::", "/" and the prefix length are the first line (`GroupTexts`).
-use Rattle.std.proofs.Common.{◌+◌, ◌∷◌, [], sym, subst, take}
+use Rattle.std.proofs.Common.{◌+◌, ◌∷◌, [], sym, subst}
 use Rattle.std.specs.Net.Addr.{ipv6_bits, octets_of}
 use Rattle.std.specs.Int.{w128, from_be_bytes}
 use Rattle.ipnet.specs.NetworkOf.{ipv6_network_of}
 use Rattle.ipnet.specs.NetworkTexts.{IsIpv6NetworkText}
 use Rattle.ipnet.specs.declared.parser.Grammar.TheVariants.{Strict}
-use Rattle.ipnet_text.proofs.FrontTexts.{IsFirstLine}
+use Rattle.ipnet_text.specs.Fronts.{IsFirstLine}
 use Rattle.ipnet_text.proofs.GroupTexts.{line_at}
 use Rattle.ipnet_text.proofs.front.ipv6_line.Goals as goal
 
-first : (c : goal.After-new_assert-network) → IsFirstLine (λ t. IsIpv6NetworkText Strict t
-    (ipv6_network_of (from_be_bytes w128 (octets_of
-    (c.in_ok-a.a ∷ c.in_ok-a.b ∷ c.in_ok-a.c ∷ c.in_ok-a.d ∷ 0 ∷ 0 ∷ 0 ∷ 0 ∷ []))) c.in_ok-prefix_len.prefix_len))
-    c.args.bytes.now (c.in_ok-a.len + c.in_ok-prefix_len.digits + 3)
-first c =
-    line_at c.args.bytes.now (c.in_ok-a.a ∷ c.in_ok-a.b ∷ c.in_ok-a.c ∷ c.in_ok-a.d ∷ 0 ∷ 0 ∷ 0 ∷ 0 ∷ [])
+pub returns : goal.returns
+unfolding ipv6_bits
+returns c =
+    let len = c.in_ok-a.len + c.in_ok-prefix_len.digits + 3 in
+    let of_groups = subst (λ groups. IsFirstLine (IsIpv6NetworkText Strict) c.args.bytes.now len
+    (ipv6_network_of (from_be_bytes w128 (octets_of groups)) c.in_ok-prefix_len.prefix_len)) (sym c.new.ensures)
+    (line_at c.args.bytes.now (c.in_ok-a.a ∷ c.in_ok-a.b ∷ c.in_ok-a.c ∷ c.in_ok-a.d ∷ 0 ∷ 0 ∷ 0 ∷ 0 ∷ [])
     c.in_ok-a.len c.in_ok-prefix_len.digits c.in_ok-prefix_len.prefix_len c.in_ok-a.ensures.head c.in_ok-a.ensures.few
     c.if-bytes-lt-LONGEST_IPV6.false c.if-after-ne47.false c.in_ok-prefix_len.ensures.octet
-    c.in_ok-prefix_len.ensures.few c.in_ok-prefix_len.ensures.end c.if-prefix_len-gt128.false
-
-pub returns-clause-network : goal.returns-clause-network
-unfolding ipv6_bits
-returns-clause-network c =
-    let line = take (c.in_ok-a.len + c.in_ok-prefix_len.digits + 3) c.args.bytes.now in
-    let of_groups = subst (λ groups. IsIpv6NetworkText Strict line (ipv6_network_of (from_be_bytes w128
-    (octets_of groups)) c.in_ok-prefix_len.prefix_len)) (sym c.new.ensures) (first c).network in
-    subst (IsIpv6NetworkText Strict line) (sym c.new_assert-network.ensures) of_groups
-
-pub returns-clause-lines : goal.returns-clause-lines
-returns-clause-lines c = (first c).lines
+    c.in_ok-prefix_len.ensures.few c.in_ok-prefix_len.ensures.end c.if-prefix_len-gt128.false) in
+    subst (IsFirstLine (IsIpv6NetworkText Strict) c.args.bytes.now len) (sym c.new_assert-network.ensures) of_groups

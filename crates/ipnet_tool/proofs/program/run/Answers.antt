@@ -33,11 +33,11 @@ returns-in-Err-clause-bad_line g c = λ one.
       bad = bad.bad;
     }
 
-pub returns-in_default-write_answer-clause-cut_short : goal.returns-in_default-write_answer-clause-cut_short
-returns-in_default-write_answer-clause-cut_short g c = λ _.
+pub returns-in_default-write_networks-clause-cut_short : goal.returns-in_default-write_networks-clause-cut_short
+returns-in_default-write_networks-clause-cut_short g c = λ _.
     let read = c.in-Ok.ensures.networks in
     let blocks = networks_of c.aggregate.new.self in
-    let (front, begins, written) = c.write_answer.ensures.front in
+    let (front, begins, written) = c.write_networks.ensures.front in
     inr (record {
       grammar = c.in-Some.grammar;
       chosen = c.in-Some.ensures.some;
@@ -66,6 +66,6 @@ returns-clause-answered g c = λ _.
         text = text_of_lines blocks;
         right = answer_from c.in-Some.grammar read.text (text_of_lines blocks) read.written
             (networks_of c.in-Ok.families) blocks read.are read.same c.aggregate.ensures.aggregate refl;
-        written = c.in-Ok-write_answer.ensures.whole;
+        written = c.in-Ok-write_networks.ensures.whole;
       };
     }

@@ -3,9 +3,10 @@ use Rattle.ipnet_text.proofs.LineCuts.{some_bytes, no_bytes}
 use Rattle.ipnet_text.proofs.ListsLaws.{OnOk_then}
 use Rattle.netset_lib.specs.Entries.{IsEntryText, IsNoEntry}
 use Rattle.netset_lib.specs.FoundEntry.{found_range}
+use Rattle.netset_lib.specs.Lists.{refusal_at}
 use Rattle.netset_lib.specs.Reading.{Adds}
 use Rattle.netset_lib.specs.RefusedLines.{HasMore}
-use Rattle.netset_lib.proofs.ListReading.{adds_empty, adds_entry, adds_refusal, entry_at, refusal_at}
+use Rattle.netset_lib.proofs.ListReading.{adds_empty, adds_entry, adds_refusal, entry_at}
 use Rattle.netset_lib.proofs.ListReading.{reads_one}
 use Rattle.netset_lib.proofs.reader.LineReader.read_line.Goals as goal
 
@@ -36,12 +37,11 @@ pub returns-in-None : goal.returns-in-None
 returns-in-None g c =
     let old = c.args.self.now in
     let text = c.contents_of-text.result.now in
-    let cause = c.cause_of-cause.result in
     let made = g.C.Collector.is_made c.args.collector.now c.args.made.now in
     let none : IsNoEntry old.grammar text = c.in-None.ensures.reads.none.0 refl in
     OnOk_then c.push-in-None.result c.push-in-None.ensures
     (λ more. reads_one old _ c.args.line.now text made made c.contents_of-text.ensures
-    (adds_refusal old _ text refl refl c.in-Some.ensures.1 made cause
-    (some_bytes (length text) c.if-is_empty.ensures) none c.cause_of-cause.ensures.reported
-    (subst (λ n. HasMore old.refused c.push-in-None.new.self (refusal_at old.list n text cause ∷ []))
+    (adds_refusal old _ text refl refl c.in-Some.ensures.1 made
+    (some_bytes (length text) c.if-is_empty.ensures) none
+    (subst (λ n. HasMore old.refused c.push-in-None.new.self (refusal_at old.grammar old.list n text ∷ []))
     c.in-Some.ensures.1 more) refl))

@@ -1,9 +1,6 @@
-use Rattle.std.proofs.Common.{sym, ap, ◌∙◌, subst, ◌↔◌}
+use Rattle.std.proofs.Common.{sym, ap, ◌∙◌, subst}
 use Rattle.std.proofs.lemmas.Result.{err_from_is_err_and}
-use Rattle.ipnet_base.specs.Address.{Address}
-use Rattle.ipnet_sets.specs.Members.{IsMember}
 use Rattle.netset_lib.specs.declared.command.Work.TheVariants.{Combine}
-use Rattle.netset_lib.specs.Operations.{IsInResult}
 use Rattle.netset_lib.specs.Sessions.{WereRead}
 use Rattle.netset_lib.proofs.SessionLaws.{result_right}
 use Rattle.netset_lib.proofs.session.Session.into_set.Goals as goal
@@ -21,7 +18,6 @@ returns-clause-set c = λ request lists h.
     let s = c.in_ok-sets.field-0 in
     let q = c.in-Combine.request in
     let good = c.in_ok-sets.ensures.good in
-    result_right q request lists s c.in_ok-combine_sets.field-0
+    result_right q request lists s c.in_ok-combine_owned_sets.field-0
     (subst (WereRead (Combine request) lists) (sym good.0) h) good.1 (ap (λ z. z.work) good.0 ∙ c.in-Combine.is)
-    (subst (λ z. (x : Address) → IsMember c.in_ok-combine_sets.field-0 x ↔ IsInResult IsMember q.operation z x)
-    c.as_slice.ensures.value c.in_ok-combine_sets.ensures)
+    c.in_ok-combine_owned_sets.ensures

@@ -1,9 +1,9 @@
--- Without an address no range that waits has a number, so none of them needs memory, and there is nothing to unite.
-use Rattle.std.proofs.Common.{◌∙◌, sym, refl, inr}
+-- Without an address no range that waits has a number, so none of them needs memory.
+use Rattle.std.proofs.Common.{inr}
 use Rattle.std.proofs.lemmas.Bool.{false≢true}
 use Rattle.ipnet_base.specs.Address.{IPv4, IPv6}
 use Rattle.ipnet_sets.proofs.MemberLaws.{fits_below}
-use Rattle.ipnet_sets.proofs.PushedLaws.{made_of_both, none_waits}
+use Rattle.ipnet_sets.proofs.PushedLaws.{made_of_both}
 use Rattle.ipnet_sets.proofs.set.builder.IpSetBuilder.into_set.Goals as goal
 
 pub returns-in_err-ipv4-clause-empty : goal.returns-in_err-ipv4-clause-empty
@@ -16,12 +16,6 @@ returns-in_err-ipv6-clause-empty c = λ none.
     absurd (false≢true (c.in_err-ipv6.ensures.empty (λ x le waits.
     none (record { family = IPv6; number = x }) (record { fits = fits_below IPv6 x le; held = inr waits }))))
 
-pub returns-clause-empty : goal.returns-clause-empty
-returns-clause-empty c = λ none.
-    absurd (false≢true (sym c.if-is_empty.false ∙ c.is_empty.ensures.1 (none_waits c.args.self _
-    c.in_ok-ipv4.ensures.members c.in_ok-ipv6.ensures.members none)))
-
 pub returns-clause-members : goal.returns-clause-members
 returns-clause-members c =
-    made_of_both c.union.result c.args.self _ _ refl refl c.in_ok-ipv4.ensures.members c.in_ok-ipv6.ensures.members
-    c.union.ensures.members
+    made_of_both c.args.self _ c.in_ok-ipv4.ensures.members c.in_ok-ipv6.ensures.members

@@ -5,7 +5,7 @@ use Rattle.std.proofs.lemmas.List.{length-map, map_push}
 use Rattle.ipnet_base.proofs.ResultLaws.{true_gives, false_gives}
 use Rattle.ipnet_sets.specs.Gather.{IsJoined}
 use Rattle.ipnet_sets.proofs.JoinLaws.{joined_new, joined_new_open}
-use Rattle.ipnet_sets.proofs.gather.push_range.Goals as goal
+use Rattle.ipnet_sets.proofs.gather.append_range.Goals as goal
 
 pub returns-in_ok-push-2-clause-joined : goal.returns-in_ok-push-2-clause-joined
 returns-in_ok-push-2-clause-joined g c =

@@ -2,7 +2,7 @@ use Rattle.std.proofs.Common.{◌++◌, [], map, take}
 use Rattle.ipnet.specs.NetworkOf.{ipv4_network, ipv6_network}
 use Rattle.ipnet_text.specs.LineTexts.{text_of_lines}
 use Rattle.ipnet_text.specs.Pieces.{IsInPieces}
-use Rattle.ipnet_tool.proofs.answer.write_answer.Given as goal
+use Rattle.ipnet_tool.proofs.answer.write_networks.Given as goal
 
 abbrev pub invariant-loop-network : goal.invariant-loop-network
 invariant-loop-network g l = IsInPieces (g.W.Write.contents l.fn.out) (g.W.Write.contents l.out) l.piece.bytes

@@ -14,7 +14,7 @@ use Rattle.ipnet_text.specs.declared.net_lists.NetLists.{NetLists}
 use Rattle.ipnet.specs.declared.net.ipv6_net.Ipv6Net.{Ipv6Net}
 use Rattle.ipnet_text.proofs.LineTextLaws.{one_line_more, text_of_lines-append}
 use Rattle.ipnet_text.proofs.WritingLaws.{pieces_more, front_written, all_written, whole_front, text_cut}
-use Rattle.ipnet_tool.proofs.answer.write_answer.Goals as goal
+use Rattle.ipnet_tool.proofs.answer.write_networks.Goals as goal
 
 pub loop-network-preserved : goal.loop-network-preserved
 loop-network-preserved g c =

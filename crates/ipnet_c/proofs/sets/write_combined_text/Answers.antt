@@ -10,9 +10,9 @@ use Rattle.ipnet_c.proofs.BadTexts.{later_no_memory}
 use Rattle.ipnet_c.proofs.ListReplies.{good_at_once}
 use Rattle.ipnet_c.proofs.SetReplies.{combined, not_read, empty_of_empty, text_of_both}
 use Rattle.ipnet_c.proofs.TakenLaws.{empty_set}
-use Rattle.ipnet_c.proofs.sets.combine.Goals as goal
-use Rattle.ipnet_c.proofs.sets.combine.Goals.{else-is_empty-via-else-is_empty}
-use Rattle.ipnet_c.proofs.sets.combine.Goals.{else-is_empty-via-then-is_empty+else-is_empty-2}
+use Rattle.ipnet_c.proofs.sets.write_combined_text.Goals as goal
+use Rattle.ipnet_c.proofs.sets.write_combined_text.Goals.{else-is_empty-via-else-is_empty}
+use Rattle.ipnet_c.proofs.sets.write_combined_text.Goals.{else-is_empty-via-then-is_empty+else-is_empty-2}
 
 pub returns-in-Err : goal.returns-in-Err
 returns-in-Err c =
@@ -22,7 +22,7 @@ returns-in-Err c =
 pub returns-then-is_empty-2 : goal.returns-then-is_empty-2
 returns-then-is_empty-2 c =
     let (utf8, utf8_other, h, k, kept) = c.in-Ok.ensures.sets in
-    let made = c.write_answer in
+    let made = c.write_to_buffer in
     combined c.args.operation c.args.texts.0.now c.args.texts.1.now [] c.args.buffer.now made.new.buffer
     c.args.count.now made.new.count made.result utf8 utf8_other
     (empty_of_empty c.args.operation c.args.texts.0.now c.args.texts.1.now c.in-Ok.sets.0 c.in-Ok.sets.1 h k
@@ -52,7 +52,7 @@ returns c =
     let text = c.args.texts.0.now in
     let other = c.args.texts.1.now in
     let (utf8, utf8_other, h, k, kept) = c.in-Ok.ensures.sets in
-    let made = c.write_answer-2 in
+    let made = c.write_to_buffer-2 in
     let (set, is, spelled) = c.in-Ok-combined_text.ensures in
     combined c.args.operation text other c.as_bytes.result.now c.args.buffer.now made.new.buffer c.args.count.now
     made.new.count made.result utf8 utf8_other
