@@ -1,7 +1,10 @@
 //! The texts beside a map: its title, its foot and its legend.
-ghost use Rattle.std.specs.Prelude.{◌+◌, ◌≤◌};
+ghost use Rattle.std.specs.Prelude.{◌≡◌, ◌+◌, ◌^◌, ◌≤◌, IfOk};
 ghost use Rattle.ipnet_base.specs.Address.{width};
 ghost use Rattle.ipnet.specs.NetworkOf.{ip_network};
+ghost use Rattle.ipnet_maps.specs.Cuts.{columns_in};
+ghost use Rattle.ipnet_maps.specs.Squares.{square_cuts};
+ghost use Rattle.svg_maps.specs.Pages.{cell_pixels};
 
 use crate::form::MapForm;
 use crate::label::{Ink, Label, Swatch, label_at};
@@ -88,6 +91,8 @@ pub(crate) fn captions_of(
 ) -> Result<PageTexts, AllocError>
     requires few { drawing.now.depth ≤ 20 }
     requires fits { (ip_network frame.now).prefix_len + drawing.now.depth ≤ width (ip_network frame.now).family }
+    ensures { IfOk result (λ texts. texts.sheet.scale
+        ≡ cell_pixels (2 ^ columns_in (square_cuts (ip_network frame.now).prefix_len drawing.now.depth))) }
 {
     let depth = drawing.depth;
     let cell_len = frame.prefix_len() + depth;

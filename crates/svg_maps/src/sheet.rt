@@ -88,7 +88,9 @@ pub(crate) fn row_after(row: u32, lines: usize) -> u32 {
 }
 
 /// Returns the sizes of a page whose map has these sides and begins below this row, and whose foot has this many lines.
-pub(crate) fn sheet_of(sides: Sides, has_heads: bool, row: u32, foot_lines: usize) -> Sheet {
+pub(crate) fn sheet_of(sides: Sides, has_heads: bool, row: u32, foot_lines: usize) -> Sheet
+    ensures { result.scale ≡ cell_pixels sides.width }
+{
     let scale = scale_of(sides);
     let column = if has_heads { 56 } else { 16 };
     let row = row.saturating_add(if has_heads { 14 } else { 0 });
