@@ -37,6 +37,11 @@ pub record IsNamedOutline (names : List (Route (Bor (List ℕ)))) (frame : Netwo
   pub title : HasTitle name.now o.title
   pub label : IsShortened name.now (string_bytes o.label)
 
+-- The network without its host bits has a name. Only private contracts use this.
+-- Example: 10.20.0.0/18, if the names have 10.20.0.0/18 with `Berlin`.
+pub record HasName (names : List (Route (Bor (List ℕ)))) (n : Network) : Type 0 where
+  pub listed : Contains (networks_of names) (truncation n)
+
 -- The outlines are around the networks with names that are in the frame and not smaller than a cell: around all of them
 -- if there are at most 1,500, and otherwise around the 1,500 largest, the larger first.
 -- Example: in 10.20.0.0/16, the outline of 10.20.0.0/18 is before the one of 10.20.96.0/20, and 10.0.0.0/8 has none.

@@ -12,6 +12,7 @@ pub mod free;
 pub mod label;
 pub mod laws;
 pub mod legend;
+pub mod lines;
 pub mod map;
 pub mod name;
 pub mod named;

@@ -7,7 +7,7 @@ ghost use Rattle.ipnet.specs.NetworkOf.{ip_network};
 ghost use Rattle.ipnet_sets.specs.Routes.{ip_networks};
 ghost use Rattle.ipnet_sets.specs.RoutesOf.{routes_of};
 ghost use Rattle.svg_maps.specs.FreeOutlines.{largest_first};
-ghost use Rattle.svg_maps.specs.NamedOutlines.{IsShortened, IsNamedOutline, AreNamedOutlines};
+ghost use Rattle.svg_maps.specs.NamedOutlines.{IsShortened, IsNamedOutline, HasName, AreNamedOutlines};
 
 use crate::free::{MOST, largest_blocks};
 use crate::outline::{Outline, OutlineClass};
@@ -40,11 +40,12 @@ fn named_outline(
     requires fits { (ip_network frame.now).prefix_len + depth ≤ width (ip_network frame.now).family }
     requires inside { IsSubnetOf (ip_network network.now) (ip_network frame.now) }
     requires large { (ip_network network.now).prefix_len ≤ (ip_network frame.now).prefix_len + depth }
+    requires named { HasName (routes_of names.now) (ip_network network.now) }
     ensures { IfOk result
         (IsNamedOutline (routes_of names.now) (ip_network frame.now) depth (ip_network network.now)) }
 {
     let Some(name) = names.get(network) else {
-        return Err(AllocError);
+        unreachable!();
     };
     let title = shortened(alloc, name)?;
     let label = shortened(alloc, name)?;
@@ -69,6 +70,7 @@ fn outlines_in_order(
     requires fits { (ip_network frame.now).prefix_len + depth ≤ width (ip_network frame.now).family }
     requires inside { All (λ n. IsSubnetOf (ip_network n) (ip_network frame.now)) networks.now }
     requires large { All (λ n. (ip_network n).prefix_len ≤ (ip_network frame.now).prefix_len + depth) networks.now }
+    requires named { All (λ n. HasName (routes_of names.now) (ip_network n)) networks.now }
     ensures { IfOk result (λ list. AllZip (IsNamedOutline (routes_of names.now) (ip_network frame.now) depth)
         (map ip_network networks.now) list.items) }
 {
@@ -91,6 +93,7 @@ fn largest_outlines(
     requires few { depth ≤ 20 }
     requires fits { (ip_network frame.now).prefix_len + depth ≤ width (ip_network frame.now).family }
     requires inside { (n : Network) → Contains (map ip_network networks.now) n → IsSubnetOf n (ip_network frame.now) }
+    requires named { (n : Network) → Contains (map ip_network networks.now) n → HasName (routes_of names.now) n }
     ensures { let n = ip_network frame.now in
         IfOk result (λ list. AllZip (IsNamedOutline (routes_of names.now) n depth)
         (take 1500 (largest_first (map ip_network networks.now) n.prefix_len (depth + 1))) list.items) }

@@ -11,6 +11,7 @@ ghost use Rattle.svg_maps.specs.Overlays.{AreOutlinesOver};
 
 use crate::entry::{MapEntries, entry_outlines};
 use crate::free::outlines_of;
+use crate::lines::lines_of;
 use crate::named::named_outlines;
 use crate::outline::Outline;
 use crate::style::Theme;
@@ -19,9 +20,6 @@ use ipnet_pictures::summary::{push_free, push_largest};
 use ipnet_pictures::{free_in, largest_of};
 use ipnet_sets::{IpSet, RouteTable};
 use std::alloc::{AllocError, Global};
-
-/// The most characters of a line of the legend that is cut.
-const LONGEST: usize = 100;
 
 /// How a map looks, which networks on it have names, and which are entries of its lists.
 #[derive(Clone, Copy)]
@@ -64,26 +62,6 @@ impl Overlay {
     }
 }
 
-/// Appends the text, as lines that are cut after commas if they are too long.
-fn push_cut(alloc: Global, lines: &mut Vec<String>, text: &str) -> Result<(), AllocError> {
-    let mut line = String::new(alloc);
-    for part in text.split(',') {
-        if line.is_empty() {
-            line.push_str(part)?;
-        } else {
-            line.push_str(",")?;
-            if line.len().saturating_add(part.len()) > LONGEST {
-                lines.push(line)?;
-                line = String::from_str(alloc, part.trim_start())?;
-            } else {
-                line.push_str(part)?;
-            }
-        }
-    }
-    lines.push(line)?;
-    Ok(())
-}
-
 /// The lines of the legend about the free blocks.
 fn free_lines(alloc: Global, free: &[IpNet], frame: &IpNet) -> Result<Vec<String>, AllocError> {
     let mut text = String::new(alloc);
@@ -92,7 +70,8 @@ fn free_lines(alloc: Global, free: &[IpNet], frame: &IpNet) -> Result<Vec<String
     let mut lines = Vec::new(alloc);
     for line in text.as_str().split('\n') {
         if !line.is_empty() {
-            push_cut(alloc, &mut lines, line)?;
+            let mut cut = lines_of(alloc, line, ", ")?;
+            lines.append(&mut cut)?;
         }
     }
     Ok(lines)

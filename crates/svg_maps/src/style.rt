@@ -1,6 +1,6 @@
 //! The style sheets of maps: the colours of each class, for light and dark pages.
-ghost use Rattle.std.specs.Prelude.{◌≡◌, ◌++◌, OnOk, flat_map, string_bytes};
-ghost use Rattle.svg_maps.specs.Styles.{rule_text};
+ghost use Rattle.std.specs.Prelude.{◌≡◌, ◌++◌, IfOk, OnOk, flat_map, string_bytes};
+ghost use Rattle.svg_maps.specs.Styles.{rule_text, both_text, colours_text, style_text};
 
 use std::alloc::{AllocError, Global};
 
@@ -111,22 +111,41 @@ fn push_rules(text: &mut String, rules: &[&str]) -> Result<(), AllocError>
     Ok(())
 }
 
+/// Appends the colours of a light page, and the colours of a dark page for a reader who prefers dark pages.
+fn push_both(text: &mut String) -> Result<(), AllocError>
+    ensures { OnOk result (string_bytes text.new ≡ string_bytes text.old ++ both_text) }
+{
+    push_rules(text, LIGHT)?;
+    text.push_str("@media(prefers-color-scheme:dark){")?;
+    push_rules(text, DARK)?;
+    text.push_str("}")?;
+    Ok(())
+}
+
+/// Appends the colours of the theme.
+fn push_colours(text: &mut String, theme: Theme) -> Result<(), AllocError>
+    ensures { OnOk result (string_bytes text.new ≡ string_bytes text.old ++ colours_text theme) }
+{
+    match theme {
+        Theme::Auto => push_both(text),
+        Theme::Light => push_rules(text, LIGHT),
+        Theme::Dark => push_rules(text, DARK),
+    }
+}
+
 /// Returns the style sheet of the theme. Each rule is below the class `netmap` of the document, so the rules do not
 /// change other parts of a page into which the document is put. Fails only if memory runs out.
 ///
 /// Some programs that draw a document of SVG do not know what the reader prefers: for them `Auto` is light.
-pub fn style_of(alloc: Global, theme: Theme) -> Result<String, AllocError> {
+///
+/// ```text
+/// of Light: .netmap text{..}.netmap .head{..} .. .netmap .page{fill:#ffffff} ..
+/// ```
+pub fn style_of(alloc: Global, theme: Theme) -> Result<String, AllocError>
+    ensures { IfOk result (λ text. string_bytes text ≡ style_text theme) }
+{
     let mut text = String::new(alloc);
     push_rules(&mut text, COMMON)?;
-    match theme {
-        Theme::Light => push_rules(&mut text, LIGHT)?,
-        Theme::Dark => push_rules(&mut text, DARK)?,
-        Theme::Auto => {
-            push_rules(&mut text, LIGHT)?;
-            text.push_str("@media(prefers-color-scheme:dark){")?;
-            push_rules(&mut text, DARK)?;
-            text.push_str("}")?;
-        }
-    }
+    push_colours(&mut text, theme)?;
     Ok(text)
 }

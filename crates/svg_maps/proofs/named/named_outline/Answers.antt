@@ -1,6 +1,9 @@
 use Rattle.std.proofs.Common.{refl}
 use Rattle.svg_maps.proofs.named.named_outline.Goals as goal
 
+pub unreachable-requires : goal.unreachable-requires
+unreachable-requires c = c.in_default.ensures.none.0 refl c.requires.named.listed
+
 pub returns : goal.returns
 returns c = record {
   class = refl;

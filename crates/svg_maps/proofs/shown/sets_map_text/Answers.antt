@@ -29,7 +29,7 @@ returns c =
     ∙ ap (λ z. length z) c.in_ok-words.ensures ∙ length-map given (λ name. list_words name.now) in
     let look = c.args.look in
     let outlines = c.in_ok-overlay.overlay.outlines.items in
-    IfOk-weaker c.map_text.result (λ text. IsOutlinedMap n counted d outlines (string_bytes text))
+    IfOk-weaker c.map_text.result (λ text. IsOutlinedMap n counted d c.as_str.result.now outlines (string_bytes text))
     (λ text. IsOutlinedSetsMap look sets names n (string_bytes text)) (λ text m. (
       record {
         drawing = d;
@@ -42,7 +42,10 @@ returns c =
             ∙ words_of_names given;
         page = m.0;
       },
-      subst (AreOutlinesOver look (IsInSome IsMember sets) n d.depth) (sym m.1)
-          (over_same look (IsMember c.in_ok-all.all) (IsInSome IsMember sets) n d.depth outlines
-          c.in_ok-all.ensures.members c.in_ok-overlay.ensures),
+      record {
+        style = m.1 ∙ c.as_str.ensures.value ∙ c.in_ok-style.ensures;
+        outlines = subst (AreOutlinesOver look (IsInSome IsMember sets) n d.depth) (sym m.2)
+            (over_same look (IsMember c.in_ok-all.all) (IsInSome IsMember sets) n d.depth outlines
+            c.in_ok-all.ensures.members c.in_ok-overlay.ensures);
+      },
     )) c.map_text.ensures
