@@ -7,6 +7,7 @@ use Rattle.ipnet_base.proofs.ListLaws.{all_at, all_from_members}
 use Rattle.ipnet_sets.specs.Routes.{Route, networks_of, AreWithin}
 use Rattle.svg_maps.specs.declared.outline.Outline.{Outline}
 use Rattle.svg_maps.specs.declared.overlay.Look.{Look}
+use Rattle.svg_maps.specs.declared.square.Counted.{Counted}
 use Rattle.svg_maps.specs.Overlays.{AreOutlinesOver}
 use Rattle.svg_maps.proofs.FreeLaws.{outlines_same}
 
@@ -19,10 +20,10 @@ within_inside {V} names within frame are n m =
     (all_from_members (λ (r : Route V). IsSubnetOf r.0 frame) within (λ r c. ((are.members r).0 c).1))) n m
 
 -- sets with the same addresses have the same outlines over their maps
-pub over_same : (look : Look) (First Second : Address → Type 0) (frame : Network) (depth : ℕ) (outlines : List Outline)
-    → ((x : Address) → First x ↔ Second x) → AreOutlinesOver look First frame depth outlines
-    → AreOutlinesOver look Second frame depth outlines
-over_same look First Second frame depth outlines same h = record {
+pub over_same : (look : Look) (counted : List Counted) (First Second : Address → Type 0) (frame : Network) (depth : ℕ)
+    (outlines : List Outline) → ((x : Address) → First x ↔ Second x)
+    → AreOutlinesOver look counted First frame depth outlines → AreOutlinesOver look counted Second frame depth outlines
+over_same look counted First Second frame depth outlines same h = record {
   entries = h.entries;
   are_entries = h.are_entries;
   named = h.named;

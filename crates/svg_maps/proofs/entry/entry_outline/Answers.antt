@@ -29,6 +29,6 @@ returns c =
       record {
         class = refl;
         area = c.in-Some.ensures.some;
-        title = c.in_ok-title.ensures.ok ∙ c.as_str.ensures.value;
+        title = c.in_ok-title.ensures;
       },
     )

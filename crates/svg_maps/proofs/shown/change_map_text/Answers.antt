@@ -31,7 +31,7 @@ returns c =
         words = refl;
         page = m.0;
       },
-      subst (AreOutlinesOver look (IsInEither (IsMember before) (IsMember after)) n d.depth) (sym m.1)
-          (over_same look (IsMember c.in_ok-all.all) (IsInEither (IsMember before) (IsMember after)) n d.depth
+      subst (AreOutlinesOver look _ (IsInEither (IsMember before) (IsMember after)) n d.depth) (sym m.1)
+          (over_same look _ (IsMember c.in_ok-all.all) (IsInEither (IsMember before) (IsMember after)) n d.depth
           outlines c.in_ok-all.ensures.members c.in_ok-overlay.ensures),
     )) c.map_text.ensures

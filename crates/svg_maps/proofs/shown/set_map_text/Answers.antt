@@ -22,5 +22,5 @@ returns c =
         words = refl;
         page = m.0;
       },
-      subst (AreOutlinesOver look (IsMember set) n d.depth) (sym m.1) c.in_ok-overlay.ensures,
+      subst (AreOutlinesOver look _ (IsMember set) n d.depth) (sym m.1) c.in_ok-overlay.ensures,
     )) c.map_text.ensures
