@@ -1,5 +1,6 @@
--- Networks with names, and the outlines over a map.
-use Rattle.std.proofs.Common.{List, ℕ, Contains, ◌↔◌}
+-- Networks with names, their titles, and the outlines over a map.
+use Rattle.std.proofs.Common.{◌≡◌, List, [], ◌∷◌, ◌++◌, ℕ, true, false, ◌==◌, length, codes, Contains, ◌↔◌, sym, ◌∙◌}
+use Rattle.std.proofs.Common.{arith, append_assoc, append-nil, eqb-true}
 use Rattle.std.proofs.lemmas.List.Elements.{All-map}
 use Rattle.ipnet_base.specs.Address.{Address}
 use Rattle.ipnet_base.specs.Network.{Network, IsSubnetOf}
@@ -8,8 +9,25 @@ use Rattle.ipnet_sets.specs.Routes.{Route, networks_of, AreWithin}
 use Rattle.svg_maps.specs.declared.outline.Outline.{Outline}
 use Rattle.svg_maps.specs.declared.overlay.Look.{Look}
 use Rattle.svg_maps.specs.declared.square.Counted.{Counted}
+use Rattle.svg_maps.specs.NamedOutlines.{name_part}
 use Rattle.svg_maps.specs.Overlays.{AreOutlinesOver}
 use Rattle.svg_maps.proofs.FreeLaws.{outlines_same}
+
+-- a title without a name
+pub without_name : (text name title : List ℕ) → true ≡ (length name == 0) → title ≡ text
+    → title ≡ text ++ name_part name
+without_name text [] title e is = is ∙ sym (append-nil text)
+without_name text (b ∷ name) title e is =
+    let none : length (b ∷ name) ≡ 0 = eqb-true (length (b ∷ name)) 0 (sym e) in
+    absurd (omega (arith, none))
+
+-- a title with one
+pub with_name : (text name title : List ℕ) → false ≡ (length name == 0) → title ≡ (text ++ codes ": ") ++ name
+    → title ≡ text ++ name_part name
+with_name text [] title e is =
+    let clash : false ≡ true = e in
+    absurd cc
+with_name text (b ∷ name) title e is = is ∙ append_assoc text (codes ": ") (b ∷ name)
 
 -- the networks of the routes within a network are in it
 pub within_inside : {V : Type 0} (names within : List (Route V)) (frame : Network) → AreWithin names frame within
