@@ -25,11 +25,13 @@ pub record IsShownIn (frame : Network) (depth : ℕ) (n : Network) : Type 0 wher
 abbrev pub IsLarge : Rectangle → Type 0
 IsLarge r = (6 ≤ r.sides.width) × (6 ≤ r.sides.height)
 
--- The map shows the entry, and the rectangle of the entry in pixels is large enough.
+-- The map shows the entry as an area: it is a part of the frame, and its rectangle in pixels is large enough. An area
+-- over the whole map would hide its squares.
 -- Example: in 10.20.0.0/16 with 16 bits, a cell has 4 pixels: 10.20.168.0/27 is 2 cells high and is shown, and
--- 10.20.168.0/28 is 1 cell high and is not.
+-- 10.20.168.0/28 is 1 cell high and is not. 10.20.0.0/16 is not shown either.
 pub record IsShownEntry (frame : Network) (depth : ℕ) (e : MapEntry) : Type 0 where
   pub shown : IsShownIn frame depth (ip_network e.network)
+  pub part : ¬ (IsSubnetOf frame (ip_network e.network))
   pub area : Rectangle
   pub is_area : IsRectangleIn frame depth (ip_network e.network) area
   pub large : IsLarge (pixel_rectangle (cell_pixels (2 ^ columns_in (square_cuts frame.prefix_len depth))) area)

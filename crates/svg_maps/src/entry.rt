@@ -59,7 +59,8 @@ fn entry_title(
     Ok(title)
 }
 
-/// The area of the entry with its title, if the map shows the entry and its area is large enough.
+/// The area of the entry with its title, if the map shows the entry, and its area is large enough, but not the whole
+/// map.
 fn entry_outline(
     alloc: Global,
     frame: &IpNet,
@@ -71,6 +72,9 @@ fn entry_outline(
     requires fits { (ip_network frame.now).prefix_len + depth ≤ width (ip_network frame.now).family }
     ensures { IfOk result (IsFoundFor counted.now (ip_network frame.now) depth entry.now) }
 {
+    if entry.network.contains(frame) {
+        return Ok(None);
+    }
     let Some(rectangle) = extent_of(frame, depth, &entry.network) else {
         return Ok(None);
     };
@@ -101,8 +105,8 @@ fn push_found(outlines: &mut Vec<Outline>, found: Option<Outline>) -> Result<(),
     }
 }
 
-/// Returns the areas of the entries that are large enough. The title of each has the text of the entry, and says how
-/// many addresses of its network each of the counted sets has. Fails only if memory runs out.
+/// Returns the areas of the entries that are large enough, but not the whole map. The title of each has the text of the
+/// entry, and says how many addresses of its network each of the counted sets has. Fails only if memory runs out.
 ///
 /// ```text
 /// of 10.20.168.0/22 with "10.20.168.9/22: dhcp-246", in 10.20.0.0/16: the title is

@@ -52,7 +52,7 @@ fn push_without_tabs(text: &mut String, value: &str) -> Result<(), AllocError>
 }
 
 /// The name as a map shows it.
-fn shown_name(alloc: Global, name: &str) -> Result<String, AllocError>
+pub(crate) fn shown_name(alloc: Global, name: &str) -> Result<String, AllocError>
     ensures { IfOk result (λ text. IsShownName name.now (string_bytes text)) }
 {
     let front = shortened(alloc, name)?;
@@ -62,7 +62,7 @@ fn shown_name(alloc: Global, name: &str) -> Result<String, AllocError>
 }
 
 /// The title of the network with this name, which may be empty.
-fn name_title(alloc: Global, network: &IpNet, name: &str) -> Result<String, AllocError>
+pub(crate) fn name_title(alloc: Global, network: &IpNet, name: &str) -> Result<String, AllocError>
     ensures { IfOk result (λ title. string_bytes title
         ≡ canonical_text (ip_network network.now) ++ name_part name.now) }
 {

@@ -15,6 +15,7 @@ use crate::named::named_outlines;
 use crate::outline::Outline;
 use crate::square::Counted;
 use crate::style::Theme;
+use crate::whole::{entry_lines, name_lines};
 use ipnet::IpNet;
 use ipnet_pictures::summary::{push_free, push_largest};
 use ipnet_pictures::{free_in, largest_of};
@@ -153,7 +154,7 @@ fn shown_free(
     }
 }
 
-/// The overlay that outlines the networks with names.
+/// The overlay that outlines the networks with names; the legend has those that are larger than the map.
 fn named_overlay(
     alloc: Global,
     frame: &IpNet,
@@ -166,16 +167,18 @@ fn named_overlay(
         AreNamedOutlines (routes_of names.now) (ip_network frame.now) depth overlay.outlines.items) }
 {
     let outlines = named_outlines(alloc, frame, depth, names)?;
-    let left_out = names.len().saturating_sub(outlines.len());
+    let lines = name_lines(alloc, frame, names)?;
+    let shown = outlines.len().saturating_add(lines.len());
+    let left_out = names.len().saturating_sub(shown);
     let note = left_out_note(alloc, "Named networks without an outline", left_out)?;
     Ok(Overlay {
         outlines,
-        lines: Vec::new(alloc),
+        lines,
         note,
     })
 }
 
-/// The overlay with the areas of the entries.
+/// The overlay with the areas of the entries; the legend has those that contain the whole map.
 fn entry_overlay(
     alloc: Global,
     frame: &IpNet,
@@ -189,11 +192,13 @@ fn entry_overlay(
         depth overlay.outlines.items) }
 {
     let outlines = entry_outlines(alloc, frame, depth, entries.titled, counted)?;
-    let left_out = entries.count.saturating_sub(outlines.len());
+    let lines = entry_lines(alloc, frame, entries.titled)?;
+    let shown = outlines.len().saturating_add(lines.len());
+    let left_out = entries.count.saturating_sub(shown);
     let note = left_out_note(alloc, "Networks of entries without a title", left_out)?;
     Ok(Overlay {
         outlines,
-        lines: Vec::new(alloc),
+        lines,
         note,
     })
 }
