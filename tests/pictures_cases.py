@@ -1,9 +1,10 @@
 """The lists that tests/pictures draws, from a seed. A module, not a script."""
+import functools
 import random
 
 import pictures_model as model
 from entry_model import range_of
-from set_model import WIDTH, address_text, joined
+from set_model import WIDTH, address_text, complement, intersection, joined
 
 SEED = 41
 
@@ -59,6 +60,22 @@ class Case:
         """The names of the lists and their bytes."""
         return [(name, "".join(entry + "\n" for entry in entries).encode())
                 for name, entries in zip("abcdef", self.lists)]
+
+    @functools.cached_property
+    def counted(self):
+        """The sets that titles count: the lists, or what only the first has, what only the second has, and what both
+        have."""
+        if not self.compares:
+            return self.sets
+        before, after = self.sets
+        removed, added = intersection(before, complement(after)), intersection(after, complement(before))
+        return [removed, added, intersection(before, after)]
+
+    def words_of_counts(self):
+        """The words after each count in a title."""
+        if self.compares:
+            return ["only in the first", "only in the second", "in both"]
+        return ["used"] if len(self.lists) == 1 else ["in " + name for name, _ in self.files()]
 
     def status(self):
         return 1 if self.compares and self.sets[0] != self.sets[1] else 0

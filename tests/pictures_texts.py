@@ -25,18 +25,21 @@ def check_hostile(maps):
     for number, comment in enumerate(comments if picture else []):
         front = comment[:MOST_NAME].decode("utf-8", "replace")
         wanted = "10.20.%d.0/24: %s" % (number, files.shown(front.encode()))
+        wanted += " (10.20.%d.0/24, 256 addresses, 256 used)" % number
         checks.check("comment %d" % number, [text for text in picture.texts() if text == wanted], [wanted])
     check_hostile_names(maps)
 
 
 def check_hostile_names(maps):
-    """Names of networks, whatever they contain; a name ends before a comment, and is cut at 100 bytes."""
-    names = cases.HOSTILE + [("many bytes", "x" * 300)]
+    """Titles of networks with names, whatever these contain. A name ends before a comment, is cut at 100 bytes, and has
+    a blank for each tab."""
+    names = cases.HOSTILE + [("many bytes", "x" * 300), ("no letter", "")]
     lines = ["10.20.{}.0/20 {}\n".format(16 * number, text) for number, (_, text) in enumerate(names)]
     picture = maps.picture("names", ["--names", "names", "--in", "10.20.0.0/16"],
                            [("a", b"10.20.0.0/26\n"), ("names", "".join(lines).encode())])
-    for label, text in names:
-        wanted = files.shown(text.split("#")[0].encode()[:MOST_NAME])
+    for number, (label, text) in enumerate(names):
+        name = files.shown(text.split("#")[0].encode()[:MOST_NAME].replace(b"\t", b" "))
+        wanted = "10.20.{}.0/20{}".format(16 * number, ": " + name if name else "")
         maps.checks.check("a name with " + label, wanted in picture.texts() if picture else None, True)
 
 

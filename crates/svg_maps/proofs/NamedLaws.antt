@@ -1,5 +1,6 @@
--- Networks with names, and the outlines over a map.
-use Rattle.std.proofs.Common.{List, ℕ, Contains, ◌↔◌, sym, subst}
+-- Networks with names, their titles, and the outlines over a map.
+use Rattle.std.proofs.Common.{◌≡◌, List, [], ◌∷◌, ◌++◌, ℕ, true, false, ◌==◌, length, codes, Contains, ◌↔◌, sym, ◌∙◌}
+use Rattle.std.proofs.Common.{arith, append_assoc, append-nil, eqb-true, subst}
 use Rattle.std.proofs.lemmas.List.Elements.{All-map}
 use Rattle.ipnet_base.specs.Address.{Address}
 use Rattle.ipnet_base.specs.Network.{Network, IsSubnetOf, IsTruncated, truncation}
@@ -11,8 +12,26 @@ use Rattle.ipnet_sets.specs.RoutesOf.{routes_of}
 use Rattle.ipnet_sets.proofs.RouteLaws.{network_of_route, same_networks}
 use Rattle.svg_maps.specs.declared.outline.Outline.{Outline}
 use Rattle.svg_maps.specs.declared.overlay.Look.{Look}
+use Rattle.svg_maps.specs.declared.square.Counted.{Counted}
+use Rattle.svg_maps.specs.NamedOutlines.{name_part}
 use Rattle.svg_maps.specs.Overlays.{AreOutlinesOver}
 use Rattle.svg_maps.proofs.FreeLaws.{outlines_same}
+
+-- a title without a name
+pub without_name : (text name title : List ℕ) → true ≡ (length name == 0) → title ≡ text
+    → title ≡ text ++ name_part name
+without_name text [] title e is = is ∙ sym (append-nil text)
+without_name text (b ∷ name) title e is =
+    let none : length (b ∷ name) ≡ 0 = eqb-true (length (b ∷ name)) 0 (sym e) in
+    absurd (omega (arith, none))
+
+-- a title with one
+pub with_name : (text name title : List ℕ) → false ≡ (length name == 0) → title ≡ (text ++ codes ": ") ++ name
+    → title ≡ text ++ name_part name
+with_name text [] title e is =
+    let clash : false ≡ true = e in
+    absurd cc
+with_name text (b ∷ name) title e is = is ∙ append_assoc text (codes ": ") (b ∷ name)
 
 -- the networks of the routes within a network are in it
 pub within_inside : {V : Type 0} (names within : List (Route V)) (frame : Network) → AreWithin names frame within
@@ -42,10 +61,10 @@ within_named {V} table within frame are n m =
     (all_from_members (λ (r : Route V). P r.0) within (λ r c. named_itself table r ((are.members r).0 c).0))) n m
 
 -- sets with the same addresses have the same outlines over their maps
-pub over_same : (look : Look) (First Second : Address → Type 0) (frame : Network) (depth : ℕ) (outlines : List Outline)
-    → ((x : Address) → First x ↔ Second x) → AreOutlinesOver look First frame depth outlines
-    → AreOutlinesOver look Second frame depth outlines
-over_same look First Second frame depth outlines same h = record {
+pub over_same : (look : Look) (counted : List Counted) (First Second : Address → Type 0) (frame : Network) (depth : ℕ)
+    (outlines : List Outline) → ((x : Address) → First x ↔ Second x)
+    → AreOutlinesOver look counted First frame depth outlines → AreOutlinesOver look counted Second frame depth outlines
+over_same look counted First Second frame depth outlines same h = record {
   entries = h.entries;
   are_entries = h.are_entries;
   named = h.named;

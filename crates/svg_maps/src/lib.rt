@@ -28,6 +28,7 @@ pub mod square_labels;
 pub mod style;
 pub(crate) mod tiles;
 pub(crate) mod under;
+pub(crate) mod whole;
 
 pub use chart::{Chart, Square};
 pub use entry::{MapEntries, MapEntry};

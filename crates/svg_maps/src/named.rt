@@ -1,13 +1,16 @@
 //! The networks with names on a map: their outlines.
-ghost use Rattle.std.specs.Prelude.{◌≡◌, ◌+◌, ◌≤◌, All, Contains, IfOk, map, take, string_bytes};
+ghost use Rattle.std.specs.Prelude.{◌≡◌, ◌+◌, ◌≤◌, ◌++◌, All, Contains, IfOk, OnOk, map, take, chars, encode_utf8};
+ghost use Rattle.std.specs.Prelude.{string_bytes};
 ghost use Rattle.std.specs.List.{AllZip};
 ghost use Rattle.ipnet_base.specs.Address.{width};
 ghost use Rattle.ipnet_base.specs.Network.{Network, IsSubnetOf};
+ghost use Rattle.ipnet.specs.CanonicalTexts.{canonical_text};
 ghost use Rattle.ipnet.specs.NetworkOf.{ip_network};
 ghost use Rattle.ipnet_sets.specs.Routes.{ip_networks};
 ghost use Rattle.ipnet_sets.specs.RoutesOf.{routes_of};
 ghost use Rattle.svg_maps.specs.FreeOutlines.{largest_first};
-ghost use Rattle.svg_maps.specs.NamedOutlines.{IsShortened, IsNamedOutline, HasName, AreNamedOutlines};
+ghost use Rattle.svg_maps.specs.NamedOutlines.{IsShortened, blank_for_tab, spaced_text, IsShownName, name_part};
+ghost use Rattle.svg_maps.specs.NamedOutlines.{IsNamedOutline, HasName, AreNamedOutlines};
 
 use crate::free::{MOST, largest_blocks};
 use crate::outline::{Outline, OutlineClass};
@@ -26,6 +29,50 @@ fn shortened(alloc: Global, name: &str) -> Result<String, AllocError>
     let end = name.floor_char_boundary(MOST_BYTES);
     let (front, _) = name.split_at(end);
     String::from_str(alloc, front)
+}
+
+/// Appends the character, or a blank for a tab.
+fn push_spaced(text: &mut String, c: char) -> Result<(), AllocError>
+    ensures { OnOk result (string_bytes text.new ≡ string_bytes text.old ++ encode_utf8 (blank_for_tab c)) }
+{
+    if c == '\t' {
+        return text.push(' ');
+    }
+    text.push(c)
+}
+
+/// Appends the text, with a blank for each tab.
+fn push_without_tabs(text: &mut String, value: &str) -> Result<(), AllocError>
+    ensures { OnOk result (string_bytes text.new ≡ string_bytes text.old ++ spaced_text (chars value.now)) }
+{
+    for c in value.chars() {
+        push_spaced(text, c)?;
+    }
+    Ok(())
+}
+
+/// The name as a map shows it.
+pub(crate) fn shown_name(alloc: Global, name: &str) -> Result<String, AllocError>
+    ensures { IfOk result (λ text. IsShownName name.now (string_bytes text)) }
+{
+    let front = shortened(alloc, name)?;
+    let mut text = String::new(alloc);
+    push_without_tabs(&mut text, front.as_str())?;
+    Ok(text)
+}
+
+/// The title of the network with this name, which may be empty.
+pub(crate) fn name_title(alloc: Global, network: &IpNet, name: &str) -> Result<String, AllocError>
+    ensures { IfOk result (λ title. string_bytes title
+        ≡ canonical_text (ip_network network.now) ++ name_part name.now) }
+{
+    let mut title = String::from_str(alloc, network.to_text().as_str())?;
+    if name.is_empty() {
+        return Ok(title);
+    }
+    title.push_str(": ")?;
+    title.push_str(name)?;
+    Ok(title)
 }
 
 /// The outline of the network, which has a name.
@@ -47,8 +94,8 @@ fn named_outline(
     let Some(name) = names.get(network) else {
         unreachable!();
     };
-    let title = shortened(alloc, name)?;
-    let label = shortened(alloc, name)?;
+    let label = shown_name(alloc, name)?;
+    let title = name_title(alloc, network, label.as_str())?;
     let rectangle = rectangle_in(frame, depth, network);
     Ok(Outline {
         class: OutlineClass::Named,
@@ -120,7 +167,7 @@ fn listed_networks(alloc: Global, routes: &[(IpNet, &str)]) -> Result<Vec<IpNet>
 ///
 /// ```text
 /// of 10.20.96.0/20 with "guests" and 10.20.0.0/18 with "Berlin", in 10.20.0.0/16: the outline of 10.20.0.0/18 with the
-///     title and the label "Berlin", and then the one of 10.20.96.0/20
+///     title "10.20.0.0/18: Berlin" and the label "Berlin", and then the one of 10.20.96.0/20
 /// ```
 pub(crate) fn named_outlines(
     alloc: Global,

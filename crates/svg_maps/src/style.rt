@@ -22,8 +22,8 @@ pub enum Theme {
 const COMMON: &[&str] = &[
     "text{font-family:ui-monospace,Menlo,Consolas,DejaVu Sans Mono,monospace;font-size:11px}",
     ".head{font-size:15px;font-weight:bold}",
-    ".small text{font-size:9px}",
-    ".small{opacity:.8}",
+    ".small text{font-size:9px;opacity:.8}",
+    ".small .halo{opacity:1}",
     ".small .note{font-size:11px}",
     ".hit{fill:#fff;fill-opacity:0}",
     ".hit:hover{fill-opacity:.25}",
@@ -31,7 +31,7 @@ const COMMON: &[&str] = &[
     ".free{fill:none;stroke-width:1;stroke-opacity:.55;shape-rendering:crispEdges;pointer-events:none}",
     ".name{fill:none;stroke-width:1.5}",
     ".ring{fill:none;stroke-width:1.5;pointer-events:none}",
-    ".halo{stroke-width:3;stroke-linejoin:round;paint-order:stroke}",
+    ".halo{stroke-width:4;stroke-linejoin:round;paint-order:stroke}",
     ".pale{fill-opacity:.55}",
 ];
 

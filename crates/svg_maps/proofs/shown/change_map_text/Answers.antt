@@ -33,8 +33,8 @@ returns c =
       },
       record {
         style = m.1 ∙ c.as_str.ensures.value ∙ c.in_ok-style.ensures;
-        outlines = subst (AreOutlinesOver look (IsInEither (IsMember before) (IsMember after)) n d.depth) (sym m.2)
-            (over_same look (IsMember c.in_ok-all.all) (IsInEither (IsMember before) (IsMember after)) n d.depth
+        outlines = subst (AreOutlinesOver look _ (IsInEither (IsMember before) (IsMember after)) n d.depth) (sym m.2)
+            (over_same look _ (IsMember c.in_ok-all.all) (IsInEither (IsMember before) (IsMember after)) n d.depth
             outlines c.in_ok-all.ensures.members c.in_ok-overlay.ensures);
       },
     )) c.map_text.ensures

@@ -24,6 +24,6 @@ returns c =
       },
       record {
         style = m.1 ∙ c.as_str.ensures.value ∙ c.in_ok-style.ensures;
-        outlines = subst (AreOutlinesOver look (IsMember set) n d.depth) (sym m.2) c.in_ok-overlay.ensures;
+        outlines = subst (AreOutlinesOver look _ (IsMember set) n d.depth) (sym m.2) c.in_ok-overlay.ensures;
       },
     )) c.map_text.ensures
