@@ -1,5 +1,5 @@
 //! The lines of a list that are not empty, and the lines that are refused.
-ghost use Rattle.std.specs.Prelude.{◌≡◌, ◌≢◌, ◌↔◌, ◌+◌, List, [], IsTrue, IfOk, OnOk, map};
+ghost use Rattle.std.specs.Prelude.{◌≡◌, ◌≢◌, ◌↔◌, List, [], IsTrue, IfOk, OnOk, map};
 ghost use Rattle.std.specs.Io.KnownBytes.{Keeps};
 ghost use Rattle.netset_lib.specs.ContentLines as lists;
 ghost use Rattle.netset_lib.specs.ContentLines.{AreContentLines};
@@ -7,6 +7,7 @@ ghost use Rattle.netset_lib.specs.ContentLineOf.{line_of, refused_of, AddsLine, 
 ghost use Rattle.netset_lib.specs.declared.content_line.ListFailure.TheVariants.{Memory};
 
 use crate::mark::skip_mark;
+use crate::number::next_number;
 use crate::reader::{contents_of, first_line};
 use crate::refused::{LineCause, MOST_LINES, report_more};
 use ipnet::Grammar;
@@ -73,16 +74,6 @@ impl<C: LineCause> ListFailure<C> {
             ListFailure::Memory => writeln!(faults, "netset: out of memory"),
         };
         2
-    }
-}
-
-/// Returns the next number. Fails if a `usize` cannot count so far.
-fn next_number(number: usize) -> Result<usize, AllocError>
-    ensures { IfOk result (λ next. next ≡ number + 1) }
-{
-    match number.checked_add(1) {
-        Some(next) => Ok(next),
-        None => Err(AllocError),
     }
 }
 

@@ -12,6 +12,7 @@ ghost use Rattle.netset_lib.specs.Reading.{Adds};
 use crate::cause::NotEntry;
 use crate::entry::{Entry, read_entry};
 use crate::front::front_entry;
+use crate::number::next_number;
 use crate::refused::{RefusedLines, RefusedPart};
 use crate::word::leading_word;
 use ipnet::Grammar;
@@ -223,9 +224,7 @@ impl LineReader {
         ensures { OnOk result (ReadsLines self.old self.new (line.now ∷ [])
             (C.is_made collector.now made.old) (C.is_made collector.now made.new)) }
     {
-        let Some(number) = self.line.checked_add(1) else {
-            return Err(AllocError);
-        };
+        let number = next_number(self.line)?;
         self.line = number;
         let text = contents_of(line, self.grammar);
         if text.is_empty() {
@@ -262,9 +261,7 @@ impl LineReader {
         ensures { OnOk result (ReadsLines self.old self.new (found.entry.text.now ∷ [])
             (C.is_made collector.now made.old) (C.is_made collector.now made.new)) }
     {
-        let Some(number) = self.line.checked_add(1) else {
-            return Err(AllocError);
-        };
+        let number = next_number(self.line)?;
         self.line = number;
         self.has_entry = true;
         collector.push(made, found.text, found.entry)
