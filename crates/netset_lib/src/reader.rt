@@ -1,7 +1,6 @@
 //! The lines of a list: blanks around an entry, comments, and the entries, one a line.
 ghost use Rattle.std.specs.Prelude.{◌≡◌, ◌<◌, ◌∷◌, ◌↔◌, List, [], length, IsTrue, OnOk, IfOk, IfSome};
 ghost use Rattle.ipnet.specs.Lines.{lines_of};
-ghost use Rattle.ipnet.specs.declared.parser.Grammar.TheVariants.{Strict};
 ghost use Rattle.netset_lib.specs.Entries.{IsEntryText, IsEntryWord, ReadsAs};
 ghost use Rattle.netset_lib.specs.EntryOf.{entry_range, IsWrittenAs};
 ghost use Rattle.netset_lib.specs.Lists.{ListEntry, Opens, IsCommentAt, first_word, HidesEntry};
@@ -79,22 +78,8 @@ pub fn read_text<'a>(text: &'a [u8], grammar: Grammar) -> Option<FoundEntry<'a>>
     }
 }
 
-/// The entry of the first line in the strict grammar, and the bytes after its end.
-fn strict_line<'a>(bytes: &'a [u8]) -> Option<(FoundEntry<'a>, &'a [u8])>
-    ensures entry { IfSome result (λ line. IsEntryWord Strict line.0.text.now (found_range line.0)) }
-    ensures some { IfSome result (λ line. 0 < length line.0.text.now) }
-    ensures lines { IfSome result (λ line. lines_of bytes.now ≡ line.0.text.now ∷ lines_of line.1.now) }
-    ensures shorter { IfSome result (λ line. length line.1.now < length bytes.now) }
-{
-    let (entry, len) = front_entry(bytes)?;
-    let text = match str::from_utf8(&bytes[..len]) {
-        Ok(text) => text,
-        Err(_) => return None,
-    };
-    Some((FoundEntry { text, entry }, &bytes[len + 1..]))
-}
-
-/// The entry of the first line, and the bytes after its end. `None` says nothing about the line.
+/// The entry of the first line, and the bytes after its end. `None` says nothing about the line: it is read so only in
+/// the strict grammar.
 fn front_line<'a>(bytes: &'a [u8], grammar: Grammar) -> Option<(FoundEntry<'a>, &'a [u8])>
     ensures entry { IfSome result (λ line. IsEntryWord grammar line.0.text.now (found_range line.0)) }
     ensures some { IfSome result (λ line. 0 < length line.0.text.now) }
@@ -102,9 +87,15 @@ fn front_line<'a>(bytes: &'a [u8], grammar: Grammar) -> Option<(FoundEntry<'a>, 
     ensures shorter { IfSome result (λ line. length line.1.now < length bytes.now) }
 {
     match grammar {
-        Grammar::Strict => strict_line(bytes),
-        Grammar::Legacy => None,
+        Grammar::Strict => {}
+        Grammar::Legacy => return None,
     }
+    let (entry, len) = front_entry(bytes)?;
+    let text = match str::from_utf8(&bytes[..len]) {
+        Ok(text) => text,
+        Err(_) => return None,
+    };
+    Some((FoundEntry { text, entry }, &bytes[len + 1..]))
 }
 
 /// Whether the byte at this index of the line begins a comment.
