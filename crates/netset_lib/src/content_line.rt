@@ -8,7 +8,7 @@ ghost use Rattle.netset_lib.specs.declared.content_line.ListFailure.TheVariants.
 
 use crate::mark::skip_mark;
 use crate::number::next_number;
-use crate::reader::{contents_of, first_line};
+use crate::reader::{contents_of, first_line_of_bytes};
 use crate::refused::{LineCause, MOST_LINES, report_more};
 use ipnet::Grammar;
 use std::alloc::{AllocError, Global};
@@ -110,7 +110,7 @@ pub fn content_lines<'a>(
     let mut number: usize = 0;
     let mut rest = skip_mark(bytes);
     'lines: while !rest.is_empty() {
-        let (line, after) = first_line(rest);
+        let (line, after) = first_line_of_bytes(rest);
         number = next_number(number)?;
         push_some(&mut lines, number, contents_of(line, grammar))?;
         rest = after;

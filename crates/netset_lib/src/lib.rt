@@ -87,7 +87,7 @@ pub use prefix_line::PrefixCause;
 pub use prefix_program::{PrefixRequest, run_prefix_list};
 pub use program::{report_failure, report_text, run, run_stream, set_or_report};
 pub use query::Query;
-pub use reader::{FoundEntry, comment_start, contents_of, first_line, read_text};
+pub use reader::{FoundEntry, comment_start, contents_of, first_line_of_bytes, read_text};
 pub use reading::{ReadFailure, read_bytes};
 pub use refused::{
     LineCause, Refusals, Refused, RefusedLine, RefusedLines, RefusedPart, report_since,

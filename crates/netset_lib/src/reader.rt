@@ -36,7 +36,7 @@ pub(crate) trait Collector<M> {
 /// "10.0.0.1\n\nx":  "10.0.0.1" and "\nx"
 /// "x":              "x" and ""
 /// ```
-pub fn first_line(bytes: &[u8]) -> (&[u8], &[u8])
+pub fn first_line_of_bytes(bytes: &[u8]) -> (&[u8], &[u8])
     requires { 0 < length bytes.now }
     ensures lines { lines_of bytes.now ≡ result.0.now ∷ lines_of result.1.now }
     ensures shorter { length result.1.now < length bytes.now }
@@ -274,7 +274,7 @@ impl LineReader {
             self.push_found(found, collector, made)?;
             return Ok(after);
         }
-        let (line, after) = first_line(bytes);
+        let (line, after) = first_line_of_bytes(bytes);
         self.read_line(line, collector, made)?;
         Ok(after)
     }

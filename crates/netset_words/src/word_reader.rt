@@ -5,7 +5,7 @@ ghost use Rattle.ipnet.specs.Lines.{lines_of};
 use crate::item::ExtractRequest;
 use crate::line_items::read_items;
 use crate::refused_word::{RefusedWords, WordCause};
-use netset_lib::{RefusedPart, first_line, has_byte, next_number};
+use netset_lib::{RefusedPart, first_line_of_bytes, has_byte, next_number};
 use std::alloc::{AllocError, Global};
 
 /// Reads the lines of texts.
@@ -83,7 +83,7 @@ impl WordReader {
     {
         let mut rest = bytes;
         'lines: while !rest.is_empty() {
-            let (line, after) = first_line(rest);
+            let (line, after) = first_line_of_bytes(rest);
             self.read_line(line)?;
             rest = after;
         }
