@@ -92,6 +92,13 @@ def too_wide(texts):
             yield "%s is %.1f pixels wide" % (text, right - left)
 
 
+def leaving(texts, size):
+    """A line for each text that is not wholly in a page of this width and height."""
+    for text, left, top, right, bottom, _ in texts:
+        if min(left, top) < 0 or right > size[0] or bottom > size[1]:
+            yield "%s is from %.1f %.1f to %.1f %.1f" % (text, left, top, right, bottom)
+
+
 def short_of(frame, first, length):
     """The label of a square: its octets or groups that the frame does not fix."""
     if frame.family == 4:

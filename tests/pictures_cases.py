@@ -1,9 +1,10 @@
 """The lists that tests/pictures draws, from a seed. A module, not a script."""
+import functools
 import random
 
 import pictures_model as model
 from entry_model import range_of
-from set_model import WIDTH, address_text, joined
+from set_model import WIDTH, address_text, complement, intersection, joined
 
 SEED = 41
 
@@ -14,6 +15,16 @@ HOSTILE = [
     ("letters", "\u00fc\u65e5\u672c\U0001f600\u00a0x"), ("blanks", "a\tb\vc\fd"), ("no characters", "a\ufffeb\uffffc"),
     ("the direction of writing", "a\u202egnp.exe\u200f\u2067\u061cb"), ("ends of lines", "a\u2028b\u2029c\u0085d"),
 ]
+# a map whose foot counts addresses, entries, named networks and free blocks: its network, its entries, the networks
+# with names, and the lines of its foot
+LONG_FOOT = (
+    "10.0.0.0/8", "10.20.0.0/20 # lab\n10.30.1.1\n192.0.2.1\n2001:db8::/64\n",
+    "10.20.0.0/18 Berlin\n10.20.77.1 printer\n172.16.0.0/12 guests\n", [
+        "Reads like text: left to right, then down. A square is a /16. The smallest dot is a /28.",
+        "Not shown: IPv4 1, IPv6 18446744073709551616. Networks of entries without a title: 3.",
+        "Named networks without an outline: 2. Free blocks without an outline: 4.",
+    ],
+)
 # bytes that are not UTF-8
 BYTES = b"a\xffb\xc3(\xed\xa0\x80c\xf4\x90\x80\x80\x00d"
 
@@ -49,6 +60,22 @@ class Case:
         """The names of the lists and their bytes."""
         return [(name, "".join(entry + "\n" for entry in entries).encode())
                 for name, entries in zip("abcdef", self.lists)]
+
+    @functools.cached_property
+    def counted(self):
+        """The sets that titles count: the lists, or what only the first has, what only the second has, and what both
+        have."""
+        if not self.compares:
+            return self.sets
+        before, after = self.sets
+        removed, added = intersection(before, complement(after)), intersection(after, complement(before))
+        return [removed, added, intersection(before, after)]
+
+    def words_of_counts(self):
+        """The words after each count in a title."""
+        if self.compares:
+            return ["only in the first", "only in the second", "in both"]
+        return ["used"] if len(self.lists) == 1 else ["in " + name for name, _ in self.files()]
 
     def status(self):
         return 1 if self.compares and self.sets[0] != self.sets[1] else 0

@@ -164,6 +164,16 @@ class Picture:
         largest = max(found, key=lambda one: one.side("width") * one.side("height"))
         return largest.at("x", "y") + (largest.side("width"), largest.side("height"))
 
+    def size(self):
+        """The width and the height of the page."""
+        return tuple(float(self.root.get(key, 0)) for key in ("width", "height"))
+
+    def foot(self):
+        """The lines below the map, each with its row."""
+        _, top, _, height = self.ground()
+        lines = [(one.text, float(one.get("y"))) for one in self.root.findall(SVG + "text")]
+        return [(line, row) for line, row in lines if row > top + height]
+
     def layers(self, theme):
         """The paths that paint. A class without cells has a path without data."""
         return [one for one in self.paints(theme) if one.element.tag == SVG + "path" and one.element.get("d")]

@@ -10,7 +10,7 @@ use Rattle.ipnet.specs.NetworkOf.{ipv6_network_of}
 use Rattle.ipnet.specs.NetworkTexts.{IsIpv6NetworkText}
 use Rattle.ipnet.specs.Numerals.{IsGroup, IsOctet}
 use Rattle.ipnet.specs.declared.parser.Grammar.TheVariants.{Strict}
-use Rattle.ipnet_text.specs.Fronts.{IsHead}
+use Rattle.ipnet_text.specs.Fronts.{IsFirstLine, IsHead}
 use Rattle.ipnet_text.proofs.FrontTexts.{cut_byte, rest_from, rest_is, IsUnbroken, unbroken_append, unbroken_digits}
 use Rattle.ipnet_text.proofs.FrontTexts.{first_line_of, length_rest}
 

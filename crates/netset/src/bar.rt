@@ -15,6 +15,7 @@ use netset_pictures::{
 use std::alloc::{AllocError, Global};
 use std::env;
 use std::env::VarError;
+use std::io::Write;
 
 /// The name of the command, and of the flag of `plan`.
 pub const BAR: &str = "bar";
@@ -176,16 +177,31 @@ fn request_of(
     Ok(BarRequest { frame, form })
 }
 
+/// Whether the lists are two. If not, it is reported.
+fn are_two(rt: &HostRuntime, names: &[&str]) -> bool {
+    let count = names.len();
+    if count != 2 {
+        let _ = writeln!(
+            rt.stderr(),
+            "netset: --{COMPARE} takes 2 lists, not {count}"
+        );
+    }
+    count == 2
+}
+
 /// What a picture of the lists asks for: all their addresses, or what changed between two of them. If standard input is
-/// named twice, it is reported, and the error is the exit status.
+/// named twice, or if the lists to compare are not two, it is reported, and the error is the exit status.
 pub fn pictured_work(rt: &HostRuntime, matches: &ArgMatches, names: &[&str]) -> Result<Work, u8> {
     if reads_input_twice(names) {
         return Err(refused(rt, ArgumentFailure::InputTwice));
     }
-    if matches.get_flag(COMPARE) {
-        return Ok(netset_lib::Command::Compare.work(flags_of(matches)));
+    if !matches.get_flag(COMPARE) {
+        return Ok(reading_work(matches));
     }
-    Ok(reading_work(matches))
+    if !are_two(rt, names) {
+        return Err(2);
+    }
+    Ok(netset_lib::Command::Compare.work(flags_of(matches)))
 }
 
 /// Reads the lists of these names for a bar. If that fails, it is reported, and the error is the exit status.

@@ -4,18 +4,18 @@ use crate::arguments::{
 };
 use crate::bar::{COMPARE, frame_of, pictured_work, with_frame};
 use crate::input::STANDARD_INPUT;
-use crate::noted::NotedSession;
+use crate::noted::{EntryList, NotedSession, entries_of};
 use crate::output::Writers;
 use crate::reading::{bytes_of, fill};
 use clap::{Arg, ArgMatches, Command};
 use ipnet_pictures::Frame;
 use ipnet_sets::RouteTable;
-use netset_entries::{EntryNotes, NotedEntry};
+use netset_entries::EntryNotes;
 use netset_lib::{Session, table_or_report};
 use netset_pictures::{MapRequest, read_theme, run_change_map, run_map, run_sets_map};
 use std::alloc::{AllocError, Global};
 use std::io::Write;
-use svg_maps::{Look, MOST_LISTS, MapEntries, MapEntry, Theme};
+use svg_maps::{Look, MOST_LISTS, MapEntries, Theme};
 
 /// The name of the command.
 pub const MAP: &str = "map";
@@ -104,46 +104,33 @@ fn theme_of(matches: &ArgMatches) -> Theme {
     theme.unwrap_or(Theme::Auto)
 }
 
-/// Reads the lists of these names, and notes their largest entries. If that fails, it is reported, and the error is the
-/// exit status.
+/// Reads the lists of these names, and notes the largest entries of each. If that fails, it is reported, and the error
+/// is the exit status.
 fn read_noted(
     rt: &HostRuntime,
     matches: &ArgMatches,
     names: &[&str],
     frame: Frame,
     writers: &Writers<'_>,
-) -> Result<(Session, EntryNotes), u8> {
+) -> Result<(Session, Vec<EntryNotes>), u8> {
     let work = pictured_work(rt, matches, names)?;
-    let network = match frame {
+    let frame = match frame {
         Frame::Named(network) => Some(network),
         _ => None,
     };
     let Ok(session) = Session::new(rt.alloc(), work) else {
         return Err(refused(rt, ArgumentFailure::Memory));
     };
-    let Ok(notes) = EntryNotes::new(rt.alloc(), flags_of(matches).grammar(), network) else {
-        return Err(refused(rt, ArgumentFailure::Memory));
-    };
     let mut noted = NotedSession {
         session,
-        notes: Some(notes),
+        alloc: rt.alloc(),
+        grammar: flags_of(matches).grammar(),
+        frame,
+        notes: Vec::new(rt.alloc()),
     };
     fill(rt, &mut noted, names, writers)?;
-    let NotedSession { session, notes } = noted;
-    match notes {
-        Some(notes) => Ok((session, notes)),
-        None => Err(refused(rt, ArgumentFailure::Memory)),
-    }
-}
-
-/// The entries that were noted, as a map shows them. Fails only if memory runs out.
-fn entries_of(alloc: Global, notes: EntryNotes) -> Result<Vec<MapEntry>, AllocError> {
-    let mut entries = Vec::new(alloc);
-    for noted in notes.into_entries()? {
-        let NotedEntry { network, title } = noted;
-        entries.push(MapEntry { network, title })?;
-    }
-    Ok(entries)
+    let NotedSession { session, notes, .. } = noted;
+    Ok((session, notes))
 }
 
 /// Prints the map of the session's lists, which have these names, and returns the exit status.
@@ -177,10 +164,10 @@ fn draw_lists(
         Ok(noted) => noted,
         Err(status) => return status,
     };
-    let count = notes.count();
-    let Ok(entries) = entries_of(rt.alloc(), notes) else {
+    let Ok(list) = entries_of(rt.alloc(), notes, names) else {
         return refused(rt, ArgumentFailure::Memory);
     };
+    let EntryList { entries, count } = list;
     let titled = entries.as_slice();
     let MapRequest { frame, look } = request;
     let look = Look {

@@ -1,5 +1,5 @@
 //! The lines of a list that are not empty, and the lines that are refused.
-ghost use Rattle.std.specs.Prelude.{◌≡◌, ◌≢◌, ◌↔◌, ◌+◌, List, [], IsTrue, IfOk, OnOk, map};
+ghost use Rattle.std.specs.Prelude.{◌≡◌, ◌≢◌, ◌↔◌, List, [], IsTrue, IfOk, OnOk, map};
 ghost use Rattle.std.specs.Io.KnownBytes.{Keeps};
 ghost use Rattle.netset_lib.specs.ContentLines as lists;
 ghost use Rattle.netset_lib.specs.ContentLines.{AreContentLines};
@@ -7,7 +7,8 @@ ghost use Rattle.netset_lib.specs.ContentLineOf.{line_of, refused_of, AddsLine, 
 ghost use Rattle.netset_lib.specs.declared.content_line.ListFailure.TheVariants.{Memory};
 
 use crate::mark::skip_mark;
-use crate::reader::{contents_of, first_line};
+use crate::number::next_number;
+use crate::reader::{contents_of, first_line_of_bytes};
 use crate::refused::{LineCause, MOST_LINES, report_more};
 use ipnet::Grammar;
 use std::alloc::{AllocError, Global};
@@ -76,16 +77,6 @@ impl<C: LineCause> ListFailure<C> {
     }
 }
 
-/// Returns the next number. Fails if a `usize` cannot count so far.
-fn next_number(number: usize) -> Result<usize, AllocError>
-    ensures { IfOk result (λ next. next ≡ number + 1) }
-{
-    match number.checked_add(1) {
-        Some(next) => Ok(next),
-        None => Err(AllocError),
-    }
-}
-
 /// Appends the line, unless it is empty. Fails if memory runs out.
 fn push_some<'a>(
     lines: &mut Vec<ContentLine<'a>>,
@@ -119,7 +110,7 @@ pub fn content_lines<'a>(
     let mut number: usize = 0;
     let mut rest = skip_mark(bytes);
     'lines: while !rest.is_empty() {
-        let (line, after) = first_line(rest);
+        let (line, after) = first_line_of_bytes(rest);
         number = next_number(number)?;
         push_some(&mut lines, number, contents_of(line, grammar))?;
         rest = after;

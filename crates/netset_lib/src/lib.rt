@@ -27,6 +27,7 @@ mod listing;
 pub mod listing_program;
 mod mark;
 pub mod network_entry;
+mod number;
 pub mod operation;
 pub mod output;
 pub mod plan;
@@ -76,6 +77,7 @@ pub use list_text::{ListText, read_list_text};
 pub use listing_program::{run_hosts, run_split};
 pub use mark::{MOST_READS, begin_input, skip_mark};
 pub use network_entry::NetworkCause;
+pub use number::next_number;
 pub use operation::{Families, ListOperation};
 pub use output::{Output, finish, is_unfinished_name, unfinished_name};
 pub use plan::{Plan, PlanFailure, PlanFamily, PlanRequest, plan_networks, plan_text};
@@ -85,7 +87,7 @@ pub use prefix_line::PrefixCause;
 pub use prefix_program::{PrefixRequest, run_prefix_list};
 pub use program::{report_failure, report_text, run, run_stream, set_or_report};
 pub use query::Query;
-pub use reader::{FoundEntry, comment_start, contents_of, first_line, read_text};
+pub use reader::{FoundEntry, comment_start, contents_of, first_line_of_bytes, read_text};
 pub use reading::{ReadFailure, read_bytes};
 pub use refused::{
     LineCause, Refusals, Refused, RefusedLine, RefusedLines, RefusedPart, report_since,

@@ -1,7 +1,6 @@
 //! The lines of a list: blanks around an entry, comments, and the entries, one a line.
 ghost use Rattle.std.specs.Prelude.{◌≡◌, ◌<◌, ◌∷◌, ◌↔◌, List, [], length, IsTrue, OnOk, IfOk, IfSome};
 ghost use Rattle.ipnet.specs.Lines.{lines_of};
-ghost use Rattle.ipnet.specs.declared.parser.Grammar.TheVariants.{Strict};
 ghost use Rattle.netset_lib.specs.Entries.{IsEntryText, IsEntryWord, ReadsAs};
 ghost use Rattle.netset_lib.specs.EntryOf.{entry_range, IsWrittenAs};
 ghost use Rattle.netset_lib.specs.Lists.{ListEntry, Opens, IsCommentAt, first_word, HidesEntry};
@@ -12,6 +11,7 @@ ghost use Rattle.netset_lib.specs.Reading.{Adds};
 use crate::cause::NotEntry;
 use crate::entry::{Entry, read_entry};
 use crate::front::front_entry;
+use crate::number::next_number;
 use crate::refused::{RefusedLines, RefusedPart};
 use crate::word::leading_word;
 use ipnet::Grammar;
@@ -36,7 +36,7 @@ pub(crate) trait Collector<M> {
 /// "10.0.0.1\n\nx":  "10.0.0.1" and "\nx"
 /// "x":              "x" and ""
 /// ```
-pub fn first_line(bytes: &[u8]) -> (&[u8], &[u8])
+pub fn first_line_of_bytes(bytes: &[u8]) -> (&[u8], &[u8])
     requires { 0 < length bytes.now }
     ensures lines { lines_of bytes.now ≡ result.0.now ∷ lines_of result.1.now }
     ensures shorter { length result.1.now < length bytes.now }
@@ -78,22 +78,8 @@ pub fn read_text<'a>(text: &'a [u8], grammar: Grammar) -> Option<FoundEntry<'a>>
     }
 }
 
-/// The entry of the first line in the strict grammar, and the bytes after its end.
-fn strict_line<'a>(bytes: &'a [u8]) -> Option<(FoundEntry<'a>, &'a [u8])>
-    ensures entry { IfSome result (λ line. IsEntryWord Strict line.0.text.now (found_range line.0)) }
-    ensures some { IfSome result (λ line. 0 < length line.0.text.now) }
-    ensures lines { IfSome result (λ line. lines_of bytes.now ≡ line.0.text.now ∷ lines_of line.1.now) }
-    ensures shorter { IfSome result (λ line. length line.1.now < length bytes.now) }
-{
-    let (entry, len) = front_entry(bytes)?;
-    let text = match str::from_utf8(&bytes[..len]) {
-        Ok(text) => text,
-        Err(_) => return None,
-    };
-    Some((FoundEntry { text, entry }, &bytes[len + 1..]))
-}
-
-/// The entry of the first line, and the bytes after its end. `None` says nothing about the line.
+/// The entry of the first line, and the bytes after its end. `None` says nothing about the line: it is read so only in
+/// the strict grammar.
 fn front_line<'a>(bytes: &'a [u8], grammar: Grammar) -> Option<(FoundEntry<'a>, &'a [u8])>
     ensures entry { IfSome result (λ line. IsEntryWord grammar line.0.text.now (found_range line.0)) }
     ensures some { IfSome result (λ line. 0 < length line.0.text.now) }
@@ -101,9 +87,15 @@ fn front_line<'a>(bytes: &'a [u8], grammar: Grammar) -> Option<(FoundEntry<'a>, 
     ensures shorter { IfSome result (λ line. length line.1.now < length bytes.now) }
 {
     match grammar {
-        Grammar::Strict => strict_line(bytes),
-        Grammar::Legacy => None,
+        Grammar::Strict => {}
+        Grammar::Legacy => return None,
     }
+    let (entry, len) = front_entry(bytes)?;
+    let text = match str::from_utf8(&bytes[..len]) {
+        Ok(text) => text,
+        Err(_) => return None,
+    };
+    Some((FoundEntry { text, entry }, &bytes[len + 1..]))
 }
 
 /// Whether the byte at this index of the line begins a comment.
@@ -223,9 +215,7 @@ impl LineReader {
         ensures { OnOk result (ReadsLines self.old self.new (line.now ∷ [])
             (C.is_made collector.now made.old) (C.is_made collector.now made.new)) }
     {
-        let Some(number) = self.line.checked_add(1) else {
-            return Err(AllocError);
-        };
+        let number = next_number(self.line)?;
         self.line = number;
         let text = contents_of(line, self.grammar);
         if text.is_empty() {
@@ -262,9 +252,7 @@ impl LineReader {
         ensures { OnOk result (ReadsLines self.old self.new (found.entry.text.now ∷ [])
             (C.is_made collector.now made.old) (C.is_made collector.now made.new)) }
     {
-        let Some(number) = self.line.checked_add(1) else {
-            return Err(AllocError);
-        };
+        let number = next_number(self.line)?;
         self.line = number;
         self.has_entry = true;
         collector.push(made, found.text, found.entry)
@@ -286,7 +274,7 @@ impl LineReader {
             self.push_found(found, collector, made)?;
             return Ok(after);
         }
-        let (line, after) = first_line(bytes);
+        let (line, after) = first_line_of_bytes(bytes);
         self.read_line(line, collector, made)?;
         Ok(after)
     }

@@ -25,7 +25,7 @@ use crate::word::is_cut;
 use ipnet_sets::IpSet;
 use memchr::memchr;
 use netset_lib::filter::side_set;
-use netset_lib::{Failure, RefusedPart, Session};
+use netset_lib::{Failure, RefusedPart, Session, next_number};
 use std::alloc::{AllocError, Global};
 
 /// At most this many bytes of a line are kept: 1 MiB.
@@ -63,10 +63,7 @@ fn count_none(nones: usize, verdict: Verdict) -> Result<usize, AllocError>
     match verdict {
         Verdict::Chosen => Ok(nones),
         Verdict::Other => Ok(nones),
-        Verdict::NoEntry => match nones.checked_add(1) {
-            Some(count) => Ok(count),
-            None => Err(AllocError),
-        },
+        Verdict::NoEntry => next_number(nones),
     }
 }
 
@@ -278,9 +275,7 @@ impl LineFilter {
         requires kept { self.old.rest ≡ Kept }
         ensures { OnOk result (GoesOn self.old self.new piece.now) }
     {
-        let Some(number) = self.line.checked_add(1) else {
-            return Err(AllocError);
-        };
+        let number = next_number(self.line)?;
         let (last, more) = piece.split_at(room_after(self.front.as_slice()));
         self.front.extend_from_slice(last)?;
         let front = self.front.as_slice();
@@ -348,9 +343,7 @@ impl LineFilter {
     fn end_line(&mut self) -> Result<(), AllocError>
         ensures { OnOk result (EndsLine self.old self.new) }
     {
-        let Some(number) = self.line.checked_add(1) else {
-            return Err(AllocError);
-        };
+        let number = next_number(self.line)?;
         match self.rest {
             Rest::Kept => self.end_kept(number),
             Rest::Printed => self.end_passed(number),
@@ -365,9 +358,7 @@ impl LineFilter {
         requires none { self.old.front.items ≡ [] }
         ensures { OnOk result (ReadsEnd self.old self.new line.now) }
     {
-        let Some(number) = self.line.checked_add(1) else {
-            return Err(AllocError);
-        };
+        let number = next_number(self.line)?;
         self.answers.read_line(&self.set, self.request, line)?;
         self.line = number;
         Ok(())

@@ -5,7 +5,7 @@ ghost use Rattle.ipnet.specs.Lines.{lines_of};
 use crate::item::ExtractRequest;
 use crate::line_items::read_items;
 use crate::refused_word::{RefusedWords, WordCause};
-use netset_lib::{RefusedPart, first_line, has_byte};
+use netset_lib::{RefusedPart, first_line_of_bytes, has_byte, next_number};
 use std::alloc::{AllocError, Global};
 
 /// Reads the lines of texts.
@@ -50,9 +50,7 @@ impl WordReader {
     fn read_line(&mut self, line: &[u8]) -> Result<(), AllocError>
         ensures { OnOk result (ReadsWords self.old self.new (line.now ∷ [])) }
     {
-        let Some(number) = self.line.checked_add(1) else {
-            return Err(AllocError);
-        };
+        let number = next_number(self.line)?;
         self.line = number;
         if has_byte(line, 0) {
             let part = RefusedPart {
@@ -85,7 +83,7 @@ impl WordReader {
     {
         let mut rest = bytes;
         'lines: while !rest.is_empty() {
-            let (line, after) = first_line(rest);
+            let (line, after) = first_line_of_bytes(rest);
             self.read_line(line)?;
             rest = after;
         }

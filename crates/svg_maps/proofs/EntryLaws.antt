@@ -7,6 +7,7 @@ use Rattle.ipnet_maps.specs.declared.layout.Rectangle.{Rectangle}
 use Rattle.ipnet_maps.specs.Places.{IsRectangleIn}
 use Rattle.svg_maps.specs.declared.entry.MapEntry.{MapEntry}
 use Rattle.svg_maps.specs.declared.outline.Outline.{Outline}
+use Rattle.svg_maps.specs.declared.square.Counted.{Counted}
 use Rattle.svg_maps.specs.EntryOutlines.{IsLarge, AreEntryOutlines, IsFoundFor}
 use Rattle.svg_maps.specs.Pages.{pixels, pixel_rectangle}
 
@@ -19,9 +20,10 @@ module _ (frame : Network) (depth : ℕ) where
     subst (λ z. 6 ≤ pixels scale z) (is_a.height ∙ sym is_b.height) large.1,
   )
 
+module _ (counted : List Counted) (frame : Network) (depth : ℕ) where
   found_last : (entries : List MapEntry) (e : MapEntry) (found : Option Outline) (old new : List Outline)
-      → AreEntryOutlines entries frame depth old → IsFoundFor frame depth e found
-      → new ≡ old ++ option_to_list found → AreEntryOutlines (entries ++ e ∷ []) frame depth new
+      → AreEntryOutlines entries counted frame depth old → IsFoundFor counted frame depth e found
+      → new ≡ old ++ option_to_list found → AreEntryOutlines (entries ++ e ∷ []) counted frame depth new
   found_last [] e None old new none is grown = inr (is, grown ∙ ap (λ z. z ++ []) none)
   found_last [] e (Some o) old new none is grown =
       inl (o, [], is.0, is.1, grown ∙ ap (λ z. z ++ o ∷ []) none, refl)
@@ -39,10 +41,10 @@ module _ (frame : Network) (depth : ℕ) where
 
   -- what is found for the next entry is added
   pub found_added : (entries : List MapEntry) (i : ℕ) (e : MapEntry) (found : Option Outline) (old new : List Outline)
-      → i < length entries → e ≡ get_or entries i e → AreEntryOutlines (take i entries) frame depth old
-      → IsFoundFor frame depth e found → new ≡ old ++ option_to_list found
-      → AreEntryOutlines (take (i + 1) entries) frame depth new
+      → i < length entries → e ≡ get_or entries i e → AreEntryOutlines (take i entries) counted frame depth old
+      → IsFoundFor counted frame depth e found → new ≡ old ++ option_to_list found
+      → AreEntryOutlines (take (i + 1) entries) counted frame depth new
   found_added entries i e found old new less at so_far is grown =
-      subst (λ z. AreEntryOutlines z frame depth new)
+      subst (λ z. AreEntryOutlines z counted frame depth new)
       (sym (take_more entries i e less ∙ ap (λ z. take i entries ++ z ∷ []) (sym at)))
       (found_last (take i entries) e found old new so_far is grown)

@@ -1,10 +1,12 @@
 -- Outlines of networks with names: which networks are outlined, and what each outline has.
-use Rattle.std.specs.Prelude.{◌≡◌, ◌<◌, ◌≤◌, ℕ, ◌+◌, List, take, Contains, IsCharBoundary, Option, Some, None, String}
-use Rattle.std.specs.Prelude.{string_bytes}
+use Rattle.std.specs.Prelude.{◌≡◌, ◌<◌, ◌≤◌, ℕ, ◌+◌, List, [], ◌∷◌, ◌++◌, take, flat_map, Contains, IsCharBoundary}
+use Rattle.std.specs.Prelude.{Option, Some, None, String, chars, codes, encode_utf8, nat_eq, string_bytes}
+use Rattle.std.specs.Prelude.{if◌then◌else◌}
 use Rattle.std.specs.Borrow.{Bor}
 use Rattle.std.specs.Global.{Global}
 use Rattle.std.specs.List.{AllZip}
 use Rattle.ipnet_base.specs.Network.{Network, truncation}
+use Rattle.ipnet.specs.CanonicalTexts.{canonical_text}
 use Rattle.ipnet_sets.specs.Routes.{Route, networks_of, AreWithin}
 use Rattle.ipnet_maps.specs.Places.{IsRectangleIn}
 use Rattle.svg_maps.specs.declared.outline.Outline.{Outline}
@@ -20,22 +22,48 @@ pub record IsShortened (name front : List ℕ) : Type 0 where
   pub longest : (i : ℕ) → len < i → i ≤ 100 → ¬ (IsCharBoundary name i)
   pub is : front ≡ take len name
 
--- There is a title, and it is the name, shortened. Example: the title `Berlin`, for the name `Berlin`.
-abbrev pub HasTitle : List ℕ → Option (String Global) → Type 0
-HasTitle name None = ⊥
-HasTitle name (Some title) = IsShortened name (string_bytes title)
+-- The character, or a blank for a tab, which is 9.
+abbrev pub blank_for_tab : ℕ → ℕ
+blank_for_tab c = if nat_eq c 9 then 32 else c
 
--- The outline is of this network: its area, and the name of the network as its title and as the text in it. The names
--- are of networks without host bits.
--- Example: the title `Berlin`, if 10.20.0.0/18 has the name `Berlin`.
+-- The text of these characters, with a blank for each tab.
+abbrev pub spaced_text : List ℕ → List ℕ
+spaced_text cs = flat_map (λ c. encode_utf8 (blank_for_tab c)) cs
+
+-- The name as a map shows it: shortened, and with a blank for each tab.
+-- Example: `Berlin Mitte`, for `Berlin`, a tab and `Mitte`.
+pub record IsShownName (name shown : List ℕ) : Type 0 where
+  pub front : List ℕ
+  pub is_front : IsShortened name front
+  pub spelled : shown ≡ spaced_text (chars front)
+
+-- The end of the title of a network with this name: a colon, a blank and the name, or nothing if the name is empty.
+abbrev pub name_part : List ℕ → List ℕ
+name_part [] = []
+name_part (b ∷ name) = codes ": " ++ (b ∷ name)
+
+-- There is a title, and it is this text.
+abbrev pub HasTitle : List ℕ → Option (String Global) → Type 0
+HasTitle text None = ⊥
+HasTitle text (Some title) = string_bytes title ≡ text
+
+-- The outline is of this network: its area, the name of the network as the text in it, and the title, which is the
+-- network and its name. The names are of networks without host bits.
+-- Example: the text `Berlin` and the title `10.20.0.0/18: Berlin`, if 10.20.0.0/18 has the name `Berlin`; the title
+-- `10.20.0.0/18`, if its name is empty.
 pub record IsNamedOutline (names : List (Route (Bor (List ℕ)))) (frame : Network) (depth : ℕ) (n : Network)
     (o : Outline) : Type 0 where
   pub class : o.class ≡ Named
   pub area : IsRectangleIn frame depth n o.rectangle
   pub name : Bor (List ℕ)
   pub is_name : Contains names (truncation n, name)
-  pub title : HasTitle name.now o.title
-  pub label : IsShortened name.now (string_bytes o.label)
+  pub label : IsShownName name.now (string_bytes o.label)
+  pub title : HasTitle (canonical_text n ++ name_part (string_bytes o.label)) o.title
+
+-- The network without its host bits has a name. Only private contracts use this.
+-- Example: 10.20.0.0/18, if the names have 10.20.0.0/18 with `Berlin`.
+pub record HasName (names : List (Route (Bor (List ℕ)))) (n : Network) : Type 0 where
+  pub listed : Contains (networks_of names) (truncation n)
 
 -- The outlines are around the networks with names that are in the frame and not smaller than a cell: around all of them
 -- if there are at most 1,500, and otherwise around the 1,500 largest, the larger first.

@@ -15,40 +15,49 @@ use Rattle.svg_maps.specs.EntryOutlines.{AreEntryOutlines}
 use Rattle.svg_maps.specs.FreeOutlines.{AreOutlinesOf}
 use Rattle.svg_maps.specs.NamedOutlines.{AreNamedOutlines}
 use Rattle.svg_maps.specs.Maps.{IsMapText, IsSetMap, IsChangeMap, IsSetsMap}
+use Rattle.svg_maps.specs.Pages.{PageView}
+use Rattle.svg_maps.specs.Styles.{style_text}
 
--- The outlines over a map with this look: the areas of entries, then around the networks with names, and then around
--- the free blocks if these are to be shown.
+-- The outlines over a map with this look that counts these sets: the areas of entries, then around the networks with
+-- names, and then around the free blocks if these are to be shown.
 -- Example: 10.0.0.8/29, if it has a name, and then 10.0.0.12/30 and 10.0.0.10/31, for 10.0.0.0 to 10.0.0.9.
-pub record AreOutlinesOver (look : Look) (InSet : Address → Type 0) (frame : Network) (depth : ℕ)
-    (outlines : List Outline) : Type 0 where
+pub record AreOutlinesOver (look : Look) (counted : List Counted) (InSet : Address → Type 0) (frame : Network)
+    (depth : ℕ) (outlines : List Outline) : Type 0 where
   pub entries : List Outline
-  pub are_entries : AreEntryOutlines look.entries.titled.now frame depth entries
+  pub are_entries : AreEntryOutlines look.entries.titled.now counted frame depth entries
   pub named : List Outline
   pub are_named : AreNamedOutlines (routes_of look.names.now) frame depth named
   pub free : List Outline
   pub are_free : AreOutlinesOf look.shows_free InSet frame depth free
   pub all : outlines ≡ entries ++ (named ++ free)
 
--- The text is a map of the drawing, and the outlines on it are these.
-abbrev pub IsOutlinedMap : Network → List Counted → Drawing → List Outline → List ℕ → Type 0
-IsOutlinedMap frame counted d outlines text =
-    (page : IsMapText frame counted d text) × (page.view.outlines ≡ outlines)
+-- The page has this look: the style sheet is its theme's, and the outlines are over the map of these addresses, which
+-- counts these sets.
+-- Example: a page with the look `Dark` has the colours of a dark page, whatever the reader prefers.
+pub record HasLook (look : Look) (counted : List Counted) (InSet : Address → Type 0) (frame : Network) (depth : ℕ)
+    (view : PageView) : Type 0 where
+  pub style : view.style ≡ style_text look.theme
+  pub outlines : AreOutlinesOver look counted InSet frame depth view.outlines
+
+-- The text is a map of the drawing, its style sheet is this text, and the outlines on it are these.
+abbrev pub IsOutlinedMap : Network → List Counted → Drawing → (style : List ℕ) → List Outline → List ℕ → Type 0
+IsOutlinedMap frame counted d style outlines text =
+    (page : IsMapText frame counted d text) × (page.view.style ≡ style) × (page.view.outlines ≡ outlines)
 
 -- The text is a map of the set with this look. It outlines the networks with names, and the free blocks if they are to
 -- be shown.
 -- Example: the map of 10.0.0.0 to 10.0.0.9 in 10.0.0.0/28 has the outlines of 10.0.0.12/30 and 10.0.0.10/31.
 abbrev pub IsOutlinedSetMap : Look → IpSet → Network → List ℕ → Type 0
 IsOutlinedSetMap look set frame text = (m : IsSetMap set frame text)
-    × AreOutlinesOver look (IsMember set) frame m.drawing.depth m.page.view.outlines
+    × HasLook look m.counted (IsMember set) frame m.drawing.depth m.page.view
 
 -- The text is a map of the change with this look. A block is free if neither set has an address of it.
 abbrev pub IsOutlinedChangeMap : Look → (before after : IpSet) → Network → List ℕ → Type 0
 IsOutlinedChangeMap look before after frame text = (m : IsChangeMap before after frame text)
-    × AreOutlinesOver look (IsInEither (IsMember before) (IsMember after)) frame m.drawing.depth
-    m.page.view.outlines
+    × HasLook look m.counted (IsInEither (IsMember before) (IsMember after)) frame m.drawing.depth m.page.view
 
 -- The text is a map of the sets, which have these names, with this look. A block is free if no set has an address of
 -- it.
 abbrev pub IsOutlinedSetsMap : Look → List IpSet → (names : List (List ℕ)) → Network → List ℕ → Type 0
 IsOutlinedSetsMap look sets names frame text = (m : IsSetsMap sets names frame text)
-    × AreOutlinesOver look (IsInSome IsMember sets) frame m.drawing.depth m.page.view.outlines
+    × HasLook look m.counted (IsInSome IsMember sets) frame m.drawing.depth m.page.view

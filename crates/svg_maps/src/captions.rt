@@ -1,12 +1,16 @@
 //! The texts beside a map: its title, its foot and its legend.
-ghost use Rattle.std.specs.Prelude.{◌+◌, ◌≤◌};
+ghost use Rattle.std.specs.Prelude.{◌≡◌, ◌+◌, ◌^◌, ◌≤◌, IfOk};
 ghost use Rattle.ipnet_base.specs.Address.{width};
 ghost use Rattle.ipnet.specs.NetworkOf.{ip_network};
+ghost use Rattle.ipnet_maps.specs.Cuts.{columns_in};
+ghost use Rattle.ipnet_maps.specs.Squares.{square_cuts};
+ghost use Rattle.svg_maps.specs.Pages.{cell_pixels};
 
 use crate::form::MapForm;
 use crate::label::{Ink, Label, Swatch, label_at};
 use crate::legend::{EDGE, LINE, legend_of};
-use crate::sheet::{Sheet, sheet_of, sides_of};
+use crate::lines::lines_of;
+use crate::sheet::{Sheet, row_after, sheet_of, sides_of};
 use crate::square::first_bits_of;
 use ipnet::IpNet;
 use ipnet_maps::Drawing;
@@ -15,11 +19,8 @@ use std::alloc::{AllocError, Global};
 /// The row of the first line of the summary, in pixels.
 const SUMMARY: u32 = 50;
 
-/// The number of pixels from a line of the summary to the legend.
-const TO_LEGEND: u32 = 12;
-
-/// The number of bytes of a line of the summary, unless one count is longer. Such a line fits the smallest page.
-const MOST_BYTES: usize = 100;
+/// The row of the legend, in pixels, without the lines of the summary.
+const LEGEND: u32 = 44;
 
 /// The texts of a page, and its sizes.
 #[derive(Drop)]
@@ -30,8 +31,21 @@ pub(crate) struct PageTexts {
     pub(crate) sheet: Sheet,
 }
 
-/// The foot of the page.
-fn foot_of(alloc: Global, frame: &IpNet, depth: u8, form: MapForm<'_>) -> Result<String, AllocError>
+/// The title of the page.
+fn page_title(alloc: Global, frame: &IpNet, form: MapForm<'_>) -> Result<String, AllocError> {
+    let heading = form.heading;
+    let network = frame.to_text();
+    let network = network.as_str();
+    format!(in alloc; "{heading} {network}")
+}
+
+/// The foot of the page, in lines, each of which ends after a sentence.
+fn foot_of(
+    alloc: Global,
+    frame: &IpNet,
+    depth: u8,
+    form: MapForm<'_>,
+) -> Result<Vec<String>, AllocError>
     requires few { depth ≤ 20 }
     requires fits { (ip_network frame.now).prefix_len + depth ≤ width (ip_network frame.now).family }
 {
@@ -44,44 +58,7 @@ fn foot_of(alloc: Global, frame: &IpNet, depth: u8, form: MapForm<'_>) -> Result
         text,
         " A square is a /{square_len}. The smallest dot is a /{cell_len}.{note}{more}"
     )?;
-    Ok(text)
-}
-
-/// The summary in lines, each of which ends after a count.
-fn summary_lines(alloc: Global, summary: &str) -> Result<Vec<String>, AllocError> {
-    let mut lines = Vec::new(alloc);
-    let mut line = String::new(alloc);
-    for part in summary.split(", ") {
-        if !line.is_empty() {
-            line.push_str(",")?;
-            if line.len().saturating_add(part.len()) < MOST_BYTES {
-                line.push_str(" ")?;
-            } else {
-                lines.push(line)?;
-                line = String::new(alloc);
-            }
-        }
-        line.push_str(part)?;
-    }
-    lines.push(line)?;
-    Ok(lines)
-}
-
-/// Appends the lines of the summary, and returns the row of the last one.
-fn push_summary(
-    alloc: Global,
-    captions: &mut Vec<Label>,
-    summary: &str,
-) -> Result<u32, AllocError> {
-    let lines = summary_lines(alloc, summary)?;
-    let mut last = SUMMARY;
-    let mut row = SUMMARY;
-    for line in lines {
-        captions.push(label_at(Ink::Plain, EDGE, row, line))?;
-        last = row;
-        row = row.saturating_add(LINE);
-    }
-    Ok(last)
+    lines_of(alloc, text.as_str(), ". ")
 }
 
 /// Whether the map has heads of rows and columns: its squares are all values of an octet.
@@ -89,21 +66,16 @@ fn has_heads(frame_len: u8, depth: u8) -> bool {
     depth >= 6 && frame_len % 8 <= 2
 }
 
-/// The row below this many lines.
-fn row_after(row: u32, lines: usize) -> u32 {
-    let lines = u32::try_from(lines).unwrap_or(u32::MAX);
-    lines.saturating_mul(LINE).saturating_add(row)
-}
-
-/// Adds the lines of the legend that have no colour, one below the other from this height.
+/// Appends the lines, one below the other from this row.
 fn push_lines(
     captions: &mut Vec<Label>,
+    ink: Ink,
     lines: &[String],
     first_row: u32,
 ) -> Result<(), AllocError> {
-    let mut row = first_row.saturating_add(10);
+    let mut row = first_row;
     for line in lines {
-        captions.push(label_at(Ink::Plain, EDGE, row, line.clone()?))?;
+        captions.push(label_at(ink, EDGE, row, line.clone()?))?;
         row = row.saturating_add(LINE);
     }
     Ok(())
@@ -119,26 +91,28 @@ pub(crate) fn captions_of(
 ) -> Result<PageTexts, AllocError>
     requires few { drawing.now.depth ≤ 20 }
     requires fits { (ip_network frame.now).prefix_len + drawing.now.depth ≤ width (ip_network frame.now).family }
+    ensures { IfOk result (λ texts. texts.sheet.scale
+        ≡ cell_pixels (2 ^ columns_in (square_cuts (ip_network frame.now).prefix_len drawing.now.depth))) }
 {
     let depth = drawing.depth;
     let cell_len = frame.prefix_len() + depth;
-    let heading = form.heading;
-    let network = frame.to_text();
-    let network = network.as_str();
-    let title = format!(in alloc; "{heading} {network}")?;
+    let title = page_title(alloc, frame, form)?;
     let mut captions = Vec::new(alloc);
     captions.push(label_at(Ink::Head, EDGE, 26, title.clone()?))?;
-    let row = push_summary(alloc, &mut captions, summary)?.saturating_add(TO_LEGEND);
+    let summary = lines_of(alloc, summary, ", ")?;
+    push_lines(&mut captions, Ink::Plain, summary.as_slice(), SUMMARY)?;
+    let legend_row = row_after(LEGEND, summary.len());
     let layers = drawing.layers.as_slice();
-    let swatches = legend_of(alloc, layers, form.names, cell_len, row)?;
+    let swatches = legend_of(alloc, layers, form.names, cell_len, legend_row)?;
     let lines = form.overlay.lines.as_slice();
-    let first_line = row_after(row, swatches.len());
-    push_lines(&mut captions, lines, first_line)?;
-    let top = row_after(first_line, lines.len()).saturating_add(8);
+    let row = row_after(legend_row, swatches.len());
+    let baseline = row.saturating_add(10);
+    push_lines(&mut captions, Ink::Plain, lines, baseline)?;
+    let top = row_after(row, lines.len()).saturating_add(8);
     let heads = has_heads(frame.prefix_len(), depth);
-    let sheet = sheet_of(sides_of(frame, depth), heads, top);
     let foot = foot_of(alloc, frame, depth, form)?;
-    captions.push(label_at(Ink::Faint, EDGE, sheet.area.height.saturating_sub(10), foot))?;
+    let sheet = sheet_of(sides_of(frame, depth), heads, top, foot.len());
+    push_lines(&mut captions, Ink::Faint, foot.as_slice(), sheet.foot_row)?;
     Ok(PageTexts {
         title,
         captions,

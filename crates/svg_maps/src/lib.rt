@@ -12,6 +12,7 @@ pub mod free;
 pub mod label;
 pub mod laws;
 pub mod legend;
+pub mod lines;
 pub mod map;
 pub mod name;
 pub mod named;
@@ -27,6 +28,7 @@ pub mod square_labels;
 pub mod style;
 pub(crate) mod tiles;
 pub(crate) mod under;
+pub(crate) mod whole;
 
 pub use chart::{Chart, Square};
 pub use entry::{MapEntries, MapEntry};

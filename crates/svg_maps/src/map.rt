@@ -33,7 +33,7 @@ pub fn map_text(
 ) -> Result<String, AllocError>
     requires few { drawing.now.depth ≤ 20 }
     requires fits { (ip_network frame.now).prefix_len + drawing.now.depth ≤ width (ip_network frame.now).family }
-    ensures { IfOk result (λ text. IsOutlinedMap (ip_network frame.now) counted.now drawing.now
+    ensures { IfOk result (λ text. IsOutlinedMap (ip_network frame.now) counted.now drawing.now form.entry.style.now
         form.entry.overlay.now.outlines.items (string_bytes text)) }
 {
     let depth = drawing.depth;

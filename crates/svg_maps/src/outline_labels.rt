@@ -22,7 +22,7 @@ const LARGE_HEIGHT: u32 = 13;
 
 /// How many characters wide the character is at most: those from U+1100 on may be wide, and of a character that is not
 /// shown, each byte has four.
-fn columns_of(c: char) -> u32 {
+pub(crate) fn columns_of(c: char) -> u32 {
     if !is_shown(c) {
         if c <= '\u{7f}' { 4 } else { 16 }
     } else if c < '\u{1100}' {

@@ -11,17 +11,17 @@ ghost use Rattle.svg_maps.specs.Overlays.{AreOutlinesOver};
 
 use crate::entry::{MapEntries, entry_outlines};
 use crate::free::outlines_of;
+use crate::lines::lines_of;
 use crate::named::named_outlines;
 use crate::outline::Outline;
+use crate::square::Counted;
 use crate::style::Theme;
+use crate::whole::{entry_lines, name_lines};
 use ipnet::IpNet;
 use ipnet_pictures::summary::{push_free, push_largest};
 use ipnet_pictures::{free_in, largest_of};
 use ipnet_sets::{IpSet, RouteTable};
 use std::alloc::{AllocError, Global};
-
-/// The most characters of a line of the legend that is cut.
-const LONGEST: usize = 100;
 
 /// How a map looks, which networks on it have names, and which are entries of its lists.
 #[derive(Clone, Copy)]
@@ -34,6 +34,13 @@ pub struct Look<'a> {
     pub names: &'a RouteTable<&'a str>,
     /// The entries of the lists.
     pub entries: MapEntries<'a>,
+}
+
+/// The addresses of all sets of a map, and the sets that are counted in each square.
+#[derive(Clone, Copy)]
+pub(crate) struct Shown<'a> {
+    pub(crate) all: &'a IpSet,
+    pub(crate) counted: &'a [Counted<'a>],
 }
 
 /// The outlines over the cells of a map, and what the legend and the foot say of them.
@@ -64,26 +71,6 @@ impl Overlay {
     }
 }
 
-/// Appends the text, as lines that are cut after commas if they are too long.
-fn push_cut(alloc: Global, lines: &mut Vec<String>, text: &str) -> Result<(), AllocError> {
-    let mut line = String::new(alloc);
-    for part in text.split(',') {
-        if line.is_empty() {
-            line.push_str(part)?;
-        } else {
-            line.push_str(",")?;
-            if line.len().saturating_add(part.len()) > LONGEST {
-                lines.push(line)?;
-                line = String::from_str(alloc, part.trim_start())?;
-            } else {
-                line.push_str(part)?;
-            }
-        }
-    }
-    lines.push(line)?;
-    Ok(())
-}
-
 /// The lines of the legend about the free blocks.
 fn free_lines(alloc: Global, free: &[IpNet], frame: &IpNet) -> Result<Vec<String>, AllocError> {
     let mut text = String::new(alloc);
@@ -92,7 +79,8 @@ fn free_lines(alloc: Global, free: &[IpNet], frame: &IpNet) -> Result<Vec<String
     let mut lines = Vec::new(alloc);
     for line in text.as_str().split('\n') {
         if !line.is_empty() {
-            push_cut(alloc, &mut lines, line)?;
+            let mut cut = lines_of(alloc, line, ", ")?;
+            lines.append(&mut cut)?;
         }
     }
     Ok(lines)
@@ -145,7 +133,7 @@ fn shown_free(
     }
 }
 
-/// The overlay that outlines the networks with names.
+/// The overlay that outlines the networks with names; the legend has those that are larger than the map.
 fn named_overlay(
     alloc: Global,
     frame: &IpNet,
@@ -158,33 +146,38 @@ fn named_overlay(
         AreNamedOutlines (routes_of names.now) (ip_network frame.now) depth overlay.outlines.items) }
 {
     let outlines = named_outlines(alloc, frame, depth, names)?;
-    let left_out = names.len().saturating_sub(outlines.len());
+    let lines = name_lines(alloc, frame, names)?;
+    let shown = outlines.len().saturating_add(lines.len());
+    let left_out = names.len().saturating_sub(shown);
     let note = left_out_note(alloc, "Named networks without an outline", left_out)?;
     Ok(Overlay {
         outlines,
-        lines: Vec::new(alloc),
+        lines,
         note,
     })
 }
 
-/// The overlay with the areas of the entries.
+/// The overlay with the areas of the entries; the legend has those that contain the whole map.
 fn entry_overlay(
     alloc: Global,
     frame: &IpNet,
     depth: u8,
     entries: MapEntries<'_>,
+    counted: &[Counted<'_>],
 ) -> Result<Overlay, AllocError>
     requires few { depth ≤ 20 }
     requires fits { (ip_network frame.now).prefix_len + depth ≤ width (ip_network frame.now).family }
-    ensures { IfOk result (λ overlay.
-        AreEntryOutlines entries.entry.titled.now (ip_network frame.now) depth overlay.outlines.items) }
+    ensures { IfOk result (λ overlay. AreEntryOutlines entries.entry.titled.now counted.now (ip_network frame.now)
+        depth overlay.outlines.items) }
 {
-    let outlines = entry_outlines(alloc, frame, depth, entries.titled)?;
-    let left_out = entries.count.saturating_sub(outlines.len());
+    let outlines = entry_outlines(alloc, frame, depth, entries.titled, counted)?;
+    let lines = entry_lines(alloc, frame, entries.titled)?;
+    let shown = outlines.len().saturating_add(lines.len());
+    let left_out = entries.count.saturating_sub(shown);
     let note = left_out_note(alloc, "Networks of entries without a title", left_out)?;
     Ok(Overlay {
         outlines,
-        lines: Vec::new(alloc),
+        lines,
         note,
     })
 }
@@ -201,23 +194,23 @@ fn joined(first: Overlay, second: Overlay) -> Result<Overlay, AllocError>
     Ok(overlay)
 }
 
-/// Returns what is drawn over the map of the set in the frame: the areas of the entries, outlines of the networks with
-/// names, and then outlines of the free blocks, if the look shows them.
+/// Returns what is drawn over the map of these sets in the frame: the areas of the entries, outlines of the networks
+/// with names, and then outlines of the free blocks, if the look shows them.
 pub(crate) fn overlay_of(
     alloc: Global,
     frame: &IpNet,
     depth: u8,
-    set: &IpSet,
+    shown: Shown<'_>,
     look: Look<'_>,
 ) -> Result<Overlay, AllocError>
     requires few { depth ≤ 20 }
     requires fits { (ip_network frame.now).prefix_len + depth ≤ width (ip_network frame.now).family }
-    ensures { IfOk result (λ overlay.
-        AreOutlinesOver look.entry (IsMember set.now) (ip_network frame.now) depth overlay.outlines.items) }
+    ensures { IfOk result (λ overlay. AreOutlinesOver look.entry shown.entry.counted.now
+        (IsMember shown.entry.all.now) (ip_network frame.now) depth overlay.outlines.items) }
 {
-    let entries = entry_overlay(alloc, frame, depth, look.entries)?;
+    let entries = entry_overlay(alloc, frame, depth, look.entries, shown.counted)?;
     let named = named_overlay(alloc, frame, depth, look.names)?;
-    let free = shown_free(alloc, frame, depth, set, look.shows_free)?;
+    let free = shown_free(alloc, frame, depth, shown.all, look.shows_free)?;
     let others = joined(named, free)?;
     joined(entries, others)
 }

@@ -6,6 +6,7 @@ ghost use Rattle.ipnet_maps.specs.Cuts.{columns_in, rows_in};
 ghost use Rattle.ipnet_maps.specs.Squares.{square_cuts};
 ghost use Rattle.svg_maps.specs.Pages.{cell_pixels, pixels, pixel_rectangle};
 
+use crate::legend::LINE;
 use ipnet::IpNet;
 use ipnet_maps::{Layout, Place, Rectangle, Sides};
 
@@ -17,6 +18,12 @@ const CELL: u32 = 64;
 
 /// The least width of a page, in pixels.
 const LEAST_WIDTH: u32 = 720;
+
+/// The number of pixels from a map to the first line of the foot.
+const TO_FOOT: u32 = 20;
+
+/// The number of pixels below a map, without the lines of the foot.
+const MARGIN: u32 = 12;
 
 /// Returns how many cells the map of the frame is wide and high.
 pub(crate) fn sides_of(frame: &IpNet, depth: u8) -> Sides
@@ -70,10 +77,20 @@ pub(crate) struct Sheet {
     pub(crate) area: Sides,
     /// Whether the rows and columns of the map have heads.
     pub(crate) has_heads: bool,
+    /// The row of the first line of the foot.
+    pub(crate) foot_row: u32,
 }
 
-/// Returns the sizes of a page whose map has these sides, and begins below this row.
-pub(crate) fn sheet_of(sides: Sides, has_heads: bool, row: u32) -> Sheet {
+/// Returns the row below this many lines.
+pub(crate) fn row_after(row: u32, lines: usize) -> u32 {
+    let lines = u32::try_from(lines).unwrap_or(u32::MAX);
+    lines.saturating_mul(LINE).saturating_add(row)
+}
+
+/// Returns the sizes of a page whose map has these sides and begins below this row, and whose foot has this many lines.
+pub(crate) fn sheet_of(sides: Sides, has_heads: bool, row: u32, foot_lines: usize) -> Sheet
+    ensures { result.scale ≡ cell_pixels sides.width }
+{
     let scale = scale_of(sides);
     let column = if has_heads { 56 } else { 16 };
     let row = row.saturating_add(if has_heads { 14 } else { 0 });
@@ -81,15 +98,16 @@ pub(crate) fn sheet_of(sides: Sides, has_heads: bool, row: u32) -> Sheet {
         .width
         .saturating_mul(scale)
         .saturating_add(column + 16);
-    let height = sides.height.saturating_mul(scale).saturating_add(row);
+    let end = sides.height.saturating_mul(scale).saturating_add(row);
     let area = Sides {
         width: width.max(LEAST_WIDTH),
-        height: height.saturating_add(30),
+        height: row_after(end.saturating_add(MARGIN), foot_lines),
     };
     Sheet {
         scale,
         chart_place: Place { column, row },
         area,
         has_heads,
+        foot_row: end.saturating_add(TO_FOOT),
     }
 }

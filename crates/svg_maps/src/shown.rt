@@ -6,7 +6,7 @@ ghost use Rattle.svg_maps.specs.Overlays.{IsOutlinedSetMap, IsOutlinedChangeMap,
 
 use crate::form::MapForm;
 use crate::map::map_text;
-use crate::overlay::{Look, overlay_of};
+use crate::overlay::{Look, Shown, overlay_of};
 use crate::square::Counted;
 use crate::style::style_of;
 use ipnet::IpNet;
@@ -52,8 +52,12 @@ pub fn set_map_text(
     let drawing = draw_set(alloc, frame, set)?;
     let style = style_of(alloc, look.theme)?;
     let note = note_of(alloc, set, frame)?;
-    let overlay = overlay_of(alloc, frame, drawing.depth, set, look)?;
     let counted = [Counted { words: "used", set }];
+    let shown = Shown {
+        all: set,
+        counted: &counted,
+    };
+    let overlay = overlay_of(alloc, frame, drawing.depth, shown, look)?;
     let form = MapForm {
         style: style.as_str(),
         heading: "Map of",
@@ -92,7 +96,6 @@ pub fn change_map_text(
     let changed = removed.union(alloc, &added)?;
     let note = note_of(alloc, &changed, frame)?;
     let all = before.union(alloc, after)?;
-    let overlay = overlay_of(alloc, frame, drawing.depth, &all, look)?;
     let counted = [
         Counted {
             words: "only in the first",
@@ -107,6 +110,11 @@ pub fn change_map_text(
             set: &kept,
         },
     ];
+    let shown = Shown {
+        all: &all,
+        counted: &counted,
+    };
+    let overlay = overlay_of(alloc, frame, drawing.depth, shown, look)?;
     let form = MapForm {
         style: style.as_str(),
         heading: "Changes in",
@@ -187,9 +195,11 @@ pub fn sets_map_text(
     let style = style_of(alloc, look.theme)?;
     let all = IpSet::union_all(alloc, sets)?;
     let note = note_of(alloc, &all, frame)?;
-    let overlay = overlay_of(alloc, frame, drawing.depth, &all, look)?;
     let words = all_words(alloc, names)?;
-    let counted = counted_of(alloc, sets, words.as_slice())?;
+    let list = counted_of(alloc, sets, words.as_slice())?;
+    let counted = list.as_slice();
+    let shown = Shown { all: &all, counted };
+    let overlay = overlay_of(alloc, frame, drawing.depth, shown, look)?;
     let form = MapForm {
         style: style.as_str(),
         heading: "Lists in",
@@ -197,5 +207,5 @@ pub fn sets_map_text(
         note: note.as_str(),
         overlay: &overlay,
     };
-    map_text(alloc, frame, &drawing, counted.as_slice(), form)
+    map_text(alloc, frame, &drawing, counted, form)
 }

@@ -1,6 +1,6 @@
 //! The style sheets of maps: the colours of each class, for light and dark pages.
-ghost use Rattle.std.specs.Prelude.{◌≡◌, ◌++◌, OnOk, flat_map, string_bytes};
-ghost use Rattle.svg_maps.specs.Styles.{rule_text};
+ghost use Rattle.std.specs.Prelude.{◌≡◌, ◌++◌, IfOk, OnOk, string_bytes};
+ghost use Rattle.svg_maps.specs.Styles.{both_text, colours_text, style_text};
 
 use std::alloc::{AllocError, Global};
 
@@ -18,115 +18,121 @@ pub enum Theme {
     Dark,
 }
 
+// Each rule is below the class of the document, so that the rules do not change a page into which it is put.
+
 /// The rules of all themes.
-const COMMON: &[&str] = &[
-    "text{font-family:ui-monospace,Menlo,Consolas,DejaVu Sans Mono,monospace;font-size:11px}",
-    ".head{font-size:15px;font-weight:bold}",
-    ".small text{font-size:9px}",
-    ".small{opacity:.8}",
-    ".small .note{font-size:11px}",
-    ".hit{fill:#fff;fill-opacity:0}",
-    ".hit:hover{fill-opacity:.25}",
-    ".grid{fill:none;stroke-width:1;opacity:.35}",
-    ".free{fill:none;stroke-width:1;stroke-opacity:.55;shape-rendering:crispEdges;pointer-events:none}",
-    ".name{fill:none;stroke-width:1.5}",
-    ".ring{fill:none;stroke-width:1.5;pointer-events:none}",
-    ".halo{stroke-width:3;stroke-linejoin:round;paint-order:stroke}",
-    ".pale{fill-opacity:.55}",
-];
+const COMMON: &str = "\
+.netmap text{font-family:ui-monospace,Menlo,Consolas,DejaVu Sans Mono,monospace;font-size:11px}\
+.netmap .head{font-size:15px;font-weight:bold}\
+.netmap .small text{font-size:9px;opacity:.8}\
+.netmap .small .halo{opacity:1}\
+.netmap .small .note{font-size:11px}\
+.netmap .hit{fill:#fff;fill-opacity:0}\
+.netmap .hit:hover{fill-opacity:.25}\
+.netmap .grid{fill:none;stroke-width:1;opacity:.35}\
+.netmap .free{fill:none;stroke-width:1;stroke-opacity:.55;shape-rendering:crispEdges;pointer-events:none}\
+.netmap .name{fill:none;stroke-width:1.5}\
+.netmap .ring{fill:none;stroke-width:1.5;pointer-events:none}\
+.netmap .halo{stroke-width:4;stroke-linejoin:round;paint-order:stroke}\
+.netmap .pale{fill-opacity:.55}";
 
 /// The colours of a light page.
-const LIGHT: &[&str] = &[
-    ".page{fill:#ffffff}",
-    ".ground{fill:#f1f1ee}",
-    ".ink{fill:#1a1a1a}",
-    ".faint{fill:#63635e}",
-    ".inverse{fill:#ffffff}",
-    ".black{fill:#000000}",
-    ".s1{fill:#a3c9e6}",
-    ".s2{fill:#5fa3d3}",
-    ".s3{fill:#2171b5}",
-    ".s4{fill:#08306b}",
-    ".old{fill:#d55e00}",
-    ".new{fill:#0072b2}",
-    ".both{fill:#8f8f8a}",
-    ".bothp{fill:#bdbdb8}",
-    ".mix{fill:#000000}",
-    ".ov{fill:#000000}",
-    ".sev{fill:#8f8f8a}",
-    ".l0{fill:#0072b2}",
-    ".l1{fill:#e69f00}",
-    ".l2{fill:#009e73}",
-    ".l3{fill:#cc79a7}",
-    ".l4{fill:#56b4e9}",
-    ".l5{fill:#d55e00}",
-    ".grid{stroke:#8a8a85}",
-    ".free{stroke:#8a8a85}",
-    ".name{stroke:#1a1a1a}",
-    ".ring{stroke:#1a1a1a}",
-    ".halo{stroke:#f1f1ee}",
-];
+const LIGHT: &str = "\
+.netmap .page{fill:#ffffff}\
+.netmap .ground{fill:#f1f1ee}\
+.netmap .ink{fill:#1a1a1a}\
+.netmap .faint{fill:#63635e}\
+.netmap .inverse{fill:#ffffff}\
+.netmap .black{fill:#000000}\
+.netmap .s1{fill:#a3c9e6}\
+.netmap .s2{fill:#5fa3d3}\
+.netmap .s3{fill:#2171b5}\
+.netmap .s4{fill:#08306b}\
+.netmap .old{fill:#d55e00}\
+.netmap .new{fill:#0072b2}\
+.netmap .both{fill:#8f8f8a}\
+.netmap .bothp{fill:#bdbdb8}\
+.netmap .mix{fill:#000000}\
+.netmap .ov{fill:#000000}\
+.netmap .sev{fill:#8f8f8a}\
+.netmap .l0{fill:#0072b2}\
+.netmap .l1{fill:#e69f00}\
+.netmap .l2{fill:#009e73}\
+.netmap .l3{fill:#cc79a7}\
+.netmap .l4{fill:#56b4e9}\
+.netmap .l5{fill:#d55e00}\
+.netmap .grid{stroke:#8a8a85}\
+.netmap .free{stroke:#8a8a85}\
+.netmap .name{stroke:#1a1a1a}\
+.netmap .ring{stroke:#1a1a1a}\
+.netmap .halo{stroke:#f1f1ee}";
 
 /// The colours of a dark page.
-const DARK: &[&str] = &[
-    ".page{fill:#16181c}",
-    ".ground{fill:#24272d}",
-    ".ink{fill:#f0f0ee}",
-    ".faint{fill:#aab0ba}",
-    ".inverse{fill:#000000}",
-    ".black{fill:#000000}",
-    ".s1{fill:#264a68}",
-    ".s2{fill:#35719f}",
-    ".s3{fill:#5aa2d8}",
-    ".s4{fill:#a8d8ff}",
-    ".old{fill:#f28a35}",
-    ".new{fill:#4db2ff}",
-    ".both{fill:#6c727c}",
-    ".bothp{fill:#484d56}",
-    ".mix{fill:#ffffff}",
-    ".ov{fill:#ffffff}",
-    ".sev{fill:#6c727c}",
-    ".l0{fill:#2a78c8}",
-    ".l1{fill:#e69f00}",
-    ".l2{fill:#1fb98d}",
-    ".l3{fill:#cc79a7}",
-    ".l4{fill:#9bd8ff}",
-    ".l5{fill:#d55e00}",
-    ".grid{stroke:#8b919b}",
-    ".free{stroke:#8b919b}",
-    ".name{stroke:#f0f0ee}",
-    ".ring{stroke:#f0f0ee}",
-    ".halo{stroke:#24272d}",
-];
+const DARK: &str = "\
+.netmap .page{fill:#16181c}\
+.netmap .ground{fill:#24272d}\
+.netmap .ink{fill:#f0f0ee}\
+.netmap .faint{fill:#aab0ba}\
+.netmap .inverse{fill:#000000}\
+.netmap .black{fill:#000000}\
+.netmap .s1{fill:#264a68}\
+.netmap .s2{fill:#35719f}\
+.netmap .s3{fill:#5aa2d8}\
+.netmap .s4{fill:#a8d8ff}\
+.netmap .old{fill:#f28a35}\
+.netmap .new{fill:#4db2ff}\
+.netmap .both{fill:#6c727c}\
+.netmap .bothp{fill:#484d56}\
+.netmap .mix{fill:#ffffff}\
+.netmap .ov{fill:#ffffff}\
+.netmap .sev{fill:#6c727c}\
+.netmap .l0{fill:#2a78c8}\
+.netmap .l1{fill:#e69f00}\
+.netmap .l2{fill:#1fb98d}\
+.netmap .l3{fill:#cc79a7}\
+.netmap .l4{fill:#9bd8ff}\
+.netmap .l5{fill:#d55e00}\
+.netmap .grid{stroke:#8b919b}\
+.netmap .free{stroke:#8b919b}\
+.netmap .name{stroke:#f0f0ee}\
+.netmap .ring{stroke:#f0f0ee}\
+.netmap .halo{stroke:#24272d}";
 
-/// Appends the rules, each below the class of the document.
-fn push_rules(text: &mut String, rules: &[&str]) -> Result<(), AllocError>
-    ensures { OnOk result (string_bytes text.new
-        ≡ string_bytes text.old ++ flat_map (λ rule. rule_text rule.now) rules.now) }
+/// Appends the colours of a light page, and the colours of a dark page for a reader who prefers dark pages.
+fn push_both(text: &mut String) -> Result<(), AllocError>
+    ensures { OnOk result (string_bytes text.new ≡ string_bytes text.old ++ both_text) }
 {
-    for rule in rules {
-        text.push_str(".netmap ")?;
-        text.push_str(rule)?;
-    }
+    text.push_str(LIGHT)?;
+    text.push_str("@media(prefers-color-scheme:dark){")?;
+    text.push_str(DARK)?;
+    text.push_str("}")?;
     Ok(())
+}
+
+/// Appends the colours of the theme.
+fn push_colours(text: &mut String, theme: Theme) -> Result<(), AllocError>
+    ensures { OnOk result (string_bytes text.new ≡ string_bytes text.old ++ colours_text theme) }
+{
+    match theme {
+        Theme::Auto => push_both(text),
+        Theme::Light => text.push_str(LIGHT),
+        Theme::Dark => text.push_str(DARK),
+    }
 }
 
 /// Returns the style sheet of the theme. Each rule is below the class `netmap` of the document, so the rules do not
 /// change other parts of a page into which the document is put. Fails only if memory runs out.
 ///
 /// Some programs that draw a document of SVG do not know what the reader prefers: for them `Auto` is light.
-pub fn style_of(alloc: Global, theme: Theme) -> Result<String, AllocError> {
+///
+/// ```text
+/// of Light: .netmap text{..}.netmap .head{..} .. .netmap .page{fill:#ffffff} ..
+/// ```
+pub fn style_of(alloc: Global, theme: Theme) -> Result<String, AllocError>
+    ensures { IfOk result (λ text. string_bytes text ≡ style_text theme) }
+{
     let mut text = String::new(alloc);
-    push_rules(&mut text, COMMON)?;
-    match theme {
-        Theme::Light => push_rules(&mut text, LIGHT)?,
-        Theme::Dark => push_rules(&mut text, DARK)?,
-        Theme::Auto => {
-            push_rules(&mut text, LIGHT)?;
-            text.push_str("@media(prefers-color-scheme:dark){")?;
-            push_rules(&mut text, DARK)?;
-            text.push_str("}")?;
-        }
-    }
+    text.push_str(COMMON)?;
+    push_colours(&mut text, theme)?;
     Ok(text)
 }

@@ -14,10 +14,10 @@ lines-init c =
 
 pub lines-preserved : goal.lines-preserved
 lines-preserved c =
-    before_more c.args.grammar (after_mark c.args.bytes.now) c.lines.rest.now c.first_line.result.0.now
-    c.first_line.result.1.now c.contents_of.result.now c.lines.number c.in_ok-number.number
+    before_more c.args.grammar (after_mark c.args.bytes.now) c.lines.rest.now c.first_line_of_bytes.result.0.now
+    c.first_line_of_bytes.result.1.now c.contents_of.result.now c.lines.number c.in_ok-number.number
     (map line_of c.lines.lines.items) (map line_of c.push_some.new.lines.items) c.lines.invariant
-    c.first_line.ensures.lines c.in_ok-number.ensures c.contents_of.ensures c.in_ok-push_some.ensures
+    c.first_line_of_bytes.ensures.lines c.in_ok-number.ensures c.contents_of.ensures c.in_ok-push_some.ensures
 
 pub returns : goal.returns
 returns c =

@@ -6,6 +6,9 @@ use Rattle.svg_maps.specs.Pages.{cell_pixels, pixel_rectangle}
 use Rattle.svg_maps.proofs.EntryLaws.{large_again}
 use Rattle.svg_maps.proofs.entry.entry_outline.Goals as goal
 
+pub returns-then-contains : goal.returns-then-contains
+returns-then-contains c = λ s. s.part (c.contains.ensures.0 c.if-contains.true)
+
 pub returns-then-not-is_large : goal.returns-then-not-is_large
 returns-then-not-is_large c =
     let frame = ip_network c.args.frame.now in
@@ -21,6 +24,7 @@ returns c =
     let scale = c.scale_of-scale.ensures.pixels ∙ ap cell_pixels c.sides_of.ensures.width in (
       record {
         shown = c.in-Some.ensures.shown.0 refl;
+        part = false_gives c.contains.result c.contains.ensures c.if-contains.false;
         area = c.in-Some.rectangle;
         is_area = c.in-Some.ensures.some;
         large = subst (λ z. IsLarge (pixel_rectangle z c.in-Some.rectangle)) scale
@@ -29,6 +33,6 @@ returns c =
       record {
         class = refl;
         area = c.in-Some.ensures.some;
-        title = c.in_ok-title.ensures.ok ∙ c.as_str.ensures.value;
+        title = c.in_ok-title.ensures;
       },
     )

@@ -6,4 +6,4 @@ use Rattle.svg_maps.proofs.entry.entry_outlines.Given as goal
 
 abbrev pub invariant-loop-entry : goal.invariant-loop-entry
 invariant-loop-entry l =
-    AreEntryOutlines (take l.entry-index l.entries) (ip_network l.frame) l.depth l.outlines.items
+    AreEntryOutlines (take l.entry-index l.entries) l.counted (ip_network l.frame) l.depth l.outlines.items

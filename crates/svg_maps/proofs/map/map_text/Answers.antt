@@ -1,9 +1,9 @@
-use Rattle.std.proofs.Common.{◌≡◌, ◌+◌, All, subst, sym, string_bytes}
+use Rattle.std.proofs.Common.{◌≡◌, ◌+◌, ◌∙◌, All, ap, refl, subst, sym, string_bytes}
 use Rattle.std.proofs.lemmas.Result.{IfOk-weaker}
 use Rattle.ipnet.specs.NetworkOf.{ip_network}
 use Rattle.svg_text.specs.Documents.{nodes_text}
 use Rattle.svg_maps.specs.Overlays.{IsOutlinedMap}
-use Rattle.svg_maps.specs.Pages.{PageView, page_nodes}
+use Rattle.svg_maps.specs.Pages.{PageView, cell_pixels, page_nodes}
 use Rattle.svg_maps.specs.Squares.{IsSquareOf, IsTitle, square_bits}
 use Rattle.svg_maps.proofs.map.map_text.Goals as goal
 
@@ -31,16 +31,19 @@ returns c =
       scale = sheet.scale;
     } in
     IfOk-weaker c.page_text.result (λ text. string_bytes text ≡ nodes_text (page_nodes view))
-    (λ text. IsOutlinedMap n counted d c.args.form.overlay.now.outlines.items (string_bytes text)) (λ text e. (
+    (λ text. IsOutlinedMap n counted d c.args.form.style.now c.args.form.overlay.now.outlines.items
+    (string_bytes text)) (λ text e. (
       record {
         view = view;
         layers = c.as_slice-layers.ensures.value;
         width = c.sides_of-sides.ensures.width;
         height = c.sides_of-sides.ensures.height;
+        scale = c.in_ok-texts.ensures ∙ ap cell_pixels (sym c.sides_of-sides.ensures.width);
         squares = subst (All (IsSquareOf n d.depth (n.prefix_len + square_bits n.prefix_len d.depth) counted))
             (sym c.as_slice-7.ensures.value) c.in_ok-squares.ensures;
         summary = subst (IsTitle n counted) (sym c.as_str-3.ensures.value) c.in_ok-summary.ensures;
         spelled = e;
       },
+      refl,
       c.as_slice-outlines.ensures.value,
     )) c.page_text.ensures

@@ -7,7 +7,7 @@ use Rattle.ipnet_sets.specs.RoutesOf.{routes_of}
 use Rattle.ipnet_sets.proofs.RouteLaws.{same_networks}
 use Rattle.svg_maps.specs.FreeOutlines.{largest_first}
 use Rattle.svg_maps.specs.NamedOutlines.{IsNamedOutline, AreNamedOutlines}
-use Rattle.svg_maps.proofs.NamedLaws.{within_inside}
+use Rattle.svg_maps.proofs.NamedLaws.{within_inside, within_named}
 use Rattle.svg_maps.proofs.named.named_outlines.Goals as goal
 
 pub largest_outlines-requires-clause-inside : goal.largest_outlines-requires-clause-inside
@@ -17,6 +17,16 @@ largest_outlines-requires-clause-inside c =
     = ap (map ip_network) c.as_slice.ensures.value ∙ c.in_ok-networks.ensures ∙ sym (same_networks routes) in
     λ n m. within_inside (routes_of c.args.names.now) (ip_routes routes) (ip_network c.args.frame.now)
     c.within-routes.ensures n (subst (λ z. Contains z n) same m)
+
+pub largest_outlines-requires-clause-named : goal.largest_outlines-requires-clause-named
+largest_outlines-requires-clause-named c =
+    let routes = c.within-routes.result.now in
+    let same : map ip_network c.as_slice.result.now ≡ networks_of (ip_routes routes)
+    = ap (map ip_network) c.as_slice.ensures.value ∙ c.in_ok-networks.ensures ∙ sym (same_networks routes) in
+    λ n m. record {
+      listed = within_named c.args.names.now (ip_routes routes) (ip_network c.args.frame.now) c.within-routes.ensures n
+          (subst (λ z. Contains z n) same m);
+    }
 
 pub returns : goal.returns
 returns c =

@@ -1,4 +1,4 @@
-use Rattle.std.proofs.Common.{refl, subst, sym, string_bytes}
+use Rattle.std.proofs.Common.{◌∙◌, refl, subst, sym, string_bytes}
 use Rattle.std.proofs.lemmas.Result.{IfOk-weaker}
 use Rattle.ipnet.specs.NetworkOf.{ip_network}
 use Rattle.ipnet_base.specs.Blocks.{IsInEither}
@@ -15,7 +15,7 @@ returns c =
     let before = c.args.before.now in
     let after = c.args.after.now in
     let outlines = c.in_ok-overlay.overlay.outlines.items in
-    IfOk-weaker c.map_text.result (λ text. IsOutlinedMap n _ d outlines (string_bytes text))
+    IfOk-weaker c.map_text.result (λ text. IsOutlinedMap n _ d c.as_str.result.now outlines (string_bytes text))
     (λ text. IsOutlinedChangeMap look before after n (string_bytes text)) (λ text m. (
       record {
         drawing = d;
@@ -31,7 +31,10 @@ returns c =
         words = refl;
         page = m.0;
       },
-      subst (AreOutlinesOver look (IsInEither (IsMember before) (IsMember after)) n d.depth) (sym m.1)
-          (over_same look (IsMember c.in_ok-all.all) (IsInEither (IsMember before) (IsMember after)) n d.depth
-          outlines c.in_ok-all.ensures.members c.in_ok-overlay.ensures),
+      record {
+        style = m.1 ∙ c.as_str.ensures.value ∙ c.in_ok-style.ensures;
+        outlines = subst (AreOutlinesOver look _ (IsInEither (IsMember before) (IsMember after)) n d.depth) (sym m.2)
+            (over_same look _ (IsMember c.in_ok-all.all) (IsInEither (IsMember before) (IsMember after)) n d.depth
+            outlines c.in_ok-all.ensures.members c.in_ok-overlay.ensures);
+      },
     )) c.map_text.ensures

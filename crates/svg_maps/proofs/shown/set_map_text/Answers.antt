@@ -1,4 +1,4 @@
-use Rattle.std.proofs.Common.{refl, subst, sym, string_bytes}
+use Rattle.std.proofs.Common.{◌∙◌, refl, subst, sym, string_bytes}
 use Rattle.std.proofs.lemmas.Result.{IfOk-weaker}
 use Rattle.ipnet.specs.NetworkOf.{ip_network}
 use Rattle.ipnet_sets.specs.Members.{IsMember}
@@ -12,7 +12,7 @@ returns c =
     let look = c.args.look in
     let set = c.args.set.now in
     let outlines = c.in_ok-overlay.overlay.outlines.items in
-    IfOk-weaker c.map_text.result (λ text. IsOutlinedMap n _ d outlines (string_bytes text))
+    IfOk-weaker c.map_text.result (λ text. IsOutlinedMap n _ d c.as_str.result.now outlines (string_bytes text))
     (λ text. IsOutlinedSetMap look set n (string_bytes text)) (λ text m. (
       record {
         drawing = d;
@@ -22,5 +22,8 @@ returns c =
         words = refl;
         page = m.0;
       },
-      subst (AreOutlinesOver look (IsMember set) n d.depth) (sym m.1) c.in_ok-overlay.ensures,
+      record {
+        style = m.1 ∙ c.as_str.ensures.value ∙ c.in_ok-style.ensures;
+        outlines = subst (AreOutlinesOver look _ (IsMember set) n d.depth) (sym m.2) c.in_ok-overlay.ensures;
+      },
     )) c.map_text.ensures

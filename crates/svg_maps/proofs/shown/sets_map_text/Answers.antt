@@ -23,26 +23,29 @@ returns c =
     let given = c.args.names.now in
     let names = map (λ name. name.now) given in
     let words = c.in_ok-words.words.items in
-    let counted = c.as_slice-2.result.now in
+    let counted = c.as_slice-counted.result.now in
     let as_many : length c.as_slice.result.now ≡ length given =
     ap (λ z. length z) c.as_slice.ensures.value ∙ sym (length-map words string_bytes)
     ∙ ap (λ z. length z) c.in_ok-words.ensures ∙ length-map given (λ name. list_words name.now) in
     let look = c.args.look in
     let outlines = c.in_ok-overlay.overlay.outlines.items in
-    IfOk-weaker c.map_text.result (λ text. IsOutlinedMap n counted d outlines (string_bytes text))
+    IfOk-weaker c.map_text.result (λ text. IsOutlinedMap n counted d c.as_str.result.now outlines (string_bytes text))
     (λ text. IsOutlinedSetsMap look sets names n (string_bytes text)) (λ text m. (
       record {
         drawing = d;
         drawn = c.in_ok-drawing.ensures;
         counted = counted;
-        each = ap (λ z. map (λ k. k.set.now) z) c.as_slice-2.ensures.value ∙ c.in_ok-counted.ensures.sets;
-        words = λ same. ap (λ z. map (λ k. k.words.now) z) c.as_slice-2.ensures.value
-            ∙ c.in_ok-counted.ensures.words (as_many ∙ sym (length-map given (λ name. name.now)) ∙ same)
+        each = ap (λ z. map (λ k. k.set.now) z) c.as_slice-counted.ensures.value ∙ c.in_ok-list.ensures.sets;
+        words = λ same. ap (λ z. map (λ k. k.words.now) z) c.as_slice-counted.ensures.value
+            ∙ c.in_ok-list.ensures.words (as_many ∙ sym (length-map given (λ name. name.now)) ∙ same)
             ∙ ap (λ z. map string_bytes z) c.as_slice.ensures.value ∙ c.in_ok-words.ensures
             ∙ words_of_names given;
         page = m.0;
       },
-      subst (AreOutlinesOver look (IsInSome IsMember sets) n d.depth) (sym m.1)
-          (over_same look (IsMember c.in_ok-all.all) (IsInSome IsMember sets) n d.depth outlines
-          c.in_ok-all.ensures.members c.in_ok-overlay.ensures),
+      record {
+        style = m.1 ∙ c.as_str.ensures.value ∙ c.in_ok-style.ensures;
+        outlines = subst (AreOutlinesOver look counted (IsInSome IsMember sets) n d.depth) (sym m.2)
+            (over_same look counted (IsMember c.in_ok-all.all) (IsInSome IsMember sets) n d.depth outlines
+            c.in_ok-all.ensures.members c.in_ok-overlay.ensures);
+      },
     )) c.map_text.ensures

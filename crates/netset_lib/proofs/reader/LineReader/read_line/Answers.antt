@@ -15,22 +15,22 @@ returns-then-is_empty g c =
     let text = c.contents_of-text.result.now in
     let made = g.C.Collector.is_made c.args.collector.now c.args.made.now in
     reads_one c.args.self.now _ c.args.line.now text made made c.contents_of-text.ensures
-    (adds_empty c.args.self.now _ text refl refl c.in-Some.ensures.1 made
+    (adds_empty c.args.self.now _ text refl refl c.in_ok-number.ensures made
     (no_bytes (length text) c.if-is_empty.ensures) refl refl)
 
-pub returns-in-Some-read_text : goal.returns-in-Some-read_text
-returns-in-Some-read_text g c =
+pub returns-in-Some : goal.returns-in-Some
+returns-in-Some g c =
     let old = c.args.self.now in
     let text = c.contents_of-text.result.now in
-    let f = c.in-Some-read_text.found in
+    let f = c.in-Some.found in
     let before = g.C.Collector.is_made c.args.collector.now c.args.made.now in
     let after = g.C.Collector.is_made c.args.collector.now c.push.new.made in
-    let same : f.text.now ≡ text = c.in-Some-read_text.ensures.spelled in
+    let same : f.text.now ≡ text = c.in-Some.ensures.spelled in
     let some : 0 < length text = some_bytes (length text) c.if-is_empty.ensures in
-    let is : IsEntryText old.grammar text (found_range f) = c.in-Some-read_text.ensures.reads.some in
+    let is : IsEntryText old.grammar text (found_range f) = c.in-Some.ensures.reads.some in
     OnOk_then c.push.result c.push.ensures
     (λ made. reads_one old _ c.args.line.now text before after c.contents_of-text.ensures
-    (adds_entry old _ text refl refl c.in-Some.ensures.1 before after (found_range f) some is refl refl
+    (adds_entry old _ text refl refl c.in_ok-number.ensures before after (found_range f) some is refl refl
     (subst (λ t. Adds before after (entry_at t (found_range f) ∷ [])) same made)))
 
 pub returns-in-None : goal.returns-in-None
@@ -41,7 +41,7 @@ returns-in-None g c =
     let none : IsNoEntry old.grammar text = c.in-None.ensures.reads.none.0 refl in
     OnOk_then c.push-in-None.result c.push-in-None.ensures
     (λ more. reads_one old _ c.args.line.now text made made c.contents_of-text.ensures
-    (adds_refusal old _ text refl refl c.in-Some.ensures.1 made
+    (adds_refusal old _ text refl refl c.in_ok-number.ensures made
     (some_bytes (length text) c.if-is_empty.ensures) none
     (subst (λ n. HasMore old.refused c.push-in-None.new.self (refusal_at old.grammar old.list n text ∷ []))
-    c.in-Some.ensures.1 more) refl))
+    c.in_ok-number.ensures more) refl))

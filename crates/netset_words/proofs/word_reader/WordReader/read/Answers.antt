@@ -7,5 +7,5 @@ lines-init c = up_to_start c.args.self.now c.args.bytes.now
 pub lines-preserved : goal.lines-preserved
 lines-preserved c =
     up_to_more c.args.self.now c.lines.self c.read_line.new.self c.args.bytes.now c.lines.rest.now
-    c.first_line.result.0.now c.first_line.result.1.now c.lines.invariant c.first_line.ensures.lines
-    c.in_ok-read_line.ensures
+    c.first_line_of_bytes.result.0.now c.first_line_of_bytes.result.1.now c.lines.invariant
+    c.first_line_of_bytes.ensures.lines c.in_ok-read_line.ensures

@@ -1,5 +1,5 @@
 use Rattle.netset_lib.proofs.ListLines.{found_line, only_line}
-use Rattle.netset_lib.proofs.reader.first_line.Goals as goal
+use Rattle.netset_lib.proofs.reader.first_line_of_bytes.Goals as goal
 
 pub returns-in-Some-clause-lines : goal.returns-in-Some-clause-lines
 returns-in-Some-clause-lines c =

@@ -1,0 +1,18 @@
+//! The numbers of lines.
+ghost use Rattle.std.specs.Prelude.{◌≡◌, ◌+◌, IfOk};
+
+use std::alloc::AllocError;
+
+/// Returns the next number. Fails if a `usize` cannot count so far.
+///
+/// ```text
+/// after 2: 3; after usize::MAX: an error
+/// ```
+pub fn next_number(number: usize) -> Result<usize, AllocError>
+    ensures { IfOk result (λ next. next ≡ number + 1) }
+{
+    match number.checked_add(1) {
+        Some(next) => Ok(next),
+        None => Err(AllocError),
+    }
+}

@@ -1,0 +1,58 @@
+"""What is written on maps: names and comments, whatever they contain, and the foot. A module of tests/pictures, not a
+script."""
+import os
+
+import pictures_cases as cases
+import pictures_files as files
+
+# how many bytes of a name or a comment are shown at most, and how many characters a line of the foot has at most
+MOST_NAME, MOST_LINE = 100, 100
+
+
+def check_hostile(maps):
+    """Names of files, comments, and names of networks, whatever they contain."""
+    checks = maps.checks
+    for label, text in cases.HOSTILE:
+        name = text.encode()
+        picture = maps.picture("a file with " + label, [], [(name, b"10.0.0.0/25\n"), ("b", b"10.0.1.0/25\n")])
+        if picture:
+            wanted = {files.shown(name), files.shown(os.path.basename(name))}
+            checks.check("a file with " + label, any(one in found for one in wanted for found in picture.texts()), True)
+    comments = [text.encode() for _, text in cases.HOSTILE] + [cases.BYTES, b"<" * 5000, b"\\" * 101]
+    comments.append(b"x" * 99 + "\u00fc".encode())
+    lines = [b"10.20.%d.0/24 # %s\n" % (number, comment) for number, comment in enumerate(comments)]
+    picture = maps.picture("comments", ["--in", "10.20.0.0/16"], [("a", b"".join(lines))])
+    for number, comment in enumerate(comments if picture else []):
+        front = comment[:MOST_NAME].decode("utf-8", "replace")
+        wanted = "10.20.%d.0/24: %s" % (number, files.shown(front.encode()))
+        wanted += " (10.20.%d.0/24, 256 addresses, 256 used)" % number
+        checks.check("comment %d" % number, [text for text in picture.texts() if text == wanted], [wanted])
+    check_hostile_names(maps)
+
+
+def check_hostile_names(maps):
+    """Titles of networks with names, whatever these contain. A name ends before a comment, is cut at 100 bytes, and has
+    a blank for each tab."""
+    names = cases.HOSTILE + [("many bytes", "x" * 300), ("no letter", "")]
+    lines = ["10.20.{}.0/20 {}\n".format(16 * number, text) for number, (_, text) in enumerate(names)]
+    picture = maps.picture("names", ["--names", "names", "--in", "10.20.0.0/16"],
+                           [("a", b"10.20.0.0/26\n"), ("names", "".join(lines).encode())])
+    for number, (label, text) in enumerate(names):
+        name = files.shown(text.split("#")[0].encode()[:MOST_NAME].replace(b"\t", b" "))
+        wanted = "10.20.{}.0/20{}".format(16 * number, ": " + name if name else "")
+        maps.checks.check("a name with " + label, wanted in picture.texts() if picture else None, True)
+
+
+def long_foot(maps):
+    """The picture of a map whose foot has several lines, each of which ends after a sentence."""
+    frame, entries, names, wanted = cases.LONG_FOOT
+    picture = maps.picture("a long foot", ["--free", "--names", "names", "--in", frame],
+                           [("a", entries.encode()), ("names", names.encode())])
+    found = [line for line, _ in picture.foot()] if picture else None
+    maps.checks.check("a long foot: its lines", found, wanted)
+    return picture
+
+
+def foot_faults(picture):
+    """The lines of the foot that are too long or too low for the page."""
+    return [line for line, row in picture.foot() if len(line) > MOST_LINE or row > picture.size()[1]]
