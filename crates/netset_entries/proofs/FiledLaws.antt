@@ -216,14 +216,16 @@ any_more P (x ∷ lists) zero v w block less read items has = (any_append P w.it
     ]
     pick (inr p) = inl (grown (inr p))
 any_more P (x ∷ lists) (suc i) v w block less read items has =
-    (any_append P x.items (blocks_in (set lists i w))).1 (pick has)
+    (any_append P x.items (blocks_in (set lists i w))).1
+    (pick (any_more P lists i v w block (omega (arith, less)) read items) has)
   where
-    pick : Any P (x.items ++ blocks_in lists) ⊎ P block → Any P x.items ⊎ Any P (blocks_in (set lists i w))
-    pick (inl any) = elim ((any_append P x.items (blocks_in lists)).0 any) [
+    pick : (Any P (blocks_in lists) ⊎ P block → Any P (blocks_in (set lists i w)))
+        → Any P (x.items ++ blocks_in lists) ⊎ P block → Any P x.items ⊎ Any P (blocks_in (set lists i w))
+    pick later (inl any) = elim ((any_append P x.items (blocks_in lists)).0 any) [
       | inl here ↦ inl here
-      | inr there ↦ inr (any_more P lists i v w block (omega (arith, less)) read items (inl there))
+      | inr there ↦ inr (later (inl there))
     ]
-    pick (inr p) = inr (any_more P lists i v w block (omega (arith, less)) read items (inr p))
+    pick later (inr p) = inr (later (inr p))
 
 module _ (Is : NotedEntry → Type 0) where
   filed_drop : (lists : List (Vec NotedEntry)) (len k from : ℕ) → from ≡ len + k → AreFiled Is len lists

@@ -10,7 +10,6 @@ use Rattle.std.proofs.lemmas.List.{length-append, length-set, drop-set-lt, drop_
 use Rattle.std.proofs.lemmas.List.Elements.{All-weaker}
 use Rattle.ipnet_base.specs.Address.{Family, width}
 use Rattle.ipnet_base.specs.Network.{Network}
-use Rattle.ipnet.specs.NetLaws.{ip_valid}
 use Rattle.ipnet.specs.NetworkOf.{ip_network}
 use Rattle.ipnet.specs.declared.net.IpNet.{IpNet}
 use Rattle.ipnet.specs.declared.parser.Grammar.{Grammar}
@@ -203,18 +202,6 @@ push_none old block small = λ grammar frame lines family is h. record {
   held = λ n title held. held;
   has = λ less. absurd (omega (arith, small, less));
 }
-
--- no block has a prefix that is longer than an address
-pub push_long : (old : Largest) (block : NotedEntry) → length old.by_len.items ≤ (ip_network block.network).prefix_len
-    → TakesBlock old old block
-push_long old block long = λ grammar frame lines family is h.
-    absurd (omega (
-      arith,
-      long,
-      h.lengths,
-      (ip_valid block.network).prefix_fits,
-      ap width is.same_family,
-    ))
 
 -- ---- one block is dropped
 

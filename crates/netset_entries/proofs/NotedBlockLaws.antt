@@ -1,5 +1,5 @@
 -- The blocks of both families, as the lines of lists are read.
-use Rattle.std.proofs.Common.{◌≡◌, ◌⊎◌, ◌≤◌, ℕ, List, [], ◌∷◌, ◌++◌, All, Any, Contains, Option, IfSome, string_bytes}
+use Rattle.std.proofs.Common.{◌≡◌, ◌⊎◌, ℕ, List, [], ◌∷◌, ◌++◌, All, Any, Contains, Option, IfSome, string_bytes}
 use Rattle.std.proofs.Common.{sym, ap, ◌∙◌, subst, arith, inl, inr, refl}
 use Rattle.std.proofs.lemmas.List.Elements.{All-append, All-weaker}
 use Rattle.std.proofs.lemmas.List.Quantifiers.{Any-push}
@@ -14,7 +14,7 @@ use Rattle.ipnet_sets.proofs.JoinLaws.{any_push}
 use Rattle.netset_entries.specs.NotedEntries.{IsTitledBlock, IsTitledIn, IsNotedOf, HaveLargest, AreNoted, lines_of_all}
 use Rattle.netset_entries.specs.NotedEntries.{AreLargerFirst}
 use Rattle.netset_entries.specs.NoteSteps.{blocks_in, AreLargest, AreNone, IsOfFamily, IsHeld, KeepsHeld, TakesBlock}
-use Rattle.netset_entries.specs.NoteSteps.{AreBlocksOf, AreKept, HasKept, KeepsBlock, ReadsLine, IsSmallLine}
+use Rattle.netset_entries.specs.NoteSteps.{AreBlocksOf, AreKept, KeepsBlock, ReadsLine, IsSmallLine}
 use Rattle.netset_entries.specs.NoteSteps.{largest_of}
 use Rattle.netset_entries.specs.declared.largest.Largest.{Largest}
 use Rattle.netset_entries.specs.declared.largest.NotedEntry.{NotedEntry}

@@ -1,13 +1,14 @@
 -- Texts without "-": what their signs say of the entry that they are.
 use Rattle.std.proofs.Common.{◌≡◌, ◌≢◌, ◌⊎◌, ℕ, ◌+◌, ◌<◌, ◌≤◌, Bool, true, false, List, [], ◌∷◌, ◌++◌, All, length}
-use Rattle.std.proofs.Common.{take, drop, get_or, Option, Some, refl, sym, ap, ◌∙◌, subst, arith, inl, inr}
-use Rattle.std.proofs.Common.{append_assoc}
+use Rattle.std.proofs.Common.{take, drop, get_or, Some, refl, sym, ap, ◌∙◌, subst, arith, inl, inr}
+use Rattle.std.proofs.Common.{append_assoc, ◌&&◌, ◌||◌, ◌==◌, bit_or, eq-eqb, eqb-true, leb, not}
 use Rattle.std.specs.Char.{digit_value}
 use Rattle.std.specs.Str.Parse.{AllDigits, digits_value}
 use Rattle.std.proofs.lemmas.Bool.Decides.{nat_tests}
 use Rattle.std.proofs.lemmas.List.{take_all, take_more, drop_more, take-append-drop}
-use Rattle.std.proofs.lemmas.List.Elements.{All-nil, All-append, All-cons, All-head, All-pop, All-tail}
-use Rattle.ipnet_base.specs.Address.{Family, IPv4, IPv6, Address, width}
+use Rattle.std.proofs.lemmas.List.Elements.{All-nil, All-append, All-cons, All-head, All-more, All-pop}
+use Rattle.std.proofs.lemmas.List.Elements.{All-tail}
+use Rattle.ipnet_base.specs.Address.{IPv4, IPv6, Address, width}
 use Rattle.ipnet_base.specs.Blocks.{IsMaximal}
 use Rattle.ipnet_base.specs.Network.{Network, IsSubnetOf}
 use Rattle.ipnet_base.specs.Ranges.{AddressRange}
@@ -19,7 +20,7 @@ use Rattle.ipnet.specs.AddressTexts.{IsIpv4AddressText, IsIpv6AddressText, IsGro
 use Rattle.ipnet.specs.Numerals.{IsDecimal}
 use Rattle.ipnet.specs.NetworkTexts.{IsNetworkText}
 use Rattle.ipnet.proofs.Ipv4Texts.{Dots-from}
-use Rattle.ipnet_sets.specs.SetRanges.{IsInRange, range_of}
+use Rattle.ipnet_sets.specs.SetRanges.{IsInRange}
 use Rattle.netset_lib.specs.Entries.{IsAddressText, IsEntryText, IsPlainEntry, IsNetworkOrMasked, IsMaskedText}
 use Rattle.netset_lib.specs.Entries.{block_range}
 use Rattle.netset_lib.specs.PlanAnswers.{IsLengthText}
@@ -81,25 +82,21 @@ byte_seen b plain colon slash = record {
     ne_from : (x y : ℕ) → (x == y) ≡ false → x ≢ y
     ne_from x y none e = let clash : true ≡ false = sym (eq-eqb x y e) ∙ none in absurd cc
 
-pub seen_more : (text : List ℕ) (i b : ℕ) (plain colon slash new_plain new_colon new_slash : Bool) → i < length text
-    → get_or text i b ≡ b → IsByteSeen b plain colon slash new_plain new_colon new_slash
+pub seen_more : (text : List ℕ) (i : ℕ) (plain colon slash new_plain new_colon new_slash : Bool) → i < length text
+    → IsByteSeen (get_or text i 0) plain colon slash new_plain new_colon new_slash
     → AreSeen text i plain colon slash → AreSeen text (i + 1) new_plain new_colon new_slash
-seen_more text i b plain colon slash new_plain new_colon new_slash less at byte h = record {
+seen_more text i plain colon slash new_plain new_colon new_slash less byte h = record {
   no_dash = λ e. more (λ z. z ≢ 45) (h.no_dash (byte.no_dash e).0) (byte.no_dash e).1;
   colon = λ e all.
-      let parts = All-pop (λ z. z ≢ 58) (take i text ++ b ∷ []) (take i text) (Some b) refl
-      (subst (All (λ z. z ≢ 58)) next all) in
+      let parts = All-pop (λ z. z ≢ 58) (take i text ++ get_or text i 0 ∷ []) (take i text) (Some (get_or text i 0))
+      refl (subst (All (λ z. z ≢ 58)) (take_more text i 0 less) all) in
       elim (byte.some_colon e) [ inl before ↦ h.colon before parts.0 | inr here ↦ parts.1 here ];
   no_colon = λ e. more (λ z. z ≢ 58) (h.no_colon (byte.no_colon e).0) (byte.no_colon e).1;
   no_slash = λ e. more (λ z. z ≢ 47) (h.no_slash (byte.no_slash e).0) (byte.no_slash e).1;
 }
   where
-    next : take (i + 1) text ≡ take i text ++ b ∷ []
-    next = take_more text i b less ∙ ap (λ z. take i text ++ z ∷ []) at
-
-    more : (P : ℕ → Type 0) → All P (take i text) → P b → All P (take (i + 1) text)
-    more P before is =
-        subst (All P) (sym next) (All-append P (take i text) (b ∷ []) before (All-cons P b [] is (All-nil P)))
+    more : (P : ℕ → Type 0) → All P (take i text) → P (get_or text i 0) → All P (take (i + 1) text)
+    more P before is = All-more P text i 0 less before is
 
 pub seen_all : (text : List ℕ) (i : ℕ) (is_plain : Bool) (s : Signs) → length text ≤ i → is_plain ≡ true
     → AreSeen text i is_plain s.has_colon s.has_slash → AreSigns text s
@@ -232,7 +229,11 @@ module _ (text : List ℕ) (s : Signs) (h : AreSigns text s) where
       (subst (All (λ b. b ≢ 45)) (k.spelled ∙ append_assoc k.first_text (45 ∷ []) k.last_text) h.no_dash) refl)
 
   -- without a slash it is an address
-  pub address_len : s.has_slash ≡ false
+  no_slash : (b : Bool) → not b ≡ true → b ≡ false
+  no_slash true e = let clash : false ≡ true = e in absurd cc
+  no_slash false e = refl
+
+  pub address_len : not s.has_slash ≡ true
       → HasLength text (family_if s.has_colon) (width (family_if s.has_colon))
   address_len none grammar range writes n block = of (as_plain grammar range writes)
     where
@@ -241,7 +242,7 @@ module _ (text : List ℕ) (s : Signs) (h : AreSigns text s) where
       of (inl k) =
           let cut = network_cut grammar text k.network k.writes in
           absurd (middle (λ b. b ≢ 47) cut.front 47 cut.back
-          (subst (All (λ b. b ≢ 47)) cut.spelled (h.no_slash none)) refl)
+          (subst (All (λ b. b ≢ 47)) cut.spelled (h.no_slash (no_slash s.has_slash none))) refl)
       of (inr k) =
           let x = k.address in
           let family = address_family grammar x k.writes in

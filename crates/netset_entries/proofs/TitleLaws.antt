@@ -1,6 +1,6 @@
 -- The titles of entries, and the comments in them.
 use Rattle.std.proofs.Common.{◌≡◌, ℕ, ◌+◌, ◌<◌, ◌≤◌, List, [], ◌∷◌, ◌++◌, length, take, drop, codes, sym, ap}
-use Rattle.std.proofs.Common.{◌∙◌, arith, inl, inr, append_assoc}
+use Rattle.std.proofs.Common.{◌∙◌, arith, inl, inr}
 use Rattle.std.specs.Str.Lossy.{utf8_lossy}
 use Rattle.std.proofs.lemmas.Bool.{cases_order}
 use Rattle.std.proofs.lemmas.List.{drop_all}
@@ -30,7 +30,7 @@ pub full_title : (text comment title front : List ℕ) → 0 < length comment �
     → title ≡ (text ++ codes ": ") ++ front → IsTitleOf text comment title
 full_title text [] title front some cut is = absurd (omega (arith, some))
 full_title text (b ∷ comment) title front some cut is =
-    (front, cut, is ∙ append_assoc text (codes ": ") front)
+    (front, cut, is)
 
 -- ---- a line has one comment, and one title
 

@@ -1,5 +1,5 @@
 -- A line has at most one entry, and its blocks one title.
-use Rattle.std.proofs.Common.{◌≡◌, ◌≢◌, ◌⊎◌, ◌≤◌, ℕ, List, [], ◌∷◌, ◌++◌, All, Contains, refl, sym, ap, ◌∙◌, subst}
+use Rattle.std.proofs.Common.{◌≡◌, ◌≢◌, ◌≤◌, ℕ, List, [], ◌∷◌, ◌++◌, All, Contains, refl, sym, ◌∙◌, subst}
 use Rattle.std.proofs.Common.{arith, inl, inr, append_assoc}
 use Rattle.ipnet_base.specs.Address.{Family}
 use Rattle.ipnet_base.specs.Blocks.{AreMaximalBlocks, IsMaximal}
@@ -9,7 +9,7 @@ use Rattle.ipnet.specs.declared.parser.Grammar.{Grammar}
 use Rattle.ipnet_sets.specs.SetRanges.{IsInRange}
 use Rattle.netset_lib.specs.Entries.{IsAddressText, IsEntryText, IsPlainEntry, IsRangeEntry, IsRangeFrom, after_blanks}
 use Rattle.netset_lib.specs.Entries.{before_blanks}
-use Rattle.netset_lib.specs.Lists.{AreContents, IsContents}
+use Rattle.netset_lib.specs.Lists.{IsContents}
 use Rattle.netset_lib.proofs.AddressBytes.{middle, one_front}
 use Rattle.netset_lib.proofs.BlankTexts.{undashed_front}
 use Rattle.netset_lib.proofs.EntryTexts.{address_bytes, one_address, plain_no_dash}

@@ -8,6 +8,6 @@ returns-then-not-signs c =
     subst (HasLength c.args.text.now (family_if c.in-Some.signs.has_colon)) (sym c.full_len-len.ensures)
     (address_len c.args.text.now c.in-Some.signs c.in-Some.ensures c.if-not-signs.true)
 
-pub returns-in-Some : goal.returns-in-Some
-returns-in-Some c =
-    network_len c.args.text.now c.in-Some.signs c.in-Some.ensures c.in-Some-len.len c.in-Some-len.ensures
+pub returns-in-Some-last_len : goal.returns-in-Some-last_len
+returns-in-Some-last_len c =
+    network_len c.args.text.now c.in-Some.signs c.in-Some.ensures c.in-Some-last_len.len c.in-Some-last_len.ensures

@@ -1,4 +1,4 @@
-use Rattle.std.proofs.Common.{Bool, true, false, refl, ap, sym, ◌∙◌}
+use Rattle.std.proofs.Common.{refl, ap}
 use Rattle.ipnet.specs.NetworkOf.{ip_network}
 use Rattle.ipnet_text.proofs.ListsLaws.{OnOk_then}
 use Rattle.netset_entries.proofs.NotedBlockLaws.{block_outside, ipv4_taken, ipv6_taken}

@@ -1,4 +1,4 @@
-use Rattle.std.proofs.Common.{◌∙◌, Contains, sym, subst, refl, string_bytes}
+use Rattle.std.proofs.Common.{rules, ◌∙◌, Contains, sym, subst, string_bytes}
 use Rattle.ipnet_base.specs.Blocks.{AreMaximalBlocks}
 use Rattle.ipnet_base.proofs.ListLaws.{contains_here, contains_there}
 use Rattle.ipnet.specs.NetworkOf.{ip_network}
