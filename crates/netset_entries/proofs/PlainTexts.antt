@@ -2,7 +2,10 @@
 use Rattle.std.proofs.Common.{◌≡◌, ◌≢◌, ◌⊎◌, ℕ, ◌+◌, ◌<◌, ◌≤◌, Bool, true, false, List, [], ◌∷◌, ◌++◌, All, length}
 use Rattle.std.proofs.Common.{take, drop, get_or, Some, refl, sym, ap, ◌∙◌, subst, arith, inl, inr}
 use Rattle.std.proofs.Common.{append_assoc, ◌&&◌, ◌||◌, ◌==◌, bit_or, eq-eqb, eqb-true, leb, not}
-use Rattle.std.specs.Char.{digit_value}
+use Rattle.std.specs.Char.{digit_value, is_ascii_whitespace}
+use Rattle.std.proofs.lemmas.Bool.{cases_lt, leb-true}
+use Rattle.std.proofs.lemmas.Nat.{or_lt}
+use Rattle.std.proofs.Common.{lit<}
 use Rattle.std.specs.Str.Parse.{AllDigits, digits_value}
 use Rattle.std.proofs.lemmas.Bool.Decides.{nat_tests}
 use Rattle.std.proofs.lemmas.List.{take_all, take_more, drop_more, take-append-drop}
@@ -24,7 +27,8 @@ use Rattle.ipnet_sets.specs.SetRanges.{IsInRange}
 use Rattle.netset_lib.specs.Entries.{IsAddressText, IsEntryText, IsPlainEntry, IsNetworkOrMasked, IsMaskedText}
 use Rattle.netset_lib.specs.Entries.{block_range}
 use Rattle.netset_lib.specs.PlanAnswers.{IsLengthText}
-use Rattle.netset_lib.proofs.AddressBytes.{IsAddressByte, decimal_bytes, middle, one_back}
+use Rattle.netset_lib.proofs.PlainLines.{plain_contents}
+use Rattle.netset_lib.proofs.AddressBytes.{IsAddressByte, IsPlainByte, decimal_bytes, middle, one_back}
 use Rattle.netset_lib.proofs.EntryTexts.{address_bytes, cut_no_address, network_cut}
 use Rattle.netset_lib.proofs.RangeCovers.{whole_block}
 use Rattle.netset_entries.specs.NoteSteps.{AreSigns, EndsInLength, HasLength, family_if}
@@ -33,6 +37,7 @@ use Rattle.netset_entries.specs.declared.plain.Signs.{Signs}
 -- ---- the signs of the bytes so far
 
 pub record AreSeen (text : List ℕ) (i : ℕ) (is_plain has_colon has_slash : Bool) : Type 0 where
+  pub plain : is_plain ≡ true → All IsPlainByte (take i text)
   pub no_dash : is_plain ≡ true → All (λ b. b ≢ 45) (take i text)
   pub colon : has_colon ≡ true → ¬ (All (λ b. b ≢ 58) (take i text))
   pub no_colon : has_colon ≡ false → All (λ b. b ≢ 58) (take i text)
@@ -40,6 +45,7 @@ pub record AreSeen (text : List ℕ) (i : ℕ) (is_plain has_colon has_slash : B
 
 pub seen_none : (text : List ℕ) (is_plain : Bool) → AreSeen text 0 is_plain false false
 seen_none text is_plain = record {
+  plain = λ e. All-nil IsPlainByte;
   no_dash = λ e. All-nil (λ b. b ≢ 45);
   colon = λ e. let clash : false ≡ true = e in absurd cc;
   no_colon = λ e. All-nil (λ b. b ≢ 58);
@@ -48,7 +54,9 @@ seen_none text is_plain = record {
 
 -- what one byte more says
 pub record IsByteSeen (b : ℕ) (plain colon slash new_plain new_colon new_slash : Bool) : Type 0 where
-  pub no_dash : new_plain ≡ true → (plain ≡ true) × (b ≢ 45)
+  pub before : new_plain ≡ true → plain ≡ true
+  pub is_plain : new_plain ≡ true → IsPlainByte b
+  pub no_dash : new_plain ≡ true → b ≢ 45
   pub some_colon : new_colon ≡ true → (colon ≡ true) ⊎ (b ≡ 58)
   pub no_colon : new_colon ≡ false → (colon ≡ false) × (b ≢ 58)
   pub no_slash : new_slash ≡ false → (slash ≡ false) × (b ≢ 47)
@@ -69,11 +77,42 @@ none_true false y e = (refl, e)
 abbrev pub is_plain_byte : ℕ → Bool
 is_plain_byte b = (leb 46 b && leb b 58) || (leb 97 (bit_or b 32) && leb (bit_or b 32) 102)
 
+-- a mark or a digit, or a byte after all of these
+plain_range : (b : ℕ) → is_plain_byte b ≡ true → ((46 ≤ b) × (b ≤ 58)) ⊎ (64 ≤ b)
+plain_range b e =
+    elim (one_true (leb 46 b && leb b 58) (leb 97 (bit_or b 32) && leb (bit_or b 32) 102) e) [
+      | inl mark ↦
+          let both = both_true (leb 46 b) (leb b 58) mark in
+          inl (leb-true 46 b both.0, leb-true b 58 both.1)
+      | inr letter ↦ elim (cases_lt b 64) [
+        | inr large ↦ inr large
+        | inl small ↦
+            let both = both_true (leb 97 (bit_or b 32)) (leb (bit_or b 32) 102) letter in
+            let less : bit_or b 32 < 64 = or_lt 6 b 32 small (lit< tt) in
+            absurd (omega (arith, less, leb-true 97 (bit_or b 32) both.0))
+      ]
+    ]
+
+blank_low : (b : ℕ) → is_ascii_whitespace b ≡ true → b ≤ 32
+blank_low b e = grind (arith, nat_tests, e)
+
+plain_byte : (b : ℕ) → is_plain_byte b ≡ true → IsPlainByte b
+plain_byte b h = record {
+  no_blank = by (is_ascii_whitespace b) refl;
+  no_hash = λ e. omega (arith, plain_range b h, e);
+  no_semicolon = λ e. omega (arith, plain_range b h, e);
+}
+  where
+    by : (r : Bool) → is_ascii_whitespace b ≡ r → is_ascii_whitespace b ≡ false
+    by false e = e
+    by true e = absurd (omega (arith, plain_range b h, blank_low b e))
+
 pub byte_seen : (b : ℕ) (plain colon slash : Bool)
     → IsByteSeen b plain colon slash (plain && is_plain_byte b) (colon || (b == 58)) (slash || (b == 47))
 byte_seen b plain colon slash = record {
-  no_dash = λ e. let both = both_true plain (is_plain_byte b) e in
-      (both.0, λ is. let clash : false ≡ true = subst (λ z. is_plain_byte z ≡ true) is both.1 in absurd cc);
+  before = λ e. (both_true plain (is_plain_byte b) e).0;
+  is_plain = λ e. plain_byte b (both_true plain (is_plain_byte b) e).1;
+  no_dash = λ e is. omega (arith, plain_range b (both_true plain (is_plain_byte b) e).1, is);
   some_colon = λ e. elim (one_true colon (b == 58) e) [ inl was ↦ inl was | inr is ↦ inr (eqb-true b 58 is) ];
   no_colon = λ e. let none = none_true colon (b == 58) e in (none.0, ne_from b 58 none.1);
   no_slash = λ e. let none = none_true slash (b == 47) e in (none.0, ne_from b 47 none.1);
@@ -86,7 +125,8 @@ pub seen_more : (text : List ℕ) (i : ℕ) (plain colon slash new_plain new_col
     → IsByteSeen (get_or text i 0) plain colon slash new_plain new_colon new_slash
     → AreSeen text i plain colon slash → AreSeen text (i + 1) new_plain new_colon new_slash
 seen_more text i plain colon slash new_plain new_colon new_slash less byte h = record {
-  no_dash = λ e. more (λ z. z ≢ 45) (h.no_dash (byte.no_dash e).0) (byte.no_dash e).1;
+  plain = λ e. more IsPlainByte (h.plain (byte.before e)) (byte.is_plain e);
+  no_dash = λ e. more (λ z. z ≢ 45) (h.no_dash (byte.before e)) (byte.no_dash e);
   colon = λ e all.
       let parts = All-pop (λ z. z ≢ 58) (take i text ++ get_or text i 0 ∷ []) (take i text) (Some (get_or text i 0))
       refl (subst (All (λ z. z ≢ 58)) (take_more text i 0 less) all) in
@@ -103,6 +143,7 @@ pub seen_all : (text : List ℕ) (i : ℕ) (is_plain : Bool) (s : Signs) → len
 seen_all text i is_plain s past plain h =
     let whole = take_all i text past in
     record {
+      contents = λ grammar. plain_contents grammar text (subst (All IsPlainByte) whole (h.plain plain));
       no_dash = subst (All (λ b. b ≢ 45)) whole (h.no_dash plain);
       colon = λ e all. h.colon e (subst (All (λ b. b ≢ 58)) (sym whole) all);
       no_colon = λ e. subst (All (λ b. b ≢ 58)) whole (h.no_colon e);

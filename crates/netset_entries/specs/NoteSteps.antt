@@ -22,7 +22,7 @@ use Rattle.netset_entries.specs.declared.noted.EntryNotes.{EntryNotes}
 use Rattle.netset_entries.specs.declared.noted.NotedBlocks.{NotedBlocks}
 use Rattle.netset_entries.specs.declared.plain.Signs.{Signs}
 use Rattle.netset_lib.specs.Entries.{IsEntryText}
-use Rattle.netset_lib.specs.Lists.{after_mark}
+use Rattle.netset_lib.specs.Lists.{IsContents, after_mark}
 
 -- ---- the blocks of one family
 
@@ -140,15 +140,17 @@ abbrev pub IsSmallLine : NotedBlocks → List ℕ → Type 0
 IsSmallLine b line = (n : Network) → (title : List ℕ) → IsTitledBlock b.grammar n title line
     → (largest_of n.family b).end ≤ n.prefix_len
 
--- ---- texts without blanks and "-"
+-- ---- texts of one network or address
 
 -- The family of a text with a colon, and of one without.
 abbrev pub family_if : Bool → Family
 family_if true = IPv6
 family_if false = IPv4
 
--- The text has no "-" (45). Whether it has a colon (58) is known, and a slash (47) if it is not said to have none.
+-- The text has no "-" (45), and as a line it contains all that it is. Whether it has a colon (58) is known, and that it
+-- has no slash (47) if this is said.
 pub record AreSigns (text : List ℕ) (s : Signs) : Type 0 where
+  pub contents : (grammar : Grammar) → IsContents grammar text text
   pub no_dash : All (λ b. b ≢ 45) text
   pub colon : s.has_colon ≡ true → ¬ (All (λ b. b ≢ 58) text)
   pub no_colon : s.has_colon ≡ false → All (λ b. b ≢ 58) text
@@ -165,6 +167,11 @@ pub record EndsInLength (text : List ℕ) (n : ℕ) : Type 0 where
 abbrev pub HasLength : List ℕ → Family → ℕ → Type 0
 HasLength text family len = (grammar : Grammar) → (range : AddressRange) → IsEntryText grammar text range
     → (n : Network) → IsMaximal (IsInRange range) 0 n → (n.family ≡ family) × (len ≤ n.prefix_len)
+
+-- The text is such a text, and as a line it contains all that it is.
+pub record IsPlainText (text : List ℕ) (family : Family) (len : ℕ) : Type 0 where
+  pub contents : (grammar : Grammar) → IsContents grammar text text
+  pub blocks : HasLength text family len
 
 -- ---- lists in pieces
 

@@ -1,5 +1,5 @@
 //! The largest entries of lists with their comments, noted while the lists are read.
-ghost use Rattle.std.specs.Prelude.{◌≡◌, ◌↔◌, ◌∷◌, ◌++◌, [], List, ℕ, Option, IsTrue, IfSome, IfOk, OnOk};
+ghost use Rattle.std.specs.Prelude.{◌≡◌, ◌≤◌, ◌↔◌, ◌∷◌, ◌++◌, [], List, ℕ, Option, IsTrue, IfSome, IfOk, OnOk};
 ghost use Rattle.std.specs.Prelude.{string_bytes};
 ghost use Rattle.ipnet_base.specs.Network.{IsSubnetOf};
 ghost use Rattle.ipnet.specs.NetworkOf.{ip_network};
@@ -8,9 +8,10 @@ ghost use Rattle.ipnet.specs.declared.parser.Grammar.{Grammar};
 ghost use Rattle.netset_entries.specs.NotedEntries.{AreNoted, IsCommentOf, IsTitleOf};
 ghost use Rattle.netset_entries.specs.NoteSteps.{AreKept, IsSmallLine, KeepsBlock, ReadsLine, first_text};
 ghost use Rattle.netset_entries.specs.NoteSteps.{HaveNoted, IsAtEnd, ReadsNext, ReadsBegun, EndsLine};
+ghost use Rattle.netset_entries.specs.NoteSteps.{family_if, largest_of};
 
 use crate::largest::{Largest, NotedEntry};
-use crate::plain::plain_network;
+use crate::plain::{PlainNetwork, plain_network};
 use ipnet::{Grammar, IpNet};
 use memchr::memchr;
 use netset_lib::{comment_start, contents_of, read_text, skip_mark};
@@ -87,17 +88,30 @@ impl NotedBlocks {
         })
     }
 
-    /// Whether the blocks of the line's entry are too small to be noted, as far as this is seen at a glance.
-    fn is_small(&self, line: &[u8]) -> bool
-        ensures { IsTrue result → IsSmallLine self.now line.now }
+    /// Whether networks of this family and prefix length are too small to be noted.
+    fn is_past(&self, network: PlainNetwork) -> bool
+        ensures { IsTrue result
+            ↔ ((largest_of (family_if network.is_ipv6) self.now).end ≤ network.len) }
     {
-        let Some(network) = plain_network(contents_of(line, self.grammar)) else {
-            return false;
-        };
         if network.is_ipv6 {
             return network.len >= self.ipv6.end;
         }
         network.len >= self.ipv4.end
+    }
+
+    /// Whether the blocks of the line's entry are too small to be noted, as far as this is seen at a glance.
+    //
+    // Most lines of a long list are an entry and nothing else, so the whole line is tested first.
+    fn is_small(&self, line: &[u8]) -> bool
+        ensures { IsTrue result → IsSmallLine self.now line.now }
+    {
+        if let Some(network) = plain_network(line) {
+            return self.is_past(network);
+        }
+        match plain_network(contents_of(line, self.grammar)) {
+            Some(network) => self.is_past(network),
+            None => false,
+        }
     }
 
     /// Notes a block of an entry, if it is not outside the network.

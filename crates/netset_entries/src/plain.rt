@@ -1,7 +1,7 @@
 //! Texts that are one network or address at most, read at a glance.
 ghost use Rattle.std.specs.Prelude.{◌≡◌, IfSome};
 ghost use Rattle.ipnet_base.specs.Address.{width};
-ghost use Rattle.netset_entries.specs.NoteSteps.{AreSigns, EndsInLength, HasLength, family_if};
+ghost use Rattle.netset_entries.specs.NoteSteps.{AreSigns, EndsInLength, IsPlainText, family_if};
 
 use netset_lib::read_length;
 use std::str;
@@ -83,7 +83,7 @@ fn full_len(is_ipv6: bool) -> usize
 /// 10.0.0.0/8: IPv4 and 8; fd00::1: IPv6 and 128; 10.0.0.0/255.0.0.0, 10.0.0.1-10.0.0.9 and x: None
 /// ```
 pub(crate) fn plain_network(text: &[u8]) -> Option<PlainNetwork>
-    ensures { IfSome result (λ network. HasLength text.now (family_if network.is_ipv6) network.len) }
+    ensures { IfSome result (λ network. IsPlainText text.now (family_if network.is_ipv6) network.len) }
 {
     let Some(signs) = signs_of(text) else {
         return None;
