@@ -229,7 +229,7 @@ impl LineReader {
             None => {
                 let part = RefusedPart {
                     list: self.list,
-                    line: number,
+                    number,
                     text,
                     cause: NotEntry {
                         grammar: self.grammar,
