@@ -3,6 +3,7 @@ ghost use Rattle.std.specs.Prelude.{◌≡◌, ◌≤◌, [], ◌∷◌, ◌++�
 ghost use Rattle.std.specs.Io.KnownBytes.{Keeps};
 
 use crate::cause::NotEntry;
+use crate::number::next_number;
 use std::alloc::{AllocError, Global};
 use std::io;
 use std::io::Write;
@@ -86,9 +87,7 @@ impl<C: Drop> Refusals<C> {
     pub fn push(&mut self, alloc: Global, part: RefusedPart<'_, C>) -> Result<(), AllocError>
         ensures { OnOk result (HasMore self.old self.new (refusal_in part.entry ∷ [])) }
     {
-        let Some(count) = self.count.checked_add(1) else {
-            return Err(AllocError);
-        };
+        let count = next_number(self.count)?;
         self.keep(alloc, part)?;
         self.count = count;
         Ok(())
