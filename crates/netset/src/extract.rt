@@ -2,9 +2,9 @@
 use crate::arguments::{
     ArgumentFailure, FIRST, any_files, command_of, flag, flags_of, reads_input_twice, refused,
 };
-use crate::input::{STANDARD_INPUT, report_unread};
-use crate::lists::read_lists;
+use crate::input::STANDARD_INPUT;
 use crate::output::Writers;
+use crate::reading::fill;
 use clap::{Arg, ArgAction, ArgMatches, Command};
 use netset_words::{ExtractRequest, Extraction, run_extract};
 use std::alloc::{AllocError, Global};
@@ -49,12 +49,8 @@ pub fn extracted(rt: &HostRuntime, matches: &ArgMatches, writers: &mut Writers<'
     let Ok(mut extraction) = Extraction::new(rt.alloc(), request) else {
         return refused(rt, ArgumentFailure::Memory);
     };
-    match read_lists(rt, &mut extraction, names, writers.reports) {
-        Ok(true) => run_extract(extraction, names, &mut writers.answer, &mut writers.faults),
-        Ok(false) => 2,
-        Err((name, unread)) => {
-            report_unread(rt, name, &unread);
-            2
-        }
+    match fill(rt, &mut extraction, names, writers) {
+        Ok(()) => run_extract(extraction, names, &mut writers.answer, &mut writers.faults),
+        Err(status) => status,
     }
 }
