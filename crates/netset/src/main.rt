@@ -113,10 +113,9 @@ fn run_command(
     writers: &mut Writers<'_>,
 ) -> u8 {
     match name {
-        UNION | INTERSECTION | DIFFERENCE | SYMMETRIC_DIFFERENCE | COMPLEMENT => {
+        UNION | INTERSECTION | DIFFERENCE | SYMMETRIC_DIFFERENCE | COMPLEMENT | COUNT | COMPARE => {
             run_call(rt, name, matches, writers)
         }
-        COUNT | COMPARE => run_call(rt, name, matches, writers),
         CHANGES => changed(rt, matches, writers),
         APPLY => applied(rt, matches, writers),
         EXTRACT => extracted(rt, matches, writers),
