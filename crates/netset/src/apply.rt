@@ -35,11 +35,11 @@ pub fn applied(rt: &HostRuntime, matches: &ArgMatches, writers: &mut Writers<'_>
         return refused(rt, ArgumentFailure::InputTwice);
     }
     let names = [old];
-    let session = match session_of(rt, reading_work(matches), &names, writers) {
+    let session = match session_of(rt, reading_work(matches), &names, writers.reports) {
         Ok(session) => session,
         Err(status) => return status,
     };
-    match whole_of(rt, changes, writers) {
+    match whole_of(rt, changes, writers.reports) {
         Ok(bytes) => run_apply(
             session,
             (changes, bytes.as_slice()),

@@ -4,6 +4,7 @@ use crate::arguments::{
 };
 use crate::input::STANDARD_INPUT;
 use crate::listing::read_network;
+use crate::lists::Reports;
 use crate::output::Writers;
 use crate::reading::{reading_work, session_of};
 use clap::{Arg, ArgMatches, Command};
@@ -209,10 +210,10 @@ fn read_pictured(
     rt: &HostRuntime,
     matches: &ArgMatches,
     names: &[&str],
-    writers: &Writers<'_>,
+    reports: Reports,
 ) -> Result<Session, u8> {
     let work = pictured_work(rt, matches, names)?;
-    session_of(rt, work, names, writers)
+    session_of(rt, work, names, reports)
 }
 
 /// Reads the arguments and the lists, prints the bar, and returns the exit status.
@@ -222,7 +223,7 @@ pub fn drawn(rt: &HostRuntime, matches: &ArgMatches, writers: &mut Writers<'_>) 
         Err(status) => return status,
     };
     let names = matches.get_strs(FIRST).unwrap_or(&[STANDARD_INPUT]);
-    let session = match read_pictured(rt, matches, names, writers) {
+    let session = match read_pictured(rt, matches, names, writers.reports) {
         Ok(session) => session,
         Err(status) => return status,
     };

@@ -30,7 +30,7 @@ pub fn changed(rt: &HostRuntime, matches: &ArgMatches, writers: &mut Writers<'_>
         return refused(rt, ArgumentFailure::InputTwice);
     }
     let work = netset_lib::Command::Compare.work(flags_of(matches));
-    match session_of(rt, work, &names, writers) {
+    match session_of(rt, work, &names, writers.reports) {
         Ok(session) => run_changes(session, &names, &mut writers.answer, &mut writers.faults),
         Err(status) => status,
     }

@@ -49,7 +49,7 @@ pub fn extracted(rt: &HostRuntime, matches: &ArgMatches, writers: &mut Writers<'
     let Ok(mut extraction) = Extraction::new(rt.alloc(), request) else {
         return refused(rt, ArgumentFailure::Memory);
     };
-    match fill(rt, &mut extraction, names, writers) {
+    match fill(rt, &mut extraction, names, writers.reports) {
         Ok(()) => run_extract(extraction, names, &mut writers.answer, &mut writers.faults),
         Err(status) => status,
     }

@@ -54,7 +54,7 @@ pub fn filtered(rt: &HostRuntime, matches: &ArgMatches, writers: &mut Writers<'_
         any: matches.get_flag(ANY),
         others: matches.get_flag(OTHER_LINES),
     };
-    let session = match session_of(rt, reading_work(matches), &names[..1], writers) {
+    let session = match session_of(rt, reading_work(matches), &names[..1], writers.reports) {
         Ok(session) => session,
         Err(status) => return status,
     };

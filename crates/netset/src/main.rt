@@ -178,7 +178,7 @@ fn run_operation(
         Err(status) => return status,
     };
     let names = call.names.as_slice();
-    match session_of(rt, call.work, names, writers) {
+    match session_of(rt, call.work, names, writers.reports) {
         Ok(session) => {
             let (out, faults) = (&mut writers.answer, &mut writers.faults);
             run_form(session, form, names, out, faults)
@@ -192,11 +192,11 @@ fn run_query(rt: &HostRuntime, call: Call<'_>, writers: &mut Writers<'_>) -> u8 
     let work = call.work;
     let names = call.names.as_slice();
     match names {
-        [_, name] if call.is_streamed => match session_of(rt, work, &names[..1], writers) {
+        [_, name] if call.is_streamed => match session_of(rt, work, &names[..1], writers.reports) {
             Ok(session) => stream_list(rt, session, names, name, writers),
             Err(status) => status,
         },
-        _ => match session_of(rt, work, names, writers) {
+        _ => match session_of(rt, work, names, writers.reports) {
             Ok(session) => run(session, names, &mut writers.answer, &mut writers.faults),
             Err(status) => status,
         },

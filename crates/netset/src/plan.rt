@@ -84,7 +84,7 @@ pub fn planned(rt: &HostRuntime, matches: &ArgMatches, writers: &mut Writers<'_>
         Err(status) => return status,
     };
     let names = matches.get_strs(FIRST).unwrap_or(&[]);
-    let session = match session_of(rt, reading_work(matches), names, writers) {
+    let session = match session_of(rt, reading_work(matches), names, writers.reports) {
         Ok(session) => session,
         Err(status) => return status,
     };

@@ -32,11 +32,11 @@ pub fn matched(rt: &HostRuntime, matches: &ArgMatches, writers: &mut Writers<'_>
     if reads_input_twice(&[list, file]) {
         return refused(rt, ArgumentFailure::InputTwice);
     }
-    let prefixes = match bytes_of(rt, list, "rules", writers) {
+    let prefixes = match bytes_of(rt, list, "rules", writers.reports) {
         Ok(bytes) => bytes,
         Err(status) => return status,
     };
-    let networks = match bytes_of(rt, file, "entries", writers) {
+    let networks = match bytes_of(rt, file, "entries", writers.reports) {
         Ok(bytes) => bytes,
         Err(status) => return status,
     };

@@ -35,11 +35,11 @@ pub fn routed(rt: &HostRuntime, matches: &ArgMatches, writers: &mut Writers<'_>)
     if reads_input_twice(&[table, file]) {
         return refused(rt, ArgumentFailure::InputTwice);
     }
-    let bytes = match bytes_of(rt, table, "entries", writers) {
+    let bytes = match bytes_of(rt, table, "entries", writers.reports) {
         Ok(bytes) => bytes,
         Err(status) => return status,
     };
-    let list = match bytes_of(rt, file, "entries", writers) {
+    let list = match bytes_of(rt, file, "entries", writers.reports) {
         Ok(list) => list,
         Err(status) => return status,
     };
