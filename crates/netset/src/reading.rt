@@ -62,7 +62,7 @@ pub fn bytes_of(rt: &HostRuntime, name: &str, what: &str, reports: Reports) -> R
     let bytes = whole_of(rt, name, reports)?;
     // A line that is empty in one grammar is empty in the other.
     let has = has_lines(rt.alloc(), bytes.as_slice(), Grammar::Strict);
-    if matches!(has, Ok(false)) && !reports.allow_empty(rt, name, what) {
+    if matches!(has, Ok(false)) && !reports.report_empty(rt, name, what) {
         return Err(2);
     }
     Ok(bytes)
