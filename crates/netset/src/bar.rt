@@ -1,6 +1,7 @@
 //! The command `bar` and the options of bars: their arguments, and their runs.
 use crate::arguments::{
-    ArgumentFailure, FIRST, any_files, command_of, flag, flags_of, reads_input_twice, refused,
+    ArgumentFailure, FIRST, any_files, command_of, flag, flags_of, reads_input_twice,
+    report_argument_failure,
 };
 use crate::input::STANDARD_INPUT;
 use crate::listing::read_network;
@@ -109,9 +110,9 @@ fn variable(rt: &HostRuntime, name: &str) -> Result<String, u8> {
         Err(VarError::NotPresent) => Ok(String::new(rt.alloc())),
         Err(VarError::NotUnicode) => match String::from_str(rt.alloc(), "?") {
             Ok(value) => Ok(value),
-            Err(_) => Err(refused(rt, ArgumentFailure::Memory)),
+            Err(_) => Err(report_argument_failure(rt, ArgumentFailure::Memory)),
         },
-        Err(VarError::OutOfMemory) => Err(refused(rt, ArgumentFailure::Memory)),
+        Err(VarError::OutOfMemory) => Err(report_argument_failure(rt, ArgumentFailure::Memory)),
     }
 }
 
@@ -194,7 +195,7 @@ fn are_two(rt: &HostRuntime, names: &[&str]) -> bool {
 /// named twice, or if the lists to compare are not two, it is reported, and the error is the exit status.
 pub fn pictured_work(rt: &HostRuntime, matches: &ArgMatches, names: &[&str]) -> Result<Work, u8> {
     if reads_input_twice(names) {
-        return Err(refused(rt, ArgumentFailure::InputTwice));
+        return Err(report_argument_failure(rt, ArgumentFailure::InputTwice));
     }
     if !matches.get_flag(COMPARE) {
         return Ok(reading_work(matches));

@@ -1,7 +1,7 @@
 //! The commands about the entries of lists: their arguments, and their runs.
 use crate::arguments::{
     ArgumentFailure, FIRST, OTHERS, command_of, flags_of, one_file, other, reads_input_twice,
-    refused,
+    report_argument_failure,
 };
 use crate::input::STANDARD_INPUT;
 use crate::output::Writers;
@@ -80,7 +80,7 @@ fn overlaps_of_two(
     writers: &mut Writers<'_>,
 ) -> u8 {
     if reads_input_twice(&[name, other]) {
-        return refused(rt, ArgumentFailure::InputTwice);
+        return report_argument_failure(rt, ArgumentFailure::InputTwice);
     }
     let bytes = match bytes_of(rt, name, "entries", writers.reports) {
         Ok(bytes) => bytes,

@@ -1,6 +1,7 @@
 //! The command `extract`: its arguments, and its run.
 use crate::arguments::{
-    ArgumentFailure, FIRST, any_files, command_of, flag, flags_of, reads_input_twice, refused,
+    ArgumentFailure, FIRST, any_files, command_of, flag, flags_of, reads_input_twice,
+    report_argument_failure,
 };
 use crate::input::STANDARD_INPUT;
 use crate::output::Writers;
@@ -39,7 +40,7 @@ pub fn extract_command<'a>(alloc: Global) -> Result<Command<'a>, AllocError> {
 pub fn extracted(rt: &HostRuntime, matches: &ArgMatches, writers: &mut Writers<'_>) -> u8 {
     let names = matches.get_strs(FIRST).unwrap_or(&[STANDARD_INPUT]);
     if reads_input_twice(names) {
-        return refused(rt, ArgumentFailure::InputTwice);
+        return report_argument_failure(rt, ArgumentFailure::InputTwice);
     }
     let request = ExtractRequest {
         grammar: flags_of(matches).grammar(),
@@ -47,7 +48,7 @@ pub fn extracted(rt: &HostRuntime, matches: &ArgMatches, writers: &mut Writers<'
         ranges: matches.get_flag(RANGES),
     };
     let Ok(mut extraction) = Extraction::new(rt.alloc(), request) else {
-        return refused(rt, ArgumentFailure::Memory);
+        return report_argument_failure(rt, ArgumentFailure::Memory);
     };
     match fill(rt, &mut extraction, names, writers.reports) {
         Ok(()) => run_extract(extraction, names, &mut writers.answer, &mut writers.faults),

@@ -27,7 +27,9 @@ mod texts;
 mod version;
 
 use crate::apply::{APPLY, applied};
-use crate::arguments::{ArgumentFailure, Call, OUTPUT, call_of, refused, reports_of, words};
+use crate::arguments::{
+    ArgumentFailure, Call, OUTPUT, call_of, report_argument_failure, reports_of, words,
+};
 use crate::bar::{BAR, drawn};
 use crate::changes::{CHANGES, changed};
 use crate::commands::{
@@ -62,12 +64,12 @@ fn main(rt: HostRuntime) -> ExitCode {
 fn status(rt: &HostRuntime) -> u8 {
     let words = match words(rt) {
         Ok(words) => words,
-        Err(failure) => return refused(rt, failure),
+        Err(failure) => return report_argument_failure(rt, failure),
     };
     match matches_of(rt.alloc(), words.as_slice()) {
         Ok(matches) => match matches.subcommand() {
             Some((name, matches)) => open_and_run(rt, name, matches),
-            None => refused(rt, ArgumentFailure::NoCommand),
+            None => report_argument_failure(rt, ArgumentFailure::NoCommand),
         },
         Err(error) => print_usage(rt, &error),
     }
@@ -132,7 +134,7 @@ fn run_command(
         PERMITTED => permitted(rt, matches, writers),
         UNREACHED => unreached(rt, matches, writers),
         PREFIX_LIST => matched(rt, matches, writers),
-        _ => refused(rt, ArgumentFailure::NoCommand),
+        _ => report_argument_failure(rt, ArgumentFailure::NoCommand),
     }
 }
 
@@ -158,7 +160,7 @@ fn run_route(rt: &HostRuntime, matches: &ArgMatches, writers: &mut Writers<'_>) 
 fn run_call(rt: &HostRuntime, name: &str, matches: &ArgMatches, writers: &mut Writers<'_>) -> u8 {
     let call = match call_of(rt.alloc(), name, matches) {
         Ok(call) => call,
-        Err(failure) => return refused(rt, failure),
+        Err(failure) => return report_argument_failure(rt, failure),
     };
     match call.work {
         Work::Combine(_) => run_operation(rt, matches, call, writers),

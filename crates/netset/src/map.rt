@@ -1,6 +1,7 @@
 //! The command `map`: its arguments, and its runs.
 use crate::arguments::{
-    ArgumentFailure, FIRST, any_files, command_of, flag, flags_of, reads_input_twice, refused,
+    ArgumentFailure, FIRST, any_files, command_of, flag, flags_of, reads_input_twice,
+    report_argument_failure,
 };
 use crate::bar::{COMPARE, frame_of, pictured_work, with_frame};
 use crate::input::STANDARD_INPUT;
@@ -93,7 +94,7 @@ fn name_bytes(
         return Ok(Vec::new(rt.alloc()));
     };
     if reads_input_again(file, names) {
-        return Err(refused(rt, ArgumentFailure::InputTwice));
+        return Err(report_argument_failure(rt, ArgumentFailure::InputTwice));
     }
     bytes_of(rt, file, "names", reports)
 }
@@ -120,7 +121,7 @@ fn read_noted(
         _ => None,
     };
     let Ok(session) = Session::new(rt.alloc(), work) else {
-        return Err(refused(rt, ArgumentFailure::Memory));
+        return Err(report_argument_failure(rt, ArgumentFailure::Memory));
     };
     let mut noted = NotedSession {
         session,
@@ -166,7 +167,7 @@ fn draw_lists(
         Err(status) => return status,
     };
     let Ok(list) = entries_of(rt.alloc(), notes, names) else {
-        return refused(rt, ArgumentFailure::Memory);
+        return report_argument_failure(rt, ArgumentFailure::Memory);
     };
     let EntryList { entries, count } = list;
     let titled = entries.as_slice();

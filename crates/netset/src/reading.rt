@@ -1,6 +1,6 @@
 //! The lists of a command, which are read with a report if that fails.
 
-use crate::arguments::{ArgumentFailure, flags_of, refused};
+use crate::arguments::{ArgumentFailure, flags_of, report_argument_failure};
 use crate::input::report_unread;
 use crate::lists::{ListReader, Reports, read_lists, read_whole};
 use clap::ArgMatches;
@@ -20,7 +20,7 @@ pub fn session_of(
     reports: Reports,
 ) -> Result<Session, u8> {
     let Ok(mut session) = Session::new(rt.alloc(), work) else {
-        return Err(refused(rt, ArgumentFailure::Memory));
+        return Err(report_argument_failure(rt, ArgumentFailure::Memory));
     };
     fill(rt, &mut session, names, reports)?;
     Ok(session)

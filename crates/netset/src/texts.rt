@@ -3,7 +3,7 @@ ghost use Rattle.std.specs.Prelude.{codes};
 ghost use Rattle.netset.specs.Arguments.{IsFlag};
 
 use crate::arguments::{
-    ArgumentFailure, FIRST, OTHERS, flag, flags_of, reads_input_twice, refused,
+    ArgumentFailure, FIRST, OTHERS, flag, flags_of, reads_input_twice, report_argument_failure,
 };
 use crate::input::STANDARD_INPUT;
 use crate::output::Writers;
@@ -29,11 +29,11 @@ pub fn has_text_flag(matches: &ArgMatches) -> bool
 /// Reads the arguments, the table and the list, prints the answers, and returns the exit status.
 pub fn routed(rt: &HostRuntime, matches: &ArgMatches, writers: &mut Writers<'_>) -> u8 {
     let Some(table) = matches.get_str(FIRST) else {
-        return refused(rt, ArgumentFailure::NoCommand);
+        return report_argument_failure(rt, ArgumentFailure::NoCommand);
     };
     let file = matches.get_str(OTHERS).unwrap_or(STANDARD_INPUT);
     if reads_input_twice(&[table, file]) {
-        return refused(rt, ArgumentFailure::InputTwice);
+        return report_argument_failure(rt, ArgumentFailure::InputTwice);
     }
     let bytes = match bytes_of(rt, table, "entries", writers.reports) {
         Ok(bytes) => bytes,
