@@ -81,7 +81,7 @@ pub fn network_lines(alloc: Global, set: &IpSet) -> Result<String, AllocError>
 /// ```text
 /// of 10.0.0.0/30, 10.0.0.4/31 and fd00::1: "10.0.0.0-10.0.0.5\nfd00::1-fd00::1\n"
 /// ```
-pub fn lines_of_ranges(alloc: Global, set: &IpSet) -> Result<String, AllocError>
+pub fn range_lines(alloc: Global, set: &IpSet) -> Result<String, AllocError>
     ensures { IfOk result (λ text. AreRangeLines (IsMember set.now) (string_bytes text)) }
 {
     let mut text = String::new(alloc);
@@ -97,6 +97,6 @@ pub(crate) fn set_text(alloc: Global, form: Form, set: &IpSet) -> Result<String,
 {
     match form {
         Form::Networks => network_lines(alloc, set),
-        Form::Ranges => lines_of_ranges(alloc, set),
+        Form::Ranges => range_lines(alloc, set),
     }
 }
