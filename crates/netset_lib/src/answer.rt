@@ -1,4 +1,4 @@
-//! What is asked of lists, and the text of a set.
+//! An operation on lists and the form of its result, and the text of a set.
 ghost use Rattle.std.specs.Prelude.{◌≡◌, ◌≤◌, ◌++◌, ◌∷◌, [], IfOk, OnOk, string_bytes};
 ghost use Rattle.ipnet_base.specs.RangeOf.{ip_range};
 ghost use Rattle.ipnet_sets.specs.Members.{IsMember};
@@ -24,7 +24,7 @@ pub enum Form {
     Ranges,
 }
 
-/// What is asked of lists.
+/// An operation on lists, the grammar of their entries, and the form of the result.
 #[derive(Clone, Copy, Debug, PartialEq, Eq)]
 pub struct Request {
     /// What is made of them.
