@@ -11,6 +11,10 @@ pub mod RunLaws
 pub mod PairLaws
 pub mod OverlapTextLaws
 pub mod TwoListLaws
+pub mod FiledLaws
 pub mod NoteLaws
+pub mod NotedBlockLaws
+pub mod PlainTexts
+pub mod TitledBlocks
 pub mod NotedLists
 pub mod TitleLaws

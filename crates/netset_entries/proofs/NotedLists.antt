@@ -1,19 +1,16 @@
 -- Lists that are read in pieces: lines that end, and the start of one that does not.
-use Rattle.std.proofs.Common.{◌≡◌, ◌≢◌, ℕ, ◌+◌, ◌-◌, ◌<◌, ◌≤◌, ◌==◌, Bool, true, false, List, [], ◌∷◌, ◌++◌, All}
-use Rattle.std.proofs.Common.{length, take, drop, get_or, refl, sym, ap, ◌∙◌, subst, arith, append_assoc, append-nil}
-use Rattle.std.proofs.Common.{Option, None, Some, if◌then◌else◌, eq-eqb, ne_eqb, eqb-true, get_or-take, length-take-le}
-use Rattle.std.specs.List.{flat_map}
+use Rattle.std.proofs.Common.{◌≡◌, ◌≢◌, ℕ, ◌+◌, ◌-◌, ◌<◌, Bool, true, false, List, [], ◌∷◌, ◌++◌, All}
+use Rattle.std.proofs.Common.{length, take, drop, refl, sym, ap, ◌∙◌, subst, arith, append_assoc, append-nil}
+use Rattle.std.proofs.Common.{Option, None, Some}
 use Rattle.std.proofs.lemmas.Grind.{flat_map-append}
-use Rattle.std.proofs.lemmas.List.{take_more, take-append-drop, take_rest}
-use Rattle.std.proofs.lemmas.List.Elements.{All-nil, All-append, All-head, All-tail, All-from_get_or, All-weaker}
+use Rattle.std.proofs.lemmas.List.Elements.{All-nil, All-append}
 use Rattle.memchr.specs.Find.{NoneBefore, Nowhere, Passes, IsFirstByte, is_byte}
-use Rattle.ipnet.specs.Lines.{lines_of, onto_first_line}
+use Rattle.ipnet.specs.Lines.{lines_of}
 use Rattle.ipnet.specs.declared.net.IpNet.{IpNet}
 use Rattle.ipnet.specs.declared.parser.Grammar.{Grammar}
-use Rattle.ipnet_text.proofs.ClosedLines.{IsClosed, closed_append}
+use Rattle.ipnet_text.proofs.ClosedLines.{closed_append}
 use Rattle.netset_lib.proofs.LineEnds.{ended, ended_closed, only, before_end, no_end, to_end}
-use Rattle.netset_lib.specs.Lists.{after_mark}
-use Rattle.netset_entries.specs.NotedEntries.{without_mark, list_lines, lines_of_all, AreNoted, IsNotedOf}
+use Rattle.netset_entries.specs.NotedEntries.{without_mark, list_lines, lines_of_all}
 use Rattle.netset_entries.specs.NoteSteps.{AreKept, ReadsLine, ReadsBegun, IsStart, first_text, HaveNoted, ReadsUpTo}
 use Rattle.netset_entries.specs.NoteSteps.{IsAtEnd, EndsLine}
 use Rattle.netset_entries.specs.declared.noted.EntryNotes.{EntryNotes}

@@ -1,20 +1,27 @@
 -- Notes of lists that are read in pieces, and the private steps of noting their entries.
 -- Public contracts use only HaveNoted.
-use Rattle.std.specs.Prelude.{◌≡◌, ◌≢◌, ◌<◌, ◌≤◌, ℕ, ◌+◌, ◌-◌, Bool, true, false, List, [], ◌∷◌, ◌++◌, length}
-use Rattle.std.specs.Prelude.{All, Any, Option, ⊤}
+use Rattle.std.specs.Prelude.{◌≡◌, ◌≢◌, ◌⊎◌, ◌<◌, ◌≤◌, ℕ, ◌+◌, ◌-◌, Bool, true, false, List, [], ◌∷◌, ◌++◌, length}
+use Rattle.std.specs.Prelude.{All, Any, Option, IfSome, ⊤, take, drop, string_bytes}
 use Rattle.std.specs.Global.{Vec}
 use Rattle.std.specs.List.{flat_map}
-use Rattle.ipnet_base.specs.Address.{Family, IPv4, IPv6}
-use Rattle.ipnet_base.specs.Network.{Network}
+use Rattle.ipnet_base.specs.Address.{Family, IPv4, IPv6, width}
+use Rattle.ipnet_base.specs.Blocks.{IsMaximal}
+use Rattle.ipnet_base.specs.Network.{Network, IsSubnetOf}
+use Rattle.ipnet_base.specs.Ranges.{AddressRange}
 use Rattle.ipnet.specs.Lines.{lines_of}
 use Rattle.ipnet.specs.NetworkOf.{ip_network}
 use Rattle.ipnet.specs.declared.net.IpNet.{IpNet}
+use Rattle.ipnet.specs.Numerals.{IsDecimal}
 use Rattle.ipnet.specs.declared.parser.Grammar.{Grammar}
-use Rattle.netset_entries.specs.NotedEntries.{IsTitledBlock, IsNotedOf, list_lines, lines_of_all}
+use Rattle.ipnet.specs.declared.parser.Grammar.TheVariants.{Strict}
+use Rattle.ipnet_sets.specs.SetRanges.{IsInRange}
+use Rattle.netset_entries.specs.NotedEntries.{IsTitledBlock, IsTitledIn, IsNotedAs, IsNotedOf, list_lines, lines_of_all}
 use Rattle.netset_entries.specs.declared.largest.Largest.{Largest}
 use Rattle.netset_entries.specs.declared.largest.NotedEntry.{NotedEntry}
 use Rattle.netset_entries.specs.declared.noted.EntryNotes.{EntryNotes}
 use Rattle.netset_entries.specs.declared.noted.NotedBlocks.{NotedBlocks}
+use Rattle.netset_entries.specs.declared.plain.Signs.{Signs}
+use Rattle.netset_lib.specs.Entries.{IsEntryText}
 use Rattle.netset_lib.specs.Lists.{after_mark}
 
 -- ---- the blocks of one family
@@ -29,11 +36,15 @@ AreFiled Is len [] = ⊤
 AreFiled Is len (v ∷ lists) =
     All (λ e. Is e × ((ip_network e.network).prefix_len ≡ len)) v.items × AreFiled Is (len + 1) lists
 
--- There are at most 1,500 blocks, and each has the property.
-pub record AreLargest (Is : NotedEntry → Type 0) (l : Largest) : Type 0 where
+-- At most 1,500 blocks of the family are kept, and each has the property. None was left out; or 1,500 are kept, and
+-- none has a prefix length above `end`.
+pub record AreLargest (family : Family) (Is : NotedEntry → Type 0) (l : Largest) : Type 0 where
   pub filed : AreFiled Is 0 l.by_len.items
+  pub lengths : length l.by_len.items ≡ width family + 1
   pub count : l.kept ≡ length (blocks_in l.by_len.items)
   pub few : l.kept ≤ 1500
+  pub full : (l.end ≡ length l.by_len.items)
+      ⊎ ((l.kept ≡ 1500) × (length (blocks_in (drop (l.end + 1) l.by_len.items)) ≡ 0))
 
 -- The block is noted, and is of this family.
 pub record IsOfFamily (grammar : Grammar) (frame : Option IpNet) (lines : List (List ℕ)) (family : Family)
@@ -41,44 +52,119 @@ pub record IsOfFamily (grammar : Grammar) (frame : Option IpNet) (lines : List (
   pub same_family : (ip_network e.network).family ≡ family
   pub noted : IsNotedOf grammar frame lines e
 
--- There is no block.
-pub record AreNone (l : Largest) : Type 0 where
+-- There is no block, and there are lists for this number of prefix lengths.
+pub record AreNone (lengths : ℕ) (l : Largest) : Type 0 where
   pub none : All (λ v. v.items ≡ []) l.by_len.items
+  pub size : length l.by_len.items ≡ lengths
   pub kept : l.kept ≡ 0
+  pub end : l.end ≡ lengths
 
--- The block was taken, or left out.
+-- The block is kept with its title, unless it is too small.
+abbrev pub IsHeld : Network → List ℕ → Largest → Type 0
+IsHeld n title l = n.prefix_len < l.end → Any (IsNotedAs n title) (blocks_in l.by_len.items)
+
+-- The blocks that were kept are kept, unless they are too small now.
+abbrev pub KeepsHeld : Largest → Largest → Type 0
+KeepsHeld old new = (n : Network) → (title : List ℕ) → IsHeld n title old → IsHeld n title new
+
+-- The block was taken, unless it is too small.
+pub record HasTaken (family : Family) (Is : NotedEntry → Type 0) (old new : Largest) (block : NotedEntry) : Type
+    0 where
+  pub largest : AreLargest family Is new
+  pub held : KeepsHeld old new
+  pub has : IsHeld (ip_network block.network) (string_bytes block.title) new
+
+-- A block of an entry of the lines was taken, unless it is too small.
 abbrev pub TakesBlock : Largest → Largest → NotedEntry → Type 0
 TakesBlock old new block = (grammar : Grammar) → (frame : Option IpNet) → (lines : List (List ℕ)) → (family : Family)
-    → IsOfFamily grammar frame lines family block → AreLargest (IsOfFamily grammar frame lines family) old
-    → AreLargest (IsOfFamily grammar frame lines family) new
+    → IsOfFamily grammar frame lines family block → AreLargest family (IsOfFamily grammar frame lines family) old
+    → HasTaken family (IsOfFamily grammar frame lines family) old new block
 
--- One of the blocks was dropped, if there was one.
+-- One of the smallest blocks was dropped. The prefix length of these is `end`.
+pub record DropsSmallest (old new : Largest) : Type 0 where
+  pub count : length (blocks_in new.by_len.items) + 1 ≡ length (blocks_in old.by_len.items)
+  pub kept : new.kept ≡ old.kept - 1
+  pub within : new.end < length old.by_len.items
+  pub some : 0 < length (blocks_in (drop new.end old.by_len.items))
+  pub larger : take new.end new.by_len.items ≡ take new.end old.by_len.items
+  pub past : length (blocks_in (drop (new.end + 1) new.by_len.items)) ≡ 0
+
+-- One of the smallest blocks was dropped, if there was one.
 pub record DropsOne (old new : Largest) : Type 0 where
   pub filed : (grammar : Grammar) → (frame : Option IpNet) → (lines : List (List ℕ)) → (family : Family)
       → AreFiled (IsOfFamily grammar frame lines family) 0 old.by_len.items
       → AreFiled (IsOfFamily grammar frame lines family) 0 new.by_len.items
-  pub count : 0 < length (blocks_in old.by_len.items)
-      → length (blocks_in new.by_len.items) + 1 ≡ length (blocks_in old.by_len.items)
-  pub kept : 0 < length (blocks_in old.by_len.items) → new.kept ≡ old.kept - 1
+  pub lengths : length new.by_len.items ≡ length old.by_len.items
+  pub smallest : 0 < length (blocks_in old.by_len.items) → DropsSmallest old new
 
 -- ---- the blocks of both families
 
+-- The blocks of one of the families.
+abbrev pub largest_of : Family → NotedBlocks → Largest
+largest_of IPv4 b = b.ipv4
+largest_of IPv6 b = b.ipv6
+
 -- The blocks are noted of these lines.
-pub record AreKept (grammar : Grammar) (frame : Option IpNet) (lines : List (List ℕ)) (b : NotedBlocks) : Type 0 where
+pub record AreBlocksOf (grammar : Grammar) (frame : Option IpNet) (lines : List (List ℕ)) (b : NotedBlocks) : Type
+    0 where
   pub same_grammar : b.grammar ≡ grammar
   pub same_frame : b.frame ≡ frame
-  pub ipv4 : AreLargest (IsOfFamily grammar frame lines IPv4) b.ipv4
-  pub ipv6 : AreLargest (IsOfFamily grammar frame lines IPv6) b.ipv6
+  pub largest : (family : Family) → AreLargest family (IsOfFamily grammar frame lines family) (largest_of family b)
 
--- A block of an entry of the lines was noted, or left out.
+-- The blocks are noted of these lines, and none is missing, unless it is too small.
+pub record AreKept (grammar : Grammar) (frame : Option IpNet) (lines : List (List ℕ)) (b : NotedBlocks) : Type 0 where
+  pub blocks : AreBlocksOf grammar frame lines b
+  pub all : (n : Network) → (title : List ℕ) → IsTitledIn grammar frame lines n title
+      → IsHeld n title (largest_of n.family b)
+
+-- The blocks that were kept are kept, and this block is too, unless it is outside the frame.
+pub record HasKept (grammar : Grammar) (frame : Option IpNet) (lines : List (List ℕ)) (old new : NotedBlocks)
+    (n : Network) (title : List ℕ) : Type 0 where
+  pub blocks : AreBlocksOf grammar frame lines new
+  pub held : (family : Family) → KeepsHeld (largest_of family old) (largest_of family new)
+  pub has : IfSome frame (λ f. IsSubnetOf n (ip_network f)) → IsHeld n title (largest_of n.family new)
+
+-- A block of an entry of the lines was noted, unless it is too small or outside the frame.
 abbrev pub KeepsBlock : NotedBlocks → NotedBlocks → Network → List ℕ → Type 0
 KeepsBlock old new n title = (grammar : Grammar) → (frame : Option IpNet) → (lines : List (List ℕ))
-    → Any (IsTitledBlock grammar n title) lines → AreKept grammar frame lines old → AreKept grammar frame lines new
+    → Any (IsTitledBlock grammar n title) lines → AreBlocksOf grammar frame lines old
+    → HasKept grammar frame lines old new n title
 
 -- One line more was read.
 abbrev pub ReadsLine : NotedBlocks → NotedBlocks → List ℕ → Type 0
 ReadsLine old new line = (grammar : Grammar) → (frame : Option IpNet) → (lines : List (List ℕ))
     → AreKept grammar frame lines old → AreKept grammar frame (lines ++ line ∷ []) new
+
+-- All blocks of the entry of the line are too small.
+abbrev pub IsSmallLine : NotedBlocks → List ℕ → Type 0
+IsSmallLine b line = (n : Network) → (title : List ℕ) → IsTitledBlock b.grammar n title line
+    → (largest_of n.family b).end ≤ n.prefix_len
+
+-- ---- texts without blanks and "-"
+
+-- The family of a text with a colon, and of one without.
+abbrev pub family_if : Bool → Family
+family_if true = IPv6
+family_if false = IPv4
+
+-- The text has no "-" (45). Whether it has a colon (58) is known, and a slash (47) if it is not said to have none.
+pub record AreSigns (text : List ℕ) (s : Signs) : Type 0 where
+  pub no_dash : All (λ b. b ≢ 45) text
+  pub colon : s.has_colon ≡ true → ¬ (All (λ b. b ≢ 58) text)
+  pub no_colon : s.has_colon ≡ false → All (λ b. b ≢ 58) text
+  pub no_slash : s.has_slash ≡ false → All (λ b. b ≢ 47) text
+
+-- The text ends in a slash (47) and this number.
+pub record EndsInLength (text : List ℕ) (n : ℕ) : Type 0 where
+  pub front : List ℕ
+  pub digits : List ℕ
+  pub spelled : text ≡ front ++ 47 ∷ digits
+  pub writes : IsDecimal Strict 3 128 digits n
+
+-- If the text is an entry, its blocks are of this family, and have this prefix length at least.
+abbrev pub HasLength : List ℕ → Family → ℕ → Type 0
+HasLength text family len = (grammar : Grammar) → (range : AddressRange) → IsEntryText grammar text range
+    → (n : Network) → IsMaximal (IsInRange range) 0 n → (n.family ≡ family) × (len ≤ n.prefix_len)
 
 -- ---- lists in pieces
 

@@ -1,6 +1,6 @@
 -- The entries of lists that are noted: their titles, their blocks, and the lines that they are of.
-use Rattle.std.specs.Prelude.{◌≡◌, ◌≤◌, ℕ, ◌+◌, List, [], ◌∷◌, ◌++◌, codes, drop, take, length, All, AllPairs, Any}
-use Rattle.std.specs.Prelude.{Option, IfSome, string_bytes}
+use Rattle.std.specs.Prelude.{◌≡◌, ◌⊎◌, ◌<◌, ◌≤◌, ℕ, ◌+◌, List, [], ◌∷◌, ◌++◌, codes, drop, take, length, All}
+use Rattle.std.specs.Prelude.{AllPairs, Any, Option, IfSome, IsCharBoundary, string_bytes}
 use Rattle.std.specs.List.{flat_map}
 use Rattle.std.specs.Str.Lossy.{utf8_lossy}
 use Rattle.ipnet_base.specs.Address.{Family, IPv4, IPv6}
@@ -16,18 +16,29 @@ use Rattle.netset_entries.specs.declared.largest.NotedEntry.{NotedEntry}
 use Rattle.netset_lib.specs.Entries.{IsEntryText}
 use Rattle.netset_lib.specs.Lists.{IsCommentAt, IsContents, after_mark, without_blanks}
 
--- The first 100 bytes of the comment of the line, without its sign and blanks around it; none if there is no comment.
+-- The comment of the line, without its sign and blanks around it; it is empty if there is no comment.
 -- Example: `dhcp-246` of `10.20.168.9/22 # dhcp-246`.
 pub record IsCommentOf (line comment : List ℕ) : Type 0 where
   pub start : ℕ
   pub begins : IsCommentAt line start
-  pub is : comment ≡ take 100 (without_blanks (drop (start + 1) line))
+  pub is : comment ≡ without_blanks (drop (start + 1) line)
+
+-- The longest front of the text that has at most 100 bytes and does not end inside a character.
+-- Example: `dhcp-246` of `dhcp-246`; of 99 times `x` and then `ü`, which has two bytes, it is 99 times `x`.
+pub record IsCutText (text front : List ℕ) : Type 0 where
+  pub len : ℕ
+  pub short : len ≤ 100
+  pub whole : IsCharBoundary text len
+  pub longest : (i : ℕ) → len < i → i ≤ 100 → ¬ (IsCharBoundary text i)
+  pub is : front ≡ take len text
 
 -- The title of an entry with this text and this comment. Bytes of the comment that are not UTF-8 are replaced by
--- U+FFFD. Example: `10.20.168.9/22: dhcp-246` of `10.20.168.9/22` and `dhcp-246`; `10.0.0.1` of `10.0.0.1` and nothing.
-abbrev pub title_text : List ℕ → List ℕ → List ℕ
-title_text text [] = text
-title_text text (b ∷ comment) = text ++ codes ": " ++ utf8_lossy (b ∷ comment)
+-- U+FFFD, and then it is cut.
+-- Example: `10.20.168.9/22: dhcp-246` of `10.20.168.9/22` and `dhcp-246`; `10.0.0.1` of `10.0.0.1` and nothing.
+abbrev pub IsTitleOf : List ℕ → List ℕ → List ℕ → Type 0
+IsTitleOf text [] title = title ≡ text
+IsTitleOf text (b ∷ comment) title =
+    (front : List ℕ) × IsCutText (utf8_lossy (b ∷ comment)) front × (title ≡ text ++ codes ": " ++ front)
 
 -- The network is a block of the entry of the line, and this is the title of the entry. The blocks of an entry are the
 -- fewest networks with its addresses.
@@ -40,13 +51,22 @@ pub record IsTitledBlock (grammar : Grammar) (n : Network) (title line : List �
   pub block : IsMaximal (IsInRange range) 0 n
   pub comment : List ℕ
   pub has_comment : IsCommentOf line comment
-  pub titled : title ≡ title_text text comment
+  pub titled : IsTitleOf text comment title
 
--- What is noted is a block of the entry of one of the lines, with the title of this entry. It is in the frame, if there
--- is one.
-pub record IsNotedOf (grammar : Grammar) (frame : Option IpNet) (lines : List (List ℕ)) (e : NotedEntry) : Type 0 where
-  pub block : Any (IsTitledBlock grammar (ip_network e.network) (string_bytes e.title)) lines
-  pub inside : IfSome frame (λ f. IsSubnetOf (ip_network e.network) (ip_network f))
+-- The network is a block of the entry of one of the lines, with the title of this entry. If there is a frame, the block
+-- is in it.
+pub record IsTitledIn (grammar : Grammar) (frame : Option IpNet) (lines : List (List ℕ)) (n : Network)
+    (title : List ℕ) : Type 0 where
+  pub block : Any (IsTitledBlock grammar n title) lines
+  pub inside : IfSome frame (λ f. IsSubnetOf n (ip_network f))
+
+-- The note is of such a block, with its title.
+abbrev pub IsNotedOf : Grammar → Option IpNet → List (List ℕ) → NotedEntry → Type 0
+IsNotedOf grammar frame lines e = IsTitledIn grammar frame lines (ip_network e.network) (string_bytes e.title)
+
+-- The note is of this network, with this title.
+abbrev pub IsNotedAs : Network → List ℕ → NotedEntry → Type 0
+IsNotedAs n title e = (ip_network e.network ≡ n) × (string_bytes e.title ≡ title)
 
 -- The lines, the first without a byte order mark at its start.
 abbrev pub without_mark : List (List ℕ) → List (List ℕ)
@@ -67,7 +87,14 @@ pub record AreLargerFirst (family : Family) (entries : List NotedEntry) : Type 0
   pub few : length entries ≤ 1500
   pub ordered : AllPairs (λ e later. (ip_network e.network).prefix_len ≤ (ip_network later.network).prefix_len) entries
 
--- What is noted of these lists. IPv4 comes first.
+-- Each such block of this family is noted with its title, or 1,500 blocks are noted that are not smaller.
+abbrev pub HaveLargest : Grammar → Option IpNet → List (List ℕ) → Family → List NotedEntry → Type 0
+HaveLargest grammar frame lines family entries = (n : Network) → (title : List ℕ) → n.family ≡ family
+    → IsTitledIn grammar frame lines n title → Any (IsNotedAs n title) entries
+    ⊎ ((length entries ≡ 1500) × All (λ e. (ip_network e.network).prefix_len ≤ n.prefix_len) entries)
+
+-- These are the notes of these lists: of each family the blocks of all entries, or the largest 1,500. IPv4 comes
+-- first.
 -- Example: 10.0.0.0/8 and 10.1.0.0/16 with the titles `10.0.0.0/8: a` and `10.1.0.0/16`, of the one list
 -- `"10.1.0.0/16\n10.0.0.0/8 # a\n"`.
 pub record AreNoted (grammar : Grammar) (frame : Option IpNet) (lists : List (List ℕ)) (entries : List NotedEntry) :
@@ -78,3 +105,5 @@ pub record AreNoted (grammar : Grammar) (frame : Option IpNet) (lists : List (Li
   pub ipv4_blocks : AreLargerFirst IPv4 ipv4
   pub ipv6_blocks : AreLargerFirst IPv6 ipv6
   pub each : All (IsNotedOf grammar frame (lines_of_all lists)) entries
+  pub ipv4_largest : HaveLargest grammar frame (lines_of_all lists) IPv4 ipv4
+  pub ipv6_largest : HaveLargest grammar frame (lines_of_all lists) IPv6 ipv6

@@ -17,7 +17,8 @@ const MOST: usize = 1_500;
 pub struct NotedEntry {
     /// The block: an entry is the fewest networks with its addresses.
     pub network: IpNet,
-    /// The entry as written, and the first 100 bytes of its comment, if there is one.
+    /// The entry as written, and its comment, if there is one. The comment is cut at 100 bytes, at the end of a
+    /// character.
     pub title: String,
 }
 
@@ -47,7 +48,7 @@ pub(crate) struct Largest {
 impl Largest {
     /// Returns no blocks, of a family with this number of prefix lengths.
     pub(crate) fn new(alloc: Global, lengths: usize) -> Result<Largest, AllocError>
-        ensures { IfOk result AreNone }
+        ensures { IfOk result (AreNone lengths) }
     {
         let mut by_len = Vec::new(alloc);
         for _ in 0..lengths {
@@ -65,7 +66,11 @@ impl Largest {
         ensures { OnOk result (TakesBlock self.old self.new block) }
     {
         let len = usize::from(block.network.prefix_len());
-        if len >= self.end || len >= self.by_len.len() {
+        if len >= self.end {
+            return Ok(());
+        }
+        // no block is longer than an address
+        if len >= self.by_len.len() {
             return Ok(());
         }
         self.by_len[len].push(block)?;

@@ -8,6 +8,7 @@ mod lines;
 pub mod noted;
 mod overlaps;
 pub mod overlaps_program;
+mod plain;
 mod redundancy;
 mod redundant;
 pub mod redundant_program;

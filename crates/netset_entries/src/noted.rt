@@ -5,16 +5,17 @@ ghost use Rattle.ipnet_base.specs.Network.{IsSubnetOf};
 ghost use Rattle.ipnet.specs.NetworkOf.{ip_network};
 ghost use Rattle.ipnet.specs.declared.net.IpNet.{IpNet};
 ghost use Rattle.ipnet.specs.declared.parser.Grammar.{Grammar};
-ghost use Rattle.netset_entries.specs.NotedEntries.{AreNoted, IsCommentOf, title_text};
-ghost use Rattle.netset_entries.specs.NoteSteps.{AreKept, KeepsBlock, ReadsLine, first_text};
+ghost use Rattle.netset_entries.specs.NotedEntries.{AreNoted, IsCommentOf, IsTitleOf};
+ghost use Rattle.netset_entries.specs.NoteSteps.{AreKept, IsSmallLine, KeepsBlock, ReadsLine, first_text};
 ghost use Rattle.netset_entries.specs.NoteSteps.{HaveNoted, IsAtEnd, ReadsNext, ReadsBegun, EndsLine};
 
 use crate::largest::{Largest, NotedEntry};
+use crate::plain::plain_network;
 use ipnet::{Grammar, IpNet};
 use memchr::memchr;
-use netset_lib::{comment_start, contents_of, read_length, read_text, skip_mark};
+use netset_lib::{comment_start, contents_of, read_text, skip_mark};
 use std::alloc::{AllocError, Global};
-use std::{mem, str};
+use std::mem;
 
 /// How many bytes of a comment are noted at most.
 const MOST_BYTES: usize = 100;
@@ -27,49 +28,25 @@ fn comment_of(line: &[u8]) -> &[u8]
     if start >= line.len() {
         return &[];
     }
-    let comment = line[start + 1..].trim_ascii();
-    &comment[..MOST_BYTES.min(comment.len())]
+    line[start + 1..].trim_ascii()
 }
 
-/// Returns the title of the entry that is written so. Bytes of the comment that are not UTF-8 are replaced by U+FFFD.
+/// Returns the title of the entry that is written so. Bytes of the comment that are not UTF-8 are replaced by U+FFFD,
+/// and then the comment is cut at the end of a character.
 fn title_of(alloc: Global, text: &str, comment: &[u8]) -> Result<String, AllocError>
-    ensures { IfOk result (λ title. string_bytes title ≡ title_text text.now comment.now) }
+    ensures { IfOk result (λ title. IsTitleOf text.now comment.now (string_bytes title)) }
 {
     let mut title = String::from_str(alloc, text)?;
     if comment.is_empty() {
         return Ok(title);
     }
     let comment = String::from_utf8_lossy(alloc, comment)?;
+    let comment = comment.as_str();
+    let end = comment.floor_char_boundary(MOST_BYTES);
+    let (front, _) = comment.split_at(end);
     title.push_str(": ")?;
-    title.push_str(comment.as_str())?;
+    title.push_str(front)?;
     Ok(title)
-}
-
-/// Returns the prefix length of the network or address that a line of hexadecimal digits, dots and colons may be, if it
-/// has a length after a slash or none, and whether it is of IPv6. `None` if the line has anything else.
-//
-// Most lines of a long list end here, so each byte is tested without a branch.
-fn plain_len(line: &[u8]) -> Option<(usize, bool)> {
-    let mut is_plain = !line.is_empty();
-    let mut is_ipv6 = false;
-    for byte in line {
-        // these are ".", "/", the digits and ":"
-        let is_mark_or_digit = (*byte >= b'.') & (*byte <= b':');
-        let small = *byte | 32;
-        let is_letter = (small >= b'a') & (small <= b'f');
-        is_plain = is_plain & (is_mark_or_digit | is_letter);
-        is_ipv6 = is_ipv6 | (*byte == b':');
-    }
-    if !is_plain {
-        return None;
-    }
-    for index in line.len().saturating_sub(4)..line.len() {
-        if line[index] == b'/' {
-            let len = read_length(str::from_utf8(&line[index..]).ok()?)?;
-            return Some((usize::from(len), is_ipv6));
-        }
-    }
-    Some((if is_ipv6 { 128 } else { 32 }, is_ipv6))
 }
 
 /// Whether the network lies in the frame, if there is one.
@@ -110,13 +87,17 @@ impl NotedBlocks {
         })
     }
 
-    /// Whether the line is too small an entry to be noted, or none, as far as this is seen at a glance.
-    fn is_small(&self, line: &[u8]) -> bool {
-        match plain_len(line) {
-            Some((len, false)) => len >= self.ipv4.end,
-            Some((len, true)) => len >= self.ipv6.end,
-            None => false,
+    /// Whether the blocks of the line's entry are too small to be noted, as far as this is seen at a glance.
+    fn is_small(&self, line: &[u8]) -> bool
+        ensures { IsTrue result → IsSmallLine self.now line.now }
+    {
+        let Some(network) = plain_network(contents_of(line, self.grammar)) else {
+            return false;
+        };
+        if network.is_ipv6 {
+            return network.len >= self.ipv6.end;
         }
+        network.len >= self.ipv4.end
     }
 
     /// Notes a block of an entry, if it is not outside the network.
@@ -274,8 +255,8 @@ impl EntryNotes {
         self.blocks.count
     }
 
-    /// Returns the blocks that were noted: at most 1,500 of each family, IPv4 first, the larger first, and those of one
-    /// size in the order of the lists. Fails only if memory runs out.
+    /// Returns the blocks that were noted: of each family all blocks of the entries, or the largest 1,500. IPv4 comes
+    /// first, then the larger. Blocks of one size are in the order of the lists. Fails only if memory runs out.
     pub fn into_entries(self) -> Result<Vec<NotedEntry>, AllocError>
         ensures { IfOk result (λ entries. (grammar : Grammar) → (frame : Option IpNet)
             → (lists : List (List ℕ)) → HaveNoted grammar frame lists [] self

@@ -85,6 +85,76 @@ fn most(rt: HostRuntime) -> Result<(), Fail> {
     Ok(())
 }
 
+#[test]
+fn long_comments(rt: HostRuntime) -> Result<(), Fail> {
+    // how many "x" a comment begins with, what follows, and the bytes of the comment in the title
+    let rows: [(usize, &[u8], usize); 7] = [
+        (100, b"y", 100),
+        (99, b"yz", 100),
+        (99, b"\xc3\xbc", 99),
+        (98, b"\xc3\xbcy", 100),
+        (97, b"\xff", 100),
+        (98, b"\xff", 98),
+        (0, b"\xf0\x9f\x92\xa1", 4),
+    ];
+    let alloc = rt.alloc();
+    for (count, tail, wanted) in rows {
+        let mut notes = EntryNotes::new(alloc, Grammar::Strict, None)?;
+        notes.take(b"10.0.0.1 # ")?;
+        for _ in 0..count {
+            notes.take(b"x")?;
+        }
+        notes.take(tail)?;
+        notes.end_list()?;
+        let entries = notes.into_entries()?;
+        let title = noted_first(alloc, entries.as_slice())?;
+        // the title is written twice, as that of the first and of the last entry
+        let found = (title.len() - ", ".len()) / 2 - "10.0.0.1: ".len();
+        assert!(&rt; found == wanted, "comment: {count}: {found}, not {wanted}");
+    }
+    Ok(())
+}
+
+#[test]
+fn larger_after_many(rt: HostRuntime) -> Result<(), Fail> {
+    // the list after 1,500 addresses, and the titles of the first and of the last entry
+    let rows = [
+        ("11.0.0.0/8\n", "11.0.0.0/8, 10.0.5.218"),
+        ("11.0.0.0/255.0.0.0\n", "11.0.0.0/255.0.0.0, 10.0.5.218"),
+        ("11.0.0.0/0255.0.0.0\n", "10.0.0.0, 10.0.5.219"),
+        ("11.0.0.0/31", "11.0.0.0/31, 10.0.5.218"),
+        ("11.0.0.0/031", "10.0.0.0, 10.0.5.219"),
+        ("11.0.0.0//8", "10.0.0.0, 10.0.5.219"),
+        ("11.0.0.0/8/8", "10.0.0.0, 10.0.5.219"),
+        ("11.0.0.0-11.0.0.1", "11.0.0.0-11.0.0.1, 10.0.5.218"),
+        ("11.0.0.0/8\r\n", "11.0.0.0/8, 10.0.5.218"),
+        (" 11.0.0.0/8", "11.0.0.0/8, 10.0.5.218"),
+        ("11.0.0.0/8#x", "11.0.0.0/8: x, 10.0.5.218"),
+        ("11.0.0.0\n", "10.0.0.0, 10.0.5.219"),
+        ("::ffff:11.0.0.0\n", "10.0.0.0, ::ffff:11.0.0.0"),
+        ("::ffff:11.0.0.0/104\n", "10.0.0.0, ::ffff:11.0.0.0/104"),
+    ];
+    let alloc = rt.alloc();
+    for (list, wanted) in rows {
+        let mut notes = EntryNotes::new(alloc, Grammar::Strict, None)?;
+        for number in 0..1_500u32 {
+            let (high, low) = (number / 256, number % 256);
+            let line = format!(in alloc; "10.0.{high}.{low}\n")?;
+            notes.take(line.as_bytes())?;
+        }
+        notes.take(b"10.0.5.220\n")?;
+        notes.take(list.as_bytes())?;
+        notes.end_list()?;
+        let entries = notes.into_entries()?;
+        let found = noted_first(alloc, entries.as_slice())?;
+        assert!(&rt;
+            found.as_str() == wanted,
+            "noted after many: {list}: {found}"
+        );
+    }
+    Ok(())
+}
+
 /// The titles of the first and of the last entry.
 fn noted_first(alloc: Global, entries: &[netset_entries::NotedEntry]) -> Result<String, Fail> {
     let mut text = String::new(alloc);

@@ -1,4 +1,4 @@
-use Rattle.std.proofs.Common.{◌+◌, ◌-◌, ◌∙◌, ap, drop, length, refl, take}
+use Rattle.std.proofs.Common.{◌+◌, ◌-◌, ◌∙◌, ap, drop, length, take}
 use Rattle.netset_lib.specs.Lists.{without_blanks}
 use Rattle.netset_lib.proofs.CommentLaws.{behind}
 use Rattle.netset_lib.proofs.ListLines.{trimmed}
@@ -14,8 +14,6 @@ pub returns : goal.returns
 returns c =
     let line = c.args.line.now in
     let from = c.comment_start-start.result + 1 in
-    some_comment line c.trim_ascii-comment.result.now _ c.comment_start-start.result c.min.result
-    c.comment_start-start.ensures
-    (trimmed (take (length line - from) (drop from line)) c.trim_ascii-comment.result.now
-    c.trim_ascii-comment.ensures.value ∙ ap without_blanks (behind line from))
-    c.min.ensures refl
+    some_comment line _ c.comment_start-start.result c.comment_start-start.ensures
+    (trimmed (take (length line - from) (drop from line)) c.trim_ascii.result.now
+    c.trim_ascii.ensures.value ∙ ap without_blanks (behind line from))

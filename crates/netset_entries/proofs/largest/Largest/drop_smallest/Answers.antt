@@ -17,6 +17,7 @@ returns-then-is_some c =
     up_to_drop c.args.self.now c.loop-len.self _ (c.loop-len.len - 1) c.loop-len.len c.index_mut.result.now
     c.pop.new.self c.pop.result c.loop-len.invariant (omega arith) (omega arith) c.index_mut.ensures.value
     c.pop.ensures.items refl (sym c.is_some.ensures ∙ c.if-is_some.true) (omega (arith, c.saturating_sub-self.ensures))
+    refl
 
 pub returns : goal.returns
 returns c = up_to_none c.loop-len.len c.args.self.now c.loop-len.self c.loop-len.invariant (omega arith)

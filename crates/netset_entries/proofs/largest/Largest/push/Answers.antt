@@ -1,5 +1,5 @@
 use Rattle.std.proofs.Common.{refl, arith}
-use Rattle.netset_entries.proofs.NoteLaws.{push_kept, push_dropped}
+use Rattle.netset_entries.proofs.NoteLaws.{push_kept, push_dropped, push_none}
 use Rattle.netset_entries.proofs.largest.Largest.push.Goals as goal
 
 pub returns-then-self-gt-MOST : goal.returns-then-self-gt-MOST
@@ -14,7 +14,9 @@ returns-then-self-gt-MOST c =
       len = omega (arith, c.from-len.ensures, c.prefix_len.ensures);
       lists = refl;
       kept = λ few. omega (arith, few, c.saturating_add-self.ensures);
-    }
+      below = omega arith;
+      same_end = refl;
+    } (omega arith)
 
 pub returns-else-self-gt-MOST : goal.returns-else-self-gt-MOST
 returns-else-self-gt-MOST c = push_kept c.args.self.now _ c.args.block record {
@@ -27,4 +29,10 @@ returns-else-self-gt-MOST c = push_kept c.args.self.now _ c.args.block record {
   len = omega (arith, c.from-len.ensures, c.prefix_len.ensures);
   lists = refl;
   kept = λ few. omega (arith, few, c.saturating_add-self.ensures);
+  below = omega arith;
+  same_end = refl;
 } (omega arith)
+
+pub returns-then-len-self : goal.returns-then-len-self
+returns-then-len-self c =
+    push_none c.args.self.now c.args.block (omega (arith, c.from-len.ensures, c.prefix_len.ensures))

@@ -1,5 +1,5 @@
 use Rattle.std.proofs.Common.{◌++◌, ◌∙◌, ap₂}
-use Rattle.netset_entries.proofs.NoteLaws.{all_appended}
+use Rattle.netset_entries.proofs.NotedBlockLaws.{all_appended}
 use Rattle.netset_entries.proofs.NotedLists.{of_lists}
 use Rattle.netset_entries.proofs.noted.EntryNotes.into_entries.Goals as goal
 

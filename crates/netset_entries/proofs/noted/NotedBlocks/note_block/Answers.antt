@@ -1,12 +1,16 @@
 use Rattle.std.proofs.Common.{refl, ap}
 use Rattle.ipnet.specs.NetworkOf.{ip_network}
 use Rattle.ipnet_text.proofs.ListsLaws.{OnOk_then}
-use Rattle.netset_entries.proofs.NoteLaws.{same_blocks, ipv4_taken, ipv6_taken}
+use Rattle.netset_entries.proofs.NotedBlockLaws.{block_outside, ipv4_taken, ipv6_taken}
 use Rattle.netset_entries.proofs.noted.NotedBlocks.note_block.Goals as goal
 
 pub returns-then-not-is_in_frame : goal.returns-then-not-is_in_frame
-returns-then-not-is_in_frame c = λ grammar frame lines any h.
-    same_blocks c.args.self.now _ refl refl refl refl grammar frame lines h
+returns-then-not-is_in_frame c =
+    block_outside c.args.self.now _ (ip_network c.args.network) c.args.title.now refl refl refl refl
+    (λ inside.
+    let is = c.is_in_frame.ensures.1 inside in
+    let not = c.if-not-is_in_frame.true in
+    absurd cc)
 
 pub returns-in-V4 : goal.returns-in-V4
 returns-in-V4 c =

@@ -1,50 +1,72 @@
-use Rattle.std.proofs.Common.{◌∷◌, ◌∙◌, [], Contains, ap, sym, subst}
+use Rattle.std.proofs.Common.{rules, ◌∙◌, Contains, sym, subst, string_bytes}
 use Rattle.ipnet_base.specs.Blocks.{AreMaximalBlocks}
 use Rattle.ipnet_base.proofs.ListLaws.{contains_here, contains_there}
 use Rattle.ipnet.specs.NetworkOf.{ip_network}
 use Rattle.ipnet.specs.SubnetsLeft.{ip_subnets_left}
 use Rattle.ipnet_sets.specs.SetRanges.{IsInRange}
 use Rattle.netset_lib.specs.EntryOf.{entry_range}
-use Rattle.netset_entries.specs.NotedEntries.{IsTitledBlock, title_text}
-use Rattle.netset_entries.proofs.NoteLaws.{kept_more, block_read}
+use Rattle.netset_entries.specs.NotedEntries.{IsTitledBlock, IsTitleOf}
+use Rattle.netset_entries.proofs.NotedBlockLaws.{ReadsPart, line_empty, part_none, part_more, part_all}
+use Rattle.netset_entries.proofs.TitledBlocks.{none_titled, titled_in, titled_as}
 use Rattle.netset_entries.proofs.noted.NotedBlocks.note_entry.Goals as goal
 
 pub returns-in_default : goal.returns-in_default
-returns-in_default c = λ grammar frame lines h. kept_more grammar frame lines (c.args.line.now ∷ []) c.args.self.now h
+returns-in_default c =
+    let old = c.args.self.now in
+    let line = c.args.line.now in
+    line_empty old line
+    (none_titled old.grammar line c.contents_of-text.result.now c.contents_of-text.ensures
+    (c.read_text.ensures.reads.none.0 (search rules)))
 
 pub loop-network-init : goal.loop-network-init
 loop-network-init c =
+    let old = c.args.self.now in
+    let line = c.args.line.now in
+    let text = c.contents_of-text.result.now in
     let range = entry_range c.in-Some.found.entry in
     let comment = c.comment_of.result.now in
+    let blocks = ip_subnets_left c.into_iter-network-iterator.result in
+    let are = subst (λ w. AreMaximalBlocks (IsInRange range) 0 (ip_subnets_left w))
+    (sym c.into_iter-network-iterator.ensures.into_iter_gives) c.walk-network-items.ensures in
+    let titled = subst (λ z. IsTitleOf z comment (string_bytes c.in_ok-title.title)) c.in-Some.ensures.spelled
+    c.in_ok-title.ensures in
     record {
       left = λ n m. record {
-        text = c.contents_of-text.result.now;
+        text = text;
         contents = c.contents_of-text.ensures;
         range = range;
         writes = c.in-Some.ensures.reads.some;
-        block = ((subst (λ w. AreMaximalBlocks (IsInRange range) 0 (ip_subnets_left w))
-            (sym c.into_iter-network-iterator.ensures.into_iter_gives) c.walk-network-items.ensures).members n).0 m;
+        block = (are.members n).0 m;
         comment = comment;
         has_comment = c.comment_of.ensures;
-        titled = c.in_ok-title.ensures ∙ ap (λ z. title_text z comment) c.in-Some.ensures.spelled;
+        titled = titled;
       };
-      reads = λ grammar frame lines h. kept_more grammar frame lines (c.args.line.now ∷ []) c.args.self.now h;
+      one = titled_as old.grammar line text c.contents_of-text.ensures comment (string_bytes c.in_ok-title.title)
+          c.comment_of.ensures titled;
+      reads = part_none old line blocks
+          (titled_in old.grammar line text c.contents_of-text.ensures range blocks c.in-Some.ensures.reads.some are);
     }
 
 pub loop-network-preserved : goal.loop-network-preserved
 loop-network-preserved c =
+    let old = c.args.self.now in
+    let line = c.args.line.now in
     let n = ip_network c.in-Some-network.network in
     let before = c.loop-network.invariant in
     let after = ip_subnets_left c.next.new.self in
     let steps = sym c.in-Some-network.ensures.steps in
+    let title = sym c.as_str.ensures.value in
     record {
       left = λ k m. before.left k (subst (λ z. Contains z k) steps (contains_there n after k m));
-      reads = block_read c.args.self.now c.loop-network.self c.note_block.new.self c.args.line.now
-          c.as_str.result.now n
-          (subst (λ z. IsTitledBlock c.args.self.now.grammar n z c.args.line.now) (sym c.as_str.ensures.value)
-          (before.left n (subst (λ z. Contains z n) steps (contains_here n after)))) before.reads
-          c.in_ok-note_block.ensures;
+      one = before.one;
+      reads = part_more old c.loop-network.self c.note_block.new.self line c.as_str.result.now n after
+          (subst (λ z. IsTitledBlock old.grammar n z line) title
+          (before.left n (subst (λ z. Contains z n) steps (contains_here n after))))
+          (λ k other h. before.one k other h ∙ title)
+          (subst (ReadsPart old c.loop-network.self line) (sym steps) before.reads) c.in_ok-note_block.ensures;
     }
 
 pub returns : goal.returns
-returns c = c.loop-network.invariant.reads
+returns c =
+    part_all c.args.self.now c.loop-network.self c.args.line.now (ip_subnets_left c.loop-network.network-iterator)
+    (search rules) c.loop-network.invariant.reads
