@@ -90,18 +90,14 @@ struct FrontLine<'a> {
     after: &'a [u8],
 }
 
-/// The first line, if it is an entry and nothing else. `None` says nothing about the line: it is read so only in the
-/// strict grammar.
-fn front_line<'a>(bytes: &'a [u8], grammar: Grammar) -> Option<FrontLine<'a>>
-    ensures entry { IfSome result (λ line. IsEntryWord grammar line.text.now (entry_range line.entry)) }
+/// The first line, if it is an entry and nothing else, in both grammars. `None` says nothing about the line.
+fn front_line(bytes: &[u8]) -> Option<FrontLine<'_>>
+    ensures entry { IfSome result (λ line. (grammar : Grammar)
+        → IsEntryWord grammar line.text.now (entry_range line.entry)) }
     ensures some { IfSome result (λ line. 0 < length line.text.now) }
     ensures lines { IfSome result (λ line. lines_of bytes.now ≡ line.text.now ∷ lines_of line.after.now) }
     ensures shorter { IfSome result (λ line. length line.after.now < length bytes.now) }
 {
-    match grammar {
-        Grammar::Strict => {}
-        Grammar::Legacy => return None,
-    }
     let (entry, len) = front_entry(bytes)?;
     Some(FrontLine {
         text: &bytes[..len],
@@ -283,7 +279,7 @@ impl LineReader {
         ensures { IfOk result (λ rest. ReadsFirst self.old self.new bytes.now rest.now
             (C.is_made collector.now made.old) (C.is_made collector.now made.new)) }
     {
-        if let Some(front) = front_line(bytes, self.grammar) {
+        if let Some(front) = front_line(bytes) {
             self.push_found(front.text, front.entry, collector, made)?;
             return Ok(front.after);
         }
