@@ -15,7 +15,8 @@ use Rattle.ipnet.specs.Numerals.{IsDecimal}
 use Rattle.ipnet.specs.declared.parser.Grammar.{Grammar}
 use Rattle.ipnet.specs.declared.parser.Grammar.TheVariants.{Strict}
 use Rattle.ipnet_sets.specs.SetRanges.{IsInRange}
-use Rattle.netset_entries.specs.NotedEntries.{IsTitledBlock, IsTitledIn, IsNotedAs, IsNotedOf, MeetsFrame, list_lines, lines_of_all}
+use Rattle.netset_entries.specs.NotedEntries.{IsTitledBlock, IsTitledIn, IsNotedAs, IsNotedOf, MeetsFrame}
+use Rattle.netset_entries.specs.NotedEntries.{list_lines, lines_of_all}
 use Rattle.netset_entries.specs.declared.largest.Largest.{Largest}
 use Rattle.netset_entries.specs.declared.largest.NotedEntry.{NotedEntry}
 use Rattle.netset_entries.specs.declared.noted.EntryNotes.{EntryNotes}

@@ -162,8 +162,8 @@ pub struct EntryNotes {
 }
 
 impl EntryNotes {
-    /// Returns notes of no list. If a network is given, only blocks that lie in it or contain it are noted. Fails only if
-    /// memory runs out.
+    /// Returns notes of no list. If a network is given, only blocks that lie in it or contain it are noted. Fails only
+    /// if memory runs out.
     pub fn new(
         alloc: Global,
         grammar: Grammar,

@@ -4,44 +4,17 @@ use Rattle.std.specs.Net.Addr.{ipv4_octets, ipv4_bits}
 use Rattle.std.specs.declared.net.ipv4_addr.Ipv4Addr.{Ipv4Addr}
 use Rattle.std.specs.declared.net.ip_addr.IpAddr.TheVariants as Ip
 use Rattle.ipnet_base.specs.Address.{ipv4_address}
-use Rattle.ipnet_base.specs.Network.{Network}
-use Rattle.ipnet.specs.AddressTexts.{IsIpv4AddressText, IsJoined}
+use Rattle.ipnet.specs.AddressTexts.{IsIpv4AddressText}
 use Rattle.ipnet.specs.NetworkOf.{ipv4_network}
-use Rattle.ipnet.specs.NetworkTexts.{IsIpv4NetworkText, IsNetworkText}
-use Rattle.ipnet.specs.Numerals.{IsOctet}
+use Rattle.ipnet.specs.NetworkTexts.{IsIpv4NetworkText}
 use Rattle.ipnet.specs.declared.net.IpNet.TheVariants as Nets
 use Rattle.ipnet.specs.declared.net.ipv4_net.Ipv4Net.{Ipv4Net}
 use Rattle.ipnet.specs.declared.parser.Grammar.{Grammar}
-use Rattle.ipnet.specs.declared.parser.Grammar.TheVariants.{Strict, Legacy}
-use Rattle.ipnet.proofs.StrictTexts.{strict_is_legacy}
+use Rattle.ipnet.specs.declared.parser.Grammar.TheVariants.{Strict}
+use Rattle.ipnet.proofs.StrictTexts.{address_in, network_in}
 use Rattle.netset_lib.specs.declared.entry.Entry.TheVariants as Entries
 use Rattle.netset_lib.specs.Entries.{IsAddressText, IsEntryWord}
 use Rattle.netset_lib.specs.EntryOf.{entry_range}
-
--- ---- a strict text is one in both grammars
-
-octet_in : (grammar : Grammar) (text : List ℕ) (n : ℕ) → IsOctet Strict text n → IsOctet grammar text n
-octet_in grammar text n h = record {
-  digits = h.digits;
-  value = h.value;
-  short = h.short;
-  small = h.small;
-  plain = λ strict zero_first. h.plain refl zero_first;
-}
-
-octets_in : (grammar : Grammar) (text ns : List ℕ) → IsJoined (46 ∷ []) (IsOctet Strict) text ns
-    → IsJoined (46 ∷ []) (IsOctet grammar) text ns
-octets_in grammar text [] h = h
-octets_in grammar text (n ∷ []) h = octet_in grammar text n h
-octets_in grammar text (n ∷ m ∷ ns) h =
-    (h.0, h.1, h.2, octet_in grammar h.0 n h.3, octets_in grammar h.1 (m ∷ ns) h.4)
-
-network_in : (grammar : Grammar) (text : List ℕ) (n : Network) → IsNetworkText Strict text n
-    → IsNetworkText grammar text n
-network_in Strict text n h = h
-network_in Legacy text n h = strict_is_legacy text n h
-
--- ---- and an entry
 
 pub address_text : (grammar : Grammar) (text : List ℕ) (a : Ipv4Addr) → IsIpv4AddressText Strict text (ipv4_octets a)
     → IsAddressText grammar text (ipv4_address a)
@@ -49,7 +22,7 @@ unfolding ipv4_bits
 address_text grammar text a h =
     inl record {
       octets = ipv4_octets a;
-      writes = (octets_in grammar text (ipv4_octets a) h.0, h.1);
+      writes = address_in grammar text (ipv4_octets a) h;
       family = refl;
       number = refl;
     }
