@@ -1,6 +1,7 @@
 -- Every strict text is a legacy text of the same value.
 use Rattle.std.proofs.Common.{ℕ, List, [], ◌∷◌, inl, inr, arith}
 use Rattle.ipnet_base.specs.Network.{Network}
+use Rattle.ipnet.specs.declared.parser.Grammar.{Grammar}
 use Rattle.ipnet.specs.declared.parser.Grammar.TheVariants.{Strict, Legacy}
 use Rattle.ipnet.specs.Numerals.{IsDecimal, IsOctet}
 use Rattle.ipnet.specs.AddressTexts.{IsJoined, IsIpv4AddressText, EndsInIpv4, IsIpv6AddressText}
@@ -75,3 +76,15 @@ strict_is_legacy text n (inr h) = inr (record {
   family = h.family;
   number = h.number;
 })
+
+-- a strict text of an address is one in both grammars
+pub address_in : (grammar : Grammar) (text octets : List ℕ) → IsIpv4AddressText Strict text octets
+    → IsIpv4AddressText grammar text octets
+address_in Strict text octets h = h
+address_in Legacy text octets h = IsIpv4AddressText-weaker text octets h
+
+-- a strict text of a network is one in both grammars
+pub network_in : (grammar : Grammar) (text : List ℕ) (n : Network) → IsNetworkText Strict text n
+    → IsNetworkText grammar text n
+network_in Strict text n h = h
+network_in Legacy text n h = strict_is_legacy text n h

@@ -20,18 +20,18 @@ none_refused (r ∷ shown) refusals e none = absurd (omega (arith, none))
 
 first_refused : (shown : List RefusedLine) (refusals : List Refusal) (line : RefusedLine)
     → map refusal_of shown ≡ take 10 refusals → 0 < length shown → line ≡ get_or shown 0 line
-    → (first : Refusal) × (others : List Refusal) × (refusals ≡ first ∷ others) × (first.line ≡ line.line)
+    → (first : Refusal) × (others : List Refusal) × (refusals ≡ first ∷ others) × (first.number ≡ line.number)
 first_refused [] refusals line e some is = absurd (omega (arith, some))
 first_refused (r ∷ shown) [] line e some is = absurd cc
 first_refused (r ∷ shown) (first ∷ refusals) line e some is =
     let same : refusal_of r ≡ first = ap (λ l. get_or l 0 first) e in
-    (first, refusals, refl, ap (λ z. z.line) (sym same) ∙ ap (λ z. z.line) (sym is))
+    (first, refusals, refl, ap (λ z. z.number) (sym same) ∙ ap (λ z. z.number) (sym is))
 
 -- a list with a refused line
 pub list_refused : (grammar : Grammar) (text buffer : List ℕ) (count_old : ℕ) (set : IpSet) (refused : RefusedLines)
     (line : RefusedLine)
     → IsReadList grammar text set refused → 0 < length refused.shown.items → line ≡ get_or refused.shown.items 0 line
-    → IsListReply grammar text buffer buffer count_old line.line 1
+    → IsListReply grammar text buffer buffer count_old line.number 1
 list_refused grammar text buffer count_old set refused line h some is =
     let (first, others, cut, number) = first_refused refused.shown.items h.refusals line h.kept.shown some is in
     record {

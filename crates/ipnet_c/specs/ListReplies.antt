@@ -19,7 +19,7 @@ HasAddressesOfList grammar text s = (entries : List ListEntry) × IsListRead gra
 -- Example: 2 of `"10.0.0.1\nx\ny\n"`.
 abbrev pub IsFirstRefused : Grammar → List ℕ → ℕ → Type 0
 IsFirstRefused grammar text line = (entries : List ListEntry) × (first : Refusal) × (others : List Refusal)
-    × IsListRead grammar 0 text entries (first ∷ others) × (first.line ≡ line)
+    × IsListRead grammar 0 text entries (first ∷ others) × (first.number ≡ line)
 
 -- Compiling a list: `count` is the length of the image, or the number of the first line that is not an entry.
 -- Example: `"10.0.0.0-10.0.0.3\r\n"` with a buffer of 40 bytes or more gives `ok`, the image of 10.0.0.0/30 and 40;

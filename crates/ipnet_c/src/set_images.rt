@@ -10,7 +10,7 @@ use crate::lists::set_of_text;
 use crate::statuses::{NOT_A_SET, OTHER_NOT_A_SET, OUT_OF_MEMORY};
 use ipnet::Grammar;
 use ipnet_sets::{IpSetRef, Operation};
-use netset_lib::{lines_of_ranges, network_lines};
+use netset_lib::{network_lines, range_lines};
 use std::alloc::{AllocError, Global};
 
 /// Writes the image of the addresses of a text in this grammar into the buffer, and its length into `count`.
@@ -275,7 +275,7 @@ fn image_ranges(alloc: Global, set: IpSetRef<'_>) -> Result<String, AllocError>
     ensures { IfOk result (λ text. IsRangesOfImage set.entry.image.bytes.now (string_bytes text)) }
 {
     let first = set.to_set(alloc)?;
-    lines_of_ranges(alloc, &first)
+    range_lines(alloc, &first)
 }
 
 /// Writes the fewest ranges of the set, given by its image, as text into the buffer, and its length into `count`.

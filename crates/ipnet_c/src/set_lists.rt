@@ -24,7 +24,7 @@ fn compile_list(
     };
     let refused = list.refused.shown.as_slice();
     if !refused.is_empty() {
-        *count = refused[0].line;
+        *count = refused[0].number;
         return BAD_LINE;
     }
     let Ok(image) = list.set.to_bytes(alloc) else {

@@ -5,16 +5,10 @@ use Rattle.std.proofs.lemmas.Str.{IsCharBoundary-after_ascii}
 use Rattle.std.specs.Str.{IsCharBoundary}
 use Rattle.ipnet.specs.Network.{Network}
 use Rattle.ipnet.specs.declared.parser.Grammar.{Grammar}
-use Rattle.ipnet.specs.declared.parser.Grammar.TheVariants.{Strict, Legacy}
+use Rattle.ipnet.specs.declared.parser.Grammar.TheVariants.{Strict}
 use Rattle.ipnet.specs.Lines.{lines_of}
 use Rattle.ipnet.specs.NetworkTexts.{IsNetworkText}
-use Rattle.ipnet.proofs.StrictTexts.{strict_is_legacy}
-
--- a strict text of a network is one in both grammars
-strict_in : (grammar : Grammar) (text : List ℕ) (n : Network) → IsNetworkText Strict text n
-    → IsNetworkText grammar text n
-strict_in Strict text n h = h
-strict_in Legacy text n h = strict_is_legacy text n h
+use Rattle.ipnet.proofs.StrictTexts.{network_in}
 
 some_text : (text : List ℕ) (n : Network) → IsNetworkText Strict text n → 0 < length text
 some_text text n (inl h) =
@@ -51,7 +45,7 @@ front_line grammar text bytes after len n same after_is is cut =
     (subst (λ z. IsFrontLine grammar z (take len z) (drop (len + 1) z) n) same (record {
       cut = cut;
       some = some_text (take len bytes) n is;
-      is = strict_in grammar (take len bytes) n is;
+      is = network_in grammar (take len bytes) n is;
     }))
 
 -- a text can be cut after a newline

@@ -90,7 +90,7 @@ impl NetworkSink for NetLists {
 
 /// One network with exactly the addresses of both, if the first contains the second or the two are the halves of their
 /// supernet.
-fn joined<N: Net>(first: &N, second: &N) -> Option<N>
+fn merged<N: Net>(first: &N, second: &N) -> Option<N>
     ensures { IfSome result (λ whole.
         HaveSameCover (N.network whole ∷ []) (N.network first.now ∷ N.network second.now ∷ [])) }
 {
@@ -112,7 +112,7 @@ fn push_joined<N: Net>(list: &mut Vec<N>, network: N) -> Result<(), AllocError>
 {
     let mut next = network;
     while let Some(last) = list.last() {
-        let Some(whole) = joined(last, &next) else {
+        let Some(whole) = merged(last, &next) else {
             break;
         };
         next = whole;

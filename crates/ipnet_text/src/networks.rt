@@ -17,8 +17,9 @@ use thiserror::Error;
 
 pub mod laws;
 
-/// The reason why the networks of a text are not read. For a bad line the text has its number in decimal; for `Memory`
-/// it is `out of memory`.
+/// The error of a text of lines: why its networks are not read. [`push_lines`] returns it, and so do the calls of
+/// `ipnet_tool` on a text; `ipnet_c` makes a status of it. For a bad line the text of the error has its number in
+/// decimal; for `Memory` it is `out of memory`.
 ///
 /// ```text
 /// "10.0.0.0/24\n\nx\n" gives Line(3), whose text is  line 3: invalid IP address syntax

@@ -33,7 +33,7 @@ pub fn put_line<W: Write>(
     ensures front { OnErr result ((front : List ℕ) × StartsWith piece.old.bytes front
         × Appends (W.contents out.old) (W.contents out.new) front) }
 {
-    put_text(out, piece, network.to_text().as_str())
+    put_text_line(out, piece, network.to_text().as_str())
 }
 
 /// Appends the text and a newline to the piece. If they do not fit, the piece is written first.
@@ -43,7 +43,11 @@ pub fn put_line<W: Write>(
 /// ```text
 /// the piece "::1\n" and the text "::2": nothing is written, the piece is "::1\n::2\n"
 /// ```
-pub fn put_text<W: Write>(out: &mut W, piece: &mut ArrayString<PIECE>, text: &str) -> io::Result<()>
+pub fn put_text_line<W: Write>(
+    out: &mut W,
+    piece: &mut ArrayString<PIECE>,
+    text: &str,
+) -> io::Result<()>
     requires { length text.now < 8192 }
     ensures ok { OnOk result (IsInPieces (W.contents out.old) (W.contents out.new) piece.new.bytes
         ((piece.old.bytes ++ text.now) ++ 10 ∷ [])) }

@@ -1,6 +1,7 @@
 //! The command `apply`: its arguments, and its run.
 use crate::arguments::{
-    ArgumentFailure, FIRST, OTHERS, command_of, first, flag, other, reads_input_twice, refused,
+    ArgumentFailure, FIRST, OTHERS, command_of, first, flag, other, reads_input_twice,
+    report_argument_failure,
 };
 use crate::input::STANDARD_INPUT;
 use crate::output::Writers;
@@ -28,18 +29,18 @@ pub fn apply_command<'a>(alloc: Global) -> Result<Command<'a>, AllocError> {
 /// Reads the arguments, the list and the changes, prints the answer, and returns the exit status.
 pub fn applied(rt: &HostRuntime, matches: &ArgMatches, writers: &mut Writers<'_>) -> u8 {
     let Some(old) = matches.get_str(FIRST) else {
-        return refused(rt, ArgumentFailure::NoCommand);
+        return report_argument_failure(rt, ArgumentFailure::NoCommand);
     };
     let changes = matches.get_str(OTHERS).unwrap_or(STANDARD_INPUT);
     if reads_input_twice(&[old, changes]) {
-        return refused(rt, ArgumentFailure::InputTwice);
+        return report_argument_failure(rt, ArgumentFailure::InputTwice);
     }
     let names = [old];
-    let session = match session_of(rt, reading_work(matches), &names, writers) {
+    let session = match session_of(rt, reading_work(matches), &names, writers.reports) {
         Ok(session) => session,
         Err(status) => return status,
     };
-    match whole_of(rt, changes, writers) {
+    match whole_of(rt, changes, writers.reports) {
         Ok(bytes) => run_apply(
             session,
             (changes, bytes.as_slice()),

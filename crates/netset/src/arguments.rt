@@ -56,7 +56,7 @@ pub enum ArgumentFailure {
 }
 
 /// Prints why the arguments cannot be used, and returns the status, even if it cannot be printed.
-pub fn refused(rt: &HostRuntime, failure: ArgumentFailure) -> u8 {
+pub fn report_argument_failure(rt: &HostRuntime, failure: ArgumentFailure) -> u8 {
     let _ = writeln!(rt.stderr(), "netset: {failure}");
     2
 }

@@ -1,9 +1,11 @@
 //! The command `bar` and the options of bars: their arguments, and their runs.
 use crate::arguments::{
-    ArgumentFailure, FIRST, any_files, command_of, flag, flags_of, reads_input_twice, refused,
+    ArgumentFailure, FIRST, any_files, command_of, flag, flags_of, reads_input_twice,
+    report_argument_failure,
 };
 use crate::input::STANDARD_INPUT;
 use crate::listing::read_network;
+use crate::lists::Reports;
 use crate::output::Writers;
 use crate::reading::{reading_work, session_of};
 use clap::{Arg, ArgMatches, Command};
@@ -108,9 +110,9 @@ fn variable(rt: &HostRuntime, name: &str) -> Result<String, u8> {
         Err(VarError::NotPresent) => Ok(String::new(rt.alloc())),
         Err(VarError::NotUnicode) => match String::from_str(rt.alloc(), "?") {
             Ok(value) => Ok(value),
-            Err(_) => Err(refused(rt, ArgumentFailure::Memory)),
+            Err(_) => Err(report_argument_failure(rt, ArgumentFailure::Memory)),
         },
-        Err(VarError::OutOfMemory) => Err(refused(rt, ArgumentFailure::Memory)),
+        Err(VarError::OutOfMemory) => Err(report_argument_failure(rt, ArgumentFailure::Memory)),
     }
 }
 
@@ -193,7 +195,7 @@ fn are_two(rt: &HostRuntime, names: &[&str]) -> bool {
 /// named twice, or if the lists to compare are not two, it is reported, and the error is the exit status.
 pub fn pictured_work(rt: &HostRuntime, matches: &ArgMatches, names: &[&str]) -> Result<Work, u8> {
     if reads_input_twice(names) {
-        return Err(refused(rt, ArgumentFailure::InputTwice));
+        return Err(report_argument_failure(rt, ArgumentFailure::InputTwice));
     }
     if !matches.get_flag(COMPARE) {
         return Ok(reading_work(matches));
@@ -209,10 +211,10 @@ fn read_pictured(
     rt: &HostRuntime,
     matches: &ArgMatches,
     names: &[&str],
-    writers: &Writers<'_>,
+    reports: Reports,
 ) -> Result<Session, u8> {
     let work = pictured_work(rt, matches, names)?;
-    session_of(rt, work, names, writers)
+    session_of(rt, work, names, reports)
 }
 
 /// Reads the arguments and the lists, prints the bar, and returns the exit status.
@@ -222,7 +224,7 @@ pub fn drawn(rt: &HostRuntime, matches: &ArgMatches, writers: &mut Writers<'_>) 
         Err(status) => return status,
     };
     let names = matches.get_strs(FIRST).unwrap_or(&[STANDARD_INPUT]);
-    let session = match read_pictured(rt, matches, names, writers) {
+    let session = match read_pictured(rt, matches, names, writers.reports) {
         Ok(session) => session,
         Err(status) => return status,
     };

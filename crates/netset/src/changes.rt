@@ -1,6 +1,7 @@
 //! The command `changes`: its arguments, and its run.
 use crate::arguments::{
-    ArgumentFailure, FIRST, OTHERS, command_of, first, flags_of, other, reads_input_twice, refused,
+    ArgumentFailure, FIRST, OTHERS, command_of, first, flags_of, other, reads_input_twice,
+    report_argument_failure,
 };
 use crate::output::Writers;
 use crate::reading::session_of;
@@ -23,14 +24,14 @@ pub fn changes_command<'a>(alloc: Global) -> Result<Command<'a>, AllocError> {
 /// Reads the arguments and the lists, prints the changes, and returns the exit status.
 pub fn changed(rt: &HostRuntime, matches: &ArgMatches, writers: &mut Writers<'_>) -> u8 {
     let (Some(old), Some(new)) = (matches.get_str(FIRST), matches.get_str(OTHERS)) else {
-        return refused(rt, ArgumentFailure::NoCommand);
+        return report_argument_failure(rt, ArgumentFailure::NoCommand);
     };
     let names = [old, new];
     if reads_input_twice(&names) {
-        return refused(rt, ArgumentFailure::InputTwice);
+        return report_argument_failure(rt, ArgumentFailure::InputTwice);
     }
     let work = netset_lib::Command::Compare.work(flags_of(matches));
-    match session_of(rt, work, &names, writers) {
+    match session_of(rt, work, &names, writers.reports) {
         Ok(session) => run_changes(session, &names, &mut writers.answer, &mut writers.faults),
         Err(status) => status,
     }

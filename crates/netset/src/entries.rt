@@ -1,7 +1,7 @@
 //! The commands about the entries of lists: their arguments, and their runs.
 use crate::arguments::{
     ArgumentFailure, FIRST, OTHERS, command_of, flags_of, one_file, other, reads_input_twice,
-    refused,
+    report_argument_failure,
 };
 use crate::input::STANDARD_INPUT;
 use crate::output::Writers;
@@ -51,7 +51,7 @@ pub fn with_entries<'a>(alloc: Global, command: Command<'a>) -> Result<Command<'
 /// Reads the list, and prints the smallest networks around its addresses.
 pub fn supernet(rt: &HostRuntime, matches: &ArgMatches, writers: &mut Writers<'_>) -> u8 {
     let names = [matches.get_str(FIRST).unwrap_or(STANDARD_INPUT)];
-    match session_of(rt, reading_work(matches), &names, writers) {
+    match session_of(rt, reading_work(matches), &names, writers.reports) {
         Ok(session) => run_supernet(session, &names, &mut writers.answer, &mut writers.faults),
         Err(status) => status,
     }
@@ -60,7 +60,7 @@ pub fn supernet(rt: &HostRuntime, matches: &ArgMatches, writers: &mut Writers<'_
 /// Reads the list, and prints the entries that the others make unnecessary.
 pub fn redundant(rt: &HostRuntime, matches: &ArgMatches, writers: &mut Writers<'_>) -> u8 {
     let name = matches.get_str(FIRST).unwrap_or(STANDARD_INPUT);
-    match bytes_of(rt, name, "entries", writers) {
+    match bytes_of(rt, name, "entries", writers.reports) {
         Ok(bytes) => run_redundant(
             rt.alloc(),
             (name, bytes.as_slice()),
@@ -80,13 +80,13 @@ fn overlaps_of_two(
     writers: &mut Writers<'_>,
 ) -> u8 {
     if reads_input_twice(&[name, other]) {
-        return refused(rt, ArgumentFailure::InputTwice);
+        return report_argument_failure(rt, ArgumentFailure::InputTwice);
     }
-    let bytes = match bytes_of(rt, name, "entries", writers) {
+    let bytes = match bytes_of(rt, name, "entries", writers.reports) {
         Ok(bytes) => bytes,
         Err(status) => return status,
     };
-    let others = match bytes_of(rt, other, "entries", writers) {
+    let others = match bytes_of(rt, other, "entries", writers.reports) {
         Ok(bytes) => bytes,
         Err(status) => return status,
     };
@@ -105,7 +105,7 @@ pub fn overlaps(rt: &HostRuntime, matches: &ArgMatches, writers: &mut Writers<'_
     if let Some(other) = matches.get_str(OTHERS) {
         return overlaps_of_two(rt, matches, (name, other), writers);
     }
-    match bytes_of(rt, name, "entries", writers) {
+    match bytes_of(rt, name, "entries", writers.reports) {
         Ok(bytes) => run_overlaps(
             rt.alloc(),
             (name, bytes.as_slice()),

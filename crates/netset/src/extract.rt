@@ -1,10 +1,11 @@
 //! The command `extract`: its arguments, and its run.
 use crate::arguments::{
-    ArgumentFailure, FIRST, any_files, command_of, flag, flags_of, reads_input_twice, refused,
+    ArgumentFailure, FIRST, any_files, command_of, flag, flags_of, reads_input_twice,
+    report_argument_failure,
 };
-use crate::input::{STANDARD_INPUT, report_unread};
-use crate::lists::read_lists;
+use crate::input::STANDARD_INPUT;
 use crate::output::Writers;
+use crate::reading::fill;
 use clap::{Arg, ArgAction, ArgMatches, Command};
 use netset_words::{ExtractRequest, Extraction, run_extract};
 use std::alloc::{AllocError, Global};
@@ -39,7 +40,7 @@ pub fn extract_command<'a>(alloc: Global) -> Result<Command<'a>, AllocError> {
 pub fn extracted(rt: &HostRuntime, matches: &ArgMatches, writers: &mut Writers<'_>) -> u8 {
     let names = matches.get_strs(FIRST).unwrap_or(&[STANDARD_INPUT]);
     if reads_input_twice(names) {
-        return refused(rt, ArgumentFailure::InputTwice);
+        return report_argument_failure(rt, ArgumentFailure::InputTwice);
     }
     let request = ExtractRequest {
         grammar: flags_of(matches).grammar(),
@@ -47,14 +48,10 @@ pub fn extracted(rt: &HostRuntime, matches: &ArgMatches, writers: &mut Writers<'
         ranges: matches.get_flag(RANGES),
     };
     let Ok(mut extraction) = Extraction::new(rt.alloc(), request) else {
-        return refused(rt, ArgumentFailure::Memory);
+        return report_argument_failure(rt, ArgumentFailure::Memory);
     };
-    match read_lists(rt, &mut extraction, names, writers.reports) {
-        Ok(true) => run_extract(extraction, names, &mut writers.answer, &mut writers.faults),
-        Ok(false) => 2,
-        Err((name, unread)) => {
-            report_unread(rt, name, &unread);
-            2
-        }
+    match fill(rt, &mut extraction, names, writers.reports) {
+        Ok(()) => run_extract(extraction, names, &mut writers.answer, &mut writers.faults),
+        Err(status) => status,
     }
 }

@@ -1,6 +1,6 @@
 //! The command `filter --lines`: its flags, and its run.
 use crate::arguments::{
-    ArgumentFailure, FIRST, OTHERS, flag, flags_of, reads_input_twice, refused,
+    ArgumentFailure, FIRST, OTHERS, flag, flags_of, reads_input_twice, report_argument_failure,
 };
 use crate::input::{STANDARD_INPUT, open_list, report_unread};
 use crate::output::Writers;
@@ -40,12 +40,12 @@ pub fn with_lines<'a>(alloc: Global, command: Command<'a>) -> Result<Command<'a>
 /// Reads the set and the arguments, and prints the lines of the log while it is read. Returns the exit status.
 pub fn filtered(rt: &HostRuntime, matches: &ArgMatches, writers: &mut Writers<'_>) -> u8 {
     let Some(set) = matches.get_str(FIRST) else {
-        return refused(rt, ArgumentFailure::NoCommand);
+        return report_argument_failure(rt, ArgumentFailure::NoCommand);
     };
     let log = matches.get_str(OTHERS).unwrap_or(STANDARD_INPUT);
     let names = [set, log];
     if reads_input_twice(&names) {
-        return refused(rt, ArgumentFailure::InputTwice);
+        return report_argument_failure(rt, ArgumentFailure::InputTwice);
     }
     let flags = flags_of(matches);
     let how = LinesRequest {
@@ -54,7 +54,7 @@ pub fn filtered(rt: &HostRuntime, matches: &ArgMatches, writers: &mut Writers<'_
         any: matches.get_flag(ANY),
         others: matches.get_flag(OTHER_LINES),
     };
-    let session = match session_of(rt, reading_work(matches), &names[..1], writers) {
+    let session = match session_of(rt, reading_work(matches), &names[..1], writers.reports) {
         Ok(session) => session,
         Err(status) => return status,
     };

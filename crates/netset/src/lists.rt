@@ -87,9 +87,9 @@ impl Reports {
         }
     }
 
-    /// Returns whether a list with this name may have no entry, and reports its name if it should be. Standard input
-    /// may always be empty.
-    pub fn allow_empty(self, rt: &HostRuntime, name: &str, what: &str) -> bool {
+    /// Reports that the list of this name has none of `what`, unless that is allowed. Returns `false` if that is to be
+    /// refused. Standard input may always be empty.
+    pub fn report_empty(self, rt: &HostRuntime, name: &str, what: &str) -> bool {
         if name == STANDARD_INPUT || self.empties == Empties::Allow {
             return true;
         }
@@ -119,7 +119,7 @@ pub fn read_lists<'a, L: ListReader>(
         total = total.saturating_add(count);
         reports.report_count(rt, name, count, total);
         let is_empty = !lists.has_entry() && lists.refused_count() == refused;
-        if is_empty && !reports.allow_empty(rt, name, "entries") {
+        if is_empty && !reports.report_empty(rt, name, "entries") {
             allowed = false;
         }
     }
@@ -141,7 +141,7 @@ pub fn read_rules(
     };
     reports.report_count(rt, name, input.count, input.count);
     let is_empty = list.lines().is_empty() && list.refused().is_empty();
-    if is_empty && !reports.allow_empty(rt, name, "rules") {
+    if is_empty && !reports.report_empty(rt, name, "rules") {
         return Ok(None);
     }
     Ok(Some(list))

@@ -27,7 +27,9 @@ mod texts;
 mod version;
 
 use crate::apply::{APPLY, applied};
-use crate::arguments::{ArgumentFailure, Call, OUTPUT, call_of, refused, reports_of, words};
+use crate::arguments::{
+    ArgumentFailure, Call, OUTPUT, call_of, report_argument_failure, reports_of, words,
+};
 use crate::bar::{BAR, drawn};
 use crate::changes::{CHANGES, changed};
 use crate::commands::{
@@ -62,12 +64,12 @@ fn main(rt: HostRuntime) -> ExitCode {
 fn status(rt: &HostRuntime) -> u8 {
     let words = match words(rt) {
         Ok(words) => words,
-        Err(failure) => return refused(rt, failure),
+        Err(failure) => return report_argument_failure(rt, failure),
     };
     match matches_of(rt.alloc(), words.as_slice()) {
         Ok(matches) => match matches.subcommand() {
             Some((name, matches)) => open_and_run(rt, name, matches),
-            None => refused(rt, ArgumentFailure::NoCommand),
+            None => report_argument_failure(rt, ArgumentFailure::NoCommand),
         },
         Err(error) => print_usage(rt, &error),
     }
@@ -113,10 +115,9 @@ fn run_command(
     writers: &mut Writers<'_>,
 ) -> u8 {
     match name {
-        UNION | INTERSECTION | DIFFERENCE | SYMMETRIC_DIFFERENCE | COMPLEMENT => {
+        UNION | INTERSECTION | DIFFERENCE | SYMMETRIC_DIFFERENCE | COMPLEMENT | COUNT | COMPARE => {
             run_call(rt, name, matches, writers)
         }
-        COUNT | COMPARE => run_call(rt, name, matches, writers),
         CHANGES => changed(rt, matches, writers),
         APPLY => applied(rt, matches, writers),
         EXTRACT => extracted(rt, matches, writers),
@@ -133,7 +134,7 @@ fn run_command(
         PERMITTED => permitted(rt, matches, writers),
         UNREACHED => unreached(rt, matches, writers),
         PREFIX_LIST => matched(rt, matches, writers),
-        _ => refused(rt, ArgumentFailure::NoCommand),
+        _ => report_argument_failure(rt, ArgumentFailure::NoCommand),
     }
 }
 
@@ -159,7 +160,7 @@ fn run_route(rt: &HostRuntime, matches: &ArgMatches, writers: &mut Writers<'_>) 
 fn run_call(rt: &HostRuntime, name: &str, matches: &ArgMatches, writers: &mut Writers<'_>) -> u8 {
     let call = match call_of(rt.alloc(), name, matches) {
         Ok(call) => call,
-        Err(failure) => return refused(rt, failure),
+        Err(failure) => return report_argument_failure(rt, failure),
     };
     match call.work {
         Work::Combine(_) => run_operation(rt, matches, call, writers),
@@ -179,7 +180,7 @@ fn run_operation(
         Err(status) => return status,
     };
     let names = call.names.as_slice();
-    match session_of(rt, call.work, names, writers) {
+    match session_of(rt, call.work, names, writers.reports) {
         Ok(session) => {
             let (out, faults) = (&mut writers.answer, &mut writers.faults);
             run_form(session, form, names, out, faults)
@@ -193,11 +194,11 @@ fn run_query(rt: &HostRuntime, call: Call<'_>, writers: &mut Writers<'_>) -> u8 
     let work = call.work;
     let names = call.names.as_slice();
     match names {
-        [_, name] if call.is_streamed => match session_of(rt, work, &names[..1], writers) {
+        [_, name] if call.is_streamed => match session_of(rt, work, &names[..1], writers.reports) {
             Ok(session) => stream_list(rt, session, names, name, writers),
             Err(status) => status,
         },
-        _ => match session_of(rt, work, names, writers) {
+        _ => match session_of(rt, work, names, writers.reports) {
             Ok(session) => run(session, names, &mut writers.answer, &mut writers.faults),
             Err(status) => status,
         },

@@ -1,9 +1,11 @@
 //! The command `map`: its arguments, and its runs.
 use crate::arguments::{
-    ArgumentFailure, FIRST, any_files, command_of, flag, flags_of, reads_input_twice, refused,
+    ArgumentFailure, FIRST, any_files, command_of, flag, flags_of, reads_input_twice,
+    report_argument_failure,
 };
 use crate::bar::{COMPARE, frame_of, pictured_work, with_frame};
 use crate::input::STANDARD_INPUT;
+use crate::lists::Reports;
 use crate::noted::{EntryList, NotedSession, entries_of};
 use crate::output::Writers;
 use crate::reading::{bytes_of, fill};
@@ -86,15 +88,15 @@ fn name_bytes(
     rt: &HostRuntime,
     matches: &ArgMatches,
     names: &[&str],
-    writers: &Writers<'_>,
+    reports: Reports,
 ) -> Result<Vec<u8>, u8> {
     let Some(file) = matches.get_str(NAMES) else {
         return Ok(Vec::new(rt.alloc()));
     };
     if reads_input_again(file, names) {
-        return Err(refused(rt, ArgumentFailure::InputTwice));
+        return Err(report_argument_failure(rt, ArgumentFailure::InputTwice));
     }
-    bytes_of(rt, file, "names", writers)
+    bytes_of(rt, file, "names", reports)
 }
 
 /// The colours that the arguments name.
@@ -111,7 +113,7 @@ fn read_noted(
     matches: &ArgMatches,
     names: &[&str],
     frame: Frame,
-    writers: &Writers<'_>,
+    reports: Reports,
 ) -> Result<(Session, Vec<EntryNotes>), u8> {
     let work = pictured_work(rt, matches, names)?;
     let frame = match frame {
@@ -119,7 +121,7 @@ fn read_noted(
         _ => None,
     };
     let Ok(session) = Session::new(rt.alloc(), work) else {
-        return Err(refused(rt, ArgumentFailure::Memory));
+        return Err(report_argument_failure(rt, ArgumentFailure::Memory));
     };
     let mut noted = NotedSession {
         session,
@@ -128,7 +130,7 @@ fn read_noted(
         frame,
         notes: Vec::new(rt.alloc()),
     };
-    fill(rt, &mut noted, names, writers)?;
+    fill(rt, &mut noted, names, reports)?;
     let NotedSession { session, notes, .. } = noted;
     Ok((session, notes))
 }
@@ -160,12 +162,12 @@ fn draw_lists(
     request: MapRequest<'_>,
     writers: &mut Writers<'_>,
 ) -> u8 {
-    let (session, notes) = match read_noted(rt, matches, names, request.frame, writers) {
+    let (session, notes) = match read_noted(rt, matches, names, request.frame, writers.reports) {
         Ok(noted) => noted,
         Err(status) => return status,
     };
     let Ok(list) = entries_of(rt.alloc(), notes, names) else {
-        return refused(rt, ArgumentFailure::Memory);
+        return report_argument_failure(rt, ArgumentFailure::Memory);
     };
     let EntryList { entries, count } = list;
     let titled = entries.as_slice();
@@ -229,7 +231,7 @@ pub fn mapped(rt: &HostRuntime, matches: &ArgMatches, writers: &mut Writers<'_>)
     if are_too_many(rt, matches, names) {
         return 2;
     }
-    let bytes = match name_bytes(rt, matches, names, writers) {
+    let bytes = match name_bytes(rt, matches, names, writers.reports) {
         Ok(bytes) => bytes,
         Err(status) => return status,
     };

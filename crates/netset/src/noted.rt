@@ -8,8 +8,11 @@ use std::io;
 use std::io::Read;
 use svg_maps::MapEntry;
 
-/// A title to which texts of more entries are added has fewer bytes before.
-const MOST_BYTES: usize = 1_000;
+/// A title to which the text of one more entry is added has fewer bytes before.
+const MOST_BYTES: usize = 300;
+
+/// All titles together have fewer bytes of such texts before one more is added.
+const MOST_ADDED: usize = 50_000;
 
 /// How many entries of each family a map has at most.
 const MOST: usize = 1_500;
@@ -20,7 +23,7 @@ pub struct NotedSession {
     pub session: Session,
     pub alloc: Global,
     pub grammar: Grammar,
-    /// The network outside which no entry is noted.
+    /// The network that each noted entry lies in or contains.
     pub frame: Option<IpNet>,
     /// The notes of each list that was read.
     pub notes: Vec<EntryNotes>,
@@ -84,16 +87,21 @@ pub struct EntryList {
     pub count: usize,
 }
 
-/// The text of an entry of the list with this name, if it is one of several lists.
-fn listed_title(alloc: Global, name: Option<&&str>, title: String) -> Result<String, AllocError> {
-    match name {
-        Some(name) => format!(in alloc; "{name}: {title}"),
-        None => Ok(title),
+/// The text of an entry of the list at this place; after the name of the list, if there are several.
+fn listed_title(
+    alloc: Global,
+    names: &[&str],
+    place: usize,
+    title: String,
+) -> Result<String, AllocError> {
+    match names.get(place) {
+        Some(name) if names.len() > 1 => format!(in alloc; "{name}: {title}"),
+        _ => Ok(title),
     }
 }
 
 /// The entries of all the lists, the largest first, and entries of one network one after the other. `names` are the
-/// names of the lists if they are several, and otherwise none.
+/// names of the lists.
 fn all_entries(
     alloc: Global,
     lists: Vec<EntryNotes>,
@@ -104,7 +112,7 @@ fn all_entries(
     for notes in lists {
         for noted in notes.into_entries()? {
             let NotedEntry { network, title } = noted;
-            let title = listed_title(alloc, names.get(place), title)?;
+            let title = listed_title(alloc, names, place, title)?;
             entries.push(MapEntry { network, title })?;
         }
         place = place.saturating_add(1);
@@ -114,22 +122,25 @@ fn all_entries(
     Ok(entries)
 }
 
-/// Adds the text of another entry of the network, if the title is not too long.
-fn push_title(title: &mut String, other: &str) -> Result<(), AllocError> {
-    if title.len() >= MOST_BYTES {
-        return Ok(());
+/// Adds the text of another entry of the network, if neither the title nor all that was added is too long. Returns how
+/// many bytes were added to all titles by then.
+fn push_title(title: &mut String, other: &str, added: usize) -> Result<usize, AllocError> {
+    if title.len() >= MOST_BYTES || added >= MOST_ADDED {
+        return Ok(added);
     }
     title.push_str("; ")?;
-    title.push_str(other)
+    title.push_str(other)?;
+    Ok(added.saturating_add(other.len()))
 }
 
 /// Joins the texts of entries that have one network and come one after the other.
 fn join_titles(alloc: Global, entries: Vec<MapEntry>) -> Result<Vec<MapEntry>, AllocError> {
     let mut joined: Vec<MapEntry> = Vec::new(alloc);
+    let mut added: usize = 0;
     for entry in entries {
         let count = joined.len();
         if count > 0 && joined[count - 1].network == entry.network {
-            push_title(&mut joined[count - 1].title, entry.title.as_str())?;
+            added = push_title(&mut joined[count - 1].title, entry.title.as_str(), added)?;
         } else {
             joined.push(entry)?;
         }
@@ -171,8 +182,7 @@ pub fn entries_of(
     for notes in lists.as_slice() {
         count = count.saturating_add(notes.count());
     }
-    let several: &[&str] = if names.len() > 1 { names } else { &[] };
-    let entries = all_entries(alloc, lists, several)?;
+    let entries = all_entries(alloc, lists, names)?;
     let all = entries.len();
     let joined = join_titles(alloc, entries)?;
     let count = count.saturating_sub(all.saturating_sub(joined.len()));

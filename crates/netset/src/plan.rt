@@ -1,5 +1,5 @@
 //! The command `plan`: its arguments, and its run.
-use crate::arguments::{ArgumentFailure, FIRST, command_of, first, flag, refused};
+use crate::arguments::{ArgumentFailure, FIRST, command_of, first, flag, report_argument_failure};
 use crate::bar::{BAR, bar_form_of, with_plan_bar};
 use crate::output::Writers;
 use crate::reading::{reading_work, session_of};
@@ -54,7 +54,7 @@ fn lengths_of(rt: &HostRuntime, words: &[&str]) -> Result<Vec<u8>, u8> {
             return Err(2);
         };
         if lengths.push(length).is_err() {
-            return Err(refused(rt, ArgumentFailure::Memory));
+            return Err(report_argument_failure(rt, ArgumentFailure::Memory));
         }
     }
     Ok(lengths)
@@ -84,7 +84,7 @@ pub fn planned(rt: &HostRuntime, matches: &ArgMatches, writers: &mut Writers<'_>
         Err(status) => return status,
     };
     let names = matches.get_strs(FIRST).unwrap_or(&[]);
-    let session = match session_of(rt, reading_work(matches), names, writers) {
+    let session = match session_of(rt, reading_work(matches), names, writers.reports) {
         Ok(session) => session,
         Err(status) => return status,
     };

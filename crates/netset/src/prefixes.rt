@@ -1,6 +1,7 @@
 //! The command `prefix-list`: its arguments, and its run.
 use crate::arguments::{
-    ArgumentFailure, FIRST, OTHERS, command_of, first, flags_of, other, reads_input_twice, refused,
+    ArgumentFailure, FIRST, OTHERS, command_of, first, flags_of, other, reads_input_twice,
+    report_argument_failure,
 };
 use crate::input::STANDARD_INPUT;
 use crate::output::Writers;
@@ -26,17 +27,17 @@ pub fn prefix_command<'a>(alloc: Global) -> Result<Command<'a>, AllocError> {
 /// Reads the arguments and both lists, prints the verdicts, and returns the exit status.
 pub fn matched(rt: &HostRuntime, matches: &ArgMatches, writers: &mut Writers<'_>) -> u8 {
     let Some(list) = matches.get_str(FIRST) else {
-        return refused(rt, ArgumentFailure::NoCommand);
+        return report_argument_failure(rt, ArgumentFailure::NoCommand);
     };
     let file = matches.get_str(OTHERS).unwrap_or(STANDARD_INPUT);
     if reads_input_twice(&[list, file]) {
-        return refused(rt, ArgumentFailure::InputTwice);
+        return report_argument_failure(rt, ArgumentFailure::InputTwice);
     }
-    let prefixes = match bytes_of(rt, list, "rules", writers) {
+    let prefixes = match bytes_of(rt, list, "rules", writers.reports) {
         Ok(bytes) => bytes,
         Err(status) => return status,
     };
-    let networks = match bytes_of(rt, file, "entries", writers) {
+    let networks = match bytes_of(rt, file, "entries", writers.reports) {
         Ok(bytes) => bytes,
         Err(status) => return status,
     };

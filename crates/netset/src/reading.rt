@@ -1,9 +1,8 @@
 //! The lists of a command, which are read with a report if that fails.
 
-use crate::arguments::{ArgumentFailure, flags_of, refused};
+use crate::arguments::{ArgumentFailure, flags_of, report_argument_failure};
 use crate::input::report_unread;
-use crate::lists::{ListReader, read_lists, read_whole};
-use crate::output::Writers;
+use crate::lists::{ListReader, Reports, read_lists, read_whole};
 use clap::ArgMatches;
 use ipnet::Grammar;
 use netset_lib::{Session, Work, has_lines};
@@ -18,12 +17,12 @@ pub fn session_of(
     rt: &HostRuntime,
     work: Work,
     names: &[&str],
-    writers: &Writers<'_>,
+    reports: Reports,
 ) -> Result<Session, u8> {
     let Ok(mut session) = Session::new(rt.alloc(), work) else {
-        return Err(refused(rt, ArgumentFailure::Memory));
+        return Err(report_argument_failure(rt, ArgumentFailure::Memory));
     };
-    fill(rt, &mut session, names, writers)?;
+    fill(rt, &mut session, names, reports)?;
     Ok(session)
 }
 
@@ -33,9 +32,9 @@ pub fn fill<L: ListReader>(
     rt: &HostRuntime,
     lists: &mut L,
     names: &[&str],
-    writers: &Writers<'_>,
+    reports: Reports,
 ) -> Result<(), u8> {
-    match read_lists(rt, lists, names, writers.reports) {
+    match read_lists(rt, lists, names, reports) {
         Ok(true) => Ok(()),
         Ok(false) => Err(2),
         Err((name, unread)) => {
@@ -47,8 +46,8 @@ pub fn fill<L: ListReader>(
 
 /// Reads the bytes of the list of this name, which may have no line. If that fails, it is reported, and the error is
 /// the exit status.
-pub fn whole_of(rt: &HostRuntime, name: &str, writers: &Writers<'_>) -> Result<Vec<u8>, u8> {
-    match read_whole(rt, name, writers.reports) {
+pub fn whole_of(rt: &HostRuntime, name: &str, reports: Reports) -> Result<Vec<u8>, u8> {
+    match read_whole(rt, name, reports) {
         Ok(bytes) => Ok(bytes),
         Err(unread) => {
             report_unread(rt, name, &unread);
@@ -59,16 +58,11 @@ pub fn whole_of(rt: &HostRuntime, name: &str, writers: &Writers<'_>) -> Result<V
 
 /// Reads the bytes of the list of this name as `whole_of` does. It also fails if a file has no line, and that is to be
 /// refused; `what` says what its lines are.
-pub fn bytes_of(
-    rt: &HostRuntime,
-    name: &str,
-    what: &str,
-    writers: &Writers<'_>,
-) -> Result<Vec<u8>, u8> {
-    let bytes = whole_of(rt, name, writers)?;
+pub fn bytes_of(rt: &HostRuntime, name: &str, what: &str, reports: Reports) -> Result<Vec<u8>, u8> {
+    let bytes = whole_of(rt, name, reports)?;
     // A line that is empty in one grammar is empty in the other.
     let has = has_lines(rt.alloc(), bytes.as_slice(), Grammar::Strict);
-    if matches!(has, Ok(false)) && !writers.reports.allow_empty(rt, name, what) {
+    if matches!(has, Ok(false)) && !reports.report_empty(rt, name, what) {
         return Err(2);
     }
     Ok(bytes)

@@ -4,7 +4,7 @@ ghost use Rattle.netset.specs.Arguments.{IsDefault};
 use crate::arguments::{FIRST, command_of, first, flags_of};
 use crate::forms::{form_of, operation_command};
 use crate::input::{STANDARD_INPUT, report_unread};
-use crate::lists::read_rules;
+use crate::lists::{Reports, read_rules};
 use crate::output::Writers;
 use clap::{Arg, ArgMatches, Command};
 use ipnet_rules::Action;
@@ -72,9 +72,9 @@ fn file_of<'a>(matches: &ArgMatches<'a>) -> &'a str {
 }
 
 /// Reads the list of rules. If that fails, it is reported, and the error is the exit status.
-fn rules_of(rt: &HostRuntime, matches: &ArgMatches, writers: &Writers<'_>) -> Result<RuleList, u8> {
+fn rules_of(rt: &HostRuntime, matches: &ArgMatches, reports: Reports) -> Result<RuleList, u8> {
     let file = file_of(matches);
-    match read_rules(rt, file, flags_of(matches).grammar(), writers.reports) {
+    match read_rules(rt, file, flags_of(matches).grammar(), reports) {
         Ok(Some(list)) => Ok(list),
         Ok(None) => Err(2),
         Err(unread) => {
@@ -90,7 +90,7 @@ pub fn permitted(rt: &HostRuntime, matches: &ArgMatches, writers: &mut Writers<'
         Ok(form) => form,
         Err(status) => return status,
     };
-    let list = match rules_of(rt, matches, writers) {
+    let list = match rules_of(rt, matches, writers.reports) {
         Ok(list) => list,
         Err(status) => return status,
     };
@@ -102,7 +102,7 @@ pub fn permitted(rt: &HostRuntime, matches: &ArgMatches, writers: &mut Writers<'
 
 /// Reads the rules, prints those that decide on no address, and returns the status.
 pub fn unreached(rt: &HostRuntime, matches: &ArgMatches, writers: &mut Writers<'_>) -> u8 {
-    match rules_of(rt, matches, writers) {
+    match rules_of(rt, matches, writers.reports) {
         Ok(list) => {
             let (out, faults) = (&mut writers.answer, &mut writers.faults);
             run_unreached(list, file_of(matches), out, faults)

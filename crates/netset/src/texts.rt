@@ -3,7 +3,7 @@ ghost use Rattle.std.specs.Prelude.{codes};
 ghost use Rattle.netset.specs.Arguments.{IsFlag};
 
 use crate::arguments::{
-    ArgumentFailure, FIRST, OTHERS, flag, flags_of, reads_input_twice, refused,
+    ArgumentFailure, FIRST, OTHERS, flag, flags_of, reads_input_twice, report_argument_failure,
 };
 use crate::input::STANDARD_INPUT;
 use crate::output::Writers;
@@ -29,17 +29,17 @@ pub fn has_text_flag(matches: &ArgMatches) -> bool
 /// Reads the arguments, the table and the list, prints the answers, and returns the exit status.
 pub fn routed(rt: &HostRuntime, matches: &ArgMatches, writers: &mut Writers<'_>) -> u8 {
     let Some(table) = matches.get_str(FIRST) else {
-        return refused(rt, ArgumentFailure::NoCommand);
+        return report_argument_failure(rt, ArgumentFailure::NoCommand);
     };
     let file = matches.get_str(OTHERS).unwrap_or(STANDARD_INPUT);
     if reads_input_twice(&[table, file]) {
-        return refused(rt, ArgumentFailure::InputTwice);
+        return report_argument_failure(rt, ArgumentFailure::InputTwice);
     }
-    let bytes = match bytes_of(rt, table, "entries", writers) {
+    let bytes = match bytes_of(rt, table, "entries", writers.reports) {
         Ok(bytes) => bytes,
         Err(status) => return status,
     };
-    let list = match bytes_of(rt, file, "entries", writers) {
+    let list = match bytes_of(rt, file, "entries", writers.reports) {
         Ok(list) => list,
         Err(status) => return status,
     };

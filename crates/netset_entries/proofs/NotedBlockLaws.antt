@@ -1,18 +1,18 @@
 -- The blocks of both families, as the lines of lists are read.
-use Rattle.std.proofs.Common.{◌≡◌, ◌⊎◌, ℕ, List, [], ◌∷◌, ◌++◌, All, Any, Contains, Option, IfSome, string_bytes}
+use Rattle.std.proofs.Common.{◌≡◌, ◌⊎◌, ℕ, List, [], ◌∷◌, ◌++◌, All, Any, Contains, Option, string_bytes}
 use Rattle.std.proofs.Common.{sym, ap, ◌∙◌, subst, arith, inl, inr, refl}
 use Rattle.std.proofs.lemmas.List.Elements.{All-append, All-weaker}
 use Rattle.std.proofs.lemmas.List.Quantifiers.{Any-push}
 use Rattle.ipnet_base.proofs.ListLaws.{contains_cases, contains_nil}
 use Rattle.ipnet_base.specs.Address.{Family, IPv4, IPv6, width}
-use Rattle.ipnet_base.specs.Network.{Network, IsSubnetOf}
+use Rattle.ipnet_base.specs.Network.{Network}
 use Rattle.ipnet.specs.NetworkOf.{ip_network}
 use Rattle.ipnet.specs.declared.net.IpNet.{IpNet}
 use Rattle.ipnet.specs.declared.parser.Grammar.{Grammar}
 use Rattle.ipnet_rules.proofs.VerdictLaws.{any_append}
 use Rattle.ipnet_sets.proofs.JoinLaws.{any_push}
 use Rattle.netset_entries.specs.NotedEntries.{IsTitledBlock, IsTitledIn, IsNotedOf, HaveLargest, AreNoted, lines_of_all}
-use Rattle.netset_entries.specs.NotedEntries.{AreLargerFirst}
+use Rattle.netset_entries.specs.NotedEntries.{AreLargerFirst, MeetsFrame}
 use Rattle.netset_entries.specs.NoteSteps.{blocks_in, AreLargest, AreNone, IsOfFamily, IsHeld, KeepsHeld, TakesBlock}
 use Rattle.netset_entries.specs.NoteSteps.{AreBlocksOf, AreKept, KeepsBlock, ReadsLine, IsSmallLine}
 use Rattle.netset_entries.specs.NoteSteps.{largest_of}
@@ -128,20 +128,20 @@ line_empty old line none =
 -- a block outside the frame
 pub block_outside : (old new : NotedBlocks) (n : Network) (title : List ℕ) → new.grammar ≡ old.grammar
     → new.frame ≡ old.frame → new.ipv4 ≡ old.ipv4 → new.ipv6 ≡ old.ipv6
-    → ¬ (IfSome old.frame (λ f. IsSubnetOf n (ip_network f))) → KeepsBlock old new n title
+    → ¬ (MeetsFrame old.frame n) → KeepsBlock old new n title
 block_outside old new n title same_grammar same_frame same_ipv4 same_ipv6 outside = λ grammar frame lines any h.
     let same = same_of old new same_ipv4 same_ipv6 in
     record {
       blocks = same_blocks grammar frame lines old new same_grammar same_frame same h;
       held = λ family. still_held (largest_of family old) (largest_of family new) (same family);
       has = λ inside.
-          absurd (outside (subst (λ z. IfSome z (λ f. IsSubnetOf n (ip_network f))) (sym h.same_frame) inside));
+          absurd (outside (subst (λ z. MeetsFrame z n) (sym h.same_frame) inside));
     }
 
 -- the block is of the family and in the frame
 module _ (old new : NotedBlocks) (block : NotedEntry) (title : List ℕ) (same_grammar : new.grammar ≡ old.grammar)
     (same_frame : new.frame ≡ old.frame) (same_title : string_bytes block.title ≡ title)
-    (inside : IfSome old.frame (λ f. IsSubnetOf (ip_network block.network) (ip_network f)))
+    (inside : MeetsFrame old.frame (ip_network block.network))
   where
     is_of : (family : Family) → (ip_network block.network).family ≡ family → (grammar : Grammar)
         (frame : Option IpNet) (lines : List (List ℕ))
@@ -151,7 +151,7 @@ module _ (old new : NotedBlocks) (block : NotedEntry) (title : List ℕ) (same_g
       same_family = same_family;
       noted = record {
         block = subst (λ z. Any (IsTitledBlock grammar (ip_network block.network) z) lines) (sym same_title) any;
-        inside = subst (λ z. IfSome z (λ f. IsSubnetOf (ip_network block.network) (ip_network f))) h.same_frame inside;
+        inside = subst (λ z. MeetsFrame z (ip_network block.network)) h.same_frame inside;
       };
     }
 
@@ -203,7 +203,7 @@ pub record HasReadPart (grammar : Grammar) (frame : Option IpNet) (lines : List 
   pub blocks : AreBlocksOf grammar frame (lines ++ line ∷ []) now
   pub held : (family : Family) → KeepsHeld (largest_of family old) (largest_of family now)
   pub all : (n : Network) → (title : List ℕ) → IsTitledBlock grammar n title line
-      → IfSome frame (λ f. IsSubnetOf n (ip_network f)) → Contains left n ⊎ IsHeld n title (largest_of n.family now)
+      → MeetsFrame frame n → Contains left n ⊎ IsHeld n title (largest_of n.family now)
 
 abbrev pub ReadsPart : NotedBlocks → NotedBlocks → List ℕ → List Network → Type 0
 ReadsPart old now line left = (grammar : Grammar) → (frame : Option IpNet) → (lines : List (List ℕ))
@@ -241,8 +241,8 @@ part_more old now new line title n left block one reads keeps = λ grammar frame
               | inl same ↦
                   let title_of : other ≡ title =
                   one k other (subst (λ g. IsTitledBlock g k other line) (sym h.same_grammar) titled) in
-                  let here : IfSome frame (λ f. IsSubnetOf n (ip_network f)) =
-                  subst (λ z. IfSome frame (λ f. IsSubnetOf z (ip_network f))) (sym same) inside in
+                  let here : MeetsFrame frame n =
+                  subst (λ z. MeetsFrame frame z) (sym same) inside in
                   inr (subst (λ z. IsHeld z other (largest_of z.family new)) same
                   (subst (λ z. IsHeld n z (largest_of n.family new)) (sym title_of) (kept.has here)))
             ]

@@ -1,12 +1,12 @@
 -- Notes of lists that are read in pieces, and the private steps of noting their entries.
 -- Public contracts use only HaveNoted.
 use Rattle.std.specs.Prelude.{◌≡◌, ◌≢◌, ◌⊎◌, ◌<◌, ◌≤◌, ℕ, ◌+◌, ◌-◌, Bool, true, false, List, [], ◌∷◌, ◌++◌, length}
-use Rattle.std.specs.Prelude.{All, Any, Option, IfSome, ⊤, take, drop, string_bytes}
+use Rattle.std.specs.Prelude.{All, Any, Option, ⊤, take, drop, string_bytes}
 use Rattle.std.specs.Global.{Vec}
 use Rattle.std.specs.List.{flat_map}
 use Rattle.ipnet_base.specs.Address.{Family, IPv4, IPv6, width}
 use Rattle.ipnet_base.specs.Blocks.{IsMaximal}
-use Rattle.ipnet_base.specs.Network.{Network, IsSubnetOf}
+use Rattle.ipnet_base.specs.Network.{Network}
 use Rattle.ipnet_base.specs.Ranges.{AddressRange}
 use Rattle.ipnet.specs.Lines.{lines_of}
 use Rattle.ipnet.specs.NetworkOf.{ip_network}
@@ -15,7 +15,8 @@ use Rattle.ipnet.specs.Numerals.{IsDecimal}
 use Rattle.ipnet.specs.declared.parser.Grammar.{Grammar}
 use Rattle.ipnet.specs.declared.parser.Grammar.TheVariants.{Strict}
 use Rattle.ipnet_sets.specs.SetRanges.{IsInRange}
-use Rattle.netset_entries.specs.NotedEntries.{IsTitledBlock, IsTitledIn, IsNotedAs, IsNotedOf, list_lines, lines_of_all}
+use Rattle.netset_entries.specs.NotedEntries.{IsTitledBlock, IsTitledIn, IsNotedAs, IsNotedOf, MeetsFrame}
+use Rattle.netset_entries.specs.NotedEntries.{list_lines, lines_of_all}
 use Rattle.netset_entries.specs.declared.largest.Largest.{Largest}
 use Rattle.netset_entries.specs.declared.largest.NotedEntry.{NotedEntry}
 use Rattle.netset_entries.specs.declared.noted.EntryNotes.{EntryNotes}
@@ -122,7 +123,7 @@ pub record HasKept (grammar : Grammar) (frame : Option IpNet) (lines : List (Lis
     (n : Network) (title : List ℕ) : Type 0 where
   pub blocks : AreBlocksOf grammar frame lines new
   pub held : (family : Family) → KeepsHeld (largest_of family old) (largest_of family new)
-  pub has : IfSome frame (λ f. IsSubnetOf n (ip_network f)) → IsHeld n title (largest_of n.family new)
+  pub has : MeetsFrame frame n → IsHeld n title (largest_of n.family new)
 
 -- A block of an entry of the lines was noted, unless it is too small or outside the frame.
 abbrev pub KeepsBlock : NotedBlocks → NotedBlocks → Network → List ℕ → Type 0

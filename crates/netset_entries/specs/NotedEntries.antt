@@ -53,12 +53,17 @@ pub record IsTitledBlock (grammar : Grammar) (n : Network) (title line : List �
   pub has_comment : IsCommentOf line comment
   pub titled : IsTitleOf text comment title
 
+-- The network is in the frame, or the frame is in the network. Without a frame, this is so of each network.
+-- Example: of 10.20.0.0/16: 10.20.3.0/24 and 10.0.0.0/8, and not 10.21.0.0/16.
+abbrev pub MeetsFrame : Option IpNet → Network → Type 0
+MeetsFrame frame n = IfSome frame (λ f. IsSubnetOf n (ip_network f) ⊎ IsSubnetOf (ip_network f) n)
+
 -- The network is a block of the entry of one of the lines, with the title of this entry. If there is a frame, the block
--- is in it.
+-- meets it.
 pub record IsTitledIn (grammar : Grammar) (frame : Option IpNet) (lines : List (List ℕ)) (n : Network)
     (title : List ℕ) : Type 0 where
   pub block : Any (IsTitledBlock grammar n title) lines
-  pub inside : IfSome frame (λ f. IsSubnetOf n (ip_network f))
+  pub inside : MeetsFrame frame n
 
 -- The note is of such a block, with its title.
 abbrev pub IsNotedOf : Grammar → Option IpNet → List (List ℕ) → NotedEntry → Type 0

@@ -1,11 +1,10 @@
 //! The largest entries of lists with their comments, noted while the lists are read.
-ghost use Rattle.std.specs.Prelude.{◌≡◌, ◌≤◌, ◌↔◌, ◌∷◌, ◌++◌, [], List, ℕ, Option, IsTrue, IfSome, IfOk, OnOk};
+ghost use Rattle.std.specs.Prelude.{◌≡◌, ◌≤◌, ◌↔◌, ◌∷◌, ◌++◌, [], List, ℕ, Option, IsTrue, IfOk, OnOk};
 ghost use Rattle.std.specs.Prelude.{string_bytes};
-ghost use Rattle.ipnet_base.specs.Network.{IsSubnetOf};
 ghost use Rattle.ipnet.specs.NetworkOf.{ip_network};
 ghost use Rattle.ipnet.specs.declared.net.IpNet.{IpNet};
 ghost use Rattle.ipnet.specs.declared.parser.Grammar.{Grammar};
-ghost use Rattle.netset_entries.specs.NotedEntries.{AreNoted, IsCommentOf, IsTitleOf};
+ghost use Rattle.netset_entries.specs.NotedEntries.{AreNoted, IsCommentOf, IsTitleOf, MeetsFrame};
 ghost use Rattle.netset_entries.specs.NoteSteps.{AreKept, IsSmallLine, KeepsBlock, ReadsLine, first_text};
 ghost use Rattle.netset_entries.specs.NoteSteps.{HaveNoted, IsAtEnd, ReadsNext, ReadsBegun, EndsLine};
 ghost use Rattle.netset_entries.specs.NoteSteps.{family_if, largest_of};
@@ -50,12 +49,12 @@ fn title_of(alloc: Global, text: &str, comment: &[u8]) -> Result<String, AllocEr
     Ok(title)
 }
 
-/// Whether the network lies in the frame, if there is one.
-fn is_in_frame(frame: &Option<IpNet>, network: &IpNet) -> bool
-    ensures { IsTrue result ↔ IfSome frame.now (λ f. IsSubnetOf (ip_network network.now) (ip_network f)) }
+/// Whether the network lies in the frame or contains it. Without a frame, each network does.
+fn meets_frame(frame: &Option<IpNet>, network: &IpNet) -> bool
+    ensures { IsTrue result ↔ MeetsFrame frame.now (ip_network network.now) }
 {
     match frame {
-        Some(frame) => frame.contains(network),
+        Some(frame) => frame.contains(network) || network.contains(frame),
         None => true,
     }
 }
@@ -65,7 +64,7 @@ fn is_in_frame(frame: &Option<IpNet>, network: &IpNet) -> bool
 struct NotedBlocks {
     alloc: Global,
     grammar: Grammar,
-    /// The network outside which no entry is noted.
+    /// The network that each noted block lies in or contains.
     frame: Option<IpNet>,
     ipv4: Largest,
     ipv6: Largest,
@@ -114,12 +113,12 @@ impl NotedBlocks {
         }
     }
 
-    /// Notes a block of an entry, if it is not outside the network.
+    /// Notes a block of an entry, if it lies in the network or contains it.
     fn note_block(&mut self, network: IpNet, title: &str) -> Result<(), AllocError>
         ensures { OnOk result (KeepsBlock self.old self.new (ip_network network) title.now) }
     {
         self.count = self.count.saturating_add(1);
-        if !is_in_frame(&self.frame, &network) {
+        if !meets_frame(&self.frame, &network) {
             return Ok(());
         }
         let title = String::from_str(self.alloc, title)?;
@@ -177,7 +176,8 @@ pub struct EntryNotes {
 }
 
 impl EntryNotes {
-    /// Returns notes of no list. If a network is given, only blocks in it are noted. Fails only if memory runs out.
+    /// Returns notes of no list. If a network is given, only blocks that lie in it or contain it are noted. Fails only
+    /// if memory runs out.
     pub fn new(
         alloc: Global,
         grammar: Grammar,

@@ -21,7 +21,7 @@ empty_line grammar list line [] texts entries refusals none h = h
 empty_line grammar list line (b ∷ text) texts entries refusals none h = absurd (omega arith)
 
 -- the entry that the text is
-abbrev pub entry_at : List ℕ → AddressRange → ListEntry
+abbrev entry_at : List ℕ → AddressRange → ListEntry
 entry_at text range = record { text = text; range = range }
 
 entry_line : (grammar : Grammar) (list line : ℕ) (text : List ℕ) (texts : List (List ℕ)) (range : AddressRange)

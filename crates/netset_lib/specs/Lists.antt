@@ -70,10 +70,10 @@ pub record ListEntry : Type 0 where
   pub text : List ℕ
   pub range : AddressRange
 
--- A refused line: the index of its list from 0, its line number from 1, what is refused of it, and the cause.
+-- A refused line: the index of its list from 0, its number from 1, what is refused of it, and the cause.
 pub record RefusalFor (C : Type 0) : Type 0 where
   pub list : ℕ
-  pub line : ℕ
+  pub number : ℕ
   pub text : List ℕ
   pub cause : C
 
@@ -85,7 +85,7 @@ Refusal = RefusalFor NotEntry
 -- The line with this number of the list with this index, whose contents are not an entry of the grammar.
 abbrev pub refusal_at : Grammar → ℕ → ℕ → List ℕ → Refusal
 refusal_at grammar list line text =
-    record { list = list; line = line; text = text; cause = record { grammar = grammar } }
+    record { list = list; number = line; text = text; cause = record { grammar = grammar } }
 
 -- The first of the entries has this text, and `more` are the others.
 pub record IsNextEntry (grammar : Grammar) (text : List ℕ) (entries more : List ListEntry) : Type 0 where

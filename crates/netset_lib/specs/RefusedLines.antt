@@ -19,7 +19,7 @@ most_shown = 10
 
 -- The refusal that a value represents.
 abbrev pub refusal_of : {C : Type 0} → Refused C → RefusalFor C
-refusal_of r = record { list = r.list; line = r.line; text = r.text.items; cause = r.cause }
+refusal_of r = record { list = r.list; number = r.number; text = r.text.items; cause = r.cause }
 
 -- The refused lines that are kept.
 abbrev pub shown_refusals : {C : Type 0} → Refusals C → List (RefusalFor C)

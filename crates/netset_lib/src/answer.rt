@@ -1,4 +1,4 @@
-//! What is asked of lists, and the text of a set.
+//! An operation on lists and the form of its result, and the text of a set.
 ghost use Rattle.std.specs.Prelude.{◌≡◌, ◌≤◌, ◌++◌, ◌∷◌, [], IfOk, OnOk, string_bytes};
 ghost use Rattle.ipnet_base.specs.RangeOf.{ip_range};
 ghost use Rattle.ipnet_sets.specs.Members.{IsMember};
@@ -24,7 +24,7 @@ pub enum Form {
     Ranges,
 }
 
-/// What is asked of lists.
+/// An operation on lists, the grammar of their entries, and the form of the result.
 #[derive(Clone, Copy, Debug, PartialEq, Eq)]
 pub struct Request {
     /// What is made of them.
@@ -81,7 +81,7 @@ pub fn network_lines(alloc: Global, set: &IpSet) -> Result<String, AllocError>
 /// ```text
 /// of 10.0.0.0/30, 10.0.0.4/31 and fd00::1: "10.0.0.0-10.0.0.5\nfd00::1-fd00::1\n"
 /// ```
-pub fn lines_of_ranges(alloc: Global, set: &IpSet) -> Result<String, AllocError>
+pub fn range_lines(alloc: Global, set: &IpSet) -> Result<String, AllocError>
     ensures { IfOk result (λ text. AreRangeLines (IsMember set.now) (string_bytes text)) }
 {
     let mut text = String::new(alloc);
@@ -97,6 +97,6 @@ pub(crate) fn set_text(alloc: Global, form: Form, set: &IpSet) -> Result<String,
 {
     match form {
         Form::Networks => network_lines(alloc, set),
-        Form::Ranges => lines_of_ranges(alloc, set),
+        Form::Ranges => range_lines(alloc, set),
     }
 }

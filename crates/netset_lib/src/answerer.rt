@@ -1,5 +1,6 @@
 //! Filters and routes: how each entry of the second list is answered, once the first list was read.
 ghost use Rattle.std.specs.Prelude.{◌≡◌, ◌++◌, [], None, OnOk, IfOk, string_bytes, true, false};
+ghost use Rattle.std.specs.Str.{IsUtf8};
 ghost use Rattle.netset_lib.specs.Answering.{IsAnswererFor, AreAnswersBy, AddsAnswer};
 ghost use Rattle.netset_lib.specs.FoundEntry.{entry_of};
 ghost use Rattle.netset_lib.specs.Reading.{WasMadeOf};
@@ -16,6 +17,7 @@ use crate::route::{longest_holding, push_line, read_table};
 use ipnet_sets::{IpSet, RouteTable};
 use std::alloc::{AllocError, Global};
 use std::io::Read;
+use std::str;
 
 /// The first list of a filter or a route: the set in which kept entries lie, or the table of networks.
 #[derive(Drop)]
@@ -46,13 +48,30 @@ impl Answers {
     }
 }
 
+/// The text of an entry, for its line.
+pub(crate) fn entry_text(text: &[u8]) -> &str
+    requires { IsUtf8 text.now }
+    ensures { result.now ≡ text.now }
+{
+    match str::from_utf8(text) {
+        Ok(text) => text,
+        Err(_) => unreachable!(),
+    }
+}
+
 /// Adds a line with the entry, if it lies in the set.
-fn push_kept(answers: &mut Answers, set: &IpSet, text: &str, entry: Entry) -> Result<(), AllocError>
+fn push_kept(
+    answers: &mut Answers,
+    set: &IpSet,
+    text: &[u8],
+    entry: Entry,
+) -> Result<(), AllocError>
+    requires { IsUtf8 text.now }
     ensures { OnOk result
         (AddsAnswer (Answerers.Filter set.now) answers.old answers.new (entry_of text.now entry)) }
 {
     if covers_entry(set, entry) {
-        answers.text.push_str(text)?;
+        answers.text.push_str(entry_text(text))?;
         answers.text.push_str("\n")?;
         answers.found = true;
     }
@@ -88,10 +107,10 @@ fn push_route(
 impl Collector<Answers> for Answerer {
     ghost is_made = { AreAnswersBy };
 
-    fn push(&self, made: &mut Answers, text: &str, entry: Entry) -> Result<(), AllocError> {
+    fn push(&self, made: &mut Answers, text: &[u8], entry: Entry) -> Result<(), AllocError> {
         match self {
             Answerer::Filter(set) => push_kept(made, set, text, entry),
-            Answerer::Route(table) => push_route(made, table, text, entry),
+            Answerer::Route(table) => push_route(made, table, entry_text(text), entry),
         }
     }
 }

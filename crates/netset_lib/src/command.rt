@@ -37,7 +37,8 @@ pub enum Command {
 pub struct Flags {
     /// `--legacy`: entries are read by the legacy grammar.
     pub legacy: bool,
-    /// `--ranges`: a set is written as ranges.
+    /// `--ranges`: a set is written as ranges. Only `Session::answer` and `run_apply` read this flag, as the form of
+    /// their `Request`: `run_form` of `netset_forms` takes the form of its answer from a `FormRequest`.
     pub ranges: bool,
     /// `--ipv4`: the complement in IPv4.
     pub ipv4: bool,
@@ -47,7 +48,7 @@ pub struct Flags {
     pub outside: bool,
 }
 
-/// What is asked of lists.
+/// The work of a command on lists: an operation or a query.
 #[derive(Clone, Copy, Debug, PartialEq, Eq)]
 pub enum Work {
     /// The result of an operation.

@@ -2,6 +2,7 @@
 ghost use Rattle.std.specs.Prelude.{◌≡◌, ◌<◌, ◌≤◌, List, ℕ, ◌∷◌, ◌++◌, length, take, slice_index, IfSome};
 ghost use Rattle.std.specs.Net.Addr.{ipv4_octets};
 ghost use Rattle.ipnet.specs.AddressTexts.{IsIpv4AddressText};
+ghost use Rattle.ipnet.specs.declared.parser.Grammar.{Grammar};
 ghost use Rattle.ipnet.specs.declared.parser.Grammar.TheVariants.{Strict};
 ghost use Rattle.netset_lib.specs.Entries.{IsEntryWord};
 ghost use Rattle.netset_lib.specs.EntryOf.{entry_range};
@@ -19,7 +20,7 @@ const LONGEST: usize = "255.255.255.255-255.255.255.255\n".len();
 fn range_after(first: Ipv4Addr, bytes: &[u8]) -> Option<(Entry, usize)>
     requires { 16 ≤ length bytes.now }
     ensures entry { IfSome result (λ line. (text : List ℕ) → IsIpv4AddressText Strict text (ipv4_octets first)
-        → IsEntryWord Strict (text ++ 45 ∷ take line.1 bytes.now) (entry_range line.0)) }
+        → (grammar : Grammar) → IsEntryWord grammar (text ++ 45 ∷ take line.1 bytes.now) (entry_range line.0)) }
     ensures newline { IfSome result (λ line. slice_index bytes.now line.1 ≡ 10) }
     ensures few { IfSome result (λ line. line.1 ≤ 15) }
 {
@@ -30,7 +31,8 @@ fn range_after(first: Ipv4Addr, bytes: &[u8]) -> Option<(Entry, usize)>
     Some((Entry::Ipv4Range(first, last), len))
 }
 
-/// The entry of the first line in the strict grammar, and the length of the line without its "\n".
+/// The entry of the first line, and the length of the line without its "\n". Its text is one of the strict grammar, so
+/// it is the same entry in both grammars.
 ///
 /// `None` says nothing about the line: it may be an entry. IPv4 networks, addresses and ranges are read, if there is
 /// nothing else on the line, and if 32 bytes are there.
@@ -41,7 +43,8 @@ fn range_after(first: Ipv4Addr, bytes: &[u8]) -> Option<(Entry, usize)>
 /// ```
 #[inline]
 pub(crate) fn front_entry(bytes: &[u8]) -> Option<(Entry, usize)>
-    ensures entry { IfSome result (λ line. IsEntryWord Strict (take line.1 bytes.now) (entry_range line.0)) }
+    ensures entry { IfSome result (λ line. (grammar : Grammar)
+        → IsEntryWord grammar (take line.1 bytes.now) (entry_range line.0)) }
     ensures newline { IfSome result (λ line. slice_index bytes.now line.1 ≡ 10) }
     ensures some { IfSome result (λ line. 0 < line.1) }
     ensures within { IfSome result (λ line. line.1 < length bytes.now) }

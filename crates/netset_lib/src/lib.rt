@@ -55,7 +55,7 @@ mod word;
 pub mod write;
 
 pub use address_text::ip_addr_text;
-pub use answer::{Answer, Form, Request, lines_of_ranges, network_lines};
+pub use answer::{Answer, Form, Request, network_lines, range_lines};
 pub use apply::changed_text;
 pub use apply_program::run_apply;
 pub use cause::{Cause, NotEntry, cause_of};

@@ -20,7 +20,7 @@ pub(crate) struct Addresses;
 impl Collector<IpSetBuilder> for Addresses {
     ghost is_made = { λ _ builder entries. HaveAddresses (IsPushed builder) entries };
 
-    fn push(&self, made: &mut IpSetBuilder, _: &str, entry: Entry) -> Result<(), AllocError> {
+    fn push(&self, made: &mut IpSetBuilder, _: &[u8], entry: Entry) -> Result<(), AllocError> {
         let (first, last) = entry.ends();
         made.push_range(first, last)
     }

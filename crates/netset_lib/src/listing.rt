@@ -13,7 +13,7 @@ ghost use Rattle.netset_lib.specs.Listings.{text_of_addresses};
 use crate::address_text::ip_addr_text;
 use arrayvec::ArrayString;
 use ipnet::{IpAddr, IpAddrRange, IpSubnets};
-use ipnet_text::pieces::{PIECE, put_line, put_text};
+use ipnet_text::pieces::{PIECE, put_line, put_text_line};
 use ipnet_text::write_whole;
 use std::io;
 use std::io::Write;
@@ -30,7 +30,7 @@ fn put_address<W: Write>(
     ensures front { OnErr result ((front : List ℕ) × StartsWith piece.old.bytes front
         × Appends (W.contents out.old) (W.contents out.new) front) }
 {
-    put_text(out, piece, ip_addr_text(address).as_str())
+    put_text_line(out, piece, ip_addr_text(address).as_str())
 }
 
 /// Writes the networks of the walk, one a line, and flushes the writer. If a write or the flush fails, a front of the

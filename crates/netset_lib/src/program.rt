@@ -135,7 +135,7 @@ fn stream_status(streamed: Streamed) -> u8
     }
 }
 
-/// Reports why a stream ended.
+/// Reports why a stream ended. Bytes of the list's name that are not printable ASCII are escaped.
 fn report_stream<X: Write>(
     faults: &mut X,
     names: &[&str],
@@ -145,6 +145,7 @@ fn report_stream<X: Write>(
         StreamFailure::Start(failure) => report_failure(faults, names, failure),
         StreamFailure::Read(failure) => {
             let name = names.get(1).copied().unwrap_or("list");
+            let name = name.as_bytes().escape_ascii();
             writeln!(faults, "netset: {name}: {failure}")
         }
         StreamFailure::Unwritable => writeln!(faults, "netset: output cannot be written"),

@@ -3,7 +3,7 @@ ghost use Rattle.std.specs.Prelude.{◌↔◌, IsTrue};
 
 use crate::filter::Side;
 
-/// What is asked of lists.
+/// A question about lists, whose answer is a text and not a set of addresses.
 #[derive(Clone, Copy, Debug, PartialEq, Eq)]
 pub enum Query {
     /// How many addresses each list has, and all of them together.

@@ -1,6 +1,7 @@
 //! The lines of a list: blanks around an entry, comments, and the entries, one a line.
 ghost use Rattle.std.specs.Prelude.{◌≡◌, ◌<◌, ◌∷◌, ◌↔◌, List, [], length, IsTrue, OnOk, IfOk, IfSome};
 ghost use Rattle.ipnet.specs.Lines.{lines_of};
+ghost use Rattle.std.specs.Str.{IsUtf8};
 ghost use Rattle.netset_lib.specs.Entries.{IsEntryText, IsEntryWord, ReadsAs};
 ghost use Rattle.netset_lib.specs.EntryOf.{entry_range, IsWrittenAs};
 ghost use Rattle.netset_lib.specs.Lists.{ListEntry, Opens, IsCommentAt, first_word, HidesEntry};
@@ -25,7 +26,8 @@ pub(crate) trait Collector<M> {
     ghost is_made: { Self → M → List ListEntry → Type 0 };
 
     /// Adds an entry, which is spelled as the text. Fails if memory runs out.
-    fn push(&self, made: &mut M, text: &str, entry: Entry) -> Result<(), AllocError>
+    fn push(&self, made: &mut M, text: &[u8], entry: Entry) -> Result<(), AllocError>
+        requires { IsUtf8 text.now }
         ensures { OnOk result
             (Adds (is_made self.now made.old) (is_made self.now made.new) (entry_of text.now entry ∷ [])) };
 }
@@ -78,24 +80,30 @@ pub fn read_text<'a>(text: &'a [u8], grammar: Grammar) -> Option<FoundEntry<'a>>
     }
 }
 
-/// The entry of the first line, and the bytes after its end. `None` says nothing about the line: it is read so only in
-/// the strict grammar.
-fn front_line<'a>(bytes: &'a [u8], grammar: Grammar) -> Option<(FoundEntry<'a>, &'a [u8])>
-    ensures entry { IfSome result (λ line. IsEntryWord grammar line.0.text.now (found_range line.0)) }
-    ensures some { IfSome result (λ line. 0 < length line.0.text.now) }
-    ensures lines { IfSome result (λ line. lines_of bytes.now ≡ line.0.text.now ∷ lines_of line.1.now) }
-    ensures shorter { IfSome result (λ line. length line.1.now < length bytes.now) }
+/// A first line that is an entry and nothing else.
+#[derive(Clone, Copy)]
+struct FrontLine<'a> {
+    /// The line, which is the text of the entry.
+    text: &'a [u8],
+    entry: Entry,
+    /// The bytes after the end of the line.
+    after: &'a [u8],
+}
+
+/// The first line, if it is an entry and nothing else, in both grammars. `None` says nothing about the line.
+fn front_line(bytes: &[u8]) -> Option<FrontLine<'_>>
+    ensures entry { IfSome result (λ line. (grammar : Grammar)
+        → IsEntryWord grammar line.text.now (entry_range line.entry)) }
+    ensures some { IfSome result (λ line. 0 < length line.text.now) }
+    ensures lines { IfSome result (λ line. lines_of bytes.now ≡ line.text.now ∷ lines_of line.after.now) }
+    ensures shorter { IfSome result (λ line. length line.after.now < length bytes.now) }
 {
-    match grammar {
-        Grammar::Strict => {}
-        Grammar::Legacy => return None,
-    }
     let (entry, len) = front_entry(bytes)?;
-    let text = match str::from_utf8(&bytes[..len]) {
-        Ok(text) => text,
-        Err(_) => return None,
-    };
-    Some((FoundEntry { text, entry }, &bytes[len + 1..]))
+    Some(FrontLine {
+        text: &bytes[..len],
+        entry,
+        after: &bytes[len + 1..],
+    })
 }
 
 /// Whether the byte at this index of the line begins a comment.
@@ -224,12 +232,12 @@ impl LineReader {
         match read_text(text, self.grammar) {
             Some(found) => {
                 self.has_entry = true;
-                collector.push(made, found.text, found.entry)
+                collector.push(made, text, found.entry)
             }
             None => {
                 let part = RefusedPart {
                     list: self.list,
-                    line: number,
+                    number,
                     text,
                     cause: NotEntry {
                         grammar: self.grammar,
@@ -243,19 +251,20 @@ impl LineReader {
     /// Reads a line that is an entry and nothing else: hands the entry over. Fails as `read_line` does.
     fn push_found<M, C: Collector<M>>(
         &mut self,
-        found: FoundEntry,
+        text: &[u8],
+        entry: Entry,
         collector: &C,
         made: &mut M,
     ) -> Result<(), AllocError>
-        requires entry { IsEntryWord self.old.grammar found.text.now (found_range found) }
-        requires some { 0 < length found.text.now }
-        ensures { OnOk result (ReadsLines self.old self.new (found.entry.text.now ∷ [])
+        requires entry { IsEntryWord self.old.grammar text.now (entry_range entry) }
+        requires some { 0 < length text.now }
+        ensures { OnOk result (ReadsLines self.old self.new (text.now ∷ [])
             (C.is_made collector.now made.old) (C.is_made collector.now made.new)) }
     {
         let number = next_number(self.line)?;
         self.line = number;
         self.has_entry = true;
-        collector.push(made, found.text, found.entry)
+        collector.push(made, text, entry)
     }
 
     /// Reads the first line of bytes that are not empty, and returns the bytes after its end. Fails as `read_line`
@@ -270,9 +279,9 @@ impl LineReader {
         ensures { IfOk result (λ rest. ReadsFirst self.old self.new bytes.now rest.now
             (C.is_made collector.now made.old) (C.is_made collector.now made.new)) }
     {
-        if let Some((found, after)) = front_line(bytes, self.grammar) {
-            self.push_found(found, collector, made)?;
-            return Ok(after);
+        if let Some(front) = front_line(bytes) {
+            self.push_found(front.text, front.entry, collector, made)?;
+            return Ok(front.after);
         }
         let (line, after) = first_line_of_bytes(bytes);
         self.read_line(line, collector, made)?;

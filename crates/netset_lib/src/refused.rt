@@ -3,6 +3,7 @@ ghost use Rattle.std.specs.Prelude.{◌≡◌, ◌≤◌, [], ◌∷◌, ◌++�
 ghost use Rattle.std.specs.Io.KnownBytes.{Keeps};
 
 use crate::cause::NotEntry;
+use crate::number::next_number;
 use std::alloc::{AllocError, Global};
 use std::io;
 use std::io::Write;
@@ -25,14 +26,14 @@ pub trait LineCause: Drop {
 /// A line that is refused, or the part of it that is.
 ///
 /// ```text
-/// of the list "10.0.0.0/8\nx # y\n", the second one named: list 1, line 2, text "x"
+/// of the list "10.0.0.0/8\nx # y\n", the second one named: list 1, number 2, text "x"
 /// ```
 #[derive(Debug, Drop)]
 pub struct Refused<C> {
     /// The index of its list among the lists that were read, from 0.
     pub list: usize,
-    /// Its line number, from 1.
-    pub line: usize,
+    /// Its number, from 1.
+    pub number: usize,
     /// The refused part: if the line is not an entry, its contents, without a comment and blanks around them.
     pub text: Vec<u8>,
     /// Why it is refused.
@@ -44,8 +45,8 @@ pub struct Refused<C> {
 pub struct RefusedPart<'a, C> {
     /// The index of its list.
     pub list: usize,
-    /// Its line number.
-    pub line: usize,
+    /// Its number.
+    pub number: usize,
     /// The refused part.
     pub text: &'a [u8],
     /// Why it is refused.
@@ -86,9 +87,7 @@ impl<C: Drop> Refusals<C> {
     pub fn push(&mut self, alloc: Global, part: RefusedPart<'_, C>) -> Result<(), AllocError>
         ensures { OnOk result (HasMore self.old self.new (refusal_in part.entry ∷ [])) }
     {
-        let Some(count) = self.count.checked_add(1) else {
-            return Err(AllocError);
-        };
+        let count = next_number(self.count)?;
         self.keep(alloc, part)?;
         self.count = count;
         Ok(())
@@ -106,7 +105,7 @@ impl<C: Drop> Refusals<C> {
         let text = part.text.to_vec(alloc)?;
         self.shown.push(Refused {
             list: part.list,
-            line: part.line,
+            number: part.number,
             text,
             cause: part.cause,
         })?;
@@ -136,7 +135,7 @@ pub fn report_since<X: Write, C: LineCause>(
         let line = &lines.shown[index];
         let name = names.get(line.list).copied().unwrap_or("list");
         line.cause
-            .report(faults, name, line.line, line.text.as_slice())?;
+            .report(faults, name, line.number, line.text.as_slice())?;
     }
     let new = lines.count.saturating_sub(count);
     report_more(

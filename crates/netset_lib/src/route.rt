@@ -35,7 +35,7 @@ struct Networks;
 impl Collector<Vec<(IpNet, ())>> for Networks {
     ghost is_made = { λ _ routes. AreTableNetworks (IsTruncatedOne (ip_networks routes.items)) };
 
-    fn push(&self, made: &mut Vec<(IpNet, ())>, _: &str, entry: Entry) -> Result<(), AllocError> {
+    fn push(&self, made: &mut Vec<(IpNet, ())>, _: &[u8], entry: Entry) -> Result<(), AllocError> {
         push_entry(made, entry)
     }
 }

@@ -101,7 +101,8 @@ fn has_no_family(work: Work, sets: &[IpSet]) -> bool
     is_named_complement(work) && is_one_empty(sets)
 }
 
-/// Appends a set. Fails if memory runs out.
+/// Appends a set. Fails if memory runs out: with `AllocError`, which `?` turns into a `ReadFailure`. The error of
+/// `Vec::push` has the set, and `?` does not turn it into one.
 fn keep(sets: &mut Vec<IpSet>, set: IpSet) -> Result<(), AllocError>
     ensures { OnOk result (sets.new.items ≡ sets.old.items ++ set ∷ []) }
 {

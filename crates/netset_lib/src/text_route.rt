@@ -6,7 +6,7 @@ ghost use Rattle.netset_lib.specs.TextSteps.{AddsTextAnswer, AreTextAnswersBy, I
 ghost use Rattle.netset_lib.specs.TextTables.{IsTextRouteAnswer, IsTableOfTexts};
 ghost use Rattle.netset_lib.specs.declared.text_route.TextFailure.TheVariants.{Memory};
 
-use crate::answerer::{Answers, push_missing};
+use crate::answerer::{Answers, entry_text, push_missing};
 use crate::cause::Cause;
 use crate::content_line::RefusedText;
 use crate::entry::Entry;
@@ -85,8 +85,8 @@ struct TextTable<'a> {
 impl<'a> Collector<Answers> for TextTable<'a> {
     ghost is_made = { λ t. AreTextAnswersBy t.table };
 
-    fn push(&self, made: &mut Answers, text: &str, entry: Entry) -> Result<(), AllocError> {
-        push_text_route(made, &self.table, text, entry)
+    fn push(&self, made: &mut Answers, text: &[u8], entry: Entry) -> Result<(), AllocError> {
+        push_text_route(made, &self.table, entry_text(text), entry)
     }
 }
 

@@ -1,5 +1,5 @@
 //! Tests of the entries that are noted of lists: which, in which order, and with which titles.
-use ipnet::Grammar;
+use ipnet::{Grammar, IpNet};
 use netset_entries::EntryNotes;
 use std::alloc::Global;
 use std::test::Fail;
@@ -46,6 +46,16 @@ fn titles(rt: HostRuntime) -> Result<(), Fail> {
             "10.0.0.0-10.0.0.2 # x",
             "10.0.0.0/31 10.0.0.0-10.0.0.2: x\n10.0.0.2/32 10.0.0.0-10.0.0.2: x\n",
         ),
+        (
+            "the same twice",
+            "10.0.0.1\n10.0.0.1",
+            "10.0.0.1/32 10.0.0.1\n10.0.0.1/32 10.0.0.1\n",
+        ),
+        (
+            "the order of the list",
+            "11.0.0.0/8\n10.0.0.0/8",
+            "11.0.0.0/8 11.0.0.0/8\n10.0.0.0/8 10.0.0.0/8\n",
+        ),
         ("other lines", "# 10.0.0.1\n\nx\n10.0.0.0/33", ""),
     ];
     let alloc = rt.alloc();
@@ -62,6 +72,29 @@ fn titles(rt: HostRuntime) -> Result<(), Fail> {
                 "noted: {label}, cut at {cut}: {found}"
             );
         }
+    }
+    Ok(())
+}
+
+#[test]
+fn in_a_frame(rt: HostRuntime) -> Result<(), Fail> {
+    // the entry, and whether it is noted for 10.20.0.0/16
+    let rows = [
+        ("10.20.3.0/24", true),
+        ("10.20.0.0/16", true),
+        ("10.0.0.0/8", true),
+        ("10.21.0.0/16", false),
+        ("10.19.255.255", false),
+        ("::/0", false),
+    ];
+    let alloc = rt.alloc();
+    let frame = IpNet::parse_as("10.20.0.0/16", Grammar::Strict)?;
+    for (list, wanted) in rows {
+        let mut notes = EntryNotes::new(alloc, Grammar::Strict, Some(frame))?;
+        notes.take(list.as_bytes())?;
+        notes.end_list()?;
+        let entries = notes.into_entries()?;
+        assert!(&rt; (entries.len() == 1) == wanted, "in a frame: {list}");
     }
     Ok(())
 }

@@ -1,7 +1,7 @@
 //! Lists of rules: their lines, the answers, the reports, and refused memory.
 use ipnet::{Grammar, IpAddr, Ipv4Addr, Ipv6Addr};
 use ipnet_rules::Action;
-use netset_lib::{ListFailure, ReadFailure, RuleCause, RuleList, lines_of_ranges, run_unreached};
+use netset_lib::{ListFailure, ReadFailure, RuleCause, RuleList, range_lines, run_unreached};
 use std::alloc::Global;
 use std::io::ErrorKind;
 use std::test::Fail;
@@ -21,7 +21,7 @@ fn answer(
     match default {
         Some(default) => {
             let set = list.permitted(default)?;
-            Ok(lines_of_ranges(alloc, &set)?.into_bytes())
+            Ok(range_lines(alloc, &set)?.into_bytes())
         }
         None => list.unreached(),
     }

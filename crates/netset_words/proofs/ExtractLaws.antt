@@ -243,10 +243,10 @@ pub record IsNextLine (old new : WordReader) : Type 0 where
 pub nul_line : (old new : WordReader) (line : List ℕ) → IsNextLine old new → HasNul line
     → new.answer ≡ old.answer → new.has_entry ≡ old.has_entry
     → HasMore old.refused new.refused
-    (record { list = old.list; line = old.line + 1; text = line; cause = NulByte } ∷ [])
+    (record { list = old.list; number = old.line + 1; text = line; cause = NulByte } ∷ [])
     → ReadsWords old new (line ∷ [])
 nul_line old new line at nul answer noted added =
-    let refusal : WordRefusal = record { list = old.list; line = old.line + 1; text = line; cause = NulByte } in
+    let refusal : WordRefusal = record { list = old.list; number = old.line + 1; text = line; cause = NulByte } in
     record {
       same_request = at.same_request;
       same_list = at.same_list;

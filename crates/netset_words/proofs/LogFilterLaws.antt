@@ -103,7 +103,7 @@ same_report : (number : ℕ) (line cur : List ℕ) (t : Treatment) → take 101 
 same_report number line cur Treatments.Printed is = refl
 same_report number line cur Treatments.LeftOut is = refl
 same_report number line cur Treatments.Undecided is =
-    ap (λ z. record { list = 1; line = number; text = z; cause = Causes.Undecided } ∷ []) is
+    ap (λ z. record { list = 1; number = number; text = z; cause = Causes.Undecided } ∷ []) is
 
 -- a whole line was read
 pub line_read : (how : LinesRequest) (InSet : Address → Type 0) (old new : LineAnswers) (line : List ℕ) (v : Verdict)

@@ -22,12 +22,12 @@ pub record IsNulLine (list number : ℕ) (line : List ℕ) (entries : List (List
     0 where
   pub nul : HasNul line
   pub none : entries ≡ []
-  pub refused : refusals ≡ record { list = list; line = number; text = line; cause = NulByte } ∷ []
+  pub refused : refusals ≡ record { list = list; number = number; text = line; cause = NulByte } ∷ []
 
 -- The first of the netmasks, if there is one, is the refused part of the line with this number.
 abbrev pub mask_refusals : (list number : ℕ) → List (List ℕ) → List WordRefusal
 mask_refusals list number [] = []
-mask_refusals list number (mask ∷ masks) = record { list = list; line = number; text = mask; cause = Netmask } ∷ []
+mask_refusals list number (mask ∷ masks) = record { list = list; number = number; text = mask; cause = Netmask } ∷ []
 
 -- The line with this number has no NUL byte. Its wanted entries are these, and it is refused if it has a netmask.
 -- Example: `10.0.0.0/8 10.1.0.0/16` has two entries; `ip route 10.0.0.0 255.0.0.0` is refused for `255.0.0.0`.

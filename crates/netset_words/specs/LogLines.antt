@@ -123,7 +123,7 @@ abbrev pub report_of : (number : ℕ) → List ℕ → Treatment → List WordRe
 report_of number line Treatments.Printed = []
 report_of number line Treatments.LeftOut = []
 report_of number line Treatments.Undecided =
-    record { list = 1; line = number; text = take 101 line; cause = Causes.Undecided } ∷ []
+    record { list = 1; number = number; text = take 101 line; cause = Causes.Undecided } ∷ []
 
 -- The number of lines without an entry, of one whole line.
 abbrev pub has_none : Verdict → ℕ

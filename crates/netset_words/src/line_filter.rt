@@ -189,7 +189,7 @@ fn report_front(
         Treatment::Undecided => {
             let part = RefusedPart {
                 list: LOG,
-                line: number,
+                number,
                 text: &front[..SHOWN],
                 cause: WordCause::Undecided,
             };

@@ -55,7 +55,7 @@ impl WordReader {
         if has_byte(line, 0) {
             let part = RefusedPart {
                 list: self.list,
-                line: number,
+                number,
                 text: line,
                 cause: WordCause::NulByte,
             };
@@ -67,7 +67,7 @@ impl WordReader {
             Some(mask) => {
                 let part = RefusedPart {
                     list: self.list,
-                    line: number,
+                    number,
                     text: mask,
                     cause: WordCause::Netmask,
                 };

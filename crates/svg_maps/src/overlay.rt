@@ -36,11 +36,11 @@ pub struct Look<'a> {
     pub entries: MapEntries<'a>,
 }
 
-/// The addresses of all sets of a map, and the sets that are counted in each square.
+/// The network that a map shows, and how many of its bits.
 #[derive(Clone, Copy)]
-pub(crate) struct Shown<'a> {
-    pub(crate) all: &'a IpSet,
-    pub(crate) counted: &'a [Counted<'a>],
+pub(crate) struct Extent<'a> {
+    pub(crate) frame: &'a IpNet,
+    pub(crate) depth: u8,
 }
 
 /// The outlines over the cells of a map, and what the legend and the foot say of them.
@@ -194,23 +194,24 @@ fn joined(first: Overlay, second: Overlay) -> Result<Overlay, AllocError>
     Ok(overlay)
 }
 
-/// Returns what is drawn over the map of these sets in the frame: the areas of the entries, outlines of the networks
-/// with names, and then outlines of the free blocks, if the look shows them.
+/// Returns what is drawn over a map of sets that have all these addresses: the areas of the entries, whose titles count
+/// these sets, outlines of the networks with names, and then outlines of the free blocks, if the look shows them.
 pub(crate) fn overlay_of(
     alloc: Global,
-    frame: &IpNet,
-    depth: u8,
-    shown: Shown<'_>,
+    extent: Extent<'_>,
+    all: &IpSet,
+    counted: &[Counted<'_>],
     look: Look<'_>,
 ) -> Result<Overlay, AllocError>
-    requires few { depth ≤ 20 }
-    requires fits { (ip_network frame.now).prefix_len + depth ≤ width (ip_network frame.now).family }
-    ensures { IfOk result (λ overlay. AreOutlinesOver look.entry shown.entry.counted.now
-        (IsMember shown.entry.all.now) (ip_network frame.now) depth overlay.outlines.items) }
+    requires few { extent.depth ≤ 20 }
+    requires fits { let n = ip_network extent.frame.now in n.prefix_len + extent.depth ≤ width n.family }
+    ensures { IfOk result (λ overlay. AreOutlinesOver look.entry counted.now (IsMember all.now)
+        (ip_network extent.entry.frame.now) extent.entry.depth overlay.outlines.items) }
 {
-    let entries = entry_overlay(alloc, frame, depth, look.entries, shown.counted)?;
+    let Extent { frame, depth } = extent;
+    let entries = entry_overlay(alloc, frame, depth, look.entries, counted)?;
     let named = named_overlay(alloc, frame, depth, look.names)?;
-    let free = shown_free(alloc, frame, depth, shown.all, look.shows_free)?;
+    let free = shown_free(alloc, frame, depth, all, look.shows_free)?;
     let others = joined(named, free)?;
     joined(entries, others)
 }

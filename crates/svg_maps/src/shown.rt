@@ -6,7 +6,7 @@ ghost use Rattle.svg_maps.specs.Overlays.{IsOutlinedSetMap, IsOutlinedChangeMap,
 
 use crate::form::MapForm;
 use crate::map::map_text;
-use crate::overlay::{Look, Shown, overlay_of};
+use crate::overlay::{Extent, Look, overlay_of};
 use crate::square::Counted;
 use crate::style::style_of;
 use ipnet::IpNet;
@@ -53,11 +53,8 @@ pub fn set_map_text(
     let style = style_of(alloc, look.theme)?;
     let note = note_of(alloc, set, frame)?;
     let counted = [Counted { words: "used", set }];
-    let shown = Shown {
-        all: set,
-        counted: &counted,
-    };
-    let overlay = overlay_of(alloc, frame, drawing.depth, shown, look)?;
+    let depth = drawing.depth;
+    let overlay = overlay_of(alloc, Extent { frame, depth }, set, &counted, look)?;
     let form = MapForm {
         style: style.as_str(),
         heading: "Map of",
@@ -110,11 +107,8 @@ pub fn change_map_text(
             set: &kept,
         },
     ];
-    let shown = Shown {
-        all: &all,
-        counted: &counted,
-    };
-    let overlay = overlay_of(alloc, frame, drawing.depth, shown, look)?;
+    let depth = drawing.depth;
+    let overlay = overlay_of(alloc, Extent { frame, depth }, &all, &counted, look)?;
     let form = MapForm {
         style: style.as_str(),
         heading: "Changes in",
@@ -196,10 +190,10 @@ pub fn sets_map_text(
     let all = IpSet::union_all(alloc, sets)?;
     let note = note_of(alloc, &all, frame)?;
     let words = all_words(alloc, names)?;
-    let list = counted_of(alloc, sets, words.as_slice())?;
-    let counted = list.as_slice();
-    let shown = Shown { all: &all, counted };
-    let overlay = overlay_of(alloc, frame, drawing.depth, shown, look)?;
+    let counted = counted_of(alloc, sets, words.as_slice())?;
+    let counted = counted.as_slice();
+    let depth = drawing.depth;
+    let overlay = overlay_of(alloc, Extent { frame, depth }, &all, counted, look)?;
     let form = MapForm {
         style: style.as_str(),
         heading: "Lists in",

@@ -14,4 +14,4 @@ returns-then-end-len c =
     let address = c.in-Some.address in
     reads_some ip_address (IsAddressText Strict) (take c.args.len bytes) (Ip.V4 address)
     (subst (λ k. IsAddressText Strict (take k bytes) (ipv4_address address)) c.if-end-len.true
-    (address_text (take c.in-Some.end bytes) address c.in-Some.ensures.address))
+    (address_text Strict (take c.in-Some.end bytes) address c.in-Some.ensures.address))

@@ -8,8 +8,8 @@ use Rattle.ipnet_c.proofs.set_images.image_ranges.Goals as goal
 
 pub returns : goal.returns
 returns c =
-    IfOk-weaker c.lines_of_ranges.result
+    IfOk-weaker c.range_lines.result
     (λ text. AreRangeLines (IsMember c.in_ok-first.first) (string_bytes text))
     (λ text. IsRangesOfImage c.args.set.image.bytes.now (string_bytes text))
     (λ text h. record { first = c.in_ok-first.first; first_image = c.in_ok-first.ensures; ranges = h })
-    c.lines_of_ranges.ensures
+    c.range_lines.ensures

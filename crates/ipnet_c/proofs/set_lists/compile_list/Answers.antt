@@ -13,7 +13,7 @@ returns-then-not-is_empty c =
     let shown = c.as_slice-refused.ensures.value in
     let line = c.index-refused-0.result in
     subst (λ (z : RefusedLine). IsListReply c.args.grammar c.args.text.now c.args.buffer.now c.args.buffer.now
-    c.args.count.now z.line 1)
+    c.args.count.now z.number 1)
     c.index-refused-0.is
     (list_refused c.args.grammar c.args.text.now c.args.buffer.now c.args.count.now list.set list.refused line
     c.in-Ok.ensures

@@ -23,9 +23,9 @@ loop-last-preserved g c =
     let mapped : map net items ≡ map net c.pop.new.self.items ++ net t ∷ [] =
     ap (map net) popped ∙ map_push net c.pop.new.self.items t in
     cover_of_last_joined (map net c.pop.new.self.items) given (net t) (net c.loop-last.next)
-    (net c.in-Some-joined.whole)
+    (net c.in-Some-merged.whole)
     (subst (λ z. HaveSameCover (z ++ net c.loop-last.next ∷ []) given) mapped c.loop-last.invariant)
-    c.in-Some-joined.ensures
+    c.in-Some-merged.ensures
 
 pub returns : goal.returns
 returns g c =

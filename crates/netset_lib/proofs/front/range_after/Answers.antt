@@ -4,7 +4,7 @@ use Rattle.netset_lib.proofs.FrontEntries.{range_entry}
 use Rattle.netset_lib.proofs.front.range_after.Goals as goal
 
 pub returns-clause-entry : goal.returns-clause-entry
-returns-clause-entry c = λ text h.
-    range_entry text (take c.in_ok-last.len c.args.bytes.now) c.args.first c.in_ok-last.last h
+returns-clause-entry c = λ text h grammar.
+    range_entry grammar text (take c.in_ok-last.len c.args.bytes.now) c.args.first c.in_ok-last.last h
     c.in_ok-last.ensures.address
     (omega (arith, c.if-to_bits.false, c.to_bits-else-bytes-len-ne10.ensures, c.to_bits.ensures))

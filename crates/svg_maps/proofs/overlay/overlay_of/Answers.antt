@@ -12,8 +12,8 @@ returns c =
     let free = c.in_ok-free.free.outlines.items in
     let others = c.in_ok-others.others.outlines.items in
     IfOk-weaker c.joined-2.result (λ overlay. overlay.outlines.items ≡ entries ++ others)
-    (λ overlay. AreOutlinesOver c.args.look c.args.shown.counted.now (IsMember c.args.shown.all.now)
-    (ip_network c.args.frame.now) c.args.depth overlay.outlines.items) (λ overlay e. record {
+    (λ overlay. AreOutlinesOver c.args.look c.args.counted.now (IsMember c.args.all.now)
+    (ip_network c.args.extent.frame.now) c.args.extent.depth overlay.outlines.items) (λ overlay e. record {
       entries = entries;
       are_entries = c.in_ok-entries.ensures;
       named = named;

@@ -35,9 +35,9 @@ returns c =
         drawing = d;
         drawn = c.in_ok-drawing.ensures;
         counted = counted;
-        each = ap (λ z. map (λ k. k.set.now) z) c.as_slice-counted.ensures.value ∙ c.in_ok-list.ensures.sets;
+        each = ap (λ z. map (λ k. k.set.now) z) c.as_slice-counted.ensures.value ∙ c.in_ok-counted.ensures.sets;
         words = λ same. ap (λ z. map (λ k. k.words.now) z) c.as_slice-counted.ensures.value
-            ∙ c.in_ok-list.ensures.words (as_many ∙ sym (length-map given (λ name. name.now)) ∙ same)
+            ∙ c.in_ok-counted.ensures.words (as_many ∙ sym (length-map given (λ name. name.now)) ∙ same)
             ∙ ap (λ z. map string_bytes z) c.as_slice.ensures.value ∙ c.in_ok-words.ensures
             ∙ words_of_names given;
         page = m.0;

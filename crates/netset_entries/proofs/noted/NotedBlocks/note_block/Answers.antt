@@ -4,22 +4,22 @@ use Rattle.ipnet_text.proofs.ListsLaws.{OnOk_then}
 use Rattle.netset_entries.proofs.NotedBlockLaws.{block_outside, ipv4_taken, ipv6_taken}
 use Rattle.netset_entries.proofs.noted.NotedBlocks.note_block.Goals as goal
 
-pub returns-then-not-is_in_frame : goal.returns-then-not-is_in_frame
-returns-then-not-is_in_frame c =
+pub returns-then-not-meets_frame : goal.returns-then-not-meets_frame
+returns-then-not-meets_frame c =
     block_outside c.args.self.now _ (ip_network c.args.network) c.args.title.now refl refl refl refl
     (λ inside.
-    let is = c.is_in_frame.ensures.1 inside in
-    let not = c.if-not-is_in_frame.true in
+    let is = c.meets_frame.ensures.1 inside in
+    let not = c.if-not-meets_frame.true in
     absurd cc)
 
 pub returns-in-V4 : goal.returns-in-V4
 returns-in-V4 c =
     OnOk_then c.push.result c.push.ensures
     (λ takes. ipv4_taken c.args.self.now _ _ c.args.title.now refl refl c.in_ok-title.ensures.ok
-    (c.is_in_frame.ensures.0 c.if-not-is_in_frame.false) (ap (λ z. (ip_network z).family) c.in-V4.is) takes refl)
+    (c.meets_frame.ensures.0 c.if-not-meets_frame.false) (ap (λ z. (ip_network z).family) c.in-V4.is) takes refl)
 
 pub returns-in-V6 : goal.returns-in-V6
 returns-in-V6 c =
     OnOk_then c.push-in-V6.result c.push-in-V6.ensures
     (λ takes. ipv6_taken c.args.self.now _ _ c.args.title.now refl refl c.in_ok-title.ensures.ok
-    (c.is_in_frame.ensures.0 c.if-not-is_in_frame.false) (ap (λ z. (ip_network z).family) c.in-V6.is) takes refl)
+    (c.meets_frame.ensures.0 c.if-not-meets_frame.false) (ap (λ z. (ip_network z).family) c.in-V6.is) takes refl)

@@ -18,5 +18,8 @@ returns-in-Route c =
     let e = entry_of c.args.text.now c.args.entry in
     on_ok_weaker c.push_route.result
     (λ adds before h. made_push c.args.self.now c.args.made.now c.push_route.new.answers before e h
-    (subst (λ a. AddsAnswer a c.args.made.now c.push_route.new.answers e) (sym c.in-Route.is) adds))
+    (subst (λ t. AddsAnswer c.args.self.now c.args.made.now c.push_route.new.answers (entry_of t c.args.entry))
+    c.entry_text.ensures
+    (subst (λ a. AddsAnswer a c.args.made.now c.push_route.new.answers
+    (entry_of c.entry_text.result.now c.args.entry)) (sym c.in-Route.is) adds)))
     c.push_route.ensures

@@ -1,16 +1,23 @@
 -- An entry with nothing around it is the contents of its line (`PlainLines`).
 use Rattle.std.proofs.Common.{refl}
 use Rattle.ipnet_text.proofs.ListsLaws.{OnOk_then}
-use Rattle.netset_lib.specs.FoundEntry.{found_range}
+use Rattle.netset_lib.specs.EntryOf.{entry_range}
+use Rattle.netset_lib.proofs.ListLines.{entry_utf8}
 use Rattle.netset_lib.proofs.ListReading.{adds_entry, reads_one}
 use Rattle.netset_lib.proofs.PlainLines.{plain_contents, plain_entry, word_is_entry}
 use Rattle.netset_lib.proofs.reader.LineReader.push_found.Goals as goal
 
+pub push-requires : goal.push-requires
+push-requires g c =
+    let grammar = c.args.self.now.grammar in
+    let range = entry_range c.args.entry in
+    entry_utf8 grammar c.args.text.now range (word_is_entry grammar c.args.text.now range c.requires.entry)
+
 pub returns : goal.returns
 returns g c =
     let old = c.args.self.now in
-    let text = c.args.found.text.now in
-    let range = found_range c.args.found in
+    let text = c.args.text.now in
+    let range = entry_range c.args.entry in
     let before = g.C.Collector.is_made c.args.collector.now c.args.made.now in
     let after = g.C.Collector.is_made c.args.collector.now c.push.new.made in
     OnOk_then c.push.result c.push.ensures

@@ -1,13 +1,12 @@
-use Rattle.std.proofs.Common.{◌≡◌, ◌<◌, ◌∷◌, [], length, refl, subst}
+use Rattle.std.proofs.Common.{◌<◌, ◌∷◌, [], length, refl, subst}
 use Rattle.ipnet_text.proofs.LineCuts.{some_bytes, no_bytes}
 use Rattle.ipnet_text.proofs.ListsLaws.{OnOk_then}
 use Rattle.netset_lib.specs.Entries.{IsEntryText, IsNoEntry}
 use Rattle.netset_lib.specs.FoundEntry.{found_range}
 use Rattle.netset_lib.specs.Lists.{refusal_at}
-use Rattle.netset_lib.specs.Reading.{Adds}
 use Rattle.netset_lib.specs.RefusedLines.{HasMore}
-use Rattle.netset_lib.proofs.ListReading.{adds_empty, adds_entry, adds_refusal, entry_at}
-use Rattle.netset_lib.proofs.ListReading.{reads_one}
+use Rattle.netset_lib.proofs.ListLines.{entry_utf8}
+use Rattle.netset_lib.proofs.ListReading.{adds_empty, adds_entry, adds_refusal, reads_one}
 use Rattle.netset_lib.proofs.reader.LineReader.read_line.Goals as goal
 
 pub returns-then-is_empty : goal.returns-then-is_empty
@@ -18,6 +17,11 @@ returns-then-is_empty g c =
     (adds_empty c.args.self.now _ text refl refl c.in_ok-number.ensures made
     (no_bytes (length text) c.if-is_empty.ensures) refl refl)
 
+pub push-requires : goal.push-requires
+push-requires g c =
+    entry_utf8 c.args.self.now.grammar c.contents_of-text.result.now (found_range c.in-Some.found)
+    c.in-Some.ensures.reads.some
+
 pub returns-in-Some : goal.returns-in-Some
 returns-in-Some g c =
     let old = c.args.self.now in
@@ -25,13 +29,11 @@ returns-in-Some g c =
     let f = c.in-Some.found in
     let before = g.C.Collector.is_made c.args.collector.now c.args.made.now in
     let after = g.C.Collector.is_made c.args.collector.now c.push.new.made in
-    let same : f.text.now ≡ text = c.in-Some.ensures.spelled in
     let some : 0 < length text = some_bytes (length text) c.if-is_empty.ensures in
     let is : IsEntryText old.grammar text (found_range f) = c.in-Some.ensures.reads.some in
     OnOk_then c.push.result c.push.ensures
     (λ made. reads_one old _ c.args.line.now text before after c.contents_of-text.ensures
-    (adds_entry old _ text refl refl c.in_ok-number.ensures before after (found_range f) some is refl refl
-    (subst (λ t. Adds before after (entry_at t (found_range f) ∷ [])) same made)))
+    (adds_entry old _ text refl refl c.in_ok-number.ensures before after (found_range f) some is refl refl made))
 
 pub returns-in-None : goal.returns-in-None
 returns-in-None g c =

@@ -17,7 +17,7 @@ returns-then-has_byte c =
     (λ added. nul_line old _ c.args.line.now (record { same_request = refl; same_list = refl; next = next })
     (sym c.has_byte.ensures ∙ c.if-has_byte.true) refl refl
     (subst (λ n. HasMore old.refused c.push.new.self
-    (record { list = old.list; line = n; text = c.args.line.now; cause = NulByte } ∷ [])) next added))
+    (record { list = old.list; number = n; text = c.args.line.now; cause = NulByte } ∷ [])) next added))
 
 pub returns-in-Some : goal.returns-in-Some
 returns-in-Some c =
@@ -35,7 +35,7 @@ returns-in-Some c =
     (subst (λ rs. HasMore old.refused c.push-in-Some.new.self rs)
     (sym (ap (mask_refusals old.list (old.line + 1)) first))
     (subst (λ n. HasMore old.refused c.push-in-Some.new.self
-    (record { list = old.list; line = n; text = mask.now; cause = Netmask } ∷ [])) next added)))
+    (record { list = old.list; number = n; text = mask.now; cause = Netmask } ∷ [])) next added)))
 
 pub returns-in-None : goal.returns-in-None
 returns-in-None c =

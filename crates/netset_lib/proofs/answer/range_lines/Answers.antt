@@ -3,7 +3,7 @@ use Rattle.ipnet_base.specs.RangeOf.{ip_range}
 use Rattle.ipnet_sets.specs.Members.{IsMember}
 use Rattle.ipnet_sets.specs.RangesLeft.{ranges_left}
 use Rattle.netset_lib.proofs.AnswerTexts.{one_written}
-use Rattle.netset_lib.proofs.answer.lines_of_ranges.Goals as goal
+use Rattle.netset_lib.proofs.answer.range_lines.Goals as goal
 
 pub loop-range-preserved : goal.loop-range-preserved
 loop-range-preserved c =

@@ -1,6 +1,6 @@
 -- The supernet of two halves covers what both cover (`JoinLaws`).
 use Rattle.ipnet_text.proofs.JoinLaws.{cover_of_halves}
-use Rattle.ipnet_text.proofs.net_lists.joined.Goals as goal
+use Rattle.ipnet_text.proofs.net_lists.merged.Goals as goal
 
 pub returns-then-is_other_half : goal.returns-then-is_other_half
 returns-then-is_other_half g c =

@@ -2,7 +2,7 @@ use Rattle.std.proofs.Common.{length, string_bytes}
 use Rattle.ipnet_sets.specs.Members.{IsMember}
 use Rattle.ipnet_sets.specs.RangesLeft.{ranges_left}
 use Rattle.netset_lib.proofs.AnswerTexts.{AreRangesWritten}
-use Rattle.netset_lib.proofs.answer.lines_of_ranges.Given as goal
+use Rattle.netset_lib.proofs.answer.range_lines.Given as goal
 
 abbrev pub invariant-loop-range : goal.invariant-loop-range
 invariant-loop-range l =
