@@ -1,5 +1,5 @@
 -- The blocks of both families, as the lines of lists are read.
-use Rattle.std.proofs.Common.{◌≡◌, ◌⊎◌, ℕ, List, [], ◌∷◌, ◌++◌, All, Any, Contains, Option, string_bytes}
+use Rattle.std.proofs.Common.{◌≡◌, ◌≤◌, ◌⊎◌, ℕ, List, [], ◌∷◌, ◌++◌, All, Any, Contains, Option, string_bytes}
 use Rattle.std.proofs.Common.{sym, ap, ◌∙◌, subst, arith, inl, inr, refl}
 use Rattle.std.proofs.lemmas.List.Elements.{All-append, All-weaker}
 use Rattle.std.proofs.lemmas.List.Quantifiers.{Any-push}
@@ -136,6 +136,18 @@ block_outside old new n title same_grammar same_frame same_ipv4 same_ipv6 outsid
       held = λ family. still_held (largest_of family old) (largest_of family new) (same family);
       has = λ inside.
           absurd (outside (subst (λ z. MeetsFrame z n) (sym h.same_frame) inside));
+    }
+
+-- a block that is too small
+pub block_past : (old new : NotedBlocks) (n : Network) (title : List ℕ) → new.grammar ≡ old.grammar
+    → new.frame ≡ old.frame → new.ipv4 ≡ old.ipv4 → new.ipv6 ≡ old.ipv6
+    → (largest_of n.family new).end ≤ n.prefix_len → KeepsBlock old new n title
+block_past old new n title same_grammar same_frame same_ipv4 same_ipv6 past = λ grammar frame lines any h.
+    let same = same_of old new same_ipv4 same_ipv6 in
+    record {
+      blocks = same_blocks grammar frame lines old new same_grammar same_frame same h;
+      held = λ family. still_held (largest_of family old) (largest_of family new) (same family);
+      has = λ inside short. absurd (omega (arith, past, short));
     }
 
 -- the block is of the family and in the frame

@@ -107,9 +107,25 @@ impl NotedBlocks {
         if let Some(network) = plain_network(line) {
             return self.is_past(network);
         }
-        match plain_network(contents_of(line, self.grammar)) {
+        let text = contents_of(line, self.grammar);
+        if text.len() == line.len() {
+            return false;
+        }
+        match plain_network(text) {
             Some(network) => self.is_past(network),
             None => false,
+        }
+    }
+
+    /// Whether the network is too small to be noted.
+    fn is_too_small(&self, network: &IpNet) -> bool
+        ensures { let n = ip_network network.now in
+            IsTrue result ↔ ((largest_of n.family self.now).end ≤ n.prefix_len) }
+    {
+        let len = usize::from(network.prefix_len());
+        match network {
+            IpNet::V4(_) => len >= self.ipv4.end,
+            IpNet::V6(_) => len >= self.ipv6.end,
         }
     }
 
@@ -118,6 +134,9 @@ impl NotedBlocks {
         ensures { OnOk result (KeepsBlock self.old self.new (ip_network network) title.now) }
     {
         self.count = self.count.saturating_add(1);
+        if self.is_too_small(&network) {
+            return Ok(());
+        }
         if !meets_frame(&self.frame, &network) {
             return Ok(());
         }

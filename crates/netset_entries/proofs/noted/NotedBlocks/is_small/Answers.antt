@@ -14,5 +14,5 @@ pub returns-in-Some-plain_network : goal.returns-in-Some-plain_network
 returns-in-Some-plain_network c = λ small.
     let b = c.args.self.now in
     let network = c.in-Some-plain_network.network in
-    small_line b c.args.line.now c.contents_of.result.now (family_if network.is_ipv6) network.len
-    c.contents_of.ensures c.in-Some-plain_network.ensures.blocks (c.is_past-in-Some-plain_network.ensures.0 small)
+    small_line b c.args.line.now c.contents_of-text.result.now (family_if network.is_ipv6) network.len
+    c.contents_of-text.ensures c.in-Some-plain_network.ensures.blocks (c.is_past-in-Some-plain_network.ensures.0 small)

@@ -1,8 +1,13 @@
 use Rattle.std.proofs.Common.{refl, ap}
 use Rattle.ipnet.specs.NetworkOf.{ip_network}
 use Rattle.ipnet_text.proofs.ListsLaws.{OnOk_then}
-use Rattle.netset_entries.proofs.NotedBlockLaws.{block_outside, ipv4_taken, ipv6_taken}
+use Rattle.netset_entries.proofs.NotedBlockLaws.{block_outside, block_past, ipv4_taken, ipv6_taken}
 use Rattle.netset_entries.proofs.noted.NotedBlocks.note_block.Goals as goal
+
+pub returns-then-is_too_small : goal.returns-then-is_too_small
+returns-then-is_too_small c =
+    block_past c.args.self.now _ (ip_network c.args.network) c.args.title.now refl refl refl refl
+    (c.is_too_small.ensures.0 c.if-is_too_small.true)
 
 pub returns-then-not-meets_frame : goal.returns-then-not-meets_frame
 returns-then-not-meets_frame c =
