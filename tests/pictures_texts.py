@@ -9,6 +9,13 @@ import pictures_files as files
 MOST_NAME, MOST_LINE = 100, 100
 
 
+def cut_text(text):
+    """The longest front of the text that has at most MOST_NAME bytes."""
+    while len(text.encode()) > MOST_NAME:
+        text = text[:-1]
+    return text
+
+
 def check_hostile(maps):
     """Names of files, comments, and names of networks, whatever they contain."""
     checks = maps.checks
@@ -23,7 +30,7 @@ def check_hostile(maps):
     lines = [b"10.20.%d.0/24 # %s\n" % (number, comment) for number, comment in enumerate(comments)]
     picture = maps.picture("comments", ["--in", "10.20.0.0/16"], [("a", b"".join(lines))])
     for number, comment in enumerate(comments if picture else []):
-        front = comment[:MOST_NAME].decode("utf-8", "replace")
+        front = cut_text(comment.decode("utf-8", "replace"))
         wanted = "10.20.%d.0/24: %s" % (number, files.shown(front.encode()))
         wanted += " (10.20.%d.0/24, 256 addresses, 256 used)" % number
         checks.check("comment %d" % number, [text for text in picture.texts() if text == wanted], [wanted])
