@@ -25,7 +25,6 @@ const COMMON: &str = "\
 .netmap text{font-family:ui-monospace,Menlo,Consolas,DejaVu Sans Mono,monospace;font-size:11px}\
 .netmap .head{font-size:15px;font-weight:bold}\
 .netmap .small text{font-size:9px;opacity:.8}\
-.netmap .small .halo{opacity:1}\
 .netmap .small .note{font-size:11px}\
 .netmap .hit{fill:#fff;fill-opacity:0}\
 .netmap .hit:hover{fill-opacity:.25}\
@@ -33,7 +32,7 @@ const COMMON: &str = "\
 .netmap .free{fill:none;stroke-width:1;stroke-opacity:.55;shape-rendering:crispEdges;pointer-events:none}\
 .netmap .name{fill:none;stroke-width:1.5}\
 .netmap .ring{fill:none;stroke-width:1.5;pointer-events:none}\
-.netmap .halo{stroke-width:4;stroke-linejoin:round;paint-order:stroke}\
+.netmap .halo{stroke-width:3;stroke-opacity:.6;stroke-linejoin:round;paint-order:stroke}\
 .netmap .pale{fill-opacity:.55}";
 
 /// The colours of a light page.

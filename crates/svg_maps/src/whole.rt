@@ -35,8 +35,8 @@ fn push_line(alloc: Global, lines: &mut Vec<String>, title: &str) -> Result<(), 
     Ok(())
 }
 
-/// Returns the lines of the legend about the entries that contain the whole frame: of the first eight. Fails only if
-/// memory runs out.
+/// Returns the lines of the legend about the entries that contain the whole frame: of the last eight, the last first,
+/// which are the smallest if the largest come first. Fails only if memory runs out.
 ///
 /// ```text
 /// of 10.20.0.0/16 with "10.20.0.0/16: office", in 10.20.0.0/16: "All of the map is in 10.20.0.0/16: office"
@@ -47,7 +47,8 @@ pub(crate) fn entry_lines(
     entries: &[MapEntry],
 ) -> Result<Vec<String>, AllocError> {
     let mut lines = Vec::new(alloc);
-    for entry in entries {
+    for index in (0..entries.len()).rev() {
+        let entry = &entries[index];
         if lines.len() < MOST_LINES && entry.network.contains(frame) {
             push_line(alloc, &mut lines, entry.title.as_str())?;
         }
