@@ -142,7 +142,7 @@ fn long_comments(rt: HostRuntime) -> Result<(), Fail> {
         let entries = notes.into_entries()?;
         let title = noted_first(alloc, entries.as_slice())?;
         // the title is written twice, as that of the first and of the last entry
-        let found = (title.len() - ", ".len()) / 2 - "10.0.0.1: ".len();
+        let found = (title.len().saturating_sub(", ".len()) / 2).saturating_sub("10.0.0.1: ".len());
         assert!(&rt; found == wanted, "comment: {count}: {found}, not {wanted}");
     }
     Ok(())
