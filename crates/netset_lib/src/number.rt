@@ -1,4 +1,4 @@
-//! The numbers of lines.
+//! The numbers of lines and of lists.
 ghost use Rattle.std.specs.Prelude.{◌≡◌, ◌+◌, IfOk};
 
 use std::alloc::AllocError;

@@ -126,10 +126,10 @@ fn opens_comment(line: &[u8], index: usize) -> bool
 pub fn comment_start(line: &[u8]) -> usize
     ensures { IsCommentAt line.now result }
 {
-    if memchr2(b'#', b';', line).is_none() {
+    let Some(first) = memchr2(b'#', b';', line) else {
         return line.len();
-    }
-    for index in 0..line.len() {
+    };
+    for index in first..line.len() {
         if opens_comment(line, index) {
             return index;
         }

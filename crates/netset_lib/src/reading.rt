@@ -4,6 +4,7 @@ ghost use Rattle.ipnet_text.specs.Inputs.{GaveWhole};
 ghost use Rattle.ipnet_text.specs.Window.{held};
 
 use crate::mark::{MOST_READS, begin_input};
+use crate::number::next_number;
 use crate::reader::{Collector, LineReader};
 use ipnet::Grammar;
 use ipnet_text::window::SIZE;
@@ -169,9 +170,7 @@ impl Reading {
         ensures same_refused { self.new.lines.refused ≡ self.old.lines.refused }
         ensures same_entry { self.new.lines.has_entry ≡ self.old.lines.has_entry }
     {
-        let Some(list) = self.lines.list.checked_add(1) else {
-            return Err(ReadFailure::Memory);
-        };
+        let list = next_number(self.lines.list)?;
         self.lines.list = list;
         Ok(())
     }

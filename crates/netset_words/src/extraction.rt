@@ -8,7 +8,7 @@ ghost use Rattle.netset_words.specs.ExtractSteps.{ReadsFront};
 use crate::item::ExtractRequest;
 use crate::word_reader::WordReader;
 use ipnet_text::{ReadError, Window, lines_len};
-use netset_lib::{MOST_READS, ReadFailure, begin_input};
+use netset_lib::{MOST_READS, ReadFailure, begin_input, next_number};
 use std::alloc::{AllocError, Global};
 use std::io::Read;
 
@@ -103,9 +103,7 @@ impl Extraction {
         ensures same_refused { self.new.words.refused ≡ self.old.words.refused }
         ensures same_entry { self.new.words.has_entry ≡ self.old.words.has_entry }
     {
-        let Some(list) = self.words.list.checked_add(1) else {
-            return Err(ReadFailure::Memory);
-        };
+        let list = next_number(self.words.list)?;
         self.words.list = list;
         Ok(())
     }

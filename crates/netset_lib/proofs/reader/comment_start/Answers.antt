@@ -1,3 +1,4 @@
+use Rattle.std.proofs.Common.{arith}
 use Rattle.netset_lib.proofs.CommentLaws.{none_opens}
 use Rattle.netset_lib.proofs.reader.comment_start.Goals as goal
 
@@ -8,3 +9,10 @@ loop-index-preserved c =
     let is = c.opens_comment.ensures.1 h in
     let not = c.if-opens_comment.false in
     absurd cc)
+
+pub returns : goal.returns
+returns c = record {
+  within = omega arith;
+  opens = λ less. absurd (omega (arith, less));
+  first = λ k less. c.loop-index.invariant k (omega (arith, less, c.loop-index-test.false));
+}
