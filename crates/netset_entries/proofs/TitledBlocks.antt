@@ -1,66 +1,19 @@
--- A line has at most one entry, and its blocks one title.
-use Rattle.std.proofs.Common.{◌≡◌, ◌≢◌, ◌≤◌, ℕ, List, [], ◌∷◌, ◌++◌, All, Contains, refl, sym, ◌∙◌, subst}
-use Rattle.std.proofs.Common.{arith, inl, inr, append_assoc}
+-- The blocks of the entry of a line have one title.
+use Rattle.std.proofs.Common.{◌≡◌, ◌≤◌, ℕ, List, Contains, sym, subst}
+use Rattle.std.proofs.Common.{arith}
 use Rattle.ipnet_base.specs.Address.{Family}
 use Rattle.ipnet_base.specs.Blocks.{AreMaximalBlocks, IsMaximal}
 use Rattle.ipnet_base.specs.Network.{Network}
 use Rattle.ipnet_base.specs.Ranges.{AddressRange}
 use Rattle.ipnet.specs.declared.parser.Grammar.{Grammar}
 use Rattle.ipnet_sets.specs.SetRanges.{IsInRange}
-use Rattle.netset_lib.specs.Entries.{IsAddressText, IsEntryText, IsPlainEntry, IsRangeEntry, IsRangeFrom, after_blanks}
-use Rattle.netset_lib.specs.Entries.{before_blanks}
+use Rattle.netset_lib.specs.Entries.{IsEntryText}
 use Rattle.netset_lib.specs.Lists.{IsContents}
-use Rattle.netset_lib.proofs.AddressBytes.{middle, one_front}
-use Rattle.netset_lib.proofs.BlankTexts.{undashed_front}
-use Rattle.netset_lib.proofs.EntryTexts.{address_bytes, one_address, plain_no_dash}
-use Rattle.netset_lib.proofs.OneReading.{all_contents, one_plain}
+use Rattle.netset_lib.proofs.OneReading.{one_contents, one_entry}
 use Rattle.netset_entries.specs.NotedEntries.{IsCommentOf, IsTitleOf, IsTitledBlock}
 use Rattle.netset_entries.specs.NoteSteps.{HasLength, IsSmallLine, largest_of}
 use Rattle.netset_entries.specs.declared.noted.NotedBlocks.{NotedBlocks}
 use Rattle.netset_entries.proofs.TitleLaws.{one_comment, one_title}
-
--- ---- one entry
-
-one_contents : (grammar : Grammar) (line text other : List ℕ) → IsContents grammar line text
-    → IsContents grammar line other → text ≡ other
-one_contents grammar line text other h k =
-    let both : text ∷ [] ≡ other ∷ [] =
-    all_contents grammar (line ∷ []) (text ∷ []) (other ∷ []) (text, [], refl, h, refl) (other, [], refl, k, refl) in
-    cc
-
-dash_in : (text front back : List ℕ) → text ≡ front ++ 45 ∷ back → ¬ (All (λ b. b ≢ 45) text)
-dash_in text front back e h = middle (λ b. b ≢ 45) front 45 back (subst (All (λ b. b ≢ 45)) e h) refl
-
-plain_is_no_range : (grammar : Grammar) (text : List ℕ) (r s : AddressRange) → IsPlainEntry grammar text r
-    → IsRangeEntry grammar text s → ⊥
-plain_is_no_range grammar text r s plain h =
-    dash_in text h.first_text h.last_text (h.spelled ∙ append_assoc h.first_text (45 ∷ []) h.last_text)
-    (plain_no_dash grammar text r plain)
-
-one_range_entry : (grammar : Grammar) (text : List ℕ) (r s : AddressRange) → IsRangeEntry grammar text r
-    → IsRangeEntry grammar text s → r ≡ s
-one_range_entry grammar text r s h k =
-    let cut = one_front (λ b. b ≢ 45) 45 (λ not. not refl) h.first_text h.last_text k.first_text k.last_text
-    (sym (h.spelled ∙ append_assoc h.first_text (45 ∷ []) h.last_text)
-    ∙ k.spelled ∙ append_assoc k.first_text (45 ∷ []) k.last_text)
-    (undashed_front h.first_text
-    (address_bytes grammar (before_blanks h.first_text) h.ends.first h.ends.writes_first))
-    (undashed_front k.first_text
-    (address_bytes grammar (before_blanks k.first_text) k.ends.first k.ends.writes_first)) in
-    let first = one_address grammar (before_blanks h.first_text) h.ends.first k.ends.first h.ends.writes_first
-    (subst (λ z. IsAddressText grammar (before_blanks z) k.ends.first) (sym cut.0) k.ends.writes_first) in
-    let last = one_address grammar (after_blanks h.last_text) h.ends.last k.ends.last h.ends.writes_last
-    (subst (λ z. IsAddressText grammar (after_blanks z) k.ends.last) (sym cut.1) k.ends.writes_last) in
-    let ends = subst (λ z. IsRangeFrom z h.ends.last s) (sym first)
-    (subst (λ z. IsRangeFrom k.ends.first z s) (sym last) k.ends.addresses) in
-    h.ends.addresses.is ∙ sym ends.is
-
-one_entry : (grammar : Grammar) (text : List ℕ) (r s : AddressRange) → IsEntryText grammar text r
-    → IsEntryText grammar text s → r ≡ s
-one_entry grammar text r s (inl h) (inl k) = one_plain grammar text r s h k
-one_entry grammar text r s (inl h) (inr k) = absurd (plain_is_no_range grammar text r s h k)
-one_entry grammar text r s (inr h) (inl k) = absurd (plain_is_no_range grammar text s r k h)
-one_entry grammar text r s (inr h) (inr k) = one_range_entry grammar text r s h k
 
 -- ---- its blocks
 

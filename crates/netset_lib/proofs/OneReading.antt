@@ -139,7 +139,7 @@ plain_is_no_range grammar text r s plain h =
 one_range : (first last : Address) (r s : AddressRange) → IsRangeFrom first last r → IsRangeFrom first last s → r ≡ s
 one_range first last r s h k = h.is ∙ sym k.is
 
-one_entry : (grammar : Grammar) (text : List ℕ) (r s : AddressRange) → IsEntryText grammar text r
+pub one_entry : (grammar : Grammar) (text : List ℕ) (r s : AddressRange) → IsEntryText grammar text r
     → IsEntryText grammar text s → r ≡ s
 one_entry grammar text r s (inl h) (inl k) = one_plain grammar text r s h k
 one_entry grammar text r s (inl h) (inr k) = absurd (plain_is_no_range grammar text r s h k)
@@ -169,7 +169,7 @@ one_comment line i j h k = elim (cases_order i j) [
   | inr (inr less) ↦ absurd (h.first j less (k.opens (omega (arith, less, h.within))))
 ]
 
-one_contents : (grammar : Grammar) (line text other : List ℕ) → IsContents grammar line text
+pub one_contents : (grammar : Grammar) (line text other : List ℕ) → IsContents grammar line text
     → IsContents grammar line other → text ≡ other
 one_contents grammar line text other h k = of h.is k.is
   where

@@ -141,7 +141,7 @@ fn long_comments(rt: HostRuntime) -> Result<(), Fail> {
         notes.end_list()?;
         let entries = notes.into_entries()?;
         let title = noted_first(alloc, entries.as_slice())?;
-        // the title is written twice, as that of the first and of the last entry
+        // `noted_first` writes the title twice: once for the first entry, once for the last
         let found = (title.len().saturating_sub(", ".len()) / 2).saturating_sub("10.0.0.1: ".len());
         assert!(&rt; found == wanted, "comment: {count}: {found}, not {wanted}");
     }
