@@ -9,8 +9,16 @@ DARK = re.compile(r"@media\s*\(prefers-color-scheme:\s*dark\)\s*\{((?:[^{}]*\{[^
 RULE = re.compile(r"([^{}]+)\{([^{}]*)\}")
 PART = re.compile(r"([a-z]*)((?:\.[\w-]+)*)")
 MOVE = re.compile(r"(translate|scale)\(([-\d.]+)(?:[ ,]+([-\d.]+))?\)")
-PATH = re.compile(r"m(-?\d+)(?: |(?=-))(-?\d+)h(\d+)v(\d+)h-(\d+)z")
+# a move, a rectangle after its move, and a row of cells as a line after its move
+STEP = r"m(0|-?[1-9]\d*)(?: (?!-)|(?=-))(0|-?[1-9]\d*)"
+OUTLINE = re.compile(STEP + r"h([1-9]\d*)v([1-9]\d*)h-(\d+)z")
+LINE = re.compile(STEP + r"h([1-9]\d*)")
+# the first move of lines: they are drawn through the middle of their rows
+MIDDLE = "m0 .5"
+# the classes of shapes that have a visible line, beside the rows of cells
+LINED = ("grid", "free", "name", "ring")
 WORDS = ("text", "title", "desc", "style")
+PAINT = ("fill", "fill-opacity", "stroke", "stroke-opacity", "stroke-width", "opacity")
 LIGHT_THEME, DARK_THEME = 0, 1
 THEMES = LIGHT_THEME, DARK_THEME
 
@@ -87,7 +95,7 @@ class Sheet:
 
     def properties(self, around, element):
         """What the element has by itself, given the elements around it."""
-        found = {key: element.get(key) for key in ("fill", "fill-opacity", "opacity") if element.get(key)}
+        found = {key: element.get(key) for key in PAINT if element.get(key)}
         for parts, values in self.rules:
             if matches(parts[-1], element) and all(any(matches(part, one) for one in around) for part in parts[:-1]):
                 found.update(values)
@@ -100,11 +108,38 @@ def matches(part, element):
     return name in ("", element.tag[len(SVG):]) and has_classes
 
 
-class Shape:
-    """A shape: its scale, its origin in pixels, and its colour over the ground; None if it paints nothing inside."""
+def painted(given, kind, theme):
+    """The colour of the inside or of the line of a shape over the ground, for `fill` or `stroke`; None if it paints
+    none."""
+    opacity = given["opacity"] * float(given.get(kind + "-opacity", 1))
+    if given.get(kind, "none") == "none" or not opacity or kind == "stroke" and not float(given.get("stroke-width", 1)):
+        return None
+    return mixed(rgb(given[kind]), rgb(COLOURS["ground"][theme]), opacity)
 
-    def __init__(self, element, place, colour):
-        self.element, self.place, self.colour = element, place, colour
+
+class Shape:
+    """A shape: its scale, its origin in pixels, the colour of its inside and of its line over the ground, and how wide
+    the line is. A colour is None if it paints nothing."""
+
+    def __init__(self, element, place, given, theme):
+        self.element, self.place = element, place
+        self.inside, self.line = (painted(given, kind, theme) for kind in ("fill", "stroke"))
+        self.line_width = given.get("stroke-width")
+
+    @property
+    def classes(self):
+        return self.element.get("class", "").split()
+
+    @property
+    def colour(self):
+        """The colour that covers its cells or its area; None if it paints nothing there."""
+        return self.line if "rows" in self.classes else self.inside
+
+    def has_stray_line(self):
+        """Whether it has a line that it may not have. A row of cells is one line, which is one cell wide."""
+        if "rows" in self.classes:
+            return self.inside is not None or self.line_width != "1"
+        return self.line is not None and not set(self.classes) & set(LINED)
 
     def side(self, key):
         """The attribute in pixels, or 0."""
@@ -113,6 +148,30 @@ class Shape:
     def at(self, x, y):
         """The place in pixels that these attributes name."""
         return self.place[1] + self.side(x), self.place[2] + self.side(y)
+
+
+class Layer:
+    """The cells of a class: the path of its rectangles that are more than one cell high, and the path of its rows."""
+
+    def __init__(self, tall, rows):
+        self.tall, self.rows = tall, rows
+        self.colour = tall.colour
+
+    def data(self):
+        return self.tall.element.get("d"), self.rows.element.get("d")
+
+    def rectangles(self):
+        """Its rectangles: column, row, width and height of each. None if a path is not of its kind."""
+        tall, rows = tall_of(self.data()[0]), rows_of(self.data()[1])
+        return None if tall is None or rows is None else tall + rows
+
+    def fault(self):
+        """What is wrong with its paths, and '' if nothing is: both have one class, one colour and one place."""
+        if self.rows.classes != self.tall.classes + ["rows"]:
+            return "the classes %s and %s" % (self.tall.classes, self.rows.classes)
+        if self.tall.colour is None or self.rows.colour != self.tall.colour:
+            return "%s has the colours %s and %s" % (self.tall.classes, self.tall.colour, self.rows.colour)
+        return "" if self.tall.place == self.rows.place else "%s has two places" % self.tall.classes
 
 
 class Picture:
@@ -149,11 +208,8 @@ class Picture:
         own = self.sheets[theme].properties(around, element)
         own["opacity"] = float(own.get("opacity", 1)) * float(given.get("opacity", 1))
         given = {**given, **own}
-        opacity = given["opacity"] * float(given.get("fill-opacity", 1))
         if name not in ("svg", "g"):
-            is_seen = given["fill"] != "none" and opacity > 0
-            colour = mixed(rgb(given["fill"]), rgb(COLOURS["ground"][theme]), opacity) if is_seen else None
-            yield Shape(element, (scale, left, top), colour)
+            yield Shape(element, (scale, left, top), given, theme)
         for child in element:
             yield from self._shapes(child, around + [element], (scale, left, top), given, theme)
 
@@ -174,9 +230,18 @@ class Picture:
         lines = [(one.text, float(one.get("y"))) for one in self.root.findall(SVG + "text")]
         return [(line, row) for line, row in lines if row > top + height]
 
+    def cell_paths(self, theme):
+        """The paths of cells, two for each class. A class without cells has paths without data."""
+        return [one for one in self.shapes(theme) if one.element.tag == SVG + "path" and "grid" not in one.classes]
+
+    def all_layers(self, theme):
+        """The layer of each class."""
+        paths = self.cell_paths(theme)
+        return [Layer(*pair) for pair in zip(paths[::2], paths[1::2])]
+
     def layers(self, theme):
-        """The paths that paint. A class without cells has a path without data."""
-        return [one for one in self.paints(theme) if one.element.tag == SVG + "path" and one.element.get("d")]
+        """The layer of each class that has cells."""
+        return [one for one in self.all_layers(theme) if any(one.data())]
 
     def rings(self):
         """The middle of each circle, in pixels."""
@@ -212,16 +277,31 @@ def shown(data):
     return made
 
 
-def rectangles_of(path):
-    """The rectangles of a path: column, row, width and height of each. None if it is another path."""
-    if PATH.sub("", path):
+def tall_of(path):
+    """The rectangles of a path of outlines: column, row, width and height of each. None if it is another path, or has a
+    rectangle that is one cell high."""
+    if OUTLINE.sub("", path):
         return None
     found, column, row = [], 0, 0
-    for x, y, width, height, back in PATH.findall(path):
+    for x, y, width, height, back in OUTLINE.findall(path):
         column, row = column + int(x), row + int(y)
         found.append((column, row, int(width), int(height)))
-        if width != back:
+        if width != back or height == "1":
             return None
+    return found
+
+
+def rows_of(path):
+    """The rectangles of a path of lines: column, row, width and height of each, which is 1. The pen is behind a row after
+    it is drawn. None if it is another path."""
+    first, lines = path[:len(MIDDLE)], path[len(MIDDLE):]
+    if path and (first != MIDDLE or not lines or LINE.sub("", lines)):
+        return None
+    found, column, row = [], 0, 0
+    for x, y, width in LINE.findall(lines):
+        column, row = column + int(x), row + int(y)
+        found.append((column, row, int(width), 1))
+        column += int(width)
     return found
 
 

@@ -10,10 +10,11 @@ MOST_NAME, MOST_LINE = 100, 100
 
 
 def cut_text(text):
-    """The longest front of the text that has at most MOST_NAME bytes."""
-    while len(text.encode()) > MOST_NAME:
-        text = text[:-1]
-    return text
+    """The text; if it has more than MOST_NAME bytes, its longest front that has no more, and two dots."""
+    front = text
+    while len(front.encode()) > MOST_NAME:
+        front = front[:-1]
+    return text if front == text else front + ".."
 
 
 def check_hostile(maps):
@@ -45,7 +46,7 @@ def check_hostile_names(maps):
     picture = maps.picture("names", ["--names", "names", "--in", "10.20.0.0/16"],
                            [("a", b"10.20.0.0/26\n"), ("names", "".join(lines).encode())])
     for number, (label, text) in enumerate(names):
-        name = files.shown(text.split("#")[0].encode()[:MOST_NAME].replace(b"\t", b" "))
+        name = files.shown(cut_text(text.split("#")[0]).replace("\t", " ").encode())
         wanted = "10.20.{}.0/20{}".format(16 * number, ": " + name if name else "")
         maps.checks.check("a name with " + label, wanted in picture.texts() if picture else None, True)
 

@@ -9,6 +9,8 @@ pub mod SharedLaws
 pub mod PathLaws
 pub mod PlaceLaws
 pub mod ReadLaws
+pub mod LineLaws
+pub mod LineReadLaws
 pub mod LevelLaws
 pub mod LevelWalkLaws
 pub mod LevelOrderLaws

@@ -1,7 +1,8 @@
 -- Paths, rectangle by rectangle.
-use Rattle.std.proofs.Common.{◌≡◌, ◌<◌, ◌≤◌, ◌+◌, ℕ, List, [], ◌∷◌, ◌++◌, take, length, get_or, refl, sym, ap, ◌∙◌}
-use Rattle.std.proofs.lemmas.List.{take_more, take_all, append-nil}
-use Rattle.std.proofs.Common.{append_assoc}
+use Rattle.std.proofs.Common.{◌≡◌, ◌<◌, ◌+◌, ℕ, Bool, true, false, cond, List, [], ◌∷◌, ◌++◌, take, length, get_or}
+use Rattle.std.proofs.Common.{refl, sym, ap, ◌∙◌, append_assoc, filter}
+use Rattle.std.proofs.lemmas.List.{append-nil}
+use Rattle.std.proofs.lemmas.List.Elements.{filter_more}
 use Rattle.ipnet_maps.specs.declared.layout.Place.{Place}
 use Rattle.ipnet_maps.specs.declared.layout.Rectangle.{Rectangle}
 use Rattle.ipnet_maps.specs.Paths.{rectangle_text, path_of}
@@ -22,24 +23,32 @@ last_push : (from : Place) (rs : List Rectangle) (r : Rectangle) → last_place 
 last_push from [] r = refl
 last_push from (s ∷ rs) r = last_push s.place rs r
 
--- After `i` rectangles the text is their path, and the pen is at the place of the last.
-pub record IsDrawn (rs : List Rectangle) (start : Place) (i : ℕ) (text : List ℕ) (pen : Place) : Type 0 where
-  pub spelled : text ≡ path_of start (take i rs)
-  pub at : pen ≡ last_place start (take i rs)
+-- The text is the path of these rectangles, and the pen is at the place of the last.
+pub record IsDrawn (rs : List Rectangle) (start : Place) (text : List ℕ) (pen : Place) : Type 0 where
+  pub spelled : text ≡ path_of start rs
+  pub at : pen ≡ last_place start rs
 
-pub drawn_more : (rs : List Rectangle) (start : Place) (i : ℕ) (d : Rectangle) (text more : List ℕ) (pen : Place)
-    → i < length rs → more ≡ text ++ rectangle_text pen (get_or rs i d) → IsDrawn rs start i text pen
-    → IsDrawn rs start (i + 1) more (get_or rs i d).place
-drawn_more rs start i d text more pen within added h =
-    let r = get_or rs i d in
-    let next : take (i + 1) rs ≡ take i rs ++ r ∷ [] = take_more rs i d within in
-    record {
-      spelled = added ∙ ap (λ z. z ++ rectangle_text pen r) h.spelled
-          ∙ ap (λ z. path_of start (take i rs) ++ rectangle_text z r) h.at
-          ∙ sym (path_push start (take i rs) r) ∙ ap (path_of start) (sym next);
-      at = sym (last_push start (take i rs) r) ∙ ap (last_place start) (sym next);
-    }
+pub drawn_more : (rs more : List Rectangle) (start : Place) (r : Rectangle) (text longer : List ℕ) (pen : Place)
+    → more ≡ rs ++ r ∷ [] → longer ≡ text ++ rectangle_text pen r → IsDrawn rs start text pen
+    → IsDrawn more start longer r.place
+drawn_more rs more start r text longer pen one added h = record {
+  spelled = added ∙ ap (λ z. z ++ rectangle_text pen r) h.spelled
+      ∙ ap (λ z. path_of start rs ++ rectangle_text z r) h.at ∙ sym (path_push start rs r)
+      ∙ ap (path_of start) (sym one);
+  at = sym (last_push start rs r) ∙ ap (last_place start) (sym one);
+}
 
-pub drawn_whole : (rs : List Rectangle) (start : Place) (i : ℕ) (text : List ℕ) (pen : Place) → length rs ≤ i
-    → IsDrawn rs start i text pen → text ≡ path_of start rs
-drawn_whole rs start i text pen le h = h.spelled ∙ ap (path_of start) (take_all i rs le)
+-- ---- the members of a list that pass a test, one after the other
+
+pub one_passes : {X : Type 0} (test : X → Bool) (xs : List X) (i : ℕ) (d : X) → i < length xs
+    → test (get_or xs i d) ≡ true → filter test (take (i + 1) xs) ≡ filter test (take i xs) ++ get_or xs i d ∷ []
+one_passes test xs i d within passes =
+    filter_more test xs i d within
+    ∙ ap (λ z. filter test (take i xs) ++ cond z (get_or xs i d ∷ []) []) passes
+
+pub one_fails : {X : Type 0} (test : X → Bool) (xs : List X) (i : ℕ) (d : X) → i < length xs
+    → test (get_or xs i d) ≡ false → filter test (take (i + 1) xs) ≡ filter test (take i xs)
+one_fails test xs i d within fails =
+    filter_more test xs i d within
+    ∙ ap (λ z. filter test (take i xs) ++ cond z (get_or xs i d ∷ []) []) fails
+    ∙ append-nil (filter test (take i xs))

@@ -11,10 +11,10 @@ use Rattle.ipnet_maps.specs.declared.layout.Place.{Place}
 use Rattle.ipnet_maps.specs.declared.layout.Rectangle.{Rectangle}
 use Rattle.ipnet_maps.specs.Paths.{distance_text, move_text, outline_text, rectangle_text, path_of, FitsWords}
 
-head_is : (x y : ℕ) (xs ys : List ℕ) → x ∷ xs ≡ y ∷ ys → x ≡ y
+pub head_is : (x y : ℕ) (xs ys : List ℕ) → x ∷ xs ≡ y ∷ ys → x ≡ y
 head_is x y xs ys e = ap (λ l. get_or l 0 0) e
 
-tail_is : (x y : ℕ) (xs ys : List ℕ) → x ∷ xs ≡ y ∷ ys → xs ≡ ys
+pub tail_is : (x y : ℕ) (xs ys : List ℕ) → x ∷ xs ≡ y ∷ ys → xs ≡ ys
 tail_is x y xs ys e = ap (λ l. drop 1 l) e
 
 -- a byte that is not a digit
@@ -39,7 +39,7 @@ split (x ∷ xs) (y ∷ ys) c d s t p q stop end e =
 digits : (n : ℕ) → n < 2 ^ 64 → AllDigits 10 (decimal n)
 digits n h = (decimal_is_IsNumeral n h).0.1
 
-number_read : (a b c d : ℕ) (s t : List ℕ) → a < 2 ^ 64 → b < 2 ^ 64 → IsStop c → IsStop d
+pub number_read : (a b c d : ℕ) (s t : List ℕ) → a < 2 ^ 64 → b < 2 ^ 64 → IsStop c → IsStop d
     → decimal a ++ c ∷ s ≡ decimal b ++ d ∷ t → (a ≡ b) × (c ∷ s ≡ d ∷ t)
 number_read a b c d s t fits other stop end e =
     let h = split (decimal a) (decimal b) c d s t (digits a fits) (digits b other) stop end e in
@@ -127,10 +127,10 @@ module _ (from a b c d : ℕ) (s t : List ℕ) (here : from < 2 ^ 32) (fits : a 
 
 -- what begins with a distance after a blank begins with no digit
 pub record Begins (text : List ℕ) : Type 0 where
-  first : ℕ
-  others : List ℕ
-  stop : IsStop first
-  same : text ≡ first ∷ others
+  pub first : ℕ
+  pub others : List ℕ
+  pub stop : IsStop first
+  pub same : text ≡ first ∷ others
 
 spaced_begins : (from to : ℕ) (rest : List ℕ) → Begins (distance_text (codes " ") from to ++ rest)
 spaced_begins from to rest = elim (cases_lt to from) [
@@ -148,34 +148,59 @@ spaced_begins from to rest = elim (cases_lt to from) [
   }
 ]
 
+-- ---- moves
+
+-- the parts of a move and what follows it, each before all that follows
+abbrev spread : Place → Place → List ℕ → List ℕ
+spread from to rest =
+    109 ∷ (distance_text [] from.column to.column ++ (distance_text (codes " ") from.row to.row ++ rest))
+
+pub spread_is : (from to : Place) (rest : List ℕ) → move_text from to ++ rest ≡ spread from to rest
+spread_is from to rest =
+    let across = distance_text [] from.column to.column in
+    let down = distance_text (codes " ") from.row to.row in
+    append_assoc (codes "m" ++ across) down rest ∙ append_assoc (codes "m") across (down ++ rest)
+
+-- a move reads back before an `h`
+pub move_read : (from a b : Place) (left right : List ℕ) → from.column < 2 ^ 32 → from.row < 2 ^ 32
+    → a.column < 2 ^ 32 → a.row < 2 ^ 32 → b.column < 2 ^ 32 → b.row < 2 ^ 32
+    → move_text from a ++ 104 ∷ left ≡ move_text from b ++ 104 ∷ right
+    → ((a.column ≡ b.column) × (a.row ≡ b.row)) × (left ≡ right)
+move_read from a b left right column row ac ar bc br e =
+    let shown : spread from a (104 ∷ left) ≡ spread from b (104 ∷ right)
+    = sym (spread_is from a (104 ∷ left)) ∙ e ∙ spread_is from b (104 ∷ right) in
+    let one_begins = spaced_begins from.row a.row (104 ∷ left) in
+    let other_begins = spaced_begins from.row b.row (104 ∷ right) in
+    let one = plain_read from.column a.column b.column one_begins.first other_begins.first one_begins.others
+    other_begins.others column ac bc one_begins.stop other_begins.stop
+    (ap (λ z. distance_text [] from.column a.column ++ z) (sym one_begins.same) ∙ tail_is 109 109 _ _ shown
+    ∙ ap (λ z. distance_text [] from.column b.column ++ z) other_begins.same) in
+    let two = spaced_read from.row a.row b.row 104 104 left right row ar br (omega arith) (omega arith)
+    (one_begins.same ∙ one.1 ∙ sym other_begins.same) in
+    ((one.0, two.0), tail_is 104 104 left right two.1)
+
 -- ---- rectangles
 
--- the parts of a rectangle and what follows it, each before all that follows
-abbrev spread : Place → Rectangle → List ℕ → List ℕ
-spread from r rest =
-    109 ∷ (distance_text [] from.column r.place.column ++ (distance_text (codes " ") from.row r.place.row
-    ++ 104 ∷ (decimal r.sides.width ++ 118 ∷ (decimal r.sides.height ++ 104
-    ∷ (45 ∷ (decimal r.sides.width ++ 122 ∷ rest))))))
+-- the outline of a rectangle after its first letter, and what follows it, each part before all that follows
+abbrev sides_before : Rectangle → List ℕ → List ℕ
+sides_before r rest =
+    decimal r.sides.width ++ 118 ∷ (decimal r.sides.height ++ 104 ∷ (45 ∷ (decimal r.sides.width ++ 122 ∷ rest)))
 
-spread_is : (from : Place) (r : Rectangle) (rest : List ℕ) → rectangle_text from r ++ rest ≡ spread from r rest
-spread_is from r rest =
-    let x = distance_text [] from.column r.place.column in
-    let y = distance_text (codes " ") from.row r.place.row in
+rectangle_is : (from : Place) (r : Rectangle) (rest : List ℕ)
+    → rectangle_text from r ++ rest ≡ move_text from r.place ++ 104 ∷ sides_before r rest
+rectangle_is from r rest =
     let w = decimal r.sides.width in
     let h = decimal r.sides.height in
-    let outline : outline_text r.sides ++ rest ≡ 104 ∷ (w ++ 118 ∷ (h ++ 104 ∷ (45 ∷ (w ++ 122 ∷ rest))))
-    = append_assoc (codes "h" ++ w ++ codes "v" ++ h ++ codes "h-" ++ w) (codes "z") rest
+    append_assoc (move_text from r.place) (outline_text r.sides) rest
+    ∙ ap (λ z. move_text from r.place ++ z)
+    (append_assoc (codes "h" ++ w ++ codes "v" ++ h ++ codes "h-" ++ w) (codes "z") rest
     ∙ append_assoc (codes "h" ++ w ++ codes "v" ++ h ++ codes "h-") w (122 ∷ rest)
     ∙ append_assoc (codes "h" ++ w ++ codes "v" ++ h) (codes "h-") (w ++ 122 ∷ rest)
     ∙ append_assoc (codes "h" ++ w ++ codes "v") h (104 ∷ (45 ∷ (w ++ 122 ∷ rest)))
     ∙ append_assoc (codes "h" ++ w) (codes "v") (h ++ 104 ∷ (45 ∷ (w ++ 122 ∷ rest)))
-    ∙ append_assoc (codes "h") w (118 ∷ (h ++ 104 ∷ (45 ∷ (w ++ 122 ∷ rest)))) in
-    append_assoc (move_text from r.place) (outline_text r.sides) rest
-    ∙ ap (λ z. move_text from r.place ++ z) outline
-    ∙ append_assoc (codes "m" ++ x) y (104 ∷ (w ++ 118 ∷ (h ++ 104 ∷ (45 ∷ (w ++ 122 ∷ rest)))))
-    ∙ append_assoc (codes "m") x (y ++ 104 ∷ (w ++ 118 ∷ (h ++ 104 ∷ (45 ∷ (w ++ 122 ∷ rest)))))
+    ∙ append_assoc (codes "h") w (118 ∷ (h ++ 104 ∷ (45 ∷ (w ++ 122 ∷ rest)))))
 
-same_rectangle : (r s : Rectangle) → r.place.column ≡ s.place.column → r.place.row ≡ s.place.row
+pub same_rectangle : (r s : Rectangle) → r.place.column ≡ s.place.column → r.place.row ≡ s.place.row
     → r.sides.width ≡ s.sides.width → r.sides.height ≡ s.sides.height → r ≡ s
 same_rectangle r s a b c d = λ i. record {
   place = record { column = a i; row = b i };
@@ -186,35 +211,24 @@ rectangle_read : (from : Place) (r s : Rectangle) (left right : List ℕ) → fr
     → FitsWords r → FitsWords s → rectangle_text from r ++ left ≡ rectangle_text from s ++ right
     → (r ≡ s) × (left ≡ right)
 rectangle_read from r s left right column row fr fs e =
-    let shown : spread from r left ≡ spread from s right = sym (spread_is from r left) ∙ e ∙ spread_is from s right in
-    let upper = λ (q : Rectangle) (rest : List ℕ). 104 ∷ (decimal q.sides.width ++ 118 ∷ (decimal q.sides.height
-    ++ 104 ∷ (45 ∷ (decimal q.sides.width ++ 122 ∷ rest)))) in
-    let br = spaced_begins from.row r.place.row (upper r left) in
-    let bs = spaced_begins from.row s.place.row (upper s right) in
-    let one = plain_read from.column r.place.column s.place.column br.first bs.first br.others bs.others column
-    fr.column fs.column br.stop bs.stop
-    (ap (λ z. distance_text [] from.column r.place.column ++ z) (sym br.same) ∙ tail_is 109 109 _ _ shown
-    ∙ ap (λ z. distance_text [] from.column s.place.column ++ z) bs.same) in
-    let two = spaced_read from.row r.place.row s.place.row 104 104
-    (decimal r.sides.width ++ 118 ∷ (decimal r.sides.height ++ 104 ∷ (45 ∷ (decimal r.sides.width ++ 122 ∷ left))))
-    (decimal s.sides.width ++ 118 ∷ (decimal s.sides.height ++ 104 ∷ (45 ∷ (decimal s.sides.width ++ 122 ∷ right))))
-    row fr.row fs.row (omega arith) (omega arith) (br.same ∙ one.1 ∙ sym bs.same) in
-    let three = number_read r.sides.width s.sides.width 118 118
+    let at = move_read from r.place s.place (sides_before r left) (sides_before s right) column row fr.column fr.row
+    fs.column fs.row (sym (rectangle_is from r left) ∙ e ∙ rectangle_is from s right) in
+    let wide = number_read r.sides.width s.sides.width 118 118
     (decimal r.sides.height ++ 104 ∷ (45 ∷ (decimal r.sides.width ++ 122 ∷ left)))
     (decimal s.sides.height ++ 104 ∷ (45 ∷ (decimal s.sides.width ++ 122 ∷ right)))
-    (omega (arith, fr.width)) (omega (arith, fs.width)) (omega arith) (omega arith) (tail_is 104 104 _ _ two.1) in
-    let four = number_read r.sides.height s.sides.height 104 104
+    (omega (arith, fr.width)) (omega (arith, fs.width)) (omega arith) (omega arith) at.1 in
+    let high = number_read r.sides.height s.sides.height 104 104
     (45 ∷ (decimal r.sides.width ++ 122 ∷ left)) (45 ∷ (decimal s.sides.width ++ 122 ∷ right))
     (omega (arith, fr.height)) (omega (arith, fs.height)) (omega arith) (omega arith)
-    (tail_is 118 118 _ _ three.1) in
-    let five = number_read r.sides.width s.sides.width 122 122 left right
+    (tail_is 118 118 _ _ wide.1) in
+    let again = number_read r.sides.width s.sides.width 122 122 left right
     (omega (arith, fr.width)) (omega (arith, fs.width)) (omega arith) (omega arith)
-    (tail_is 45 45 _ _ (tail_is 104 104 _ _ four.1)) in
-    (same_rectangle r s one.0 two.0 three.0 four.0, tail_is 122 122 left right five.1)
+    (tail_is 45 45 _ _ (tail_is 104 104 _ _ high.1)) in
+    (same_rectangle r s at.0.0 at.0.1 wide.0 high.0, tail_is 122 122 left right again.1)
 
 some_text : (from : Place) (r : Rectangle) (rest : List ℕ) → [] ≡ rectangle_text from r ++ rest → ⊥
 some_text from r rest e =
-    let shown = e ∙ spread_is from r rest in
+    let shown = e ∙ rectangle_is from r rest ∙ spread_is from r.place (104 ∷ sides_before r rest) in
     omega (arith, ap length shown)
 
 pub path_read : (from : Place) (rs ss : List Rectangle) → from.column < 2 ^ 32 → from.row < 2 ^ 32 → All FitsWords rs

@@ -10,7 +10,7 @@ ghost use Rattle.ipnet_maps.specs.declared.layout.Axis.{Axis};
 ghost use Rattle.ipnet_maps.specs.declared.layout.Rectangle.{Rectangle};
 ghost use Rattle.ipnet_maps.specs.Cuts.{columns_in, rows_in, column_of, row_of, cell_at};
 ghost use Rattle.ipnet_maps.specs.Squares.{cuts_from, square_cuts, IsRectangleOf, IsInRectangle};
-ghost use Rattle.ipnet_maps.specs.Paths.{corner, path_of, FitsWords};
+ghost use Rattle.ipnet_maps.specs.Paths.{corner, path_of, rows_path, FitsWords};
 ghost use Rattle.ipnet_maps.specs.Levels.{place_of};
 
 /// The cells of a map and the places of its grid are one to one, whatever the cuts are.
@@ -51,10 +51,13 @@ pub fn sides_differ_little()
         (columns_in cuts ≤ rows_in cuts + 4) × (rows_in cuts ≤ columns_in cuts + 4) }
 {}
 
-/// A path reads back as its rectangles: no other list of rectangles has the same path.
+/// A path reads back as its rectangles: no other list of rectangles has the same path. A path of lines reads back as
+/// its rows.
 pub fn paths_read_back()
-    ensures { (rs ss : List Rectangle) → All FitsWords rs → All FitsWords ss → path_of corner rs ≡ path_of corner ss
-        → rs ≡ ss }
+    ensures rectangles { (rs ss : List Rectangle) → All FitsWords rs → All FitsWords ss
+        → path_of corner rs ≡ path_of corner ss → rs ≡ ss }
+    ensures rows { (rs ss : List Rectangle) → All FitsWords rs → All FitsWords ss → All (λ r. r.sides.height ≡ 1) rs
+        → All (λ s. s.sides.height ≡ 1) ss → rows_path rs ≡ rows_path ss → rs ≡ ss }
 {}
 
 /// The level of a cell is the lowest if and only if no address of the cell is in the set, and the highest if and only

@@ -21,6 +21,6 @@ pub use depth::greatest_depth_of;
 pub use drawing::{Class, Drawing, Layer, draw_change, draw_set, draw_sets};
 pub use layout::{Axis, Layout, Place, Rectangle, Sides};
 pub use levels::{LevelCells, level_cells};
-pub use path::path_text;
+pub use path::{path_text, rows_path_text, tall_path_text};
 pub use places::{rectangle_in, rectangles_of};
 pub use shared::{cells_in_two_of, in_two_of};

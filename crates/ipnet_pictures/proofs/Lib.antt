@@ -8,3 +8,4 @@ pub mod OutsideLaws
 pub mod ChangeLaws
 pub mod ComparisonLaws
 pub mod FrameLaws
+pub mod ShortLaws

@@ -8,3 +8,4 @@ pub mod Summaries
 pub mod Bars
 pub mod Changes
 pub mod ComparisonBars
+pub mod ShortTexts

@@ -9,6 +9,7 @@ pub mod marks;
 pub mod outside;
 pub mod part;
 pub mod share;
+pub mod short;
 pub mod summary;
 
 pub use bar::{BarForm, bar_text};
@@ -19,4 +20,5 @@ pub use marks::{Marks, RowWidth, mark_len_of, row_len_of};
 pub use outside::outside_of;
 pub use part::{count_in, host_bits_of, last_place, level_in, levels_in, size_of, subnets_of};
 pub use share::{Level, level_of, tenths_of};
+pub use short::shorten;
 pub use summary::{free_in, largest_of, push_count};

@@ -1,14 +1,13 @@
 -- Texts without "-": what their signs say of the entry that they are.
-use Rattle.std.proofs.Common.{◌≡◌, ◌≢◌, ◌⊎◌, ℕ, ◌+◌, ◌<◌, ◌≤◌, Bool, true, false, List, [], ◌∷◌, ◌++◌, All, length}
+use Rattle.std.proofs.Common.{◌≡◌, ◌≢◌, ◌⊎◌, ℕ, ◌+◌, ◌*◌, ◌<◌, ◌≤◌, Bool, true, false, List, [], ◌∷◌, ◌++◌, All, length}
 use Rattle.std.proofs.Common.{take, drop, get_or, Some, refl, sym, ap, ◌∙◌, subst, arith, inl, inr}
-use Rattle.std.proofs.Common.{append_assoc, ◌&&◌, ◌||◌, ◌==◌, bit_or, eq-eqb, eqb-true, leb, not}
+use Rattle.std.proofs.Common.{append_assoc, ◌||◌, ◌==◌, bit_and, bit_or, cond, nat_lt, not}
 use Rattle.std.specs.Char.{digit_value, is_ascii_whitespace}
-use Rattle.std.proofs.lemmas.Bool.{cases_lt, leb-true}
-use Rattle.std.proofs.lemmas.Nat.{or_lt}
-use Rattle.std.proofs.Common.{lit<}
+use Rattle.std.proofs.lemmas.Bool.{cases_eq, ne_eqb}
+use Rattle.std.proofs.lemmas.Nat.{and_or_self, and_or_apart}
 use Rattle.std.specs.Str.Parse.{AllDigits, digits_value}
 use Rattle.std.proofs.lemmas.Bool.Decides.{nat_tests}
-use Rattle.std.proofs.lemmas.List.{take_all, take_more, drop_more, take-append-drop}
+use Rattle.std.proofs.lemmas.List.{take_all, take_more, drop_all, drop_more, take-append-drop}
 use Rattle.std.proofs.lemmas.List.Elements.{All-nil, All-append, All-cons, All-head, All-more, All-pop}
 use Rattle.std.proofs.lemmas.List.Elements.{All-tail}
 use Rattle.ipnet_base.specs.Address.{IPv4, IPv6, Address, width}
@@ -26,12 +25,11 @@ use Rattle.ipnet.proofs.Ipv4Texts.{Dots-from}
 use Rattle.ipnet_sets.specs.SetRanges.{IsInRange}
 use Rattle.netset_lib.specs.Entries.{IsAddressText, IsEntryText, IsPlainEntry, IsNetworkOrMasked, IsMaskedText}
 use Rattle.netset_lib.specs.Entries.{block_range}
-use Rattle.netset_lib.specs.PlanAnswers.{IsLengthText}
 use Rattle.netset_lib.proofs.PlainLines.{plain_contents}
 use Rattle.netset_lib.proofs.AddressBytes.{IsAddressByte, IsPlainByte, decimal_bytes, middle, one_back}
 use Rattle.netset_lib.proofs.EntryTexts.{address_bytes, cut_no_address, network_cut}
 use Rattle.netset_lib.proofs.RangeCovers.{whole_block}
-use Rattle.netset_entries.specs.NoteSteps.{AreSigns, EndsInLength, HasLength, family_if}
+use Rattle.netset_entries.specs.NoteSteps.{AreSigns, EndsInLength, HasLength, byte_sign, family_if}
 use Rattle.netset_entries.specs.declared.plain.Signs.{Signs}
 
 -- ---- the signs of the bytes so far
@@ -53,75 +51,15 @@ seen_none text is_plain = record {
 }
 
 -- what one byte more says
-pub record IsByteSeen (b : ℕ) (plain colon slash new_plain new_colon new_slash : Bool) : Type 0 where
-  pub before : new_plain ≡ true → plain ≡ true
-  pub is_plain : new_plain ≡ true → IsPlainByte b
-  pub no_dash : new_plain ≡ true → b ≢ 45
-  pub some_colon : new_colon ≡ true → (colon ≡ true) ⊎ (b ≡ 58)
-  pub no_colon : new_colon ≡ false → (colon ≡ false) × (b ≢ 58)
-  pub no_slash : new_slash ≡ false → (slash ≡ false) × (b ≢ 47)
+record IsByteSeen (b : ℕ) (plain colon slash new_plain new_colon new_slash : Bool) : Type 0 where
+  before : new_plain ≡ true → plain ≡ true
+  is_plain : new_plain ≡ true → IsPlainByte b
+  no_dash : new_plain ≡ true → b ≢ 45
+  some_colon : new_colon ≡ true → (colon ≡ true) ⊎ (b ≡ 58)
+  no_colon : new_colon ≡ false → (colon ≡ false) × (b ≢ 58)
+  no_slash : new_slash ≡ false → (slash ≡ false) × (b ≢ 47)
 
--- the tests of a byte
-both_true : (x y : Bool) → (x && y) ≡ true → (x ≡ true) × (y ≡ true)
-both_true true y e = (refl, e)
-both_true false y e = let clash : false ≡ true = e in absurd cc
-
-one_true : (x y : Bool) → (x || y) ≡ true → (x ≡ true) ⊎ (y ≡ true)
-one_true true y e = inl refl
-one_true false y e = inr e
-
-none_true : (x y : Bool) → (x || y) ≡ false → (x ≡ false) × (y ≡ false)
-none_true true y e = let clash : true ≡ false = e in absurd cc
-none_true false y e = (refl, e)
-
-abbrev pub is_plain_byte : ℕ → Bool
-is_plain_byte b = (leb 46 b && leb b 58) || (leb 97 (bit_or b 32) && leb (bit_or b 32) 102)
-
--- a mark or a digit, or a byte after all of these
-plain_range : (b : ℕ) → is_plain_byte b ≡ true → ((46 ≤ b) × (b ≤ 58)) ⊎ (64 ≤ b)
-plain_range b e =
-    elim (one_true (leb 46 b && leb b 58) (leb 97 (bit_or b 32) && leb (bit_or b 32) 102) e) [
-      | inl mark ↦
-          let both = both_true (leb 46 b) (leb b 58) mark in
-          inl (leb-true 46 b both.0, leb-true b 58 both.1)
-      | inr letter ↦ elim (cases_lt b 64) [
-        | inr large ↦ inr large
-        | inl small ↦
-            let both = both_true (leb 97 (bit_or b 32)) (leb (bit_or b 32) 102) letter in
-            let less : bit_or b 32 < 64 = or_lt 6 b 32 small (lit< tt) in
-            absurd (omega (arith, less, leb-true 97 (bit_or b 32) both.0))
-      ]
-    ]
-
-blank_low : (b : ℕ) → is_ascii_whitespace b ≡ true → b ≤ 32
-blank_low b e = grind (arith, nat_tests, e)
-
-plain_byte : (b : ℕ) → is_plain_byte b ≡ true → IsPlainByte b
-plain_byte b h = record {
-  no_blank = by (is_ascii_whitespace b) refl;
-  no_hash = λ e. omega (arith, plain_range b h, e);
-  no_semicolon = λ e. omega (arith, plain_range b h, e);
-}
-  where
-    by : (r : Bool) → is_ascii_whitespace b ≡ r → is_ascii_whitespace b ≡ false
-    by false e = e
-    by true e = absurd (omega (arith, plain_range b h, blank_low b e))
-
-pub byte_seen : (b : ℕ) (plain colon slash : Bool)
-    → IsByteSeen b plain colon slash (plain && is_plain_byte b) (colon || (b == 58)) (slash || (b == 47))
-byte_seen b plain colon slash = record {
-  before = λ e. (both_true plain (is_plain_byte b) e).0;
-  is_plain = λ e. plain_byte b (both_true plain (is_plain_byte b) e).1;
-  no_dash = λ e is. omega (arith, plain_range b (both_true plain (is_plain_byte b) e).1, is);
-  some_colon = λ e. elim (one_true colon (b == 58) e) [ inl was ↦ inl was | inr is ↦ inr (eqb-true b 58 is) ];
-  no_colon = λ e. let none = none_true colon (b == 58) e in (none.0, ne_from b 58 none.1);
-  no_slash = λ e. let none = none_true slash (b == 47) e in (none.0, ne_from b 47 none.1);
-}
-  where
-    ne_from : (x y : ℕ) → (x == y) ≡ false → x ≢ y
-    ne_from x y none e = let clash : true ≡ false = sym (eq-eqb x y e) ∙ none in absurd cc
-
-pub seen_more : (text : List ℕ) (i : ℕ) (plain colon slash new_plain new_colon new_slash : Bool) → i < length text
+seen_more : (text : List ℕ) (i : ℕ) (plain colon slash new_plain new_colon new_slash : Bool) → i < length text
     → IsByteSeen (get_or text i 0) plain colon slash new_plain new_colon new_slash
     → AreSeen text i plain colon slash → AreSeen text (i + 1) new_plain new_colon new_slash
 seen_more text i plain colon slash new_plain new_colon new_slash less byte h = record {
@@ -138,6 +76,127 @@ seen_more text i plain colon slash new_plain new_colon new_slash less byte h = r
     more : (P : ℕ → Type 0) → All P (take i text) → P (get_or text i 0) → All P (take (i + 1) text)
     more P before is = All-more P text i 0 less before is
 
+-- ---- the sign of a byte
+
+-- a dot or a hexadecimal digit
+abbrev is_plain_byte : ℕ → Bool
+is_plain_byte b = (b == 46) || nat_lt (digit_value b) 16
+
+plain_high : (b : ℕ) → is_plain_byte b ≡ true → 46 ≤ b
+plain_high b e = grind (arith, nat_tests, e)
+
+plain_other : (b : ℕ) → is_plain_byte b ≡ true → b ≢ 59
+plain_other b e is = grind (arith, nat_tests, e, is)
+
+blank_low : (b : ℕ) → is_ascii_whitespace b ≡ true → b ≤ 32
+blank_low b e = grind (arith, nat_tests, e)
+
+plain_byte : (b : ℕ) → 46 ≤ b → b ≢ 59 → IsPlainByte b
+plain_byte b high other = record {
+  no_blank = by (is_ascii_whitespace b) refl;
+  no_hash = λ e. omega (arith, high, e);
+  no_semicolon = other;
+}
+  where
+    by : (r : Bool) → is_ascii_whitespace b ≡ r → is_ascii_whitespace b ≡ false
+    by false e = e
+    by true e = absurd (omega (arith, high, blank_low b e))
+
+-- whether the signs lack one
+abbrev pub lacks : ℕ → ℕ → Bool
+lacks signs sign = bit_and signs sign == 0
+
+-- a sign that is added, and one that is not
+added : (signs sign : ℕ) → (sign == 0) ≡ false → lacks (bit_or signs sign) sign ≡ false
+added signs sign some = ap (λ z. z == 0) (and_or_self sign signs) ∙ some
+
+kept : (signs sign other : ℕ) → bit_and other sign ≡ 0 → lacks (bit_or signs other) sign ≡ lacks signs sign
+kept signs sign other apart = ap (λ z. z == 0) (and_or_apart sign signs other apart)
+
+-- the signs of the bytes so far
+abbrev pub HaveSigns : List ℕ → ℕ → ℕ → Type 0
+HaveSigns text i seen = AreSeen text i (lacks seen 1) (not (lacks seen 2)) (not (lacks seen 4))
+
+abbrev IsSeenWith : ℕ → ℕ → ℕ → Type 0
+IsSeenWith b seen new =
+    IsByteSeen b (lacks seen 1) (not (lacks seen 2)) (not (lacks seen 4)) (lacks new 1) (not (lacks new 2))
+    (not (lacks new 4))
+
+clash : (x : Bool) → x ≡ true → x ≡ false → ⊥
+clash x e h = let c : true ≡ false = sym e ∙ h in absurd cc
+
+not_false : (x : Bool) → not x ≡ false → x ≡ true
+not_false true e = refl
+not_false false e = let c : true ≡ false = e in absurd cc
+
+colon_seen : (seen : ℕ) → IsSeenWith 58 seen (bit_or seen 2)
+colon_seen seen = record {
+  before = λ e. sym (kept seen 1 2 refl) ∙ e;
+  is_plain = λ e. plain_byte 58 (omega arith) (λ e. omega (arith, e));
+  no_dash = λ e is. omega (arith, is);
+  some_colon = λ e. inr refl;
+  no_colon = λ e. absurd (clash (lacks (bit_or seen 2) 2) (not_false (lacks (bit_or seen 2) 2) e) (added seen 2 refl));
+  no_slash = λ e. (ap not (sym (kept seen 4 2 refl)) ∙ e, λ is. omega (arith, is));
+}
+
+slash_seen : (seen : ℕ) → IsSeenWith 47 seen (bit_or seen 4)
+slash_seen seen = record {
+  before = λ e. sym (kept seen 1 4 refl) ∙ e;
+  is_plain = λ e. plain_byte 47 (omega arith) (λ e. omega (arith, e));
+  no_dash = λ e is. omega (arith, is);
+  some_colon = λ e. inl (ap not (sym (kept seen 2 4 refl)) ∙ e);
+  no_colon = λ e. (ap not (sym (kept seen 2 4 refl)) ∙ e, λ is. omega (arith, is));
+  no_slash = λ e. absurd (clash (lacks (bit_or seen 4) 4) (not_false (lacks (bit_or seen 4) 4) e) (added seen 4 refl));
+}
+
+digit_seen : (b seen : ℕ) → is_plain_byte b ≡ true → b ≢ 58 → b ≢ 47 → IsSeenWith b seen (bit_or seen 0)
+digit_seen b seen plain no_colon no_slash = record {
+  before = λ e. sym (kept seen 1 0 refl) ∙ e;
+  is_plain = λ e. plain_byte b (plain_high b plain) (plain_other b plain);
+  no_dash = λ e is. omega (arith, is, plain_high b plain);
+  some_colon = λ e. inl (ap not (sym (kept seen 2 0 refl)) ∙ e);
+  no_colon = λ e. (ap not (sym (kept seen 2 0 refl)) ∙ e, no_colon);
+  no_slash = λ e. (ap not (sym (kept seen 4 0 refl)) ∙ e, no_slash);
+}
+
+other_seen : (b seen : ℕ) → b ≢ 58 → b ≢ 47 → IsSeenWith b seen (bit_or seen 1)
+other_seen b seen no_colon no_slash = record {
+  before = λ e. absurd (clash (lacks (bit_or seen 1) 1) e (added seen 1 refl));
+  is_plain = λ e. absurd (clash (lacks (bit_or seen 1) 1) e (added seen 1 refl));
+  no_dash = λ e is. absurd (clash (lacks (bit_or seen 1) 1) e (added seen 1 refl));
+  some_colon = λ e. inl (ap not (sym (kept seen 2 1 refl)) ∙ e);
+  no_colon = λ e. (ap not (sym (kept seen 2 1 refl)) ∙ e, no_colon);
+  no_slash = λ e. (ap not (sym (kept seen 4 1 refl)) ∙ e, no_slash);
+}
+
+byte_seen : (b seen : ℕ) → IsSeenWith b seen (bit_or seen (byte_sign b))
+byte_seen b seen = elim (cases_eq b 58) [
+  | inl colon ↦ subst (λ z. IsSeenWith z seen (bit_or seen (byte_sign z))) (sym colon) (colon_seen seen)
+  | inr no_colon ↦ elim (cases_eq b 47) [
+    | inl slash ↦ subst (λ z. IsSeenWith z seen (bit_or seen (byte_sign z))) (sym slash) (slash_seen seen)
+    | inr no_slash ↦ of no_colon no_slash (is_plain_byte b) refl
+  ]
+]
+  where
+    sign : b ≢ 58 → b ≢ 47 → byte_sign b ≡ cond (is_plain_byte b) 0 1
+    sign no_colon no_slash = rw (ne_eqb b 58 no_colon, ne_eqb b 47 no_slash)
+
+    of : b ≢ 58 → b ≢ 47 → (plain : Bool) → is_plain_byte b ≡ plain → IsSeenWith b seen (bit_or seen (byte_sign b))
+    of no_colon no_slash true e =
+        subst (λ z. IsSeenWith b seen (bit_or seen z))
+        (sym (sign no_colon no_slash ∙ ap (λ z. cond z 0 1) e))
+        (digit_seen b seen e no_colon no_slash)
+    of no_colon no_slash false e =
+        subst (λ z. IsSeenWith b seen (bit_or seen z))
+        (sym (sign no_colon no_slash ∙ ap (λ z. cond z 0 1) e))
+        (other_seen b seen no_colon no_slash)
+
+pub sign_seen : (text : List ℕ) (i seen sign : ℕ) → i < length text → sign ≡ byte_sign (get_or text i 0)
+    → HaveSigns text i seen → HaveSigns text (i + 1) (bit_or seen sign)
+sign_seen text i seen sign less is h =
+    seen_more text i _ _ _ _ _ _ less
+    (subst (λ z. IsSeenWith (get_or text i 0) seen (bit_or seen z)) (sym is) (byte_seen (get_or text i 0) seen)) h
+
 pub seen_all : (text : List ℕ) (i : ℕ) (is_plain : Bool) (s : Signs) → length text ≤ i → is_plain ≡ true
     → AreSeen text i is_plain s.has_colon s.has_slash → AreSigns text s
 seen_all text i is_plain s past plain h =
@@ -152,28 +211,51 @@ seen_all text i is_plain s past plain h =
 
 -- ---- a slash and a length at the end
 
-slash_is_no_digit : (digits : List ℕ) (n : ℕ) → ¬ (IsDecimal Strict 3 128 (47 ∷ digits) n)
-slash_is_no_digit digits n h = let less : digit_value 47 < 10 = h.digits.1.0 in grind (arith, nat_tests, less)
+some_digit : (a : ℕ) → 0 < digit_value a → a ≡ 48 → ⊥
+some_digit a some e =
+    let zero : 0 < digit_value 48 = subst (λ z. 0 < digit_value z) e some in absurd (omega (arith, zero))
 
-pub ends_in_length : (text length_text : List ℕ) (i n : ℕ) → i < length text → get_or text i 0 ≡ 47
-    → length_text ≡ drop i text → IsLengthText length_text n → EndsInLength text n
-ends_in_length text length_text i n less at is h = record {
-  front = take i text;
-  digits = drop (i + 1) text;
-  spelled = sym (take-append-drop i text) ∙ ap (λ z. take i text ++ z) cut;
-  writes = of h;
+three_digits : (a b c : ℕ) → digit_value a < 10 → digit_value b < 10 → digit_value c < 10 → 0 < digit_value a
+    → digit_value a * 100 + digit_value b * 10 + digit_value c ≤ 128
+    → IsDecimal Strict 3 128 (a ∷ b ∷ c ∷ []) (digit_value a * 100 + digit_value b * 10 + digit_value c)
+three_digits a b c less other last some small = record {
+  digits = (omega arith, (less, (other, (last, tt))));
+  value = omega arith;
+  short = omega arith;
+  small = small;
+  plain = λ s e. absurd (some_digit a some e);
 }
-  where
-    cut : drop i text ≡ 47 ∷ drop (i + 1) text
-    cut = drop_more text i 0 less ∙ ap (λ z. z ∷ drop (i + 1) text) at
 
-    of : IsLengthText length_text n → IsDecimal Strict 3 128 (drop (i + 1) text) n
-    of (inl k) =
-        absurd (slash_is_no_digit (drop (i + 1) text) n (subst (λ z. IsDecimal Strict 3 128 z n) (is ∙ cut) k))
-    of (inr (digits, e, k)) =
-        let both : 47 ∷ digits ≡ 47 ∷ drop (i + 1) text = sym e ∙ is ∙ cut in
-        let same : digits ≡ drop (i + 1) text = cc in
-        subst (λ z. IsDecimal Strict 3 128 z n) same k
+at : (text : List ℕ) (i j : ℕ) → i + 1 ≡ j → i < length text → drop i text ≡ get_or text i 0 ∷ drop j text
+at text i j next less = drop_more text i 0 less ∙ ap (λ z. get_or text i 0 ∷ drop z text) next
+
+-- three digits after a slash at the end
+module _ (text : List ℕ) (i j k l : ℕ) (long : l + 1 ≡ length text) (third : k + 1 ≡ l) (second : j + 1 ≡ k)
+    (first : i + 1 ≡ j)
+  where
+    abbrev three : List ℕ
+    three = get_or text j 0 ∷ get_or text k 0 ∷ get_or text l 0 ∷ []
+
+    cut : drop i text ≡ get_or text i 0 ∷ three
+    cut =
+        at text i j first (omega (arith, first, second, third, long))
+        ∙ ap (λ z. get_or text i 0 ∷ z) (at text j k second (omega (arith, second, third, long))
+        ∙ ap (λ z. get_or text j 0 ∷ z) (at text k l third (omega (arith, third, long))
+        ∙ ap (λ z. get_or text k 0 ∷ z) (at text l (length text) long (omega (arith, long))
+        ∙ ap (λ z. get_or text l 0 ∷ z) (drop_all (length text) text (omega arith)))))
+
+    pub ends_in_three : (a b c : ℕ) → get_or text i 0 ≡ 47 → a ≡ digit_value (get_or text j 0)
+        → b ≡ digit_value (get_or text k 0) → c ≡ digit_value (get_or text l 0) → a < 10 → b < 10 → c < 10 → 0 < a
+        → a * 100 + b * 10 + c ≤ 128 → EndsInLength text (a * 100 + b * 10 + c)
+    ends_in_three a b c slash is_a is_b is_c less other last some small = record {
+      front = take i text;
+      digits = three;
+      spelled = sym (take-append-drop i text) ∙ ap (λ z. take i text ++ z) (cut ∙ ap (λ z. z ∷ three) slash);
+      writes = subst (IsDecimal Strict 3 128 three) (omega (arith, is_a, is_b, is_c))
+          (three_digits (get_or text j 0) (get_or text k 0) (get_or text l 0) (omega (arith, is_a, less))
+          (omega (arith, is_b, other)) (omega (arith, is_c, last)) (omega (arith, is_a, some))
+          (omega (arith, is_a, is_b, is_c, small)));
+    }
 
 -- ---- colons
 

@@ -1,11 +1,12 @@
 -- The titles of entries, and the comments in them.
 use Rattle.std.proofs.Common.{◌≡◌, ℕ, ◌+◌, ◌<◌, ◌≤◌, List, [], ◌∷◌, ◌++◌, length, take, drop, codes, sym, ap}
-use Rattle.std.proofs.Common.{◌∙◌, arith, inl, inr}
+use Rattle.std.proofs.Common.{◌∙◌, arith, cond, inl, inr, nat_lt}
 use Rattle.std.specs.Str.Lossy.{utf8_lossy}
 use Rattle.std.proofs.lemmas.Bool.{cases_order}
 use Rattle.std.proofs.lemmas.List.{drop_all}
+use Rattle.ipnet_pictures.specs.ShortTexts.{IsShortened}
 use Rattle.netset_lib.specs.Lists.{IsCommentAt, without_blanks}
-use Rattle.netset_entries.specs.NotedEntries.{IsCommentOf, IsCutText, IsTitleOf}
+use Rattle.netset_entries.specs.NotedEntries.{IsCommentOf, IsTitleOf}
 
 -- a line without a comment
 pub no_comment : (line : List ℕ) (start : ℕ) → IsCommentAt line start → length line ≤ start → IsCommentOf line []
@@ -26,11 +27,11 @@ plain_title text [] title none is = is
 plain_title text (b ∷ comment) title none is = absurd (omega (arith, none))
 
 -- a title with one
-pub full_title : (text comment title front : List ℕ) → 0 < length comment → IsCutText (utf8_lossy comment) front
-    → title ≡ (text ++ codes ": ") ++ front → IsTitleOf text comment title
-full_title text [] title front some cut is = absurd (omega (arith, some))
-full_title text (b ∷ comment) title front some cut is =
-    (front, cut, is)
+pub full_title : (text comment title short : List ℕ) → 0 < length comment → IsShortened (utf8_lossy comment) short
+    → title ≡ (text ++ codes ": ") ++ short → IsTitleOf text comment title
+full_title text [] title short some cut is = absurd (omega (arith, some))
+full_title text (b ∷ comment) title short some cut is =
+    (short, cut, is)
 
 -- ---- a line has one comment, and one title
 
@@ -47,17 +48,17 @@ one_comment line comment other h k =
     ∙ ap (λ i. without_blanks (drop (i + 1) line)) (one_start line h.start k.start h.begins k.begins)
     ∙ sym k.is
 
-one_cut : (text front other : List ℕ) → IsCutText text front → IsCutText text other → front ≡ other
-one_cut text front other h k =
+one_short : (text short other : List ℕ) → IsShortened text short → IsShortened text other → short ≡ other
+one_short text short other h k =
     let same : h.len ≡ k.len = elim (cases_order h.len k.len) [
       | inl e ↦ e
-      | inr (inl less) ↦ absurd (h.longest k.len less k.short k.whole)
-      | inr (inr less) ↦ absurd (k.longest h.len less h.short h.whole)
+      | inr (inl less) ↦ absurd (h.longest k.len less k.few k.whole)
+      | inr (inr less) ↦ absurd (k.longest h.len less h.few h.whole)
     ] in
-    h.is ∙ ap (λ n. take n text) same ∙ sym k.is
+    h.spelled ∙ ap (λ n. take n text ++ cond (nat_lt n (length text)) (codes "..") []) same ∙ sym k.spelled
 
 pub one_title : (text comment title other : List ℕ) → IsTitleOf text comment title → IsTitleOf text comment other
     → title ≡ other
 one_title text [] title other h k = h ∙ sym k
-one_title text (b ∷ comment) title other (front, cut, is) (back, also, was) =
-    is ∙ ap (λ z. text ++ codes ": " ++ z) (one_cut (utf8_lossy (b ∷ comment)) front back cut also) ∙ sym was
+one_title text (b ∷ comment) title other (short, cut, is) (back, also, was) =
+    is ∙ ap (λ z. text ++ codes ": " ++ z) (one_short (utf8_lossy (b ∷ comment)) short back cut also) ∙ sym was

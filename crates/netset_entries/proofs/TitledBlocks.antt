@@ -50,3 +50,13 @@ pub small_line : (b : NotedBlocks) (line text : List ℕ) (family : Family) (len
 small_line b line text family len contents has past = λ n title h.
     let is = has b.grammar h.range (same_writes b.grammar line text contents n title h) n h.block in
     subst (λ f. (largest_of f b).end ≤ n.prefix_len) (sym is.0) (omega (arith, past, is.1))
+
+-- a line whose entry has only blocks that are too small
+pub small_entry : (b : NotedBlocks) (line text : List ℕ) → IsContents b.grammar line text → (range : AddressRange)
+    → IsEntryText b.grammar text range
+    → ((n : Network) → IsMaximal (IsInRange range) 0 n → (largest_of n.family b).end ≤ n.prefix_len)
+    → IsSmallLine b line
+small_entry b line text contents range writes small = λ n title h.
+    small n
+    (subst (λ r. IsMaximal (IsInRange r) 0 n)
+    (one_entry b.grammar text h.range range (same_writes b.grammar line text contents n title h) writes) h.block)

@@ -1,7 +1,8 @@
 -- Notes of lists that are read in pieces, and the private steps of noting their entries.
 -- Public contracts use only HaveNoted.
 use Rattle.std.specs.Prelude.{◌≡◌, ◌≢◌, ◌⊎◌, ◌<◌, ◌≤◌, ℕ, ◌+◌, ◌-◌, Bool, true, false, List, [], ◌∷◌, ◌++◌, length}
-use Rattle.std.specs.Prelude.{All, Any, Option, ⊤, take, drop, string_bytes}
+use Rattle.std.specs.Prelude.{All, Any, Option, ⊤, take, drop, string_bytes, ◌==◌, ◌||◌, cond, nat_lt}
+use Rattle.std.specs.Char.{digit_value}
 use Rattle.std.specs.Global.{Vec}
 use Rattle.std.specs.List.{flat_map}
 use Rattle.ipnet_base.specs.Address.{Family, IPv4, IPv6, width}
@@ -147,6 +148,11 @@ IsSmallLine b line = (n : Network) → (title : List ℕ) → IsTitledBlock b.gr
 abbrev pub family_if : Bool → Family
 family_if true = IPv6
 family_if false = IPv4
+
+-- The sign of a byte: 2 of a colon (58), 4 of a slash (47), none of a dot (46) and of a hexadecimal digit, and 1 of all
+-- others.
+abbrev pub byte_sign : ℕ → ℕ
+byte_sign b = cond (b == 58) 2 (cond (b == 47) 4 (cond ((b == 46) || nat_lt (digit_value b) 16) 0 1))
 
 -- The text has no "-" (45), and as a line it contains all that it is. Whether it has a colon (58) is known, and that it
 -- has no slash (47) if this is said.

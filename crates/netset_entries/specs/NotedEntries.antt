@@ -1,6 +1,6 @@
 -- The entries of lists that are noted: their titles, their blocks, and the lines that they are of.
-use Rattle.std.specs.Prelude.{◌≡◌, ◌⊎◌, ◌<◌, ◌≤◌, ℕ, ◌+◌, List, [], ◌∷◌, ◌++◌, codes, drop, take, length, All}
-use Rattle.std.specs.Prelude.{AllPairs, Any, Option, IfSome, IsCharBoundary, string_bytes}
+use Rattle.std.specs.Prelude.{◌≡◌, ◌⊎◌, ◌≤◌, ℕ, ◌+◌, List, [], ◌∷◌, ◌++◌, codes, drop, length, All}
+use Rattle.std.specs.Prelude.{AllPairs, Any, Option, IfSome, string_bytes}
 use Rattle.std.specs.List.{flat_map}
 use Rattle.std.specs.Str.Lossy.{utf8_lossy}
 use Rattle.ipnet_base.specs.Address.{Family, IPv4, IPv6}
@@ -11,6 +11,7 @@ use Rattle.ipnet.specs.Lines.{lines_of}
 use Rattle.ipnet.specs.NetworkOf.{ip_network}
 use Rattle.ipnet.specs.declared.net.IpNet.{IpNet}
 use Rattle.ipnet.specs.declared.parser.Grammar.{Grammar}
+use Rattle.ipnet_pictures.specs.ShortTexts.{IsShortened}
 use Rattle.ipnet_sets.specs.SetRanges.{IsInRange}
 use Rattle.netset_entries.specs.declared.largest.NotedEntry.{NotedEntry}
 use Rattle.netset_lib.specs.Entries.{IsEntryText}
@@ -23,22 +24,13 @@ pub record IsCommentOf (line comment : List ℕ) : Type 0 where
   pub begins : IsCommentAt line start
   pub is : comment ≡ without_blanks (drop (start + 1) line)
 
--- The longest front of the text that has at most 100 bytes and does not end inside a character.
--- Example: `dhcp-246` of `dhcp-246`; of 99 times `x` and then `ü`, which has two bytes, it is 99 times `x`.
-pub record IsCutText (text front : List ℕ) : Type 0 where
-  pub len : ℕ
-  pub short : len ≤ 100
-  pub whole : IsCharBoundary text len
-  pub longest : (i : ℕ) → len < i → i ≤ 100 → ¬ (IsCharBoundary text i)
-  pub is : front ≡ take len text
-
 -- The title of an entry with this text and this comment. Bytes of the comment that are not UTF-8 are replaced by
--- U+FFFD, and then it is cut.
+-- U+FFFD, and then it is cut if it is long.
 -- Example: `10.20.168.9/22: dhcp-246` of `10.20.168.9/22` and `dhcp-246`; `10.0.0.1` of `10.0.0.1` and nothing.
 abbrev pub IsTitleOf : List ℕ → List ℕ → List ℕ → Type 0
 IsTitleOf text [] title = title ≡ text
 IsTitleOf text (b ∷ comment) title =
-    (front : List ℕ) × IsCutText (utf8_lossy (b ∷ comment)) front × (title ≡ text ++ codes ": " ++ front)
+    (short : List ℕ) × IsShortened (utf8_lossy (b ∷ comment)) short × (title ≡ text ++ codes ": " ++ short)
 
 -- The network is a block of the entry of the line, and this is the title of the entry. The blocks of an entry are the
 -- fewest networks with its addresses.

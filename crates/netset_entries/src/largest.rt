@@ -17,8 +17,8 @@ const MOST: usize = 1_500;
 pub struct NotedEntry {
     /// The block: an entry is the fewest networks with its addresses.
     pub network: IpNet,
-    /// The entry as written, and its comment, if there is one. The comment is cut at 100 bytes, at the end of a
-    /// character.
+    /// The entry as written, and its comment, if there is one. If the comment has more than 100 bytes, it is cut at the
+    /// end of a character, and two dots follow.
     pub title: String,
 }
 

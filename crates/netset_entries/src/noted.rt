@@ -1,6 +1,10 @@
 //! The largest entries of lists with their comments, noted while the lists are read.
-ghost use Rattle.std.specs.Prelude.{◌≡◌, ◌≤◌, ◌↔◌, ◌∷◌, ◌++◌, [], List, ℕ, Option, IsTrue, IfOk, OnOk};
+ghost use Rattle.std.specs.Prelude.{◌≡◌, ◌≤◌, ◌↔◌, ◌∷◌, ◌++◌, [], List, ℕ, Option, IsTrue, IfOk, IfSome, OnOk};
 ghost use Rattle.std.specs.Prelude.{string_bytes};
+ghost use Rattle.ipnet_base.specs.Blocks.{IsMaximal};
+ghost use Rattle.ipnet_base.specs.Network.{Network};
+ghost use Rattle.ipnet_sets.specs.SetRanges.{IsInRange};
+ghost use Rattle.netset_lib.specs.EntryOf.{entry_range};
 ghost use Rattle.ipnet.specs.NetworkOf.{ip_network};
 ghost use Rattle.ipnet.specs.declared.net.IpNet.{IpNet};
 ghost use Rattle.ipnet.specs.declared.parser.Grammar.{Grammar};
@@ -12,13 +16,11 @@ ghost use Rattle.netset_entries.specs.NoteSteps.{family_if, largest_of};
 use crate::largest::{Largest, NotedEntry};
 use crate::plain::{PlainNetwork, plain_network};
 use ipnet::{Grammar, IpNet};
+use ipnet_pictures::shorten;
 use memchr::memchr;
-use netset_lib::{comment_start, contents_of, read_text, skip_mark};
+use netset_lib::{Entry, comment_start, contents_of, read_text, skip_mark};
 use std::alloc::{AllocError, Global};
 use std::mem;
-
-/// How many bytes of a comment are noted at most.
-const MOST_BYTES: usize = 100;
 
 /// Returns the comment of the line, without its sign and blanks around it. It is empty if there is none.
 fn comment_of(line: &[u8]) -> &[u8]
@@ -32,7 +34,7 @@ fn comment_of(line: &[u8]) -> &[u8]
 }
 
 /// Returns the title of the entry that is written so. Bytes of the comment that are not UTF-8 are replaced by U+FFFD,
-/// and then the comment is cut at the end of a character.
+/// and then the comment is cut if it has more than 100 bytes.
 fn title_of(alloc: Global, text: &str, comment: &[u8]) -> Result<String, AllocError>
     ensures { IfOk result (λ title. IsTitleOf text.now comment.now (string_bytes title)) }
 {
@@ -41,11 +43,9 @@ fn title_of(alloc: Global, text: &str, comment: &[u8]) -> Result<String, AllocEr
         return Ok(title);
     }
     let comment = String::from_utf8_lossy(alloc, comment)?;
-    let comment = comment.as_str();
-    let end = comment.floor_char_boundary(MOST_BYTES);
-    let (front, _) = comment.split_at(end);
+    let short = shorten(alloc, comment.as_str())?;
     title.push_str(": ")?;
-    title.push_str(front)?;
+    title.push_str(short.as_str())?;
     Ok(title)
 }
 
@@ -148,7 +148,24 @@ impl NotedBlocks {
         }
     }
 
+    /// Returns how many blocks the entry has, or `None` if one of them is not too small to be noted.
+    fn count_small(&self, entry: Entry) -> Option<usize>
+        ensures { IfSome result (λ count. (n : Network) → IsMaximal (IsInRange (entry_range entry)) 0 n
+            → (largest_of n.family self.now).end ≤ n.prefix_len) }
+    {
+        let mut count = 0usize;
+        for network in entry.walk() {
+            if !self.is_too_small(&network) {
+                return None;
+            }
+            count = count.saturating_add(1);
+        }
+        Some(count)
+    }
+
     /// Notes the entry of the line, if it is one.
+    //
+    // Most entries of a long list are too small, so a title is made only for others.
     fn note_entry(&mut self, line: &[u8]) -> Result<(), AllocError>
         ensures { OnOk result (ReadsLine self.old self.new line.now) }
     {
@@ -156,6 +173,10 @@ impl NotedBlocks {
         let Some(found) = read_text(text, self.grammar) else {
             return Ok(());
         };
+        if let Some(count) = self.count_small(found.entry) {
+            self.count = self.count.saturating_add(count);
+            return Ok(());
+        }
         let title = title_of(self.alloc, found.text, comment_of(line))?;
         for network in found.entry.walk() {
             self.note_block(network, title.as_str())?;

@@ -1,12 +1,12 @@
 //! Texts that are one network or address at most, read at a glance.
-ghost use Rattle.std.specs.Prelude.{◌≡◌, IfSome};
+ghost use Rattle.std.specs.Prelude.{◌≡◌, ◌<◌, IfSome};
+ghost use Rattle.std.specs.Char.{digit_value};
 ghost use Rattle.ipnet_base.specs.Address.{width};
-ghost use Rattle.netset_entries.specs.NoteSteps.{AreSigns, EndsInLength, IsPlainText, family_if};
+ghost use Rattle.netset_entries.specs.NoteSteps.{AreSigns, EndsInLength, IsPlainText, byte_sign, family_if};
 
-use netset_lib::read_length;
-use std::str;
+use ipnet_base::digits::hex_digit;
 
-/// The longest text of a prefix length: a slash and three digits.
+/// The length of the longest text of a prefix length, with its slash.
 const LONGEST: usize = "/128".len();
 
 /// The signs in a text of hexadecimal digits, dots, colons and slashes.
@@ -23,48 +23,87 @@ pub(crate) struct PlainNetwork {
     pub(crate) is_ipv6: bool,
 }
 
+/// The sign of a byte that is not a hexadecimal digit, a dot, a colon or a slash.
+const OTHER: u8 = 1;
+
+/// The sign of a colon.
+const COLON: u8 = 2;
+
+/// The sign of a slash.
+const SLASH: u8 = 4;
+
+// The sign of each byte, and 0 for a dot and a hexadecimal digit. A table, because most lines of a long list are tested
+// here and not read.
+static SIGNS: [u8; 256] = [
+    1, 1, 1, 1, 1, 1, 1, 1, 1, 1, 1, 1, 1, 1, 1, 1, 1, 1, 1, 1, 1, 1, 1, 1, 1, 1, 1, 1, 1, 1, 1, 1,
+    1, 1, 1, 1, 1, 1, 1, 1, 1, 1, 1, 1, 1, 1, 0, 4, 0, 0, 0, 0, 0, 0, 0, 0, 0, 0, 2, 1, 1, 1, 1, 1,
+    1, 0, 0, 0, 0, 0, 0, 1, 1, 1, 1, 1, 1, 1, 1, 1, 1, 1, 1, 1, 1, 1, 1, 1, 1, 1, 1, 1, 1, 1, 1, 1,
+    1, 0, 0, 0, 0, 0, 0, 1, 1, 1, 1, 1, 1, 1, 1, 1, 1, 1, 1, 1, 1, 1, 1, 1, 1, 1, 1, 1, 1, 1, 1, 1,
+    1, 1, 1, 1, 1, 1, 1, 1, 1, 1, 1, 1, 1, 1, 1, 1, 1, 1, 1, 1, 1, 1, 1, 1, 1, 1, 1, 1, 1, 1, 1, 1,
+    1, 1, 1, 1, 1, 1, 1, 1, 1, 1, 1, 1, 1, 1, 1, 1, 1, 1, 1, 1, 1, 1, 1, 1, 1, 1, 1, 1, 1, 1, 1, 1,
+    1, 1, 1, 1, 1, 1, 1, 1, 1, 1, 1, 1, 1, 1, 1, 1, 1, 1, 1, 1, 1, 1, 1, 1, 1, 1, 1, 1, 1, 1, 1, 1,
+    1, 1, 1, 1, 1, 1, 1, 1, 1, 1, 1, 1, 1, 1, 1, 1, 1, 1, 1, 1, 1, 1, 1, 1, 1, 1, 1, 1, 1, 1, 1, 1,
+];
+
+/// The sign of the byte.
+#[inline]
+fn sign_of(byte: u8) -> u8
+    ensures { result ≡ byte_sign byte }
+{
+    SIGNS[byte as usize]
+}
+
 /// Returns the signs of the text, or `None` if it is empty, or has anything else than hexadecimal digits, dots, colons
 /// and slashes.
-//
-// Most lines of a long list are tested here and not read, so each byte is tested without a branch.
 fn signs_of(text: &[u8]) -> Option<Signs>
     ensures { IfSome result (AreSigns text.now) }
 {
-    let mut is_plain = !text.is_empty();
-    let mut has_colon = false;
-    let mut has_slash = false;
+    let mut seen = 0;
     for byte in text {
-        // these are ".", "/", the digits and ":"
-        let is_mark_or_digit = (*byte >= b'.') & (*byte <= b':');
-        let small = *byte | 32;
-        let is_letter = (small >= b'a') & (small <= b'f');
-        is_plain = is_plain & (is_mark_or_digit | is_letter);
-        has_colon = has_colon | (*byte == b':');
-        has_slash = has_slash | (*byte == b'/');
+        seen |= sign_of(*byte);
     }
-    if !is_plain {
+    if text.is_empty() || seen & OTHER != 0 {
         return None;
     }
     Some(Signs {
-        has_colon,
-        has_slash,
+        has_colon: seen & COLON != 0,
+        has_slash: seen & SLASH != 0,
     })
+}
+
+/// The value of the byte as a decimal digit, or `None` if the byte is not one.
+#[inline]
+fn decimal_digit(byte: u8) -> Option<usize>
+    ensures value { IfSome result (λ digit. digit ≡ digit_value byte) }
+    ensures digit { IfSome result (λ digit. digit < 10) }
+{
+    let digit = hex_digit(byte)?;
+    if digit >= 10 {
+        return None;
+    }
+    Some(usize::from(digit))
 }
 
 /// Returns the prefix length at the end of the text, after a slash. `None` if there is none, as after a netmask.
 fn last_len(text: &[u8]) -> Option<usize>
     ensures { IfSome result (EndsInLength text.now) }
 {
-    for index in text.len().saturating_sub(LONGEST)..text.len() {
-        if text[index] == b'/' {
-            let Ok(length) = str::from_utf8(&text[index..]) else {
-                return None;
-            };
-            let Some(len) = read_length(length) else {
-                return None;
-            };
-            return Some(usize::from(len));
-        }
+    let count = text.len();
+    if count < LONGEST {
+        return None;
+    }
+    let ones = decimal_digit(text[count - 1])?;
+    if text[count - 2] == b'/' {
+        return Some(ones);
+    }
+    let tens = decimal_digit(text[count - 2])?;
+    if text[count - 3] == b'/' && tens > 0 {
+        return Some(tens * 10 + ones);
+    }
+    let hundreds = decimal_digit(text[count - 3])?;
+    let len = hundreds * 100 + tens * 10 + ones;
+    if text[count - 4] == b'/' && hundreds > 0 && len <= 128 {
+        return Some(len);
     }
     None
 }

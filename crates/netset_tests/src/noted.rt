@@ -103,11 +103,7 @@ fn in_a_frame(rt: HostRuntime) -> Result<(), Fail> {
 fn most(rt: HostRuntime) -> Result<(), Fail> {
     let alloc = rt.alloc();
     let mut notes = EntryNotes::new(alloc, Grammar::Strict, None)?;
-    for number in 0..1_600u32 {
-        let (high, low) = (number / 256, number % 256);
-        let line = format!(in alloc; "10.0.{high}.{low}\n")?;
-        notes.take(line.as_bytes())?;
-    }
+    take_addresses(alloc, &mut notes, 1_600)?;
     notes.take(b"11.0.0.0/8\nfd00::/8\n")?;
     notes.end_list()?;
     assert!(&rt; notes.count() == 1_602);
@@ -120,14 +116,16 @@ fn most(rt: HostRuntime) -> Result<(), Fail> {
 
 #[test]
 fn long_comments(rt: HostRuntime) -> Result<(), Fail> {
-    // how many "x" a comment begins with, what follows, and the bytes of the comment in the title
-    let rows: [(usize, &[u8], usize); 7] = [
-        (100, b"y", 100),
-        (99, b"yz", 100),
-        (99, b"\xc3\xbc", 99),
-        (98, b"\xc3\xbcy", 100),
+    // how many "x" a comment begins with, what follows, and the bytes of the comment in the title, with two dots if it
+    // is cut
+    let rows: [(usize, &[u8], usize); 8] = [
+        (100, b"", 100),
+        (100, b"y", 102),
+        (99, b"yz", 102),
+        (99, b"\xc3\xbc", 101),
+        (98, b"\xc3\xbcy", 102),
         (97, b"\xff", 100),
-        (98, b"\xff", 98),
+        (98, b"\xff", 100),
         (0, b"\xf0\x9f\x92\xa1", 4),
     ];
     let alloc = rt.alloc();
@@ -170,11 +168,7 @@ fn larger_after_many(rt: HostRuntime) -> Result<(), Fail> {
     let alloc = rt.alloc();
     for (list, wanted) in rows {
         let mut notes = EntryNotes::new(alloc, Grammar::Strict, None)?;
-        for number in 0..1_500u32 {
-            let (high, low) = (number / 256, number % 256);
-            let line = format!(in alloc; "10.0.{high}.{low}\n")?;
-            notes.take(line.as_bytes())?;
-        }
+        take_addresses(alloc, &mut notes, 1_500)?;
         notes.take(b"10.0.5.220\n")?;
         notes.take(list.as_bytes())?;
         notes.end_list()?;
@@ -184,6 +178,45 @@ fn larger_after_many(rt: HostRuntime) -> Result<(), Fail> {
             found.as_str() == wanted,
             "noted after many: {list}: {found}"
         );
+    }
+    Ok(())
+}
+
+#[test]
+fn counts(rt: HostRuntime) -> Result<(), Fail> {
+    // a list, and how many blocks its entries have
+    let rows = [
+        ("", 0),
+        ("# none\n", 0),
+        ("x\n", 0),
+        ("11.0.0.1\n", 1),
+        ("11.0.0.0-11.0.0.2\n", 2),
+        ("11.0.0.1-11.0.0.6 # four\n", 4),
+        ("11.0.0.0/8\nfd00::-fd00::2", 3),
+    ];
+    let alloc = rt.alloc();
+    for addresses in [0u32, 1_600] {
+        for (list, wanted) in rows {
+            let mut notes = EntryNotes::new(alloc, Grammar::Strict, None)?;
+            take_addresses(alloc, &mut notes, addresses)?;
+            notes.take(list.as_bytes())?;
+            notes.end_list()?;
+            let found = notes.count();
+            let all = usize::try_from(addresses)
+                .unwrap_or(0)
+                .saturating_add(wanted);
+            assert!(&rt; found == all, "blocks of {list}: {found}, not {all}");
+        }
+    }
+    Ok(())
+}
+
+/// Notes this many lines, each with one address, from 10.0.0.0 on.
+fn take_addresses(alloc: Global, notes: &mut EntryNotes, count: u32) -> Result<(), Fail> {
+    for number in 0..count {
+        let (high, low) = (number / 256, number % 256);
+        let line = format!(in alloc; "10.0.{high}.{low}\n")?;
+        notes.take(line.as_bytes())?;
     }
     Ok(())
 }

@@ -6,3 +6,4 @@ pub mod CountLaws
 pub mod FreeLaws
 pub mod NamedLaws
 pub mod EntryLaws
+pub mod SquareLaws

@@ -1,5 +1,5 @@
 -- Maps: the document that shows a drawing of sets.
-use Rattle.std.specs.Prelude.{◌≡◌, ℕ, ◌+◌, ◌^◌, List, [], ◌∷◌, ◌++◌, length, map, All, codes}
+use Rattle.std.specs.Prelude.{◌≡◌, ℕ, ◌^◌, List, [], ◌∷◌, ◌++◌, length, map, codes}
 use Rattle.ipnet_base.specs.Blocks.{IsInEither}
 use Rattle.ipnet_base.specs.Network.{Network}
 use Rattle.ipnet_sets.specs.declared.set.IpSet.{IpSet}
@@ -14,11 +14,11 @@ use Rattle.ipnet_maps.specs.Squares.{square_cuts}
 use Rattle.svg_text.specs.Documents.{nodes_text}
 use Rattle.svg_maps.specs.declared.square.Counted.{Counted}
 use Rattle.svg_maps.specs.Pages.{PageView, page_nodes, cell_pixels}
-use Rattle.svg_maps.specs.Squares.{IsSquareOf, IsTitle, square_bits}
+use Rattle.svg_maps.specs.Squares.{AreSquaresOf, IsTitle}
 
 -- The text is the document of a page that shows the drawing in this frame. The page has a path for each layer, whose
--- rectangles are the layer's, and squares whose titles say how many addresses each set has in them. A cell has as many
--- pixels as its share of the width of the map allows.
+-- rectangles are the layer's, and all squares, whose titles say how many addresses each set has in them. A cell has as
+-- many pixels as its share of the width of the map allows.
 -- Example: for 10.20.0.0/16 with 16 bits, the map is 256 cells wide and high, and a cell has 4 pixels.
 pub record IsMapText (frame : Network) (counted : List Counted) (d : Drawing) (text : List ℕ) : Type 0 where
   pub view : PageView
@@ -26,8 +26,7 @@ pub record IsMapText (frame : Network) (counted : List Counted) (d : Drawing) (t
   pub width : view.sides.width ≡ 2 ^ columns_in (square_cuts frame.prefix_len d.depth)
   pub height : view.sides.height ≡ 2 ^ rows_in (square_cuts frame.prefix_len d.depth)
   pub scale : view.scale ≡ cell_pixels view.sides.width
-  pub squares : All (IsSquareOf frame d.depth (frame.prefix_len + square_bits frame.prefix_len d.depth) counted)
-      view.squares
+  pub squares : AreSquaresOf frame d.depth counted view.squares
   pub summary : IsTitle frame counted view.summary
   pub spelled : text ≡ nodes_text (page_nodes view)
 

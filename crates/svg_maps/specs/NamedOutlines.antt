@@ -1,5 +1,5 @@
 -- Outlines of networks with names: which networks are outlined, and what each outline has.
-use Rattle.std.specs.Prelude.{◌≡◌, ◌<◌, ◌≤◌, ℕ, ◌+◌, List, [], ◌∷◌, ◌++◌, take, flat_map, Contains, IsCharBoundary}
+use Rattle.std.specs.Prelude.{◌≡◌, ℕ, ◌+◌, List, [], ◌∷◌, ◌++◌, take, flat_map, Contains}
 use Rattle.std.specs.Prelude.{Option, Some, None, String, chars, codes, encode_utf8, nat_eq, string_bytes}
 use Rattle.std.specs.Prelude.{if◌then◌else◌}
 use Rattle.std.specs.Borrow.{Bor}
@@ -9,18 +9,10 @@ use Rattle.ipnet_base.specs.Network.{Network, truncation}
 use Rattle.ipnet.specs.CanonicalTexts.{canonical_text}
 use Rattle.ipnet_sets.specs.Routes.{Route, networks_of, AreWithin}
 use Rattle.ipnet_maps.specs.Places.{IsRectangleIn}
+use Rattle.ipnet_pictures.specs.ShortTexts.{IsShortened}
 use Rattle.svg_maps.specs.declared.outline.Outline.{Outline}
 use Rattle.svg_maps.specs.declared.outline.OutlineClass.TheVariants.{Named}
 use Rattle.svg_maps.specs.FreeOutlines.{largest_first}
-
--- The longest front of the name that has at most 100 bytes and does not end inside a character.
--- Example: `Berlin` of `Berlin`; of 99 times `x` and then `ü`, which has two bytes, it is 99 times `x`.
-pub record IsShortened (name front : List ℕ) : Type 0 where
-  pub len : ℕ
-  pub short : len ≤ 100
-  pub whole : IsCharBoundary name len
-  pub longest : (i : ℕ) → len < i → i ≤ 100 → ¬ (IsCharBoundary name i)
-  pub is : front ≡ take len name
 
 -- The character, or a blank for a tab, which is 9.
 abbrev pub blank_for_tab : ℕ → ℕ
@@ -30,12 +22,12 @@ blank_for_tab c = if nat_eq c 9 then 32 else c
 abbrev pub spaced_text : List ℕ → List ℕ
 spaced_text cs = flat_map (λ c. encode_utf8 (blank_for_tab c)) cs
 
--- The name as a map shows it: shortened, and with a blank for each tab.
+-- The name as a map shows it: cut if it is long, and with a blank for each tab.
 -- Example: `Berlin Mitte`, for `Berlin`, a tab and `Mitte`.
 pub record IsShownName (name shown : List ℕ) : Type 0 where
-  pub front : List ℕ
-  pub is_front : IsShortened name front
-  pub spelled : shown ≡ spaced_text (chars front)
+  pub short : List ℕ
+  pub is_short : IsShortened name short
+  pub spelled : shown ≡ spaced_text (chars short)
 
 -- The end of the title of a network with this name: a colon, a blank and the name, or nothing if the name is empty.
 abbrev pub name_part : List ℕ → List ℕ

@@ -1,12 +1,12 @@
 -- Pages: the document of a map.
-use Rattle.std.specs.Prelude.{ℕ, ◌*◌, ◌/◌, min, max, List, [], ◌∷◌, map, codes, decimal, Option, Some, None, String}
-use Rattle.std.specs.Prelude.{string_bytes}
+use Rattle.std.specs.Prelude.{ℕ, ◌*◌, ◌/◌, min, max, List, [], ◌∷◌, ◌++◌, map, filter, codes, decimal, string_bytes}
+use Rattle.std.specs.Prelude.{Option, Some, None, String}
 use Rattle.std.specs.Global.{Global}
 use Rattle.ipnet_maps.specs.declared.drawing.Layer.{Layer}
 use Rattle.ipnet_maps.specs.declared.layout.Place.{Place}
 use Rattle.ipnet_maps.specs.declared.layout.Sides.{Sides}
 use Rattle.ipnet_maps.specs.declared.layout.Rectangle.{Rectangle}
-use Rattle.ipnet_maps.specs.Paths.{corner, path_of}
+use Rattle.ipnet_maps.specs.Paths.{corner, is_row, is_tall, path_of, rows_path}
 use Rattle.svg_text.specs.declared.name.AttributeName.{AttributeName}
 use Rattle.svg_text.specs.declared.name.ElementName.TheVariants as Elements
 use Rattle.svg_text.specs.declared.name.AttributeName.TheVariants as Attributes
@@ -73,13 +73,22 @@ swatch_nodes s =
     ∷ number_mark Attributes.Y s.place.row ∷ number_mark Attributes.Width 14 ∷ number_mark Attributes.Height 11 ∷ [])
     (label_nodes s.label)
 
--- The cells of one class, as one path.
--- Example: `<path class="s4" d="m0 0h16v1h-16z"/>`.
+-- The attributes of a path of this class.
+abbrev pub path_marks : (class : List ℕ) → (path : List ℕ) → List Mark
+path_marks class path = text_mark Attributes.Class class ∷ text_mark Attributes.D path ∷ []
+
+-- The attributes of the path of those rectangles of a class that are more than one cell high.
+abbrev pub tall_marks : Layer → List Mark
+tall_marks l = path_marks (class_text l.class) (path_of corner (filter is_tall l.rectangles.items))
+
+-- The attributes of the path of those rectangles of a class that are one cell high.
+abbrev pub rows_marks : Layer → List Mark
+rows_marks l = path_marks (class_text l.class ++ codes " rows") (rows_path (filter is_row l.rectangles.items))
+
+-- The cells of one class, as two paths: the rectangles that are more than one cell high, and the rows, as lines.
+-- Example: `<path class="s4" d="m0 4h16v2h-16z"/><path class="s4 rows" d="m0 .5m0 0h16"/>`.
 abbrev pub layer_nodes : Layer → Nodes
-layer_nodes l =
-    empty Elements.Path
-    (text_mark Attributes.Class (class_text l.class)
-    ∷ text_mark Attributes.D (path_of corner l.rectangles.items) ∷ []) end
+layer_nodes l = empty Elements.Path (tall_marks l) (empty Elements.Path (rows_marks l) end)
 
 -- The attributes of a rectangle of this class.
 abbrev pub area_marks : List ℕ → Rectangle → List Mark
@@ -162,7 +171,7 @@ grid_marks scale squares =
 abbrev pub small_marks : List Mark
 small_marks = text_mark Attributes.Class (codes "small") ∷ text_mark Attributes.PointerEvents (codes "none") ∷ []
 
--- The map: its ground, a path for each class, the lines of its squares, their titles, its outlines and rings,
+-- The map: its ground, the paths of each class, the lines of its squares, their titles, its outlines and rings,
 -- and its labels.
 abbrev pub chart_nodes : List Layer → List Square → List Outline → (rings : List Place) → List Label → Sides → ℕ
     → Nodes

@@ -1,8 +1,10 @@
 -- Squares: the networks of one length in a map, with what their titles say.
 use Rattle.std.specs.Prelude.{◌≡◌, ℕ, ◌+◌, ◌-◌, ◌/◌, ◌%◌, min, List, [], ◌∷◌, ◌++◌, codes, decimal, nat_le}
 use Rattle.std.specs.Prelude.{string_bytes, if◌then◌else◌}
-use Rattle.ipnet_base.specs.Network.{Network, IsSubnetOf}
+use Rattle.std.specs.List.{AllZip}
+use Rattle.ipnet_base.specs.Network.{Network}
 use Rattle.ipnet.specs.CanonicalTexts.{canonical_text}
+use Rattle.ipnet.specs.NetworkParts.{AreSubnetsOfLength}
 use Rattle.ipnet_sets.specs.Members.{IsMember, IsCountOf}
 use Rattle.ipnet_sets.specs.Parts.{IsInPart}
 use Rattle.ipnet_pictures.specs.Parts.{block_size}
@@ -33,13 +35,10 @@ pub record IsTitle (n : Network) (counted : List Counted) (text : List ℕ) : Ty
   pub each : AreCountTexts n counted counts
   pub spelled : text ≡ title_start n ++ counts
 
--- The square shows a network of this length in the frame: its area and its title are the network's.
-pub record IsSquareOf (frame : Network) (depth len : ℕ) (counted : List Counted) (s : Square) : Type 0 where
-  pub network : Network
-  pub of_length : network.prefix_len ≡ len
-  pub inside : IsSubnetOf network frame
-  pub area : IsRectangleIn frame depth network s.rectangle
-  pub title : IsTitle network counted (string_bytes s.title)
+-- The square shows the network: its area and its title are the network's.
+pub record IsSquareOf (frame : Network) (depth : ℕ) (counted : List Counted) (n : Network) (s : Square) : Type 0 where
+  pub area : IsRectangleIn frame depth n s.rectangle
+  pub title : IsTitle n counted (string_bytes s.title)
 
 -- The number of bits of an address that a map of this depth shows in the octet in which it begins.
 abbrev pub first_bits : ℕ → ℕ → ℕ
@@ -52,3 +51,10 @@ abbrev pub square_bits : ℕ → ℕ → ℕ
 square_bits frame_len depth =
     let first = first_bits frame_len depth in
     if nat_le first 5 then first + min (depth - first) 8 / 2 else first
+
+-- The squares of a map: one for each network of their length in the frame, ascending.
+-- Example: 256 squares for 10.20.0.0/16 with 16 bits, the first of 10.20.0.0/24.
+pub record AreSquaresOf (frame : Network) (depth : ℕ) (counted : List Counted) (squares : List Square) : Type 0 where
+  pub networks : List Network
+  pub all : AreSubnetsOfLength frame (frame.prefix_len + square_bits frame.prefix_len depth) networks
+  pub each : AllZip (IsSquareOf frame depth counted) networks squares

@@ -2,6 +2,7 @@
 ghost use Rattle.std.specs.Prelude.{◌≡◌, ◌++◌, IfOk, OnOk, flat_map, string_bytes};
 ghost use Rattle.svg_text.specs.Documents.{nodes_text, empty_text, start_text, end_text};
 ghost use Rattle.svg_text.specs.declared.name.ElementName.TheVariants as Elements;
+ghost use Rattle.svg_maps.specs.Pages.{path_marks, tall_marks, rows_marks};
 ghost use Rattle.svg_maps.specs.Pages.{layer_nodes, square_nodes, grid_rectangles};
 ghost use Rattle.svg_maps.specs.Pages.{cells_marks, ground_marks, grid_marks, small_marks, label_nodes, chart_nodes};
 
@@ -11,7 +12,7 @@ use crate::label::{Label, number_attribute, push_labels, text_attribute};
 use crate::outline::{Outline, push_outlines};
 use crate::ring::push_rings;
 use crate::sheet::{pixels_of, rectangle_in_pixels};
-use ipnet_maps::{Layer, Place, Rectangle, Sides, path_text};
+use ipnet_maps::{Layer, Place, Rectangle, Sides, path_text, rows_path_text, tall_path_text};
 use std::alloc::{AllocError, Global};
 use svg_text::{Attribute, AttributeName, ElementName, Value, push_empty, push_end, push_start};
 
@@ -56,17 +57,45 @@ fn grid_of(alloc: Global, scale: u32, squares: &[Square]) -> Result<Vec<Rectangl
     Ok(rectangles)
 }
 
+/// Appends the path with this class.
+fn push_path(text: &mut String, class: &str, path: &str) -> Result<(), AllocError>
+    ensures { OnOk result (string_bytes text.new
+        ≡ string_bytes text.old ++ empty_text Elements.Path (path_marks class.now path.now)) }
+{
+    let attributes = [
+        text_attribute(AttributeName::Class, class),
+        text_attribute(AttributeName::D, path),
+    ];
+    push_empty(text, ElementName::Path, &attributes)
+}
+
+/// Appends the rectangles of a class that are more than one cell high.
+fn push_tall(alloc: Global, text: &mut String, layer: &Layer) -> Result<(), AllocError>
+    ensures { OnOk result (string_bytes text.new
+        ≡ string_bytes text.old ++ empty_text Elements.Path (tall_marks layer.now)) }
+{
+    let name = class_name(alloc, layer.class)?;
+    let path = tall_path_text(alloc, layer.rectangles.as_slice())?;
+    push_path(text, name.as_str(), path.as_str())
+}
+
+/// Appends the rectangles of a class that are one cell high.
+fn push_rows(alloc: Global, text: &mut String, layer: &Layer) -> Result<(), AllocError>
+    ensures { OnOk result (string_bytes text.new
+        ≡ string_bytes text.old ++ empty_text Elements.Path (rows_marks layer.now)) }
+{
+    let mut name = class_name(alloc, layer.class)?;
+    name.push_str(" rows")?;
+    let path = rows_path_text(alloc, layer.rectangles.as_slice())?;
+    push_path(text, name.as_str(), path.as_str())
+}
+
 /// Appends the cells of one class.
 fn push_layer(alloc: Global, text: &mut String, layer: &Layer) -> Result<(), AllocError>
     ensures { OnOk result (string_bytes text.new ≡ string_bytes text.old ++ nodes_text (layer_nodes layer.now)) }
 {
-    let name = class_name(alloc, layer.class)?;
-    let path = path_text(alloc, layer.rectangles.as_slice())?;
-    let attributes = [
-        text_attribute(AttributeName::Class, name.as_str()),
-        text_attribute(AttributeName::D, path.as_str()),
-    ];
-    push_empty(text, ElementName::Path, &attributes)
+    push_tall(alloc, text, layer)?;
+    push_rows(alloc, text, layer)
 }
 
 /// Appends the cells of all classes.

@@ -1,5 +1,5 @@
 //! Maps of sets: a set, a change of a set, or several sets in a network, as a document of SVG.
-ghost use Rattle.std.specs.Prelude.{◌+◌, ◌≤◌, IfOk, [], ◌∷◌, string_bytes};
+ghost use Rattle.std.specs.Prelude.{◌≡◌, ◌+◌, ◌≤◌, IfOk, [], ◌∷◌, string_bytes};
 ghost use Rattle.ipnet_base.specs.Address.{width};
 ghost use Rattle.ipnet.specs.NetworkOf.{ip_network};
 ghost use Rattle.svg_maps.specs.Overlays.{IsOutlinedMap};
@@ -10,13 +10,36 @@ use crate::form::MapForm;
 use crate::outline_labels::map_labels;
 use crate::page::{Page, page_text};
 use crate::ring::rings_of;
-use crate::sheet::sides_of;
+use crate::sheet::{scale_of, sides_of};
 use crate::square::{Counted, octet_squares, square_networks, squares_of, title_of};
 use crate::square_labels::choose_labelled;
 use crate::under::under_of;
 use ipnet::IpNet;
 use ipnet_maps::Drawing;
 use std::alloc::{AllocError, Global};
+
+/// The note at the foot, and how many small parts have no ring, if there are any.
+fn foot_note(alloc: Global, note: &str, left_out: usize) -> Result<String, AllocError> {
+    let mut text = String::from_str(alloc, note)?;
+    if left_out > 0 {
+        write!(text, " Small parts without a ring: {left_out}.")?;
+    }
+    Ok(text)
+}
+
+/// The form with this note.
+fn with_note<'a>(form: MapForm<'a>, note: &'a str) -> MapForm<'a>
+    ensures style { result.style ≡ form.entry.style }
+    ensures overlay { result.overlay ≡ form.entry.overlay }
+{
+    MapForm {
+        style: form.style,
+        heading: form.heading,
+        names: form.names,
+        note,
+        overlay: form.overlay,
+    }
+}
 
 /// Returns the document that shows the drawing of the frame. The title of each square says how many addresses each of
 /// the counted sets has in it, and the overlay has the outlines. Fails only if memory runs out.
@@ -41,14 +64,16 @@ pub fn map_text(
     let networks = square_networks(alloc, frame, depth)?;
     let squares = squares_of(alloc, frame, depth, networks.as_slice(), counted)?;
     let summary = title_of(alloc, counted, frame)?;
+    let sides = sides_of(frame, depth);
+    let rings = rings_of(alloc, layers, sides, scale_of(sides))?;
+    let note = foot_note(alloc, form.note, rings.left_out)?;
+    let form = with_note(form, note.as_str());
     let texts = captions_of(alloc, frame, drawing, form, summary.as_str())?;
     let outlines = form.overlay.outlines.as_slice();
-    let sides = sides_of(frame, depth);
     let under = under_of(alloc, layers, sides, texts.sheet.scale)?;
     let octets = octet_squares(alloc, frame, depth)?;
     let labelled = choose_labelled(squares.as_slice(), octets.as_slice(), texts.sheet.scale);
     let labels = map_labels(alloc, labelled, outlines, texts.sheet, &under)?;
-    let rings = rings_of(alloc, layers, sides, texts.sheet.scale)?;
     let page = Page {
         title: texts.title.as_str(),
         summary: summary.as_str(),
@@ -63,7 +88,7 @@ pub fn map_text(
         layers,
         squares: squares.as_slice(),
         outlines,
-        rings: rings.as_slice(),
+        rings: rings.middles.as_slice(),
         labels: labels.inside.as_slice(),
         sides,
         scale: texts.sheet.scale,

@@ -9,27 +9,16 @@ ghost use Rattle.ipnet.specs.NetworkOf.{ip_network};
 ghost use Rattle.ipnet_sets.specs.Routes.{ip_networks};
 ghost use Rattle.ipnet_sets.specs.RoutesOf.{routes_of};
 ghost use Rattle.svg_maps.specs.FreeOutlines.{largest_first};
-ghost use Rattle.svg_maps.specs.NamedOutlines.{IsShortened, blank_for_tab, spaced_text, IsShownName, name_part};
+ghost use Rattle.svg_maps.specs.NamedOutlines.{blank_for_tab, spaced_text, IsShownName, name_part};
 ghost use Rattle.svg_maps.specs.NamedOutlines.{IsNamedOutline, HasName, AreNamedOutlines};
 
 use crate::free::{MOST, largest_blocks};
 use crate::outline::{Outline, OutlineClass};
 use ipnet::IpNet;
 use ipnet_maps::rectangle_in;
+use ipnet_pictures::shorten;
 use ipnet_sets::RouteTable;
 use std::alloc::{AllocError, Global};
-
-/// How many bytes of a name a map shows at most.
-const MOST_BYTES: usize = 100;
-
-/// The front of the name that a map shows.
-fn shortened(alloc: Global, name: &str) -> Result<String, AllocError>
-    ensures { IfOk result (λ text. IsShortened name.now (string_bytes text)) }
-{
-    let end = name.floor_char_boundary(MOST_BYTES);
-    let (front, _) = name.split_at(end);
-    String::from_str(alloc, front)
-}
 
 /// Appends the character, or a blank for a tab.
 fn push_spaced(text: &mut String, c: char) -> Result<(), AllocError>
@@ -51,13 +40,13 @@ fn push_without_tabs(text: &mut String, value: &str) -> Result<(), AllocError>
     Ok(())
 }
 
-/// The name as a map shows it.
+/// The name as a map shows it: cut if it has more than 100 bytes, and with a blank for each tab.
 pub(crate) fn shown_name(alloc: Global, name: &str) -> Result<String, AllocError>
     ensures { IfOk result (λ text. IsShownName name.now (string_bytes text)) }
 {
-    let front = shortened(alloc, name)?;
+    let short = shorten(alloc, name)?;
     let mut text = String::new(alloc);
-    push_without_tabs(&mut text, front.as_str())?;
+    push_without_tabs(&mut text, short.as_str())?;
     Ok(text)
 }
 

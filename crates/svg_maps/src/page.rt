@@ -120,7 +120,7 @@ fn push_content(
 ///
 /// ```text
 /// <svg xmlns="http://www.w3.org/2000/svg" viewBox="0 0 720 1100" ..><title>10.20.0.0/16</title> ..
-/// <path class="s4" d="m0 0h16v1h-16z"/> .. </svg>
+/// <path class="s4" d="m0 4h16v2h-16z"/><path class="s4 rows" d="m0 .5m0 0h16"/> .. </svg>
 /// ```
 pub fn page_text(alloc: Global, page: Page<'_>, chart: Chart<'_>) -> Result<String, AllocError>
     ensures { IfOk result (λ text. string_bytes text ≡ nodes_text (page_nodes (page_view page.entry chart.entry))) }

@@ -89,27 +89,45 @@ fn faint_tiles(alloc: Global, counts: &[u32], tiles: Tiles) -> Result<Vec<Place>
     Ok(middles)
 }
 
-/// Returns the middles of the rings on a map of these layers, in pixels: one around each tile of 16 x 16 pixels with at
-/// least one and at most 9 painted pixels. If there are more than 120 such tiles, the map has no ring.
+/// The rings of a map.
+#[derive(Drop)]
+pub(crate) struct Rings {
+    /// The middles of the rings, in pixels.
+    pub(crate) middles: Vec<Place>,
+    /// How many parts of the map are too small to be seen and have no ring.
+    pub(crate) left_out: usize,
+}
+
+/// Returns the rings on a map of these layers: one around each tile of 16 x 16 pixels with at least one and at most 9
+/// painted pixels. If there are more than 120 such tiles, the map has no ring.
 pub(crate) fn rings_of(
     alloc: Global,
     layers: &[Layer],
     sides: Sides,
     scale: u32,
-) -> Result<Vec<Place>, AllocError>
-    ensures few { IfOk result (λ list. length list.items ≤ 120) }
+) -> Result<Rings, AllocError>
+    ensures few { IfOk result (λ rings. length rings.middles.items ≤ 120) }
 {
     // a single painted cell has more pixels than a tile with a ring
     if scale.saturating_mul(scale) > FEW {
-        return Ok(Vec::new(alloc));
+        return Ok(Rings {
+            middles: Vec::new(alloc),
+            left_out: 0,
+        });
     }
     let tiles = tiles_of(sides, TILE / scale.max(1));
     let counts = painted_counts(alloc, layers, tiles, scale)?;
     let middles = faint_tiles(alloc, counts.as_slice(), tiles)?;
     if middles.len() > MOST {
-        return Ok(Vec::new(alloc));
+        return Ok(Rings {
+            middles: Vec::new(alloc),
+            left_out: middles.len(),
+        });
     }
-    Ok(middles)
+    Ok(Rings {
+        middles,
+        left_out: 0,
+    })
 }
 
 /// Appends the ring with this middle.

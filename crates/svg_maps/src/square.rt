@@ -1,5 +1,5 @@
 //! The squares of a map, with their titles.
-ghost use Rattle.std.specs.Prelude.{◌≡◌, ◌++◌, ◌+◌, ◌≤◌, List, ℕ, All, map, IfOk, OnOk, decimal, string_bytes};
+ghost use Rattle.std.specs.Prelude.{◌≡◌, ◌++◌, ◌+◌, ◌≤◌, List, ℕ, map, IfOk, OnOk, decimal, string_bytes};
 ghost use Rattle.ipnet_base.specs.Address.{width};
 ghost use Rattle.ipnet_base.specs.Network.{IsSubnetOf};
 ghost use Rattle.ipnet.specs.NetworkOf.{ip_network};
@@ -7,7 +7,7 @@ ghost use Rattle.ipnet.specs.NetworkParts.{AreSubnetsOfLength};
 ghost use Rattle.ipnet.specs.SubnetsLeft.{ip_subnets_left};
 ghost use Rattle.ipnet_pictures.specs.Parts.{counted, block_size};
 ghost use Rattle.svg_maps.specs.Squares.{IsCountText, AreCountTexts, title_start, IsTitle, IsSquareOf};
-ghost use Rattle.svg_maps.specs.Squares.{first_bits, square_bits};
+ghost use Rattle.svg_maps.specs.Squares.{AreSquaresOf, first_bits, square_bits};
 
 use crate::chart::Square;
 use crate::extent::extent_of;
@@ -124,7 +124,7 @@ fn square_of(
     requires fits { (ip_network frame.now).prefix_len + depth ≤ width (ip_network frame.now).family }
     requires inside { IsSubnetOf (ip_network network.now) (ip_network frame.now) }
     requires large { (ip_network network.now).prefix_len ≤ (ip_network frame.now).prefix_len + depth }
-    ensures { IfOk result (IsSquareOf (ip_network frame.now) depth (ip_network network.now).prefix_len counted.now) }
+    ensures { IfOk result (IsSquareOf (ip_network frame.now) depth counted.now (ip_network network.now)) }
 {
     let rectangle = rectangle_in(frame, depth, network);
     let name = short_name(alloc, network, frame.prefix_len())?;
@@ -144,8 +144,8 @@ pub(crate) fn square_networks(
     depth: u8,
 ) -> Result<Vec<IpNet>, AllocError>
     requires { (ip_network frame.now).prefix_len + depth ≤ width (ip_network frame.now).family }
-    ensures { let n = ip_network frame.now in IfOk result (λ list. All (λ k. IsSubnetOf (ip_network k) n
-        × ((ip_network k).prefix_len ≡ n.prefix_len + square_bits n.prefix_len depth)) list.items) }
+    ensures { let n = ip_network frame.now in IfOk result (λ list.
+        AreSubnetsOfLength n (n.prefix_len + square_bits n.prefix_len depth) (map ip_network list.items)) }
 {
     let len = frame.prefix_len() + square_bits_of(frame.prefix_len(), depth);
     subnets_of(alloc, frame, len)
@@ -161,10 +161,9 @@ pub(crate) fn squares_of(
 ) -> Result<Vec<Square>, AllocError>
     requires few { depth ≤ 20 }
     requires fits { (ip_network frame.now).prefix_len + depth ≤ width (ip_network frame.now).family }
-    requires inside { let n = ip_network frame.now in All (λ k. IsSubnetOf (ip_network k) n
-        × ((ip_network k).prefix_len ≡ n.prefix_len + square_bits n.prefix_len depth)) networks.now }
-    ensures { let n = ip_network frame.now in IfOk result (λ squares.
-        All (IsSquareOf n depth (n.prefix_len + square_bits n.prefix_len depth) counted.now) squares.items) }
+    requires all { let n = ip_network frame.now in
+        AreSubnetsOfLength n (n.prefix_len + square_bits n.prefix_len depth) (map ip_network networks.now) }
+    ensures { IfOk result (λ squares. AreSquaresOf (ip_network frame.now) depth counted.now squares.items) }
 {
     let mut squares = Vec::new(alloc);
     for network in networks {

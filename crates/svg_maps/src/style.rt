@@ -18,7 +18,8 @@ pub enum Theme {
     Dark,
 }
 
-// Each rule is below the class of the document, so that the rules do not change a page into which it is put.
+// Each rule is below the class of the document, so that the rules do not change a page into which it is put. A class of
+// cells colours areas and lines, but only its rows have lines. The rule of rows has to win over the fill of a class.
 
 /// The rules of all themes.
 const COMMON: &str = "\
@@ -28,12 +29,14 @@ const COMMON: &str = "\
 .netmap .small .note{font-size:11px}\
 .netmap .hit{fill:#fff;fill-opacity:0}\
 .netmap .hit:hover{fill-opacity:.25}\
+.netmap rect,.netmap path{stroke-width:0}\
+.netmap path.rows{fill:none;stroke-width:1}\
 .netmap .grid{fill:none;stroke-width:1;opacity:.35}\
 .netmap .free{fill:none;stroke-width:1;stroke-opacity:.55;shape-rendering:crispEdges;pointer-events:none}\
 .netmap .name{fill:none;stroke-width:1.5}\
 .netmap .ring{fill:none;stroke-width:1.5;pointer-events:none}\
 .netmap .halo{stroke-width:3;stroke-opacity:.6;stroke-linejoin:round;paint-order:stroke}\
-.netmap .pale{fill-opacity:.55}";
+.netmap .pale{fill-opacity:.55;stroke-opacity:.55}";
 
 /// The colours of a light page.
 const LIGHT: &str = "\
@@ -43,23 +46,23 @@ const LIGHT: &str = "\
 .netmap .faint{fill:#63635e}\
 .netmap .inverse{fill:#ffffff}\
 .netmap .black{fill:#000000}\
-.netmap .s1{fill:#a3c9e6}\
-.netmap .s2{fill:#5fa3d3}\
-.netmap .s3{fill:#2171b5}\
-.netmap .s4{fill:#08306b}\
-.netmap .old{fill:#d55e00}\
-.netmap .new{fill:#0072b2}\
-.netmap .both{fill:#8f8f8a}\
-.netmap .bothp{fill:#bdbdb8}\
-.netmap .mix{fill:#000000}\
-.netmap .ov{fill:#000000}\
-.netmap .sev{fill:#8f8f8a}\
-.netmap .l0{fill:#0072b2}\
-.netmap .l1{fill:#e69f00}\
-.netmap .l2{fill:#009e73}\
-.netmap .l3{fill:#cc79a7}\
-.netmap .l4{fill:#56b4e9}\
-.netmap .l5{fill:#d55e00}\
+.netmap .s1{fill:#a3c9e6;stroke:#a3c9e6}\
+.netmap .s2{fill:#5fa3d3;stroke:#5fa3d3}\
+.netmap .s3{fill:#2171b5;stroke:#2171b5}\
+.netmap .s4{fill:#08306b;stroke:#08306b}\
+.netmap .old{fill:#d55e00;stroke:#d55e00}\
+.netmap .new{fill:#0072b2;stroke:#0072b2}\
+.netmap .both{fill:#8f8f8a;stroke:#8f8f8a}\
+.netmap .bothp{fill:#bdbdb8;stroke:#bdbdb8}\
+.netmap .mix{fill:#000000;stroke:#000000}\
+.netmap .ov{fill:#000000;stroke:#000000}\
+.netmap .sev{fill:#8f8f8a;stroke:#8f8f8a}\
+.netmap .l0{fill:#0072b2;stroke:#0072b2}\
+.netmap .l1{fill:#e69f00;stroke:#e69f00}\
+.netmap .l2{fill:#009e73;stroke:#009e73}\
+.netmap .l3{fill:#cc79a7;stroke:#cc79a7}\
+.netmap .l4{fill:#56b4e9;stroke:#56b4e9}\
+.netmap .l5{fill:#d55e00;stroke:#d55e00}\
 .netmap .grid{stroke:#8a8a85}\
 .netmap .free{stroke:#8a8a85}\
 .netmap .name{stroke:#1a1a1a}\
@@ -74,23 +77,23 @@ const DARK: &str = "\
 .netmap .faint{fill:#aab0ba}\
 .netmap .inverse{fill:#000000}\
 .netmap .black{fill:#000000}\
-.netmap .s1{fill:#264a68}\
-.netmap .s2{fill:#35719f}\
-.netmap .s3{fill:#5aa2d8}\
-.netmap .s4{fill:#a8d8ff}\
-.netmap .old{fill:#f28a35}\
-.netmap .new{fill:#4db2ff}\
-.netmap .both{fill:#6c727c}\
-.netmap .bothp{fill:#484d56}\
-.netmap .mix{fill:#ffffff}\
-.netmap .ov{fill:#ffffff}\
-.netmap .sev{fill:#6c727c}\
-.netmap .l0{fill:#2a78c8}\
-.netmap .l1{fill:#e69f00}\
-.netmap .l2{fill:#1fb98d}\
-.netmap .l3{fill:#cc79a7}\
-.netmap .l4{fill:#9bd8ff}\
-.netmap .l5{fill:#d55e00}\
+.netmap .s1{fill:#264a68;stroke:#264a68}\
+.netmap .s2{fill:#35719f;stroke:#35719f}\
+.netmap .s3{fill:#5aa2d8;stroke:#5aa2d8}\
+.netmap .s4{fill:#a8d8ff;stroke:#a8d8ff}\
+.netmap .old{fill:#f28a35;stroke:#f28a35}\
+.netmap .new{fill:#4db2ff;stroke:#4db2ff}\
+.netmap .both{fill:#6c727c;stroke:#6c727c}\
+.netmap .bothp{fill:#484d56;stroke:#484d56}\
+.netmap .mix{fill:#ffffff;stroke:#ffffff}\
+.netmap .ov{fill:#ffffff;stroke:#ffffff}\
+.netmap .sev{fill:#6c727c;stroke:#6c727c}\
+.netmap .l0{fill:#2a78c8;stroke:#2a78c8}\
+.netmap .l1{fill:#e69f00;stroke:#e69f00}\
+.netmap .l2{fill:#1fb98d;stroke:#1fb98d}\
+.netmap .l3{fill:#cc79a7;stroke:#cc79a7}\
+.netmap .l4{fill:#9bd8ff;stroke:#9bd8ff}\
+.netmap .l5{fill:#d55e00;stroke:#d55e00}\
 .netmap .grid{stroke:#8b919b}\
 .netmap .free{stroke:#8b919b}\
 .netmap .name{stroke:#f0f0ee}\

@@ -4,7 +4,7 @@ use Rattle.ipnet.specs.NetworkOf.{ip_network}
 use Rattle.svg_text.specs.Documents.{nodes_text}
 use Rattle.svg_maps.specs.Overlays.{IsOutlinedMap}
 use Rattle.svg_maps.specs.Pages.{PageView, cell_pixels, page_nodes}
-use Rattle.svg_maps.specs.Squares.{IsSquareOf, IsTitle, square_bits}
+use Rattle.svg_maps.specs.Squares.{AreSquaresOf, IsTitle}
 use Rattle.svg_maps.proofs.map.map_text.Goals as goal
 
 pub returns : goal.returns
@@ -14,9 +14,9 @@ returns c =
     let counted = c.args.counted.now in
     let sheet = c.in_ok-texts.texts.sheet in
     let view : PageView = record {
-      title = c.as_str-2.result.now;
-      summary = c.as_str-3.result.now;
-      style = c.args.form.style.now;
+      title = c.as_str-3.result.now;
+      summary = c.as_str-4.result.now;
+      style = c.with_note-form.result.style.now;
       captions = c.as_slice-4.result.now;
       heads = c.as_slice-5.result.now;
       swatches = c.as_slice-6.result.now;
@@ -39,11 +39,10 @@ returns c =
         width = c.sides_of-sides.ensures.width;
         height = c.sides_of-sides.ensures.height;
         scale = c.in_ok-texts.ensures ∙ ap cell_pixels (sym c.sides_of-sides.ensures.width);
-        squares = subst (All (IsSquareOf n d.depth (n.prefix_len + square_bits n.prefix_len d.depth) counted))
-            (sym c.as_slice-7.ensures.value) c.in_ok-squares.ensures;
-        summary = subst (IsTitle n counted) (sym c.as_str-3.ensures.value) c.in_ok-summary.ensures;
+        squares = subst (AreSquaresOf n d.depth counted) (sym c.as_slice-7.ensures.value) c.in_ok-squares.ensures;
+        summary = subst (IsTitle n counted) (sym c.as_str-4.ensures.value) c.in_ok-summary.ensures;
         spelled = e;
       },
-      refl,
-      c.as_slice-outlines.ensures.value,
+      ap (λ z. z.now) c.with_note-form.ensures.style,
+      c.as_slice-outlines.ensures.value ∙ ap (λ z. z.now.outlines.items) c.with_note-form.ensures.overlay,
     )) c.page_text.ensures

@@ -4,8 +4,8 @@ use Rattle.svg_maps.proofs.named.shown_name.Goals as goal
 
 pub returns : goal.returns
 returns c = record {
-  front = string_bytes c.in_ok-front.front;
-  is_front = c.in_ok-front.ensures;
+  short = string_bytes c.in_ok-short.short;
+  is_short = c.in_ok-short.ensures;
   spelled = c.in_ok-push_without_tabs.ensures
       ∙ ap (λ z. z ++ spaced_text (chars c.as_str.result.now)) c.new-text.ensures.bytes
       ∙ ap (λ z. spaced_text (chars z)) c.as_str.ensures.value;

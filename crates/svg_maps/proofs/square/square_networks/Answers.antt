@@ -1,10 +1,7 @@
-use Rattle.std.proofs.Common.{◌≡◌, ◌+◌, ◌∙◌, All, map, ap, ap₂}
+use Rattle.std.proofs.Common.{◌≡◌, ◌+◌, ◌∙◌, map, ap, ap₂, subst}
 use Rattle.std.proofs.lemmas.Result.{IfOk-weaker}
-use Rattle.ipnet_base.specs.Network.{IsSubnetOf}
-use Rattle.ipnet_base.proofs.ListLaws.{all_from_members}
 use Rattle.ipnet.specs.NetworkOf.{ip_network}
 use Rattle.ipnet.specs.NetworkParts.{AreSubnetsOfLength}
-use Rattle.ipnet_maps.proofs.PlaceLaws.{all_back}
 use Rattle.svg_maps.specs.Squares.{square_bits}
 use Rattle.svg_maps.proofs.square.square_networks.Goals as goal
 
@@ -17,7 +14,5 @@ returns c =
     let same : len ≡ wanted = ap₂ (λ a b. a + b) c.prefix_len.ensures
     (c.square_bits_of.ensures.bits ∙ ap (λ z. square_bits z depth) c.prefix_len-2.ensures) in
     IfOk-weaker c.subnets_of.result (λ list. AreSubnetsOfLength n len (map ip_network list.items))
-    (λ list. All (λ k. IsSubnetOf (ip_network k) n × ((ip_network k).prefix_len ≡ wanted)) list.items)
-    (λ list h. all_back (λ k. IsSubnetOf k n × (k.prefix_len ≡ wanted)) ip_network list.items
-    (all_from_members (λ k. IsSubnetOf k n × (k.prefix_len ≡ wanted)) (map ip_network list.items)
-    (λ k m. (((h.members k).0 m).within, ((h.members k).0 m).of_length ∙ same)))) c.subnets_of.ensures
+    (λ list. AreSubnetsOfLength n wanted (map ip_network list.items))
+    (λ list h. subst (λ z. AreSubnetsOfLength n z (map ip_network list.items)) same h) c.subnets_of.ensures

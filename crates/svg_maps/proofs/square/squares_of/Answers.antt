@@ -1,19 +1,26 @@
-use Rattle.std.proofs.Common.{◌≡◌, ◌+◌, ◌∙◌, All, ap, subst, sym}
-use Rattle.std.proofs.lemmas.List.Elements.{All-push}
+use Rattle.std.proofs.Common.{◌+◌, ◌≤◌, subst, sym}
 use Rattle.ipnet.specs.NetworkOf.{ip_network}
-use Rattle.svg_maps.specs.Squares.{IsSquareOf, square_bits}
+use Rattle.ipnet_pictures.proofs.PartLaws.{one_value_more}
+use Rattle.svg_maps.specs.Squares.{IsSquareOf}
+use Rattle.svg_maps.proofs.SquareLaws.{all_squares, at_large}
 use Rattle.svg_maps.proofs.square.squares_of.Goals as goal
 
 pub loop-network-preserved : goal.loop-network-preserved
 loop-network-preserved c =
+    one_value_more (IsSquareOf (ip_network c.args.frame.now) c.args.depth c.args.counted.now) ip_network
+    c.args.networks.now c.loop-network.network-index c.network-item.result c.in_ok-square.square
+    c.loop-network.squares.items c.push.new.self.items c.loop-network-test.true c.network-item.is
+    c.loop-network.invariant c.in_ok-square.ensures c.in_ok-push.ensures.items
+
+pub square_of-requires-clause-large : goal.square_of-requires-clause-large
+square_of-requires-clause-large c =
     let n = ip_network c.args.frame.now in
-    let depth = c.args.depth in
-    let counted = c.args.counted.now in
-    let wanted = n.prefix_len + square_bits n.prefix_len depth in
-    let item = c.network-item.result in
-    let square = c.in_ok-square.square in
-    let same : (ip_network item).prefix_len ≡ wanted = ap (λ z. (ip_network z).prefix_len) c.network-item.is
-    ∙ (c.requires.inside c.loop-network.network-index item c.loop-network-test.true).1 in
-    subst (All (IsSquareOf n depth wanted counted)) (sym c.in_ok-push.ensures.items)
-    (All-push (IsSquareOf n depth wanted counted) c.loop-network.squares.items square c.loop-network.invariant
-    (subst (λ len. IsSquareOf n depth len counted square) same c.in_ok-square.ensures))
+    subst (λ z. (ip_network z).prefix_len ≤ n.prefix_len + c.args.depth) (sym c.network-item.is)
+    (at_large n c.args.depth c.args.networks.now c.loop-network.network-index c.network-item.result
+    c.loop-network-test.true c.requires.all)
+
+pub returns : goal.returns
+returns c =
+    all_squares (ip_network c.args.frame.now) c.args.depth c.args.counted.now c.args.networks.now
+    c.loop-network.network-index c.loop-network.squares.items c.loop-network-test.false c.requires.all
+    c.loop-network.invariant

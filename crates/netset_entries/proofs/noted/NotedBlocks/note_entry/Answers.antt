@@ -1,4 +1,4 @@
-use Rattle.std.proofs.Common.{rules, ◌∙◌, Contains, sym, subst, string_bytes}
+use Rattle.std.proofs.Common.{rules, ◌∙◌, Contains, refl, sym, subst, string_bytes}
 use Rattle.ipnet_base.specs.Blocks.{AreMaximalBlocks}
 use Rattle.ipnet_base.proofs.ListLaws.{contains_here, contains_there}
 use Rattle.ipnet.specs.NetworkOf.{ip_network}
@@ -6,8 +6,8 @@ use Rattle.ipnet.specs.SubnetsLeft.{ip_subnets_left}
 use Rattle.ipnet_sets.specs.SetRanges.{IsInRange}
 use Rattle.netset_lib.specs.EntryOf.{entry_range}
 use Rattle.netset_entries.specs.NotedEntries.{IsTitledBlock, IsTitleOf}
-use Rattle.netset_entries.proofs.NotedBlockLaws.{ReadsPart, line_empty, part_none, part_more, part_all}
-use Rattle.netset_entries.proofs.TitledBlocks.{none_titled, titled_in, titled_as}
+use Rattle.netset_entries.proofs.NotedBlockLaws.{ReadsPart, line_empty, line_skipped, part_none, part_more, part_all}
+use Rattle.netset_entries.proofs.TitledBlocks.{none_titled, small_entry, titled_in, titled_as}
 use Rattle.netset_entries.proofs.noted.NotedBlocks.note_entry.Goals as goal
 
 pub returns-in_default : goal.returns-in_default
@@ -17,6 +17,14 @@ returns-in_default c =
     line_empty old line
     (none_titled old.grammar line c.contents_of-text.result.now c.contents_of-text.ensures
     (c.read_text.ensures.reads.none.0 (search rules)))
+
+pub returns-in-Some-count_small : goal.returns-in-Some-count_small
+returns-in-Some-count_small c =
+    let old = c.args.self.now in
+    let line = c.args.line.now in
+    line_skipped old _ line refl refl refl refl
+    (small_entry old line c.contents_of-text.result.now c.contents_of-text.ensures (entry_range c.in-Some.found.entry)
+    c.in-Some.ensures.reads.some c.in-Some-count_small.ensures)
 
 pub loop-network-init : goal.loop-network-init
 loop-network-init c =
