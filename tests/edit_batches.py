@@ -1,13 +1,15 @@
 """Which edits are tried in one check: the batches of a crate.
 
-The edits of one batch change different functions. Edits of contracts, ghost members, derives and definitions can change
-the verdict on other functions: they come after edits of bodies, and only with edits of types that do not use each
-other. Controls, which have to be proved, come last, and only with wrong bodies of functions that theirs does not call.
-Edits of the self-test share no batch with others. This module is not run: `tests/wrong_bodies` imports it.
+The edits of one batch change different functions, or copies of functions (tests/edit_copies.py). Edits of contracts,
+ghost members, derives and definitions can change the verdict on other functions: they come after edits of bodies, and
+only with edits of types that do not use each other. Controls, which have to be proved, come last, and only with wrong
+bodies of functions that theirs does not call. Edits of the self-test share no batch with others. This module is not
+run: `tests/wrong_bodies` imports it.
 """
 import os
 import re
 
+from edit_copies import Copy, place_of
 from edit_files import TOP, items, read_text
 
 # the heads of what a changed line can lie in
@@ -120,7 +122,7 @@ class Reach:
         self.names = set()
         self.is_global = any(not path.startswith("src/") for path in edit.texts)
         self.traits, types = set(), set()
-        for path, start, end, new in edit.hunks():
+        for path, start, end, new in () if isinstance(edit, Copy) else edit.hunks():
             item = source.item_at(path, start)
             self.places.add((path, item.start if item else start))
             self.names |= {last_name(item.name)} if item and item.is_function else set()
@@ -185,7 +187,22 @@ def first_fit(edits, keeps_apart):
 
 
 def batches_of(edits, source):
-    """The batches of these edits: edits of bodies first, and controls last."""
+    """The batches of these edits: edits of bodies first, and controls last. An edit that fits into no batch changes a
+    copy of its function, if that fits into one."""
     reach = {edit: Reach(edit, source) for edit in edits}
-    return first_fit(sorted(edits, key=lambda edit: (edit.is_control, not reach[edit].is_local)),
-                     lambda edit, other: reach[edit].keeps_apart(reach[other]))
+    batches = []
+
+    def fitting(edit):
+        return next((it for it in batches if not any(reach[edit].keeps_apart(reach[other]) for other in it)), None)
+
+    for edit in sorted(edits, key=lambda edit: (edit.is_control, not reach[edit].is_local)):
+        batch, place = fitting(edit), place_of(edit, source)
+        if batch is None and place is not None:
+            copy = Copy(edit, place, "again_%d" % len(reach))
+            reach[copy] = Reach(copy, source)
+            batch = fitting(copy)
+            edit = edit if batch is None else copy
+        if batch is None:
+            batches.append(batch := [])
+        batch.append(edit)
+    return batches

@@ -97,6 +97,10 @@ class Edit:
                 if kind != "equal":
                     yield path, start, end, after[other_start:other_end]
 
+    def files(self):
+        """The new files of the edit: it has none."""
+        return ()
+
 
 def changes(before, after):
     return difflib.SequenceMatcher(None, before, after, autojunk=False).get_opcodes()

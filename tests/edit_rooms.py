@@ -96,6 +96,9 @@ class Rooms:
             for start, end, new in sorted(found, key=lambda hunk: hunk[0], reverse=True):
                 lines[start:end] = new
             write_anew(os.path.join(room, "crates", crate, path), "\n".join(lines))
+        for path, text in [it for edit in edits for it in edit.files()]:
+            os.makedirs(os.path.dirname(os.path.join(room, "crates", crate, path)), exist_ok=True)
+            write_anew(os.path.join(room, "crates", crate, path), text)
         try:
             return self.run(room, crate, ["check", *only(functions), "--jobs", "1"], title)
         finally:

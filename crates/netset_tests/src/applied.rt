@@ -1,6 +1,5 @@
-//! Changes that are applied to a list, the verdicts of a prefix list, and routes with texts: writers that fail, and
-//! refused memory.
-use crate::support::{NAMES, WINDOW, session_of};
+//! Changes that are applied to a list, the verdicts of a prefix list, and routes with texts: writers that fail.
+use crate::support::{NAMES, session_of};
 use ipnet::Grammar;
 use netset_lib::{
     Form, ListOperation, PrefixRequest, Request, TextRequest, Work, run_apply, run_prefix_list,
@@ -9,7 +8,6 @@ use netset_lib::{
 use std::alloc::Global;
 use std::test::Fail;
 use test_support::devices::{ArrayWriter, NEVER, WHOLE};
-use test_support::memory::{Outcome, grow_stack, is_refused, is_refused_beside_room};
 
 /// The error message for a writer that fails.
 const UNWRITABLE: &[u8] = b"netset: output cannot be written\n";
@@ -110,60 +108,5 @@ fn writers_of_routes(rt: HostRuntime) -> Result<(), Fail> {
         assert!(&rt; out.held() == front, "routes: {label}: output");
         assert!(&rt; faults.held() == report, "routes: {label}: reports");
     }
-    Ok(())
-}
-
-/// The outcome of changes that are applied, if the ends of the run are right.
-fn changes_outcome(alloc: Global) -> Outcome {
-    let mut out = ArrayWriter::whole();
-    let mut faults = ArrayWriter::whole();
-    let Some(status) = run_changes(alloc, &mut out, &mut faults) else {
-        return Outcome::Refused;
-    };
-    match (status, out.held(), faults.held()) {
-        (0, b"10.0.0.0/31\n", b"") => Outcome::Answered,
-        (2, b"", b"netset: out of memory\n") => Outcome::Refused,
-        _ => Outcome::Wrong,
-    }
-}
-
-/// The outcome of the verdicts, if the ends of the run are right.
-fn verdicts_outcome(alloc: Global) -> Outcome {
-    let mut out = ArrayWriter::whole();
-    let mut faults = ArrayWriter::whole();
-    let status = run_verdicts(alloc, &mut out, &mut faults);
-    match (status, out.held(), faults.held()) {
-        (1, b"permit 10.1.0.0/16\ndeny 10.0.0.0/8\n", b"") => Outcome::Answered,
-        (2, b"", b"netset: out of memory\n") => Outcome::Refused,
-        _ => Outcome::Wrong,
-    }
-}
-
-/// The outcome of the routes, if the ends of the run are right.
-fn routes_outcome(alloc: Global) -> Outcome {
-    let mut out = ArrayWriter::whole();
-    let mut faults = ArrayWriter::whole();
-    let status = run_routes(alloc, &mut out, &mut faults);
-    match (status, out.held(), faults.held()) {
-        (1, b"10.0.0.1 10.0.0.0/8 eth0\n::1 -\n", b"") => Outcome::Answered,
-        (2, b"", b"netset: out of memory\n") => Outcome::Refused,
-        _ => Outcome::Wrong,
-    }
-}
-
-#[test]
-fn memory(rt: HostRuntime) -> Result<(), Fail> {
-    grow_stack(rt.alloc())?;
-    let alloc = rt.alloc();
-    let is_right = is_refused_beside_room(alloc, WINDOW, || changes_outcome(alloc))?;
-    assert!(&rt; is_right, "memory: apply");
-    assert!(&rt;
-        is_refused(alloc, || verdicts_outcome(alloc))?,
-        "memory: verdicts"
-    );
-    assert!(&rt;
-        is_refused(alloc, || routes_outcome(alloc))?,
-        "memory: routes"
-    );
     Ok(())
 }

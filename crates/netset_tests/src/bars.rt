@@ -1,5 +1,5 @@
-//! Bars of lists, and of two lists that are compared: rows, writers that fail, and refused memory.
-use crate::support::{NAMES, WINDOW, session_of};
+//! Bars of lists, and of two lists that are compared: rows, and writers that fail.
+use crate::support::{NAMES, session_of};
 use ipnet::{Grammar, IpNet};
 use ipnet_pictures::{BarForm, Frame, Marks, RowWidth};
 use netset_lib::{Families, Form, ListOperation, PlanRequest, Query, Request, Work};
@@ -10,7 +10,6 @@ use netset_pictures::{
 use std::alloc::{AllocError, Global};
 use std::test::Fail;
 use test_support::devices::{ArrayWriter, WHOLE};
-use test_support::memory::{Outcome, grow_stack, is_refused_beside_room};
 
 /// The status, standard output and standard error of a run.
 type Ends = (u8, &'static str, &'static str);
@@ -221,52 +220,6 @@ fn forms(rt: HostRuntime) -> Result<(), Fail> {
     Ok(())
 }
 
-/// The outcome of a run that ended with this status, or with `None` if memory ran out while the lists were read.
-fn outcome_of(
-    status: Option<u8>,
-    out: &ArrayWriter,
-    faults: &ArrayWriter,
-    wanted: (u8, &str),
-) -> Outcome {
-    let Some(status) = status else {
-        return Outcome::Refused;
-    };
-    if (status, out.held()) == (wanted.0, wanted.1.as_bytes()) {
-        return Outcome::Answered;
-    }
-    match (status, out.held(), faults.held()) {
-        (2, b"", b"netset: out of memory\n") => Outcome::Refused,
-        _ => Outcome::Wrong,
-    }
-}
-
-/// The outcome of a bar of these lists.
-fn outcome(alloc: Global, lists: &str, frame: Frame, wanted: (u8, &str)) -> Outcome {
-    let mut out = ArrayWriter::whole();
-    let mut faults = ArrayWriter::whole();
-    let status = run_lists(alloc, lists, frame, &mut out, &mut faults);
-    outcome_of(status, &out, &faults, wanted)
-}
-
-#[test]
-fn memory(rt: HostRuntime) -> Result<(), Fail> {
-    grow_stack(rt.alloc())?;
-    let alloc = rt.alloc();
-    let network: IpNet = "10.0.0.0/30".parse()?;
-    let frame = Frame::Named(network);
-    // label, the lists, the ends of the run
-    let rows = [
-        ("a bar", "10.0.0.0/31\n::1", (0, HALF)),
-        ("a comparison", "10.0.0.0/31+10.0.0.1\n::1", (1, CHANGED)),
-    ];
-    for (label, lists, wanted) in rows {
-        let call = || outcome(alloc, lists, frame, wanted);
-        let is_right = is_refused_beside_room(alloc, WINDOW, call)?;
-        assert!(&rt; is_right, "memory: {label}");
-    }
-    Ok(())
-}
-
 /// The bar of 10.0.0.3/32 in the free addresses 10.0.0.0/31 and 10.0.0.3.
 const PLANNED: &str =
     "10.0.0.0/30, a mark is one /32\n10.0.0.0/30 |..##| 50.0 %\nused 2 of 4, 50.0 %\n\
@@ -333,28 +286,5 @@ fn plans(rt: HostRuntime) -> Result<(), Fail> {
             "bars of plans: {label}: standard error"
         );
     }
-    Ok(())
-}
-
-/// The outcome of the bar of a plan.
-fn plan_outcome(alloc: Global) -> Outcome {
-    let mut out = ArrayWriter::whole();
-    let mut faults = ArrayWriter::whole();
-    let plan = PlanRequest {
-        families: Families::Named,
-        lengths: &[32],
-    };
-    let list = "10.0.0.0/31\n10.0.0.3\n";
-    let status = run_one_plan(alloc, list, plan, &mut out, &mut faults);
-    outcome_of(status, &out, &faults, (0, PLANNED))
-}
-
-#[test]
-fn memory_of_plans(rt: HostRuntime) -> Result<(), Fail> {
-    grow_stack(rt.alloc())?;
-    let alloc = rt.alloc();
-    let call = || plan_outcome(alloc);
-    let is_right = is_refused_beside_room(alloc, WINDOW, call)?;
-    assert!(&rt; is_right, "memory: the bar of a plan");
     Ok(())
 }

@@ -1,11 +1,10 @@
-//! Changes between two lists, and the subnets and hosts of a network: writers that fail, and refused memory.
-use crate::support::{NAMES, WINDOW, session_of};
+//! Changes between two lists, and the subnets and hosts of a network: writers that fail.
+use crate::support::{NAMES, session_of};
 use ipnet::{Grammar, IpNet};
 use netset_lib::{Query, Work, run_changes, run_hosts, run_split};
 use std::alloc::Global;
 use std::test::Fail;
 use test_support::devices::{ArrayWriter, NEVER, WHOLE};
-use test_support::memory::{Outcome, grow_stack, is_refused_beside_room};
 
 /// The error message for a wrong number of lists.
 const COUNT: &[u8] = b"netset: another number of lists is wanted\n";
@@ -134,29 +133,5 @@ fn listings(rt: HostRuntime) -> Result<(), Fail> {
         assert!(&rt; out.held() == answer, "listings: {label}: output");
         assert!(&rt; faults.held() == report, "listings: {label}: report");
     }
-    Ok(())
-}
-
-/// The outcome of a run of changes, if its ends are right.
-fn outcome(alloc: Global) -> Outcome {
-    let mut out = ArrayWriter::whole();
-    let mut faults = ArrayWriter::whole();
-    let lists = ["10.0.0.0/31\n", "10.0.0.0\n"];
-    let Some(status) = run_two(alloc, lists, &mut out, &mut faults) else {
-        return Outcome::Refused;
-    };
-    match (status, out.held(), faults.held()) {
-        (1, b"- 10.0.0.0/31\n+ 10.0.0.0/32\n", b"") => Outcome::Answered,
-        (2, b"", b"netset: out of memory\n") => Outcome::Refused,
-        _ => Outcome::Wrong,
-    }
-}
-
-#[test]
-fn memory(rt: HostRuntime) -> Result<(), Fail> {
-    grow_stack(rt.alloc())?;
-    let alloc = rt.alloc();
-    let is_right = is_refused_beside_room(alloc, WINDOW, || outcome(alloc))?;
-    assert!(&rt; is_right, "memory: changes");
     Ok(())
 }

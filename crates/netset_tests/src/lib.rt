@@ -1,6 +1,6 @@
 //! Tests that call `netset_lib`, `netset_entries` and `netset_pictures`: the kinds of entries, the numbers of lists,
-//! plans, changes, prefix lists, bars, noted entries, outputs, readers and writers that fail, rules, and refused
-//! memory.
+//! plans, changes, prefix lists, bars, noted entries, outputs, readers and writers that fail, and rules. The program
+//! `netset` runs with refused memory in tests/memory.
 #![tactic(auto)]
 
 #[cfg(test)]
@@ -11,8 +11,6 @@ mod bars;
 mod changes;
 #[cfg(test)]
 mod entries;
-#[cfg(test)]
-mod memory;
 #[cfg(test)]
 mod noted;
 #[cfg(test)]

@@ -7,7 +7,6 @@ use std::io;
 use std::io::{ErrorKind, Write};
 use std::test::Fail;
 use test_support::devices::ArrayWriter;
-use test_support::memory::{Outcome, grow_stack, is_refused_and_answered};
 
 /// An output that counts how often it is published. If it fails, nothing is published.
 #[derive(Drop)]
@@ -108,26 +107,6 @@ fn names(rt: HostRuntime) -> Result<(), Fail> {
         assert!(&rt; found.as_str() == wanted, "{wanted}: name");
         assert!(&rt; is_unfinished_name(name, wanted), "{wanted}");
     }
-    Ok(())
-}
-
-/// The outcome of a call of `unfinished_name`, if its name is right.
-fn name_outcome(alloc: Global) -> Outcome {
-    match unfinished_name(alloc, "a name that is longer than a short one", 12) {
-        Ok(text) if text.as_str() == ".a name that is longer than a short one.netset-12" => {
-            Outcome::Answered
-        }
-        Ok(_) => Outcome::Wrong,
-        Err(_) => Outcome::Refused,
-    }
-}
-
-#[test]
-fn a_name_with_limited_memory(rt: HostRuntime) -> Result<(), Fail> {
-    grow_stack(rt.alloc())?;
-    let alloc = rt.alloc();
-    let is_right = is_refused_and_answered(alloc, || name_outcome(alloc))?;
-    assert!(&rt; is_right);
     Ok(())
 }
 

@@ -1,5 +1,5 @@
-//! Plans of networks in lists: prefix lengths, families, writers that fail, and refused memory.
-use crate::support::{NAMES, WINDOW, session_of};
+//! Plans of networks in lists: prefix lengths, families, and writers that fail.
+use crate::support::{NAMES, session_of};
 use ipnet::Grammar;
 use netset_lib::{
     Failure, Families, Form, ListOperation, PlanRequest, Query, Request, Work, families,
@@ -8,7 +8,6 @@ use netset_lib::{
 use std::alloc::Global;
 use std::test::Fail;
 use test_support::devices::{ArrayWriter, NEVER, WHOLE};
-use test_support::memory::{Outcome, grow_stack, is_refused_beside_room};
 
 /// The report of a list without room.
 const NO_PLACEMENT: &[u8] = b"netset: no placement: the list has no room for these networks\n";
@@ -270,46 +269,5 @@ fn writers(rt: HostRuntime) -> Result<(), Fail> {
         out.held().is_empty(),
         "a report that cannot be written: output"
     );
-    Ok(())
-}
-
-/// The outcome of a run of a plan, if these ends are right.
-fn outcome(alloc: Global, lengths: &[u8], wanted: Ends) -> Outcome {
-    let mut out = ArrayWriter::whole();
-    let mut faults = ArrayWriter::whole();
-    let request = PlanRequest {
-        families: Families::Named,
-        lengths,
-    };
-    let Some(status) = run_one(alloc, "10.0.0.0/24", request, &mut out, &mut faults) else {
-        return Outcome::Refused;
-    };
-    if (status, out.held(), faults.held()) == wanted {
-        return Outcome::Answered;
-    }
-    match (status, out.held(), faults.held()) {
-        (2, b"", b"netset: out of memory\n") => Outcome::Refused,
-        _ => Outcome::Wrong,
-    }
-}
-
-#[test]
-fn memory(rt: HostRuntime) -> Result<(), Fail> {
-    grow_stack(rt.alloc())?;
-    let alloc = rt.alloc();
-    // label, the lengths, the ends of the run
-    let rows: [(&str, &[u8], Ends); 2] = [
-        (
-            "a plan",
-            &[25, 26],
-            (0, b"10.0.0.0/25\n10.0.0.128/26\n", b""),
-        ),
-        ("no placement", &[25, 24], (1, b"", NO_PLACEMENT)),
-    ];
-    for (label, lengths, wanted) in rows {
-        let call = || outcome(alloc, lengths, wanted);
-        let is_right = is_refused_beside_room(alloc, WINDOW, call)?;
-        assert!(&rt; is_right, "memory: {label}");
-    }
     Ok(())
 }

@@ -1,4 +1,4 @@
-//! Lists of rules: their lines, the answers, the reports, and refused memory.
+//! Lists of rules: their lines, the answers, and the reports.
 use ipnet::{Grammar, IpAddr, Ipv4Addr, Ipv6Addr};
 use ipnet_rules::Action;
 use netset_lib::{ListFailure, ReadFailure, RuleCause, RuleList, range_lines, run_unreached};
@@ -6,7 +6,6 @@ use std::alloc::Global;
 use std::io::ErrorKind;
 use std::test::Fail;
 use test_support::devices::{ArrayWriter, ByteReader, NEVER, WHOLE};
-use test_support::memory::{Outcome, grow_stack, is_refused};
 
 /// A list of rules with an unreached one on line 6.
 const LIST: &str = "\u{feff}deny 10.0.1.128/25 # leased\r\n\npermit 10.0.0.0/23\n\
@@ -27,36 +26,27 @@ fn answer(
     }
 }
 
-/// The outcome of `answer`, if this text is right.
-fn outcome(alloc: Global, list: &str, default: Option<Action>, wanted: &str) -> Outcome {
-    let list = match RuleList::from_bytes(alloc, list.as_bytes(), Grammar::Strict) {
-        Ok(list) => list,
-        Err(_) => return Outcome::Refused,
+/// Whether `answer` of the list is this text.
+fn is_answer(alloc: Global, list: &str, default: Option<Action>, wanted: &str) -> bool {
+    let Ok(list) = RuleList::from_bytes(alloc, list.as_bytes(), Grammar::Strict) else {
+        return false;
     };
     match answer(alloc, list, default) {
-        Ok(text) => {
-            if text.as_slice() == wanted.as_bytes() {
-                Outcome::Answered
-            } else {
-                Outcome::Wrong
-            }
-        }
-        Err(failure) => match failure {
-            ListFailure::Memory => Outcome::Refused,
-            ListFailure::Refused(_lines) => Outcome::Wrong,
-        },
+        Ok(text) => text.as_slice() == wanted.as_bytes(),
+        Err(_failure) => false,
     }
 }
 
 #[test]
 fn no_rule(rt: HostRuntime) {
-    let found = outcome(rt.alloc(), "# none\n", Some(Action::Deny), "");
-    assert!(&rt; found == Outcome::Answered, "no rule");
+    assert!(&rt;
+        is_answer(rt.alloc(), "# none\n", Some(Action::Deny), ""),
+        "no rule"
+    );
 }
 
 #[test]
-fn answers(rt: HostRuntime) -> Result<(), Fail> {
-    grow_stack(rt.alloc())?;
+fn answers(rt: HostRuntime) {
     // label, list, default, answer
     let rows = [
         (
@@ -98,13 +88,8 @@ fn answers(rt: HostRuntime) -> Result<(), Fail> {
         ),
     ];
     for (label, list, default, wanted) in rows {
-        let alloc = rt.alloc();
-        let found = outcome(alloc, list, default, wanted);
-        assert!(&rt; found == Outcome::Answered, "{label}");
-        let call = || outcome(alloc, list, default, wanted);
-        assert!(&rt; is_refused(alloc, call)?, "memory: {label}");
+        assert!(&rt; is_answer(rt.alloc(), list, default, wanted), "{label}");
     }
-    Ok(())
 }
 
 #[test]

@@ -6,9 +6,6 @@ use test_support::devices::{ArrayWriter, ByteReader};
 /// The names of the lists.
 pub const NAMES: [&str; 5] = ["a", "b", "c", "d", "e"];
 
-/// The size of the window into which lists are read.
-pub const WINDOW: usize = 65536;
-
 /// A session that has read these lists.
 pub fn session_of(alloc: Global, work: Work, lists: &[Vec<u8>]) -> Result<Session, ReadFailure> {
     let mut session = Session::new(alloc, work)?;

@@ -82,30 +82,16 @@ fn take_all(alloc: Global) -> Result<Vec<Vec<u8>>, AllocError> {
 /// ```
 pub fn outcomes<T: Copy, F: FnMut() -> T>(
     alloc: Global,
-    call: F,
-) -> Result<Option<[T; RUNS]>, AllocError>
-    requires { F.IsAlwaysCallable call }
-{
-    outcomes_beside_room(alloc, 0, call)
-}
-
-/// The results of the runs of [`outcomes`], in which a block of `room` bytes is free too: each run takes it for its
-/// first request, if that is as large, and frees it again.
-pub fn outcomes_beside_room<T: Copy, F: FnMut() -> T>(
-    alloc: Global,
-    room: usize,
     mut call: F,
 ) -> Result<Option<[T; RUNS]>, AllocError>
     requires { F.IsAlwaysCallable call }
 {
     let mut answers = [call(); RUNS];
-    let first = block(alloc, room)?;
     let spare = block(alloc, SPARE)?;
     let held = take_all(alloc)?;
     if block(alloc, STEP).is_ok() {
         return Ok(None);
     }
-    drop(first);
     answers[0] = call();
     drop(spare);
     for run in 1..RUNS {
@@ -151,40 +137,6 @@ pub fn is_refused_and_answered<F: FnMut() -> Outcome>(
     requires { F.IsAlwaysCallable call }
 {
     let Some(runs) = outcomes(alloc, call)? else {
-        return Ok(true);
-    };
-    Ok(has_both_ends(&runs) && has_no_wrong(&runs))
-}
-
-/// Whether the first run of the call fails with a free block of `room` bytes, which the call's first request takes, and
-/// each other run fails or succeeds; true if allocations never fail.
-///
-/// The test has called [`grow_stack`] before.
-pub fn is_refused_beside_room<F: FnMut() -> Outcome>(
-    alloc: Global,
-    room: usize,
-    call: F,
-) -> Result<bool, AllocError>
-    requires { F.IsAlwaysCallable call }
-{
-    let Some(runs) = outcomes_beside_room(alloc, room, call)? else {
-        return Ok(true);
-    };
-    Ok(runs[0] == Outcome::Refused && has_no_wrong(&runs))
-}
-
-/// Whether the first run of the call fails with a free block of `room` bytes, which the call's first request takes, the
-/// last run succeeds, and each other run fails or succeeds; true if allocations never fail.
-///
-/// The test has called [`grow_stack`] before.
-pub fn is_refused_and_answered_beside_room<F: FnMut() -> Outcome>(
-    alloc: Global,
-    room: usize,
-    call: F,
-) -> Result<bool, AllocError>
-    requires { F.IsAlwaysCallable call }
-{
-    let Some(runs) = outcomes_beside_room(alloc, room, call)? else {
         return Ok(true);
     };
     Ok(has_both_ends(&runs) && has_no_wrong(&runs))

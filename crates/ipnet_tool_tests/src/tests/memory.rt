@@ -1,19 +1,13 @@
-//! Refused memory. Each call runs with ample memory, then with none, and then with more and more.
+//! Refused memory of the text tool. Each call runs with ample memory, then with none, and then with more and more. The
+//! program runs with refused memory in tests/memory.
 //!
-//! Each call but two is refused up to one run, and answered from then on. The answer to a long line and the list of
-//! arguments outgrow their first block. The allocator keeps a block that a run gave back for later requests of the same
-//! size, so it may have none of the next size: answers and refusals alternate until there is room for all.
-use super::arguments::System;
-use super::runs::{Ends, LINE_1, LINE_2, NOT_UTF8};
-use ipnet_tool::program::arguments;
-use ipnet_tool::{Failure, ToolError, aggregate_text, aggregate_text_legacy, run};
-use std::alloc::Global;
+//! Each call but one is refused up to one run, and answered from then on. The answer to a long line outgrows its first
+//! block. The allocator keeps a block that a run gave back for later requests of the same size, so it may have none of
+//! the next size: answers and refusals alternate until there is room for all.
+use ipnet_tool::{ToolError, aggregate_text, aggregate_text_legacy};
 use std::test::Fail;
-use test_support::devices::{ArrayWriter, ByteReader};
 use test_support::memory::{
-    Outcome, RUNS, grow_stack, is_refused, is_refused_and_answered,
-    is_refused_and_answered_beside_room, is_refused_then_answered, needs_no_memory,
-    outcomes_beside_room,
+    Outcome, grow_stack, is_refused_and_answered, is_refused_then_answered, needs_no_memory,
 };
 
 /// The outcome of the text tool, if this answer or the bad line of this number is right.
@@ -55,92 +49,6 @@ fn text_tool(rt: HostRuntime) -> Result<(), Fail> {
         is_refused_and_answered(alloc, call)?,
         "memory: tool, a long line"
     );
-    Ok(())
-}
-
-/// The size of the window into which input is read.
-const WINDOW: usize = 65536;
-
-/// A line that is longer than the window.
-const LONG_LINE: [u8; 70_000] = [b'x'; 70_000];
-
-/// The outcome of a run of the program on the bytes, if these ends are right.
-fn program_outcome(alloc: Global, bytes: &[u8], wanted: Ends) -> Outcome {
-    let mut input = ByteReader::whole(bytes);
-    let mut out = ArrayWriter::whole();
-    let mut faults = ArrayWriter::whole();
-    let status = run(alloc, &[], &mut input, &mut out, &mut faults);
-    let (answer, report, number) = wanted;
-    if status == number && out.held() == answer && faults.held() == report {
-        return Outcome::Answered;
-    }
-    match (status, out.held(), faults.held()) {
-        (3, b"", b"ipnet: out of memory\n") => Outcome::Refused,
-        _ => Outcome::Wrong,
-    }
-}
-
-/// A run allocates its window before it reads, so each run is refused without memory.
-#[test]
-fn program(rt: HostRuntime) -> Result<(), Fail> {
-    grow_stack(rt.alloc())?;
-    let alloc = rt.alloc();
-    let nothing: Ends = (b"", b"", 0);
-    // label, input, the ends of the run, whether the run only asks for its window
-    let rows: [(&str, &[u8], Ends, bool); 8] = [
-        (
-            "program",
-            b"10.0.1.0/24\n10.0.0.0/24\n",
-            (b"10.0.0.0/23\n", b"", 0),
-            false,
-        ),
-        ("program, a bad line", b"::/0\nx\n", LINE_2, false),
-        (
-            "program, empty lines",
-            b"::/0\n\n\n",
-            (b"::/0\n", b"", 0),
-            false,
-        ),
-        ("program on nothing", b"", nothing, true),
-        ("program on empty lines", b"\n\n", nothing, true),
-        ("program, the first line bad", b"x\n::/0\n", LINE_1, true),
-        ("program, not UTF-8", b"x\n\xff", NOT_UTF8, true),
-        ("program, a line without end", &LONG_LINE, LINE_1, true),
-    ];
-    for (label, bytes, wanted, only_window) in rows {
-        let call = || program_outcome(alloc, bytes, wanted);
-        assert!(&rt; is_refused(alloc, call)?, "memory: {label}");
-        if only_window {
-            let runs = outcomes_beside_room(alloc, WINDOW, call)?;
-            let answered = [Outcome::Answered; RUNS];
-            assert!(&rt; runs.is_none_or(|runs| runs == answered), "memory: {label}");
-        } else {
-            let answered = is_refused_and_answered_beside_room(alloc, WINDOW, call)?;
-            assert!(&rt; answered, "memory: {label}");
-        }
-    }
-    Ok(())
-}
-
-/// The outcome of reading the arguments `ipnet legacy`.
-fn arguments_outcome(alloc: Global) -> Outcome {
-    let words: [&[u8]; 2] = [b"ipnet", b"legacy"];
-    match arguments(&(System { words: &words }, alloc)) {
-        Ok(words) => match words.as_slice() {
-            [word] if word.as_str() == "legacy" => Outcome::Answered,
-            _ => Outcome::Wrong,
-        },
-        Err(Failure::Memory) => Outcome::Refused,
-        Err(_) => Outcome::Wrong,
-    }
-}
-
-#[test]
-fn program_arguments(rt: HostRuntime) -> Result<(), Fail> {
-    grow_stack(rt.alloc())?;
-    let alloc = rt.alloc();
-    let call = || arguments_outcome(alloc);
-    assert!(&rt; is_refused_and_answered(alloc, call)?, "memory: arguments");
     Ok(())
 }
 
