@@ -1,4 +1,4 @@
-use Rattle.test_support.proofs.memory.outcomes_beside_room.Given as goal
+use Rattle.test_support.proofs.memory.outcomes.Given as goal
 
 -- the call can be made once more
 abbrev pub invariant-loop-run : goal.invariant-loop-run
