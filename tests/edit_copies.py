@@ -1,7 +1,7 @@
 """Copies of functions, so that one check can try several wrong bodies of one function.
 
-A copy stands below its function in the same file, and has the function's contract, another name, the body of one edit,
-and the function's hand proofs under its own name. Nothing calls it. So it leaves all other verdicts as they are. A copy
+A copy is below its function in the same file. It has the function's contract, another name, the body of one edit, and
+the function's hand proofs under its own name. Nothing calls it. So it leaves all other verdicts as they are. A copy
 with the right body goes with the copies of a function, and has to be proved: if it is not, the form of the copies is at
 fault, and the edits are tried in the function itself. This module is not run: `tests/edit_batches.py` imports it.
 """
@@ -15,7 +15,7 @@ RIGHT = "as_it_is"
 
 
 class Copy:
-    """An edit whose body stands in a copy of its function. It has what batches and verdicts read of an edit.
+    """An edit whose body is in a copy of its function. It has what batches and verdicts read of an edit.
 
     `original` is the edit, and `right` is the name of the copy with the right body, as a check prints it.
     """
@@ -90,8 +90,8 @@ class Place:
 
 
 def place_of(edit, source):
-    """The function that the edit changes, if a copy of it can stand in for it, or None. That is so if it is no method of
-    a trait, does not call itself, and is the function that has to refuse the edit."""
+    """The function that the edit changes, if a copy of it can take the edit, and otherwise None. The function must be
+    the one that refuses the edit. It must not be a method of a trait, and must not call itself."""
     hunks = list(edit.hunks())
     found = [source.item_at(path, start) for path, start, _, _ in hunks]
     item = found[0] if found else None
