@@ -1,11 +1,13 @@
-"""Whether `tests/wrong_bodies` tries an edit again before it fails, whether the first batch of a crate without proofs
-proves what the others need, and which functions each check asks for: checks with outputs that are written here.
+"""Whether `tests/wrong_bodies` tries an edit again before it fails, also one that was tried in a copy of its function,
+whether the first batch of a crate without proofs proves what the others need, and which functions each check asks for:
+checks with outputs that are written here.
 
 This module is not run: `tests/wrong_bodies --self-test` imports it.
 """
 import contextlib
 import io
 
+from edit_copies import Copy
 from edit_rooms import Check
 from edit_verdicts import Report
 
@@ -40,11 +42,25 @@ CASES = [
      {"k": LEFT % "returns-2-clause-value" + TYPE % ("k", "k")}, ["k"], 1),
 ]
 
+# the same for an edit that is tried in a copy of `f`, with the copy that has the right body
+COPIES = [
+    ("an edit that a goal refuses in a copy passes if the right copy is proved",
+     {"f f": GOAL % "f_again" + "\n" + PROVED % "f_as_it_is"}, [], 1),
+    ("an edit that a goal refuses in a copy is tried in the function if the right copy is refused",
+     {"f f": GOAL % "f_again" + "\n" + GOAL % "f_as_it_is", "f": GOAL % "f"}, [], 2),
+    ("an edit that a goal refuses in a copy fails if the right copy is refused and the function is proved",
+     {"f f": GOAL % "f_again" + "\n" + GOAL % "f_as_it_is", "f": PROVED % "f"}, ["f"], 2),
+    ("an edit that is proved in a copy and in the function fails",
+     {"f f": PROVED % "f_again" + "\n" + PROVED % "f_as_it_is", "f": PROVED % "f"}, ["f"], 2),
+    ("an edit whose copy cannot be read is tried in the function", {"f f": UNREAD, "f": GOAL % "f"}, [], 2),
+]
+
 
 class Named:
     """An edit of the function of its name."""
 
     is_control = has_control = False
+    crate, path, folder, texts = "c", "", "", ()
 
     def __init__(self, name):
         self.name = name
@@ -76,8 +92,9 @@ class Written:
 def run(trial_class, tally_class):
     """The tally of all cases."""
     tally = tally_class()
-    for label, outputs, wanted, checks in CASES:
-        batch = [Named(name) for name in next(iter(outputs)).split()]
+    cases = [(*case, [Named(name) for name in next(iter(case[1])).split()]) for case in CASES]
+    cases += [(*case, [Copy(Named("f"), None, "again")]) for case in COPIES]
+    for label, outputs, wanted, checks, batch in cases:
         trial = tried(trial_class, Written(outputs), [batch])
         if not trial.rooms.is_asked:
             tally.fail(label, "a check asks for other functions than it should")
