@@ -49,11 +49,11 @@ class Copy:
         return lines
 
     def hunks(self):
-        """The place below the function, and the lines of the copy."""
+        """The place below the function, and the lines of the copy, with the function's attributes."""
         lines, name = self.body(), self.place.name
         lines[0] = re.sub(r"\bfn %s\b" % name, "fn %s_%s" % (name, self.suffix), lines[0], count=1)
         at = self.place.item.body.stop
-        yield self.place.path, at, at, ["", *lines]
+        yield self.place.path, at, at, ["", *self.place.attributes(), *lines]
 
     def files(self):
         """(path, text) of each file of hand proofs of the copy."""
@@ -87,6 +87,13 @@ class Place:
         self.lines = lines
         self.item = item
         self.name = name
+
+    def attributes(self):
+        """The lines of the attributes above the function: an exported function needs its own."""
+        start = self.item.start
+        while self.lines[start - 1].strip().startswith("#["):
+            start -= 1
+        return self.lines[start:self.item.start]
 
 
 def place_of(edit, source):
