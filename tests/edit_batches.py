@@ -118,7 +118,8 @@ class Reach:
         self.is_local = True
         self.is_control = edit.is_control
         self.is_test = "expected" in edit.notes
-        self.calls = source.called_by(edit.notes.get("at", "")) if edit.is_control else set()
+        function = (edit.original if isinstance(edit, Copy) else edit).notes.get("at", "")
+        self.calls = source.called_by(function) if edit.is_control else set()
         self.names = set()
         self.is_global = any(not path.startswith("src/") for path in edit.texts)
         self.traits, types = set(), set()
