@@ -20,8 +20,6 @@ class Copy:
     `original` is the edit, and `right` is the name of the copy with the right body, as a check prints it.
     """
 
-    is_right = False
-
     def __init__(self, edit, place, suffix):
         self.original = edit
         self.place = place
@@ -69,8 +67,6 @@ class Copy:
 
 class RightCopy(Copy):
     """A copy of the function as it is."""
-
-    is_right = True
 
     def __init__(self, copy):
         super().__init__(copy.original, copy.place, RIGHT)
