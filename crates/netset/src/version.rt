@@ -1,4 +1,5 @@
-//! The version of the program. `./release` writes this file anew in its copy of the sources, with the commit.
+//! The version of the program. The twelve characters in parentheses are a place for the name of a commit. A release has
+//! the name there: it is written into the linked program, and all other bytes stay as they are.
 
-/// The version, and the commit that the program was built from.
-pub const VERSION: &str = "1.0.0 (unknown)";
+/// The version, and the commit that a release was made of.
+pub const VERSION: &str = "1.0.0-preview (not-released)";
