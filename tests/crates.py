@@ -37,3 +37,12 @@ def with_those_above(names, uses):
         if found & set(uses[name]):
             found.add(name)
     return [name for name in lowest_first(uses) if name in found]
+
+
+def below(name, uses):
+    """The crates of the repository that this crate uses, at any distance, lowest first."""
+    found = []
+    for used in uses[name]:
+        if used in uses:
+            found += [it for it in [*below(used, uses), used] if it not in found]
+    return found

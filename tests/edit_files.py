@@ -1,8 +1,9 @@
 """Edit files: small changes of a crate's text, each of which makes one function or law wrong.
 
 They lie in `crates/NAME/must-fail` and `crates/NAME/wrong`. An edit has lines `file: PATH` and then pairs of lines
-`old: TEXT` and `new: TEXT`; each old text is in the file exactly once. The lines `at:`, `clause:`, `weak:`, `control:`
-and `expected:` are for `tests/wrong_bodies`. This module is not run: `tests/edits` and `tests/wrong_bodies` import it.
+`old: TEXT` and `new: TEXT`; each old text is in the file exactly once. The lines `at:`, `clause:`, `lemma:`, `weak:`,
+`control:` and `expected:` are for `tests/wrong_bodies`. This module is not run: `tests/edits` and `tests/wrong_bodies`
+import it.
 """
 import difflib
 import os
@@ -10,7 +11,7 @@ import re
 
 TOP = os.path.dirname(os.path.dirname(os.path.abspath(__file__)))
 FOLDERS = ("must-fail", "wrong")
-NOTES = ("at", "clause", "weak", "expected")
+NOTES = ("at", "clause", "lemma", "weak", "expected")
 # the head of a function, an impl or a type
 HEAD = re.compile(r"^(?P<indent> *)(?:pub(?:\([a-z]+\))? )?(?:const |unsafe |extern .C. )*(?:fn (?P<function>\w+)"
                   r"|(?P<impl>impl\b.*)|(?:struct|enum|trait) (?P<type>\w+)|const (?P<const>\w+))")
@@ -20,7 +21,7 @@ CONTRACT = re.compile(r"^\s*(?:ensures|requires|invariant|decreases)\b")
 class Edit:
     """One edit file, and what it makes of the texts of its crate.
 
-    - `notes` holds the values of the lines `at:`, `clause:`, `weak:` and `expected:`;
+    - `notes` holds the values of the lines `at:`, `clause:`, `lemma:`, `weak:` and `expected:`;
     - `texts` holds the edited text of each file that the edit changes;
     - `has_control` says whether the file has a line `control:`, and `is_control` whether its texts are used here;
     - `fault` says why the edit cannot be applied, and is None if it can.

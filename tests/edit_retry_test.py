@@ -18,8 +18,12 @@ WAITS = "note: `search` has not tried the goals of `c::%s`, which wait for a cal
     "fn c::%s: not proved: it calls `c::%s`, which is not proved"
 UNREAD = "src/lib.rt:1:1: error: expected an expression"
 LEFT = "note: src/lib.rt:1:1: it is not proved that what the function ensures holds when it returns (`%s`)\n"
-# the goals that edits name, by their function
+LEMMA = "./proofs/Laws.antt:1:1: error: `%s`: `omega`: the goal does not follow from what it read\n" \
+    "./proofs/law/Answers.antt:1:1: error: 1 declaration that depends on `%s` was not checked: returns\n" \
+    "fn c::law: not proved"
+# the goals and the lemmas that edits name, by their function
 CLAUSES = {"k": "returns-then-wrong-clause-value"}
+LEMMAS = {"law": "lemma"}
 
 # label; what each check prints, by the edits that it is of; the edits that fail; the number of checks
 CASES = [
@@ -40,6 +44,11 @@ CASES = [
      {"k": LEFT % "returns-then-wrong-clause-value" + TYPE % ("k", "k")}, [], 1),
     ("an edit that a type refuses fails if only another goal is left open",
      {"k": LEFT % "returns-2-clause-value" + TYPE % ("k", "k")}, ["k"], 1),
+    ("an edit of a definition passes if the goal of the lemma that it names fails",
+     {"law": LEMMA % ("lemma", "lemma")}, [], 1),
+    ("an edit of a definition fails if only another lemma fails", {"law": LEMMA % ("other", "other")}, ["law"], 1),
+    ("an edit of a definition fails if the law is proved all the same",
+     {"law": (LEMMA % ("lemma", "lemma")).replace("not proved", "proved")}, ["law"], 1),
 ]
 
 # the same for an edit that is tried in a copy of `f`, with the copy that has the right body
@@ -67,6 +76,8 @@ class Named:
         self.notes = {"at": "c::" + name}
         if name in CLAUSES:
             self.notes["clause"] = CLAUSES[name]
+        if name in LEMMAS:
+            self.notes["lemma"] = LEMMAS[name]
 
 
 class Written:

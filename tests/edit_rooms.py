@@ -14,6 +14,7 @@ import shutil
 import subprocess
 import time
 
+from crates import below
 from edit_files import TOP, read_text
 from edit_verdicts import Report
 
@@ -45,11 +46,7 @@ class Rooms:
 
     def libraries_below(self, crate):
         """The crates of the repository that this crate uses, at any distance, lowest first."""
-        found = []
-        for name in self.uses[crate]:
-            if name in self.uses:
-                found += [it for it in [*self.libraries_below(name), name] if it not in found]
-        return found
+        return below(crate, self.uses)
 
     def tree(self, crate):
         return os.path.join(self.folder, "trees", crate)
@@ -57,9 +54,9 @@ class Rooms:
     def prove(self, crate, jobs, functions=None):
         """Makes the tree of a crate whose libraries have trees, and proves the crate, or only these functions."""
         tree = self.tree(crate)
-        below = self.libraries_below(crate)
-        write_lists(tree, [*below, crate])
-        for name in below:
+        libraries = self.libraries_below(crate)
+        write_lists(tree, [*libraries, crate])
+        for name in libraries:
             there = os.path.join(tree, "crates", name)
             shutil.rmtree(there, ignore_errors=True)
             link_folders(os.path.join(self.tree(name), "crates", name), there, (*SOURCES, "out/rlib"))

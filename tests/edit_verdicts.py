@@ -86,9 +86,10 @@ class Report:
                     return path + ": " + message
         return None if self.verdicts else "\n".join(self.lines[-6:])
 
-    def refusal_of(self, function, goal=None):
+    def refusal_of(self, function, goal=None, lemma=None):
         """Why the check refuses the function, or that it does not. If its hand proof has errors, only this goal counts
-        as left open: others may have lost an answer that has another name now."""
+        as left open: others may have lost an answer that has another name now. A law is also refused by a goal if this
+        lemma is, on which its proof rests."""
         text = self.verdicts.get(function)
         if text is None:
             return Refusal("missing", function)
@@ -101,6 +102,9 @@ class Report:
             return Refusal("goal", text, {*goals, *false}, bool(false))
         if goal in self.left_goals[function]:
             return Refusal("goal", text, [goal], is_beside=True)
+        below = [it for errors in self.errors.values() for it in errors if it[1] == lemma]
+        if lemma and any(kind_of(message, more) == "goal" for _, _, message, more in below):
+            return Refusal("goal", text, [lemma], any("goal fails" in it[2] for it in below))
         errors = [it for it in self.errors["/".join(function.split("::")[1:])] if not REPEATED.search(it[2])]
         kinds = [(kind_of(message, more), goal, message) for _, goal, message, more in errors]
         for kind in ("goal", "type", "name", "other"):
