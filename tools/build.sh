@@ -214,7 +214,7 @@ build_products() {
         complain "needs the Rattle kit (command rt)${quicker:+. $quicker}"
         return 1
     fi
-    complain "proving and building $crate first; this can take $takes${quicker:+. $quicker}"
+    [ -n "$crates_proved" ] || complain "proving and building $crate first; this can take $takes${quicker:+. $quicker}"
     rm -f "$work/$products.built"
     prove_all "$@" || return 1
     for product in "${products[@]}"; do
