@@ -62,7 +62,7 @@ made_with() {
     printf 'compiler: %s\n' "$(cc --version | head -n 1)"
     printf 'python: %s\n' "$(python3 -c 'import os, sys, sysconfig
 header = os.path.join(sysconfig.get_path("include"), "Python.h")
-print("%d.%d" % sys.version_info[:2], "" if os.path.exists(header) else "without Python.h")')"
+print("%d.%d%s" % (*sys.version_info[:2], "" if os.path.exists(header) else " without Python.h"))')"
 }
 
 # write_sums FOLDER: writes the sums of the files in the folder
