@@ -176,38 +176,53 @@ find_products() {
     return $status
 }
 
-# prove WORDS NAME COMMAND..: runs the command in the crate's folder in `work`, and prints the crate's line. What the
-# command prints is shown only if it fails. rt itself takes as many processors as the memory allows. Two commands of rt
-# beside each other would gain nothing: while it works on a crate, no other one can work on a crate below.
-prove() {
-    local said=$1 name=$2 start=$SECONDS words
-    shift 2
+# run_in NAME COMMAND..: runs the command in the crate's folder in `work`. What it prints is shown only if it fails.
+run_in() {
+    local name=$1 words
+    shift
     if ! words=$(cd "$work/crates/$name" && "$@" 2>&1 </dev/null); then
         printf '%s\n' "$words" >&2
         complain "$name could not be built"
         return 1
     fi
-    crates_proved+=" $name "
-    crates_counted=$((crates_counted + 1))
-    printf '%d of %d: %s, %s in %d s\n' "$crates_counted" "$crates_expected" "$name" "$said" $((SECONDS - start)) >&2
 }
 
-# prove_all CRATE COMMAND..: proves the libraries below the crate that this script has not proved yet, the lowest first,
-# and then the crate by the command. rt knows which of them are up to date.
-prove_all() {
-    local crate=$1 name
-    shift
-    [ $crates_expected -gt 0 ] || crates_expected=$(crates_below "$crate" | wc -l)
+# count_crate NAME WORDS START: prints the line of a crate; START is the value of SECONDS when its command began
+count_crate() {
+    crates_proved+=" $1 "
+    crates_counted=$((crates_counted + 1))
+    printf '%d of %d: %s, %s in %d s\n' $crates_counted "$crates_expected" "$1" "$2" $((SECONDS - $3)) >&2
+}
+
+# prove_below CRATE: proves the libraries below the crate that this script has not proved yet, the lowest first. rt knows
+# which are up to date, and takes as many processors for a crate as the memory allows. While it works on a crate, it
+# lets no other rt work on the crates below, so two at once would wait for each other.
+prove_below() {
+    local name start
     while read -r name; do
-        [ "$name" != "$crate" ] && [[ $crates_proved != *" $name "* ]] || continue
-        prove proved "$name" rt lib || return 1
-    done < <(crates_below "$crate")
-    prove 'proved and built' "$crate" "$@"
+        if [ "$name" != "$1" ] && [[ $crates_proved != *" $name "* ]]; then
+            start=$SECONDS
+            run_in "$name" rt lib || return 1
+            count_crate "$name" proved $start
+        fi
+    done < <(crates_below "$1")
+}
+
+# is_written: whether each product is there, and whole if it is a program
+is_written() {
+    local product
+    for product in "${products[@]}"; do
+        if [ ! -s "$work/$product" ] || { [ -x "$work/$product" ] && ! is_whole "$work/$product"; }; then
+            complain "$product was not written to its end: is the disk full?"
+            return 1
+        fi
+    done
 }
 
 # build_products CRATE COMMAND..: builds the products, if no other call has done so by now
 build_products() {
-    local crate=$1 product
+    local crate=$1 start
+    shift
     [ "$work" = "$top" ] || is_current_copy || copy_sources || return 1
     ! is_built || return 0
     if ! command -v rt >/dev/null; then
@@ -215,14 +230,12 @@ build_products() {
         return 1
     fi
     [ -n "$crates_proved" ] || complain "proving and building $crate first; this can take $takes${quicker:+. $quicker}"
+    [ $crates_expected -gt 0 ] || crates_expected=$(crates_below "$crate" | wc -l)
     rm -f "$work/$products.built"
-    prove_all "$@" || return 1
-    for product in "${products[@]}"; do
-        if [ ! -s "$work/$product" ] || { [ -x "$work/$product" ] && ! is_whole "$work/$product"; }; then
-            complain "$product was not written to its end: is the disk full?"
-            return 1
-        fi
-    done
+    prove_below "$crate" || return 1
+    start=$SECONDS
+    run_in "$crate" "$@" && is_written || return 1
+    count_crate "$crate" 'proved and built' $start
     keep_sums
 }
 

@@ -111,8 +111,9 @@ fill_commit() {
 # release_clone FOLDER COMMIT: clones the commit into the folder, and makes its release there from nothing, in
 # FOLDER.files
 release_clone() {
+    step "commit ${2:0:12} is proved and built in a clone"
     git clone -q --no-checkout "$top" "$1" && git -C "$1" checkout -q --detach "$2" && mkdir "$1.files" &&
-        (cd "$1.files" && "$1/release")
+        (cd "$1.files" && "$1/release" >/dev/null)
 }
 
 # unpack FILE FOLDER: puts what the archive contains into a new folder
