@@ -136,8 +136,8 @@ copy_sources() {
     done
 }
 
-# find_built: sets `work` to the folder for the products: the clone, or its copy if it cannot be written. The status is 0
-# if they are built there, 1 if they are not, and 2 if there is no such folder.
+# find_built: sets `work` to the folder for the products: the clone, or its copy if it cannot be written. The status is
+# 0 if they are built there, 1 if they are not, and 2 if there is no such folder.
 find_built() {
     local folder
     folder=$(dirname "$products")
@@ -194,9 +194,9 @@ count_crate() {
     printf '%d of %d: %s, %s in %d s\n' $crates_counted "$crates_expected" "$1" "$2" $((SECONDS - $3)) >&2
 }
 
-# prove_below CRATE: proves the libraries below the crate that this script has not proved yet, the lowest first. rt knows
-# which are up to date, and takes as many processors for a crate as the memory allows. While it works on a crate, it
-# lets no other rt work on the crates below, so two at once would wait for each other.
+# prove_below CRATE: proves the libraries below the crate that this script has not proved yet, the lowest first. rt
+# knows which are up to date, and takes as many processors for a crate as the memory allows. While it works on a crate,
+# it lets no other rt work on the crates below, so two at once would wait for each other.
 prove_below() {
     local name start
     while read -r name; do

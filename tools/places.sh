@@ -34,7 +34,10 @@ read_places() {
             --user) [ -n "${HOME-}" ] && prefix=$HOME/.local || refuse ;;
             --deb) [ "$script" = install ] && package=yes || refuse ;;
             --prove) [ "$script" = install ] && [ -z "$folder" ] && origin=proof || refuse ;;
-            --from) [ "$script$origin" = installrelease ] && [ -d "${2-}" ] && folder=$(realpath -- "$2") && shift || refuse ;;
+            --from)
+                [ "$script$origin" = installrelease ] && [ -d "${2-}" ] || refuse
+                folder=$(realpath -- "$2") && shift || refuse
+                ;;
             -h | --help)
                 usage
                 exit 0

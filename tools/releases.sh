@@ -6,8 +6,8 @@
 #   postgresql-15-ipset_VERSION_amd64.deb            the extension for PostgreSQL 15, as a Debian package
 #   ipset-sqlite-RELEASE-linux-x86_64.tar.gz         the extension for SQLite
 #   ipnet.symbols                                    the functions of the library, for a Debian package
-#   MADE-OF                                          the name of the release, its commit, the kit and the tools that made
-#                                                    it, and the version of glibc that its programs need
+#   MADE-OF                                          the name of the release, its commit, the kit and the tools that
+#                                                    made it, and the version of glibc that its programs need
 #   SHA256SUMS                                       the sums of these files
 #
 # `folder` is the folder of the release that a script works with.
@@ -34,7 +34,8 @@ have_sources_changed() {
 
 # commits_since COMMIT: prints how many commits the clone has after this one; the status is not 0 if git does not know
 commits_since() {
-    git -C "$top" merge-base --is-ancestor "$1" HEAD 2>/dev/null && git -C "$top" rev-list --count "$1..HEAD" 2>/dev/null
+    git -C "$top" merge-base --is-ancestor "$1" HEAD 2>/dev/null &&
+        git -C "$top" rev-list --count "$1..HEAD" 2>/dev/null
 }
 
 # counted COUNT NOUN: prints the count and the noun, with an s if it needs one
@@ -127,8 +128,8 @@ unpack() {
     esac
 }
 
-# compare_files FOLDER: compares the files of the release with those in the other folder. It prints those that differ, and
-# what differs in them.
+# compare_files FOLDER: compares the files of the release with those in the other folder. It prints those that differ,
+# and what differs in them.
 compare_files() {
     local name differing=0
     while read -r _ name; do
