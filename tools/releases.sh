@@ -1,5 +1,5 @@
-# What the scripts share that make, compare and install a release; it needs tools/build.sh, and functions `fail` and
-# `step`. The clone has one release, in a folder below releases/:
+# What the scripts share that make, compare and install a release; it needs tools/build.sh, functions `fail` and `step`,
+# and an empty folder `room`. The clone has one release, in a folder below releases/:
 #
 #   dewikonu-RELEASE-linux-x86_64.tar.gz             programs, pages, completions, header, libraries, Python package
 #   ipnet_proved-VERSION-TAG-linux_x86_64.whl        the Python package, for pip
@@ -64,6 +64,11 @@ made_with() {
     printf 'python: %s\n' "$(python3 -c 'import os, sys, sysconfig
 header = os.path.join(sysconfig.get_path("include"), "Python.h")
 print("%d.%d%s" % (*sys.version_info[:2], "" if os.path.exists(header) else " without Python.h"))')"
+}
+
+# other_tools: prints which of them are not those of the release, as `kit, compiler`
+other_tools() {
+    made_with | grep -vxFf "$folder/MADE-OF" | sed 's/:.*//' | paste -sd , | sed 's/,/, /g'
 }
 
 # write_sums FOLDER: writes the sums of the files in the folder
