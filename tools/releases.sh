@@ -73,7 +73,7 @@ other_tools() {
 
 # write_sums FOLDER: writes the sums of the files in the folder
 write_sums() {
-    (cd "$1" && rm -f SHA256SUMS && LC_ALL=C sha256sum -- * >"$room/sums") && mv "$room/sums" "$1/SHA256SUMS"
+    (export LC_ALL=C && cd "$1" && rm -f SHA256SUMS && sha256sum -- * >"$room/sums") && mv "$room/sums" "$1/SHA256SUMS"
 }
 
 # check_sums: ends the script unless all files of the release have their sums
