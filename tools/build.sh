@@ -1,14 +1,36 @@
 # What the scripts that build share. Set `top` to the top of the clone, and `script` to the name that messages begin
-# with; then run `. "$top/tools/build.sh"`. It has two functions to call, which build what is not built:
+# with; then run `. "$top/tools/build.sh"`. It has two functions to call, which prove and build what is not built:
 #
 #   find_program CRATE [WORD..]    `program` is the path of the crate's program; `rt run WORD..` builds it
 #   find_libraries                 `libraries` is the folder that has libipnet.a and libipnet.so
 #
-# They build in the clone. If it is read-only, they build in a copy of it below ~/.cache/dewikonu.
+# They build in the clone. If it is read-only, they build in a copy of it below ~/.cache/dewikonu. They print a line for
+# each crate to standard error. `expect_all` has these lines count the crates of both programs and of the libraries. The
+# first message says that the build can take `takes`; set `quicker` to a sentence that follows it.
+takes='half an hour'
+quicker=
+crates_counted=0
+crates_expected=0
+crates_proved=
 
 # version: prints the version, the first that CHANGELOG.md names
 version() {
     sed -n 's/^## \([0-9][0-9.]*\).*/\1/p' "$top/CHANGELOG.md" | head -n 1
+}
+
+# release_name: prints the version as the program netset prints it, such as 1.0.0-preview
+release_name() {
+    sed -n 's/^pub const VERSION: &str = "\(.*\) (not-released)";$/\1/p' "$top/crates/netset/src/version.rt"
+}
+
+# clone_commit: prints the first twelve characters of the clone's commit, and whether its files have changes. It prints
+# nothing if git does not know.
+clone_commit() {
+    local below commit changed
+    below=$(git -C "$top" rev-parse --show-prefix 2>/dev/null) && [ -z "$below" ] || return
+    commit=$(git -C "$top" rev-parse HEAD 2>/dev/null) || return
+    changed=$(git -C "$top" status --porcelain --untracked-files=no 2>/dev/null)
+    printf %s "${commit:0:12}${changed:+, with changes}"
 }
 
 # complain TEXT: prints the text to standard error, after the name of the script
@@ -16,16 +38,18 @@ complain() {
     printf '%s: %s\n' "$script" "$1" >&2
 }
 
-# crates_below NAME: prints the crate and the repository's crates that it uses, one per line
+# crates_below NAME..: prints the crates and the repository's crates that they use, one per line, the lowest first
 crates_below() {
-    awk -v wanted="$1" '
+    awk -v wanted="$*" '
         /^[^#]/ { split($0, half, ":"); split(half[1], words, " "); uses[words[1]] = half[2] }
-        function visit(name, list, count, i) {
-            if (!(name in uses) || name in seen) return
-            seen[name]
-            print name
-            count = split(uses[name], list, " ")
-            for (i = 1; i <= count; i++) visit(list[i])
+        function visit(text, list, count, i) {
+            count = split(text, list, " ")
+            for (i = 1; i <= count; i++) {
+                if (!(list[i] in uses) || list[i] in seen) continue
+                seen[list[i]]
+                visit(uses[list[i]])
+                print list[i]
+            }
         }
         END { visit(wanted) }' "$top/crates.txt"
 }
@@ -112,25 +136,35 @@ copy_sources() {
     done
 }
 
-# find_products CRATE COMMAND..: makes sure that `products`, paths from the top of the clone, are built from `sources`,
-# and sets `work` to the folder that has them, at the same paths. If they are not built, the command builds them, in the
-# crate's folder in `work`; what it prints is shown only if it fails.
-find_products() {
-    local folder lock file status
+# find_built: sets `work` to the folder for the products: the clone, or its copy if it cannot be written. The status is
+# 0 if they are built there, 1 if they are not, and 2 if there is no such folder.
+find_built() {
+    local folder
     folder=$(dirname "$products")
-    file=$folder/.lock
     work=$top
     ! is_built || return 0
-    if ! mkdir -p "$work/$folder" 2>/dev/null || [ ! -w "$work/$folder" ]; then
-        if [ -z "${XDG_CACHE_HOME-}${HOME-}" ]; then
-            complain "$top cannot be written, and HOME is not set"
+    ! mkdir -p "$work/$folder" 2>/dev/null || [ ! -w "$work/$folder" ] || return 1
+    [ -n "${XDG_CACHE_HOME-}${HOME-}" ] || return 2
+    work=${XDG_CACHE_HOME:-$HOME/.cache}/dewikonu/$(printf %s "$top" | sha256sum | head -c 16)
+    mkdir -p "$work/$folder" || return 2
+    is_current_copy && is_built
+}
+
+# find_products CRATE COMMAND..: makes sure that `products`, paths from the top of the clone, are built from `sources`,
+# and sets `work` to the folder that has them, at the same paths. If they are not built, the command builds them, in the
+# crate's folder in `work`.
+find_products() {
+    local lock file status
+    find_built
+    case $? in
+        0) return 0 ;;
+        2)
+            complain "$top cannot be written, and there is no folder ~/.cache"
             return 1
-        fi
-        work=${XDG_CACHE_HOME:-$HOME/.cache}/dewikonu/$(printf %s "$top" | sha256sum | head -c 16)
-        mkdir -p "$work/$folder" || return 1
-        ! is_current_copy || ! is_built || return 0
-        file=.lock
-    fi
+            ;;
+    esac
+    file=.lock
+    [ "$work" != "$top" ] || file=$(dirname "$products")/.lock
     exec {lock}>"$work/$file" || return 1
     if ! flock -n "$lock"; then
         complain "waiting for another build"
@@ -142,38 +176,99 @@ find_products() {
     return $status
 }
 
-# build_products CRATE COMMAND..: builds the products, if no other call has done so by now
-build_products() {
-    local crate=$1 words product
+# run_in NAME COMMAND..: runs the command in the crate's folder in `work`. What it prints is shown only if it fails.
+run_in() {
+    local name=$1 words
     shift
-    [ "$work" = "$top" ] || is_current_copy || copy_sources || return 1
-    ! is_built || return 0
-    if ! command -v rt >/dev/null; then
-        complain "needs the Rattle kit (command rt)"
-        return 1
-    fi
-    complain "proving and building $crate first; this can take some minutes"
-    rm -f "$work/$products.built"
-    if ! words=$(cd "$work/crates/$crate" && "$@" 2>&1 </dev/null); then
+    if ! words=$(cd "$work/crates/$name" && "$@" 2>&1 </dev/null); then
         printf '%s\n' "$words" >&2
-        complain "$crate could not be built"
+        complain "$name could not be built"
         return 1
     fi
+}
+
+# count_crate NAME WORDS START: prints the line of a crate; START is the value of SECONDS when its command began
+count_crate() {
+    crates_proved+=" $1 "
+    crates_counted=$((crates_counted + 1))
+    printf '%d of %d: %s, %s in %d s\n' $crates_counted "$crates_expected" "$1" "$2" $((SECONDS - $3)) >&2
+}
+
+# prove_below CRATE: proves the libraries below the crate that this script has not proved yet, the lowest first. rt
+# knows which are up to date, and takes as many processors for a crate as the memory allows. While it works on a crate,
+# it lets no other rt work on the crates below, so two at once would wait for each other.
+prove_below() {
+    local name start
+    while read -r name; do
+        if [ "$name" != "$1" ] && [[ $crates_proved != *" $name "* ]]; then
+            start=$SECONDS
+            run_in "$name" rt lib || return 1
+            count_crate "$name" proved $start
+        fi
+    done < <(crates_below "$1")
+}
+
+# is_written: whether each product is there, and whole if it is a program
+is_written() {
+    local product
     for product in "${products[@]}"; do
         if [ ! -s "$work/$product" ] || { [ -x "$work/$product" ] && ! is_whole "$work/$product"; }; then
             complain "$product was not written to its end: is the disk full?"
             return 1
         fi
     done
+}
+
+# build_products CRATE COMMAND..: builds the products, if no other call has done so by now
+build_products() {
+    local crate=$1 start
+    shift
+    [ "$work" = "$top" ] || is_current_copy || copy_sources || return 1
+    ! is_built || return 0
+    if ! command -v rt >/dev/null; then
+        complain "needs the Rattle kit (command rt)${quicker:+. $quicker}"
+        return 1
+    fi
+    [ -n "$crates_proved" ] || complain "proving and building $crate first; this can take $takes${quicker:+. $quicker}"
+    [ $crates_expected -gt 0 ] || crates_expected=$(crates_below "$crate" | wc -l)
+    rm -f "$work/$products.built"
+    prove_below "$crate" || return 1
+    start=$SECONDS
+    run_in "$crate" "$@" && is_written || return 1
+    count_crate "$crate" 'proved and built' $start
     keep_sums
+}
+
+# name_program CRATE: sets `sources` and `products` for the program of the crate
+name_program() {
+    sources=()
+    products=("crates/$1/out/$1")
+    sources_below "$1"
+}
+
+# name_libraries: sets `sources` and `products` for the libraries
+name_libraries() {
+    sources=(bindings/link)
+    products=(bindings/out/libipnet.a bindings/out/libipnet.so)
+    sources_below ipnet_c
+}
+
+# expect_all: has the lines of progress count all crates below the programs and the libraries that are not built
+expect_all() {
+    local crate missing=()
+    for crate in ipnet_program netset; do
+        name_program $crate
+        find_built || missing+=("$crate")
+    done
+    name_libraries
+    find_built || missing+=(ipnet_c)
+    [ ${#missing[@]} = 0 ] || crates_expected=$(crates_below "${missing[@]}" | wc -l)
 }
 
 find_program() {
     local crate=$1
     shift
-    sources=()
-    products=("crates/$crate/out/$crate")
-    sources_below "$crate"
+    name_program "$crate"
     find_products "$crate" rt run "$@" && program=$work/$products
 }
 
@@ -185,8 +280,6 @@ find_libraries() {
             return 1
         fi
     done
-    sources=(bindings/link)
-    products=(bindings/out/libipnet.a bindings/out/libipnet.so)
-    sources_below ipnet_c
+    name_libraries
     find_products ipnet_c ../../bindings/link && libraries=$work/bindings/out
 }

@@ -1,6 +1,6 @@
 # What the scripts that make packages share; it needs tools/build.sh. If SOURCE_DATE_EPOCH is set, it is the date of all
 # files in a package, and equal files give equal packages. `root` is the folder with the files of a Debian package, as
-# they will be below /.
+# they will be below /. `release` is the name of the release, such as 1.0.0-preview.
 
 # packed FOLDER NAME: writes the folder, under this name, as a tar archive whose bytes depend only on its files
 packed() {
@@ -19,12 +19,17 @@ libc_needed() {
     objdump -T "$@" | grep -o 'GLIBC_[0-9.]*' | sed 's/GLIBC_//' | sort -V | tail -n 1
 }
 
+# debian_version: prints the version of a Debian package of the release: 1.0.0~preview comes before 1.0.0
+debian_version() {
+    printf %s "$release" | tr - '~'
+}
+
 # put_control NAME SECTION DEPENDS: writes the control file; standard input is the description
 put_control() {
     mkdir -p "$root/DEBIAN" && cat - >"$root/DEBIAN/description" || return 1
     cat >"$root/DEBIAN/control" <<END
 Package: $1
-Version: $(version)
+Version: $(debian_version)
 Architecture: amd64
 Maintainer: $(sed -n 's/^Copyright (c) [0-9]* //p' "$top/LICENSE-MIT")
 Section: $2

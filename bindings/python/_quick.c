@@ -135,9 +135,21 @@ static struct PyModuleDef definition = {
     PyModuleDef_HEAD_INIT, "_quick", "Questions about images, without ctypes.", -1, methods, NULL, NULL, NULL, NULL,
 };
 
+/* The interface above is stable from Python 3.10 on. An older Python might load the module too, and is refused. */
+static int is_old(void)
+{
+    PyObject *version = PySys_GetObject("hexversion");
+    return version == NULL || PyLong_AsLong(version) < Py_LIMITED_API;
+}
+
 PyMODINIT_FUNC PyInit__quick(void)
 {
-    PyObject *addresses = PyImport_ImportModule("ipaddress");
+    PyObject *addresses;
+    if (is_old()) {
+        PyErr_SetString(PyExc_ImportError, "_quick needs Python 3.10");
+        return NULL;
+    }
+    addresses = PyImport_ImportModule("ipaddress");
     if (addresses == NULL) {
         return NULL;
     }

@@ -2,7 +2,8 @@
 
 The library comes from the folder IPNET_LIB, else from ../build, which builds it if it is not built. Equal files give
 equal wheels: the dates are SOURCE_DATE_EPOCH, or 1980. From Python 3.10 on, and if a C compiler and Python.h are there,
-the module _quick is built too; without it the package gives the same answers, more slowly.
+the module _quick is built too; without it the package gives the same answers, more slowly. Before the version is
+released, the wheel is a pre-release of it, such as 1.0.0.dev0.
 
     python3 build_wheel.py FOLDER FILE    writes only _quick, for the library in FOLDER, to FILE; if it cannot be built,
                                           the status is 1
@@ -21,6 +22,8 @@ import zipfile
 
 TOP = os.path.dirname(os.path.dirname(os.path.abspath(__file__)))
 NAME = "ipnet_proved"
+# The text that the program netset prints as its version: it says whether this is a preview.
+VERSION = ("..", "..", "crates", "netset", "src", "version.rt")
 # The licences of the package, and of the parts of the kit that the library contains.
 LICENCES = ("LICENSE-MIT", "LICENSE-APACHE", "docs/LICENCES.md", "licences/dewikonu.spdx")
 
@@ -63,6 +66,12 @@ def quick(folder):
         return read(room, "_quick.so")
 
 
+def wheel_version():
+    """The version of the package, as pip orders versions."""
+    version = field([NAME, "__init__.py"], "__version__")
+    return version + ".dev0" if version + "-preview" in read(*VERSION).decode() else version
+
+
 def metadata(version):
     head = ["Metadata-Version: 2.1", "Name: %s" % field(["pyproject.toml"], "name"), "Version: %s" % version,
             "Summary: %s" % field(["pyproject.toml"], "description"), "License: MIT OR Apache-2.0",
@@ -72,7 +81,7 @@ def metadata(version):
 
 def build_wheel(wheel_directory, config_settings=None, metadata_directory=None):
     """Writes the wheel into the folder, and returns its name."""
-    version = field([NAME, "__init__.py"], "__version__")
+    version = wheel_version()
     info = "%s-%s.dist-info" % (NAME, version)
     folder = library_folder()
     module = quick(folder)
