@@ -160,6 +160,6 @@ def image_of_list(text):
 
 def skip(packages):
     """Ends the script with a status other than 0, because packages are missing."""
-    print("not installed: " + " ".join(packages))
+    print("skipped: not installed: " + " ".join(packages))
     print("0 passed, 0 failed, %d skipped" % len(packages))
     sys.exit(1)
