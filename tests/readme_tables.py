@@ -5,8 +5,8 @@
     tests/readme_tables.py --write    writes them into README.md
 
 The lines of the first table are the code in its first column. Its other cells are what the tools print: the built
-`netset`, and the Debian packages iprange, aggregate and python3-netaddr. The cells of a tool that is not installed stay
-as they are. The times of the second table are copied from bench/README.md. tests/documents compares both.
+`netset`, and the Debian packages iprange, aggregate and python3-netaddr. The cells of a tool that is not installed, or
+in another version than the table names, stay as they are. The times of the second table are copied from bench/README.md. tests/documents compares both.
 """
 import os
 import re
@@ -47,11 +47,23 @@ SPEED = [
 ]
 
 
+def version(name):
+    """The version of the tool that the head of the first table names."""
+    return re.search(r"\b%s`? (\d[\d.]*)" % name, table_lines(read("README.md"), PEERS_HEAD)[0]).group(1)
+
+
+def has_version(command, name):
+    """Whether the command is installed, and what it prints names this version of the tool."""
+    if not shutil.which(command[0]):
+        return False
+    ran = subprocess.run(command, stdout=subprocess.PIPE, stderr=subprocess.DEVNULL, universal_newlines=True)
+    return ran.returncode == 0 and version(name) in ran.stdout.split()
+
+
 def netaddr_command():
     """The command of the first Python with netaddr; Debian's is not always the first on the path."""
     for python in ("python3", "/usr/bin/python3"):
-        if shutil.which(python) and subprocess.run([python, "-c", "import netaddr"], stdout=subprocess.DEVNULL,
-                                                   stderr=subprocess.DEVNULL).returncode == 0:
+        if has_version([python, "-c", "import netaddr; print(netaddr.__version__)"], "netaddr"):
             return [python, "-c", MERGE]
     return None
 
@@ -59,7 +71,7 @@ def netaddr_command():
 def commands():
     """The command of each column after the first; None if it is not installed."""
     return [[NETSET, "union", "-"] if os.access(NETSET, os.X_OK) else None,
-            ["iprange"] if shutil.which("iprange") else None,
+            ["iprange"] if has_version(["iprange", "--version"], "iprange") else None,
             ["aggregate"] if shutil.which("aggregate") else None,
             netaddr_command()]
 
@@ -110,7 +122,7 @@ def peers_table(readme):
 
 
 def missing_tools():
-    names = ("netset", "iprange", "aggregate", "netaddr")
+    names = ("netset", "iprange " + version("iprange"), "aggregate", "netaddr " + version("netaddr"))
     return [name for name, command in zip(names, commands()) if command is None]
 
 

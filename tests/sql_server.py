@@ -33,6 +33,17 @@ def missing_packages(packages):
     return [name for name, path in packages.items() if not os.path.exists(path)]
 
 
+def namespace():
+    """The command that runs another one in a mount namespace of its own."""
+    return ["unshare", "-m"] if os.geteuid() == 0 else ["unshare", "--map-current-user", "--keep-caps", "-m"]
+
+
+def can_mount():
+    """Whether a process may have a mount namespace here."""
+    return bool(shutil.which("unshare")) and subprocess.run(
+        namespace() + ["true"], stdout=subprocess.DEVNULL, stderr=subprocess.DEVNULL, check=False).returncode == 0
+
+
 def run(command, **options):
     """Runs the command, and returns what it prints; ends the script with that if it fails."""
     ran = subprocess.run(command, stdout=subprocess.PIPE, stderr=subprocess.STDOUT, text=True, check=False, **options)
@@ -113,9 +124,8 @@ class Server:
     def start(self):
         """Starts the server in a mount namespace, with the installed folders over the server's own."""
         mounts = " && ".join("mount --bind {0}{1} {1}".format(self.installed, folder) for folder in self.folders())
-        namespace = ["unshare", "-m"] if os.geteuid() == 0 else ["unshare", "--map-current-user", "--keep-caps", "-m"]
         start = self.as_owner(["pg_ctl", "-D", self.data(), "-l", os.path.join(self.room, "log"), "-w", "start"])
-        run(namespace + ["sh", "-c", mounts + ' && exec "$@"', "sh"] + start, cwd="/",
+        run(namespace() + ["sh", "-c", mounts + ' && exec "$@"', "sh"] + start, cwd="/",
             env=dict(os.environ, MALLOC_PERTURB_="165" if self.is_careful else "0",
                      REFUSE_FILE=os.path.join(self.room, "refuse")))
 
@@ -158,8 +168,8 @@ def image_of_list(text):
     return buffer.raw[:count.value]
 
 
-def skip(packages):
-    """Ends the script with a status other than 0, because packages are missing."""
-    print("not installed: " + " ".join(packages))
-    print("0 passed, 0 failed, %d skipped" % len(packages))
+def skip(missing):
+    """Ends the script with a status other than 0, because packages or other means are missing."""
+    print("skipped: this machine lacks " + ", ".join(missing))
+    print("0 passed, 0 failed, %d skipped" % len(missing))
     sys.exit(1)

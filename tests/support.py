@@ -21,12 +21,17 @@ def built_program(name):
     return os.path.join(TOP, "crates", name, "out", name)
 
 
-def read_arguments(description, program="ipnet_probe"):
-    """Parses the command line: `--program PATH`."""
+def is_program(path):
+    """Whether there is a program that can be run."""
+    return os.access(path, os.X_OK)
+
+
+def read_arguments(description, program="ipnet_probe", is_needed=True):
+    """Parses the command line: `--program PATH`. Ends the script if there is no such program and it is needed."""
     parser = argparse.ArgumentParser(description=description)
     parser.add_argument("--program", default=built_program(program), metavar="PATH", help="the program to ask")
     arguments = parser.parse_args()
-    if not os.access(arguments.program, os.X_OK):
+    if is_needed and not is_program(arguments.program):
         sys.exit("no program {}: build it with `rt run` in crates/{}".format(arguments.program, program))
     return arguments
 
@@ -67,11 +72,12 @@ def read_table(path, columns):
 
 
 class Checks:
-    """Counts the checks that passed and those that failed."""
+    """Counts the checks that passed, those that failed, and the parts that were skipped."""
 
     def __init__(self):
         self.passed = 0
         self.failed = 0
+        self.skipped = 0
 
     def check(self, label, found, wanted):
         """Counts the check as passed if the two are equal, and else prints its label and both."""
@@ -92,7 +98,13 @@ class Checks:
         for question, one, other in zip(questions, found, wanted):
             self.check("{}: {}".format(label, question), one, other)
 
-    def finish(self, skipped=0):
+    def skip(self, missing):
+        """Counts a part that cannot run here, and prints what is missing."""
+        self.skipped += 1
+        print("skipped: " + missing)
+
+    def finish(self):
         """Prints the counts, and ends the script: with status 0 if no check failed."""
-        print("{} passed, {} failed".format(self.passed, self.failed) + (", %d skipped" % skipped if skipped else ""))
+        counts = "{} passed, {} failed".format(self.passed, self.failed)
+        print(counts + (", %d skipped" % self.skipped if self.skipped else ""))
         sys.exit(0 if self.failed == 0 and self.passed > 0 else 1)
