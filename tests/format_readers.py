@@ -25,7 +25,7 @@ def entry(text):
 
 
 def decided(rules, default=()):
-    """The addresses that a list of rules permits. A rule is a verdict and a range, and the first that matches decides."""
+    """The addresses that a list of rules permits. A rule is a verdict and a range; the first that matches decides."""
     result = list(default)
     for is_permitted, a_range in reversed(rules):
         result = joined([*result, a_range]) if is_permitted else intersection(result, complement([a_range]))
@@ -47,8 +47,8 @@ def natural(network):
 
 
 def bgp(text):
-    """The signs before a network have a fixed width, as wide as what precedes `Network` in the heading. With RPKI, FRR 8
-    writes one sign more, and not in the heading. A table ends at an empty line."""
+    """The signs before a network have a fixed width, as wide as what precedes `Network` in the heading. With RPKI, FRR
+    8.4 writes one sign more, and not in the heading. A table ends at an empty line."""
     networks, width = [], None
     for line in text.splitlines():
         if "Next Hop" in line:
