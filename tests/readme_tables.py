@@ -126,11 +126,11 @@ def missing_tools():
     return [name for name, command in zip(names, commands()) if command is None]
 
 
-def bench_row(bench, heading, name):
-    """The cells of a row of bench/README.md by their columns."""
+def bench_row(bench, heading, *names):
+    """The cells of a row of bench/README.md by their columns. The names are in its first cells."""
     section = bench[re.search(r"(?m)^### %s\b.*$" % re.escape(heading), bench).end():]
     table = table_lines(section, "| ")
-    row = next(line for line in table[2:] if cells_of(line)[0] == name)
+    row = next(line for line in table[2:] if cells_of(line)[:len(names)] == list(names))
     return dict(zip(cells_of(table[0]), cells_of(row)))
 
 
