@@ -15,6 +15,14 @@ PLAIN = "!\"#$&'()*+,-./:;<=>?@[\\]^_`{|}~"
 
 MOST_FAILURES_SHOWN = 20
 
+# the part of their rounds that the scripts make, in percent from 1 to 100: fewer than all only in tests/installed
+PERCENT = int(os.environ.get("IPNET_ROUNDS", "100"))
+
+
+def rounds(count):
+    """The part of the rounds of a script that it makes."""
+    return max(1, count * PERCENT // 100)
+
 
 def built_program(name):
     """The path of the program that `rt ci`, `rt run` or `rt try` left in the crate."""
