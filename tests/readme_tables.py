@@ -57,7 +57,7 @@ def has_version(command, name):
     if not shutil.which(command[0]):
         return False
     ran = subprocess.run(command, stdout=subprocess.PIPE, stderr=subprocess.DEVNULL, universal_newlines=True)
-    return ran.returncode == 0 and version(name) in ran.stdout.split()
+    return version(name) in ran.stdout.split()
 
 
 def netaddr_command():
